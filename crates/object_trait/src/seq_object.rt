@@ -1,0 +1,76 @@
+ghost use Rattle.std.specs.Prelude.{◌≡◌, ◌↔◌, List, [], ◌∷◌, ◌++◌, Bool, true, IsTrue, IfOk, OnErr};
+
+use std::alloc::{AllocError, Global};
+
+/// An object with a sequential specification: each call has one answer, which the start and the calls before it
+/// determine.
+///
+/// The laws below the methods hold for every implementation, so code over a `SeqObject` may rest on them.
+pub trait SeqObject: Drop + Sized {
+    /// What a session asks of the object.
+    type Call: Copy + Eq + Send + Sync;
+    /// What the object answers.
+    type Ret: Copy + Eq + Send + Sync;
+    /// What the object holds before the first call.
+    type Start: Eq + Drop + Send + Sync;
+
+    /// The answer to a call after the earlier calls, from a start.
+    ghost answer: { Self.Start → List Self.Call → Self.Call → Self.Ret };
+
+    /// A state stands for a start and the calls since.
+    ghost stands: { Self → Self.Start → List Self.Call → Type 0 };
+
+    /// A query changes no later answer.
+    ghost query: { Self.Call → Bool };
+
+    /// A return is of a kind that the call may have.
+    ghost matches: { Self.Call → Self.Ret → Bool };
+
+    /// The start that needs no table of initial values.
+    ghost plain_start: { Self.Start };
+
+    /// What may be a start.
+    ghost is_start: { Self.Start → Type 0 };
+
+    /// The plain start.
+    fn plain(alloc: Global) -> Result<Self::Start, AllocError>
+        ensures { IfOk result (λ s. s ≡ plain_start) };
+
+    /// An equal start.
+    fn copy_start(alloc: Global, start: &Self::Start) -> Result<Self::Start, AllocError>
+        requires { is_start start.now }
+        ensures { IfOk result (λ s. s ≡ start.now) };
+
+    /// A state with no calls.
+    fn fresh(alloc: Global, start: &Self::Start) -> Result<Self, AllocError>
+        requires { is_start start.now }
+        ensures { IfOk result (λ o. stands o start.now []) };
+
+    /// Answers a call and takes it in. A refusal leaves the state.
+    fn apply(&mut self, call: Self::Call) -> Result<Self::Ret, AllocError>
+        ensures answers { (s : Self.Start) (cs : List Self.Call) → stands self.old s cs → IfOk result (λ r. r ≡ answer s cs call) }
+        ensures takes_in { (s : Self.Start) (cs : List Self.Call) → stands self.old s cs
+            → IfOk result (λ _. stands self.new s (cs ++ call ∷ [])) }
+        ensures err { OnErr result (self.new ≡ self.old) };
+
+    /// Whether the call changes no later answer.
+    fn is_query(call: &Self::Call) -> bool
+        ensures { result ≡ query call.now };
+
+    /// Whether the return is of a kind that the call may have.
+    fn fits(call: &Self::Call, ret: &Self::Ret) -> bool
+        ensures { result ≡ matches call.now ret.now };
+
+    ghost plain_is_start: { is_start plain_start };
+
+    ghost answer_fits: { (s : Self.Start) (cs : List Self.Call) (c : Self.Call) → matches c (answer s cs c) ≡ true };
+
+    ghost query_changes_nothing: { (s : Self.Start) (before after : List Self.Call) (q c : Self.Call) → query q ≡ true
+        → answer s (before ++ q ∷ after) c ≡ answer s (before ++ after) c };
+
+    ghost equal_calls: { (a b : Self.Call) → (Self.Call.eq a b ≡ true) ↔ (a ≡ b) };
+
+    ghost equal_rets: { (a b : Self.Ret) → (Self.Ret.eq a b ≡ true) ↔ (a ≡ b) };
+
+    ghost equal_starts: { (a b : Self.Start) → (Self.Start.eq a b ≡ true) ↔ (a ≡ b) };
+}
