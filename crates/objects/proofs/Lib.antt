@@ -1,0 +1,2 @@
+pub mod KeyedLemmas
+pub mod TableLemmas

@@ -1,0 +1,111 @@
+-- What a search by key finds in entries whose keys rise.
+use Rattle.std.specs.Prelude.{◌==◌}
+use Rattle.std.proofs.Common.{◌≡◌, ℕ, ◌<◌, ◌+◌, false, List, [], ◌∷◌, length, get_or, cond, Some, None, Equal, Less, Greater, nat_cmp, refl, sym, ◌∙◌, ap, subst, arith, ◌≢◌, ◌≤◌, ◌^◌, ◌++◌, ⊎_elim, length-append}
+use Rattle.std.specs.Cmp.{nat_eq_equiv, nat_cmp_total, unsigned_tied, eq_by_cmp_equiv, nat_cmp_is}
+use Rattle.std.specs.Ordering.{is_lt, is_eq, eq_by_cmp, ordering_index, ordering_reverse}
+use Rattle.std.specs.BTreeMap.{is_at}
+use Rattle.std.specs.Map.{lookup, keys_of}
+use Rattle.std.specs.List.{slice_get, HoldsAt, IsDistinct, All}
+use Rattle.std.specs.List.Sorted.{IsStrictlySortedBy, IsPartitionPoint, IsNonDecreasingBy, IsStrictlyIncreasing}
+use Rattle.std.proofs.lemmas.Bool.{eqb-true, cases_lt}
+use Rattle.std.proofs.lemmas.List.{get_or-map, get_or_append_left, map-append}
+use Rattle.std.proofs.lemmas.List.Elements.{All-nil, All-cons, All-append}
+use Rattle.std.proofs.Math.Seq.{get_or-append_seam}
+use Rattle.std.proofs.lemmas.List.Sorted.{searchable_from_sorted}
+use Rattle.std.proofs.lemmas.Option.{slice_get-get_or, get_or_from_slice_get, slice_get_within}
+use Rattle.std.proofs.lemmas.Map.Entries.{lookup_from_place, lookup_at_gap, length-keys_of}
+use Rattle.std.proofs.lemmas.Map.Keys.{sorted_from_strictly_increasing, IsDistinct-from_sorted}
+use Rattle.objects.specs.Table.{IsRising, IsTable, value_at}
+use Rattle.objects.specs.declared.table.TheConstants.{MAX_ENTRIES}
+
+-- comparisons of numbers, by the order that they decide
+equal_keys : (a b : ℕ) → nat_cmp a b ≡ Equal → a ≡ b
+equal_keys a b e = eqb-true a b (sym (unsigned_tied a b) ∙ ap is_eq e)
+
+turned_less : (a b : ℕ) → nat_cmp a b ≡ Less → nat_cmp b a ≡ Greater
+turned_less a b e = nat_cmp_total.antisymm b a ∙ ap ordering_reverse e
+
+turned_greater : (a b : ℕ) → nat_cmp a b ≡ Greater → nat_cmp b a ≡ Less
+turned_greater a b e = nat_cmp_total.antisymm b a ∙ ap ordering_reverse e
+
+not_less : (a b : ℕ) → b < a → is_lt (nat_cmp a b) ≡ false
+not_less a b above = ap is_lt (sym (nat_cmp_is a b Greater above))
+
+module _ {X : Type 0} where
+  -- a map by order finds at a key what `value_at` says
+  pub value_at-by_cmp : (entries : List (ℕ × X)) (key : ℕ) → lookup (is_at (nat_cmp key)) entries ≡ value_at entries key
+  value_at-by_cmp [] key = refl
+  value_at-by_cmp (e ∷ entries) key =
+      let test : is_at (nat_cmp key) e.0 ≡ (e.0 == key) = unsigned_tied key e.0 ∙ nat_eq_equiv.symm key e.0 in
+      λ i. cond (test i) (Some e.1) (value_at-by_cmp entries key i)
+
+  sorted : (entries : List (ℕ × X)) → IsRising entries → IsStrictlySortedBy nat_cmp (keys_of entries)
+  sorted entries rising = sorted_from_strictly_increasing (keys_of entries) rising
+
+  -- the keys compare with another key in rising order
+  searchable : (entries : List (ℕ × X)) (key : ℕ) → IsRising entries → IsNonDecreasingBy (λ y. ordering_index (nat_cmp y.0 key)) entries
+  searchable entries key rising = searchable_from_sorted nat_cmp_total (λ e. e.0) entries key (λ k d low within.
+      let lower : k < length entries = omega arith in
+      let here : get_or (keys_of entries) k 0 ≡ (get_or entries k d).0 = get_or-map (λ e. e.0) entries k d 0 lower in
+      let next : get_or (keys_of entries) (k + 1) 0 ≡ (get_or entries (k + 1) d).0 = get_or-map (λ e. e.0) entries (k + 1) d 0 within in
+      let many : k + 1 < length (keys_of entries) = rw (length-keys_of entries) within in
+      let rises : get_or (keys_of entries) k 0 < get_or (keys_of entries) (k + 1) 0 = rising k many in
+      not_less (get_or entries (k + 1) d).0 (get_or entries k d).0 (omega arith))
+
+  -- the entry at a place is what its key finds
+  pub value_at-place : (entries : List (ℕ × X)) (key i : ℕ) (e : ℕ × X) → IsRising entries → i < length entries
+      → HoldsAt (λ y. nat_cmp y.0 key ≡ Equal) entries i → e ≡ get_or entries i e → Some e.1 ≡ value_at entries key
+  value_at-place entries key i e rising within equal is =
+      let key_is : e.0 ≡ key = equal_keys e.0 key (subst (λ (y : ℕ × X). nat_cmp y.0 key ≡ Equal) (sym is) (equal e)) in
+      let stands : slice_get entries i ≡ Some (e.0, e.1) = slice_get-get_or entries i e within ∙ ap Some (sym is) in
+      let distinct : IsDistinct (eq_by_cmp nat_cmp) (keys_of entries) = IsDistinct-from_sorted nat_cmp (keys_of entries) (sorted entries rising) in
+      let found : lookup (is_at (nat_cmp e.0)) entries ≡ Some e.1 = lookup_from_place (eq_by_cmp_equiv nat_cmp_total) entries i e.0 e.1 distinct stands in
+      sym found ∙ value_at-by_cmp entries e.0 ∙ ap (value_at entries) key_is
+
+  -- a search that ends between the lower and the higher keys
+  pub value_at-gap : (entries : List (ℕ × X)) (key i : ℕ) → IsRising entries
+      → (IsNonDecreasingBy (λ y. ordering_index (nat_cmp y.0 key)) entries → IsPartitionPoint (λ y. nat_cmp y.0 key ≡ Less) (λ y. nat_cmp y.0 key ≡ Greater) entries i)
+      → None ≡ value_at entries key
+  value_at-gap entries key i rising split =
+      let parts = split (searchable entries key rising) in
+      let below : (j : ℕ) (e : ℕ × X) → j < i → slice_get entries j ≡ Some e → nat_cmp key e.0 ≡ Greater =
+      (λ j e lower is. turned_less e.0 key (rw (get_or_from_slice_get entries j e e is) at (parts.0 j e (omega arith) lower))) in
+      let above : (e : ℕ × X) → slice_get entries i ≡ Some e → nat_cmp key e.0 ≡ Less =
+      (λ e is. turned_greater e.0 key (rw (get_or_from_slice_get entries i e e is) at (parts.1 i e (omega arith) (slice_get_within entries i e is)))) in
+      sym (lookup_at_gap nat_cmp_total key entries i (sorted entries rising) below above) ∙ value_at-by_cmp entries key
+
+-- one number more, above the last
+increasing_more : (ks : List ℕ) (k : ℕ) → IsStrictlyIncreasing ks → ((i : ℕ) → i + 1 ≡ length ks → get_or ks i 0 < k)
+    → IsStrictlyIncreasing (ks ++ k ∷ [])
+increasing_more ks k rising above i within =
+    let size : length (ks ++ k ∷ []) ≡ length ks + 1 = length-append ks (k ∷ []) in
+    let here : get_or (ks ++ k ∷ []) i 0 ≡ get_or ks i 0 = get_or_append_left ks (k ∷ []) 0 i (omega arith) in
+    ⊎_elim
+    (λ (inner : i + 1 < length ks).
+    let next : get_or (ks ++ k ∷ []) (i + 1) 0 ≡ get_or ks (i + 1) 0 = get_or_append_left ks (k ∷ []) 0 (i + 1) inner in
+    let rises : get_or ks i 0 < get_or ks (i + 1) 0 = rising i inner in
+    omega arith)
+    (λ (last : length ks ≤ i + 1).
+    let at_end : i + 1 ≡ length ks = omega arith in
+    let next : get_or (ks ++ k ∷ []) (i + 1) 0 ≡ k = rw at_end (get_or-append_seam ks k [] 0) in
+    let rises : get_or ks i 0 < k = above i at_end in
+    omega arith)
+    (cases_lt (i + 1) (length ks))
+
+All-more : {X : Type 0} (P : X → Type 0) (xs : List X) (x : X) → All P xs → P x → All P (xs ++ x ∷ [])
+All-more P xs x all one = All-append P xs (x ∷ []) all (All-cons P x [] one (All-nil P))
+
+-- a table with one entry more, above the last key
+pub pushed_is_table : {S : Type 0} (plain : S) (is_start : S → Type 0) (table : List (ℕ × S)) (key : ℕ) (start : S)
+    → IsTable plain is_start table → length table < MAX_ENTRIES → key < 2 ^ 32
+    → ((i : ℕ) → i + 1 ≡ length table → get_or (keys_of table) i 0 < key)
+    → start ≢ plain → is_start start
+    → IsTable plain is_start (table ++ (key, start) ∷ [])
+pushed_is_table {S} plain is_start table key start is few fits above other good = record {
+  rising = rw (map-append (λ (e : ℕ × S). e.0) table ((key, start) ∷ []))
+      (increasing_more (keys_of table) key is.rising (λ i last. above i (last ∙ length-keys_of table)));
+  short = let size : length (table ++ (key, start) ∷ []) ≡ length table + 1 = length-append table ((key, start) ∷ []) in omega arith;
+  small = All-more (λ e. e.0 < 2 ^ 32) table (key, start) is.small fits;
+  not_plain = All-more (λ e. e.1 ≢ plain) table (key, start) is.not_plain other;
+  each_start = All-more (λ e. is_start e.1) table (key, start) is.each_start good;
+}

@@ -1,0 +1,110 @@
+ghost use Rattle.std.specs.Prelude.{◌≡◌, ℕ, List, [], IfOk};
+ghost use Rattle.objects.specs.Table.{IsTable, start_at};
+ghost use Rattle.objects.specs.Keyed.{answer as keyed_answer, calls_at, Stands};
+ghost use Rattle.objects.specs.KeyedLaws.{empty_is_table, keyed_query_changes_nothing, equal_keyed_calls};
+ghost use Rattle.objects.specs.TableLaws.{equal_tables_decide};
+
+use crate::table::Table;
+use object_trait::SeqObject;
+use std::alloc::{AllocError, Global};
+use std::collections::BTreeMap;
+use std::marker::Model;
+
+/// A call of the object at a key.
+#[derive(Clone, Copy, Debug, PartialEq, Eq)]
+pub struct KeyedCall<C> {
+    pub key: u32,
+    pub call: C,
+}
+
+/// One object for each key, each with its own start.
+///
+/// A call costs one call of the object at its key, and a search among the keys: O(log n) for n keys. A fresh state and
+/// a copied start take time and room for each entry of the start.
+#[derive(Drop)]
+pub struct Keyed<O: SeqObject> {
+    start: Table<O::Start>,
+    states: BTreeMap<u32, O>,
+    alloc: Global,
+}
+
+impl<O: SeqObject> Model for Keyed<O> {
+    ghost Value = { List (ℕ × O.Start) × List (ℕ × O) };
+
+    ghost view = { λ keyed. (keyed.start, keyed.states.entries) };
+
+    ghost invariant = { λ keyed. IsTable O.plain_start O.is_start keyed.start };
+}
+
+impl<O: SeqObject> SeqObject for Keyed<O> {
+    type Call = KeyedCall<O::Call>;
+
+    type Ret = O::Ret;
+
+    type Start = Table<O::Start>;
+
+    ghost answer = { keyed_answer O.plain_start O.answer };
+
+    ghost stands = { Stands O.plain_start O.stands };
+
+    ghost query = { λ c. O.query c.call };
+
+    ghost matches = { λ c. O.matches c.call };
+
+    ghost plain_start = { [] };
+
+    ghost is_start = { IsTable O.plain_start O.is_start };
+
+    ghost plain_is_start = { empty_is_table O.plain_start O.is_start };
+
+    ghost answer_fits = { λ start calls c. O.answer_fits (start_at O.plain_start start c.key) (calls_at c.key calls) c.call };
+
+    ghost query_changes_nothing = { keyed_query_changes_nothing O.plain_start O.answer O.query O.query_changes_nothing };
+
+    ghost equal_calls = { equal_keyed_calls O.Call.eq O.equal_calls };
+
+    ghost equal_rets = { O.equal_rets };
+
+    ghost equal_starts = { equal_tables_decide O.Start.eq O.equal_starts };
+
+    fn plain(alloc: Global) -> Result<Table<O::Start>, AllocError> {
+        Ok(Table::new(alloc))
+    }
+
+    fn copy_start(alloc: Global, start: &Table<O::Start>) -> Result<Table<O::Start>, AllocError> {
+        let mut copy = Table::new(alloc);
+        for (key, value) in start.entries() {
+            copy.push(*key, O::copy_start(alloc, value)?)?;
+        }
+        Ok(copy)
+    }
+
+    fn fresh(alloc: Global, start: &Table<O::Start>) -> Result<Keyed<O>, AllocError> {
+        Ok(Keyed {
+            start: Keyed::<O>::copy_start(alloc, start)?,
+            states: BTreeMap::new(alloc),
+            alloc,
+        })
+    }
+
+    fn apply(&mut self, call: KeyedCall<O::Call>) -> Result<O::Ret, AllocError> {
+        if let Some(state) = self.states.get_mut(&call.key) {
+            return state.apply(call.call);
+        }
+        let mut state = match self.start.get(call.key) {
+            Some(start) => O::fresh(self.alloc, start)?,
+            None => O::fresh(self.alloc, &O::plain(self.alloc)?)?,
+        };
+        let answer = state.apply(call.call)?;
+        self.states.insert(call.key, state)?;
+        Ok(answer)
+    }
+
+    fn is_query(call: &KeyedCall<O::Call>) -> bool {
+        O::is_query(&call.call)
+    }
+
+    fn fits(call: &KeyedCall<O::Call>, ret: &O::Ret) -> bool {
+        O::fits(&call.call, ret)
+    }
+}

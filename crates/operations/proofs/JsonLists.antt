@@ -1,0 +1,46 @@
+-- JSON lists and the lists of their elements.
+use Rattle.std.proofs.Common.{◌≡◌, ℕ, ◌<◌, Vec, Global, List, [], ◌∷◌, length, map, get_or, Option, Some, None, refl, ap, sym, ◌∙◌}
+use Rattle.std.specs.Prelude.{slice_get, option_map}
+use Rattle.std.proofs.lemmas.Option.{slice_get-map, slice_get-get_or}
+use Rattle.serde_json.specs.Data.{Data, null, boolean, number, string, array, object, Items, no_items, item}
+use Rattle.serde_json.specs.Find.{as_array}
+use Rattle.serde_json.specs.View.{view, items_of}
+use Rattle.serde_json.specs.declared.value.Value.{Value, Array}
+use Rattle.serde_json.proofs.Views.{view-Array}
+use Rattle.operations.specs.Json.{list, listed, elements}
+
+pub listed-items_of : (ds : List Data) → listed (items_of ds) ≡ ds
+listed-items_of [] = refl
+listed-items_of (d ∷ ds) = ap (λ (es : List Data). d ∷ es) (listed-items_of ds)
+
+pub items_of-listed : (ds : Items) → items_of (listed ds) ≡ ds
+items_of-listed no_items = refl
+items_of-listed (item d ds) = ap (λ (es : Items). item d es) (items_of-listed ds)
+
+pub elements-list : (ds : List Data) → elements (list ds) ≡ Some ds
+elements-list ds = ap (λ (es : List Data). Some es) (listed-items_of ds)
+
+-- the list with these elements is this one
+pub list_from_elements : (d : Data) (ds : List Data) → elements d ≡ Some ds → d ≡ list ds
+list_from_elements null ds e = absurd cc
+list_from_elements (boolean b) ds e = absurd cc
+list_from_elements (number n) ds e = absurd cc
+list_from_elements (string s) ds e = absurd cc
+list_from_elements (array es) ds e = let h : listed es ≡ ds = cc in ap array (sym (items_of-listed es) ∙ ap items_of h)
+list_from_elements (object ms) ds e = absurd cc
+
+pub elements_from_array : (d : Data) (ds : List Data) → as_array d ≡ Some (items_of ds) → elements d ≡ Some ds
+elements_from_array null ds e = absurd cc
+elements_from_array (boolean b) ds e = absurd cc
+elements_from_array (number n) ds e = absurd cc
+elements_from_array (string s) ds e = absurd cc
+elements_from_array (array es) ds e = let h : es ≡ items_of ds = cc in ap (λ (x : List Data). Some x) (ap listed h ∙ listed-items_of ds)
+elements_from_array (object ms) ds e = absurd cc
+
+-- the value at a place, as its data
+pub slice_get-mapped : {A B : Type 0} (f : A → B) (xs : List A) (i : ℕ) (x : A) → x ≡ get_or xs i x → i < length xs → slice_get (map f xs) i ≡ Some (f x)
+slice_get-mapped f xs i x e lt = slice_get-map f xs i ∙ ap (option_map f) (slice_get-get_or xs i x lt ∙ ap (λ y. Some y) (sym e))
+
+-- the list of values that stand for these
+pub view_list : (v : Vec Value Global) (ds : List Data) → map view v.items ≡ ds → view (Array v) ≡ list ds
+view_list v ds e = view-Array v ∙ ap list e

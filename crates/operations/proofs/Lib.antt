@@ -1,0 +1,5 @@
+pub mod JsonLists
+pub mod FirstRefusal
+pub mod SessionReading
+pub mod HistoryReading
+pub mod HistoryForm

@@ -1,0 +1,11 @@
+use Rattle.std.proofs.Common.{◌≡◌, Option, Some, List, map, sym, ◌∙◌, ap}
+use Rattle.serde_json.specs.Data.{Data}
+use Rattle.serde_json.specs.Find.{as_array}
+use Rattle.serde_json.specs.View.{view, items_of}
+use Rattle.operations.proofs.JsonLists.{elements_from_array}
+use Rattle.operations.proofs.json.elements_of.Goals as goal
+
+pub returns-in-Some : goal.returns-in-Some
+returns-in-Some c =
+    let e : as_array (view c.args.value.now) ≡ Some (items_of (map view c.as_slice.result.now)) = rw c.as_slice.ensures.value (sym c.in-Some.ensures) in
+    sym (elements_from_array (view c.args.value.now) (map view c.as_slice.result.now) e)

@@ -1,0 +1,34 @@
+use Rattle.std.proofs.Common.{◌≡◌, ◌∙◌, ◌++◌, ◌∷◌, [], List, Option, map, length, sym, ap}
+use Rattle.std.proofs.lemmas.List.{length-map, map_push}
+use Rattle.std.proofs.lemmas.Result.{err_from_is_err_and}
+use Rattle.serde_json.specs.View.{view}
+use Rattle.operations.specs.Json.{elements}
+use Rattle.operations.specs.Reading.{operations_refusal, sessions_refusal, first_among, session_refusal}
+use Rattle.operations.proofs.JsonLists.{slice_get-mapped}
+use Rattle.operations.proofs.HistoryReading.{reads_on, refused_there, few_sessions, IsFirst-moves}
+use Rattle.operations.proofs.reading.read_sessions.Goals as goal
+
+pub returns-in_err-session-clause-refused : goal.returns-in_err-session-clause-refused
+returns-in_err-session-clause-refused g c =
+    let ds = map view c.args.values.now in
+    let v = c.index-values-s.result in
+    let here = slice_get-mapped view c.args.values.now c.loop-s.s v c.index-values-s.is c.loop-s-test.true in
+    let ss = map (λ es. es.items) c.loop-s.sessions.items in
+    let count : length ds ≡ length c.args.values.now = simp length-map in
+    let few : sessions_refusal g.O.Named.operation_at ds ≡ first_among (length c.args.values.now) (session_refusal g.O.Named.operation_at ds) =
+    few_sessions g.O.Named.operation_at g.O.SeqObject.matches ds (rw count c.if-values-gt-MOST_SESSIONS.false) ∙ ap (λ n. first_among n (session_refusal g.O.Named.operation_at ds)) count in
+    let p = err_from_is_err_and c.from_residual.result c.from_residual.ensures.1 in
+    rw (p.1, p.2) (IsFirst-moves (operations_refusal g.O.Named.operation_at c.loop-s.s (elements (view v))) (sessions_refusal g.O.Named.operation_at ds) _
+    (λ x bad. few ∙ refused_there g.O.Named.operation_at g.O.SeqObject.matches (length c.args.values.now) ds ss c.loop-s.s (view v) x count c.loop-s.invariant here bad)
+    c.in_err-session.ensures.refused)
+
+pub loop-s-preserved : goal.loop-s-preserved
+loop-s-preserved g c =
+    let ds = map view c.args.values.now in
+    let v = c.index-values-s.result in
+    let here = slice_get-mapped view c.args.values.now c.loop-s.s v c.index-values-s.is c.loop-s-test.true in
+    let ss = map (λ es. es.items) c.loop-s.sessions.items in
+    let es = c.in_ok-session.session.items in
+    let e : map (λ es. es.items) c.push.new.self.items ≡ ss ++ es ∷ [] = rw c.in_ok-push.ensures.items (map_push (λ es. es.items) c.loop-s.sessions.items c.in_ok-session.session) in
+    rw e (reads_on g.O.Named.operation_at g.O.SeqObject.matches ds ss es c.loop-s.s (view v)
+    c.loop-s.invariant here c.in_ok-session.ensures.read c.in_ok-session.ensures.is_session c.in_ok-session.ensures.nothing_refused)

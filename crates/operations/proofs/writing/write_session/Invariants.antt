@@ -1,0 +1,6 @@
+use Rattle.std.proofs.Common.{◌≡◌, map, take}
+use Rattle.serde_json.specs.View.{view}
+use Rattle.operations.proofs.writing.write_session.Given as goal
+
+abbrev pub invariant-loop-entry : goal.invariant-loop-entry
+invariant-loop-entry g l = map view l.values.items ≡ map (λ e. g.O.Named.operation_form e.0 e.1) (take l.entry-index l.entries)

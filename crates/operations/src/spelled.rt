@@ -1,0 +1,88 @@
+ghost use Rattle.std.specs.Prelude.{◌≡◌, ◌≢◌, ℕ, List, [], ◌∷◌, ◌++◌, Option, Some, None, true, false, map, option_map, OnOk};
+ghost use Rattle.serde_json.specs.Data.{Data};
+ghost use Rattle.serde_json.specs.View.{view};
+ghost use Rattle.serde_json.specs.Written.{has_float};
+ghost use Rattle.operations.specs.Form.{HaveNoFloats};
+ghost use Rattle.operations.specs.Json.{unknown};
+
+use object_trait::SeqObject;
+use serde_json::Value;
+use std::alloc::AllocError;
+
+/// An object whose operations are spelled by a word, the arguments of the call, and the return.
+///
+/// What is common to all objects is written once over this trait: the key of a keyed object stands behind the word, and
+/// `"?"` in the place of a return that is not known. The laws say that reading undoes writing, and that nothing else is
+/// read.
+pub trait Spelled: SeqObject {
+    /// The name of the histories of this object under keys.
+    ghost keyed_name: { List ℕ };
+
+    /// The word of a call.
+    ghost word_of: { Self.Call → List ℕ };
+
+    /// What a call takes.
+    ghost arguments: { Self.Call → List Data };
+
+    /// A return: nothing for one that says no more than that the call is done.
+    ghost ret_form: { Self.Ret → List Data };
+
+    /// The call of a word and the arguments behind it, and what stands behind these.
+    ghost call_at: { List ℕ → List Data → Option (Self.Call × List Data) };
+
+    /// The return of a call.
+    ghost ret_at: { Self.Call → List Data → Option Self.Ret };
+
+    /// A start that is not the plain one.
+    ghost start_form: { Self.Start → Data };
+
+    /// The start of a form.
+    ghost start_at: { Data → Option Self.Start };
+
+    fn keyed_name() -> &'static str
+        ensures { result.now ≡ keyed_name };
+
+    fn word(call: &Self::Call) -> &'static str
+        ensures { result.now ≡ word_of call.now };
+
+    fn read_call<'a>(word: &str, values: &'a [Value]) -> Option<(Self::Call, &'a [Value])>
+        ensures { option_map (λ p. (p.0, map view p.1.now)) result ≡ call_at word.now (map view values.now) };
+
+    fn read_ret(call: &Self::Call, values: &[Value]) -> Option<Self::Ret>
+        ensures { result ≡ ret_at call.now (map view values.now) };
+
+    fn push_arguments(call: &Self::Call, values: &mut Vec<Value>) -> Result<(), AllocError>
+        ensures { OnOk result (map view values.new.items ≡ map view values.old.items ++ arguments call.now) };
+
+    fn push_ret(ret: &Self::Ret, values: &mut Vec<Value>) -> Result<(), AllocError>
+        ensures { OnOk result (map view values.new.items ≡ map view values.old.items ++ ret_form ret.now) };
+
+    fn read_start(value: &Value) -> Option<Self::Start>
+        ensures { result ≡ start_at (view value.now) };
+
+    fn write_start(start: &Self::Start) -> Value
+        ensures { view result ≡ start_form start.now };
+
+    ghost call_read: { (w : List ℕ) (ds rest : List Data) (c : Self.Call) → call_at w ds ≡ Some (c, rest)
+        → (w ≡ word_of c) × (ds ≡ arguments c ++ rest) };
+
+    ghost call_again: { (c : Self.Call) (rest : List Data) → call_at (word_of c) (arguments c ++ rest) ≡ Some (c, rest) };
+
+    ghost ret_read: { (c : Self.Call) (ds : List Data) (r : Self.Ret) → ret_at c ds ≡ Some r
+        → (ds ≡ ret_form r) × (Self.matches c r ≡ true) };
+
+    ghost ret_again: { (c : Self.Call) (r : Self.Ret) → Self.matches c r ≡ true → ret_at c (ret_form r) ≡ Some r };
+
+    ghost ret_is_known: { (r : Self.Ret) → ret_form r ≢ unknown ∷ [] };
+
+    ghost start_read: { (d : Data) (s : Self.Start) → start_at d ≡ Some s
+        → (d ≡ start_form s) × Self.is_start s × (s ≢ Self.plain_start) };
+
+    ghost start_again: { (s : Self.Start) → Self.is_start s → s ≢ Self.plain_start → start_at (start_form s) ≡ Some s };
+
+    ghost arguments_have_no_float: { (c : Self.Call) → HaveNoFloats (arguments c) };
+
+    ghost ret_has_no_float: { (r : Self.Ret) → HaveNoFloats (ret_form r) };
+
+    ghost start_has_no_float: { (s : Self.Start) → has_float (start_form s) ≡ false };
+}

@@ -1,0 +1,52 @@
+//! Writing a history of a named object as a JSON value.
+
+ghost use Rattle.std.specs.Prelude.{◌≡◌, ◌<◌, length, map, IfOk};
+ghost use Rattle.serde_json.specs.View.{view};
+ghost use Rattle.operations.specs.Form.{history_form, session_form};
+ghost use Rattle.operations.specs.History.{session};
+ghost use Rattle.operations.specs.Json.{list};
+
+use crate::history::History;
+use crate::named::Named;
+use serde_json::Value;
+use std::alloc::{AllocError, Global};
+
+/// The form of a session.
+fn write_session<O: Named>(alloc: Global, entries: &[(O::Call, Option<O::Ret>)]) -> Result<Value, AllocError>
+    ensures { IfOk result (λ v. view v ≡ session_form O.operation_form entries.now) }
+{
+    let mut values = Vec::new(alloc);
+    for entry in entries {
+        let value = O::write_operation(alloc, entry.0, entry.1)?;
+        values.push(value)?;
+    }
+    Ok(Value::Array(values))
+}
+
+/// The form of all sessions.
+fn write_sessions<O: Named>(alloc: Global, history: &History<O>) -> Result<Value, AllocError>
+    ensures { IfOk result (λ v. view v ≡ list (map (session_form O.operation_form) history.now.1)) }
+{
+    let mut values = Vec::new(alloc);
+    for s in 0..history.sessions() {
+        let value = write_session::<O>(alloc, history.session(s))?;
+        values.push(value)?;
+    }
+    Ok(Value::Array(values))
+}
+
+/// The form of a history.
+///
+/// O(n) for n operations.
+pub fn write_parts<O: Named>(alloc: Global, history: &History<O>) -> Result<Value, AllocError>
+    ensures { IfOk result (λ v. view v ≡ history_form O.name O.operation_form O.start_form history.now) }
+{
+    let name = String::from_str(alloc, O::name())?;
+    let mut values = Vec::new(alloc);
+    values.push(Value::String(name))?;
+    values.push(write_sessions::<O>(alloc, history)?)?;
+    if let Some(start) = O::write_start(alloc, history.start())? {
+        values.push(start)?;
+    }
+    Ok(Value::Array(values))
+}
