@@ -60,7 +60,7 @@ module _ {C R : Type 0} (operation_at : Data → Option (C × Option R)) (fits :
 
 -- a first refusal of a part is one of the whole
 pub IsFirst-moves : (part whole : Option ReadError) (e : ReadError) → ((x : ReadError) → part ≡ Some x → whole ≡ Some x) → IsFirst part e → IsFirst whole e
-IsFirst-moves part whole NotJson moves first = moves NotJson first
+IsFirst-moves part whole NotJson moves first = first
 IsFirst-moves part whole BadShape moves first = moves BadShape first
 IsFirst-moves part whole UnknownObject moves first = moves UnknownObject first
 IsFirst-moves part whole (BadOp op) moves first = moves (BadOp op) first
@@ -72,7 +72,7 @@ IsFirst-moves part whole BadInitial moves first = moves BadInitial first
 
 -- where nothing is refused, memory ran out
 pub IsFirst_of_none : (first : Option ReadError) (e : ReadError) → first ≡ None → IsFirst first e → e ≡ Memory
-IsFirst_of_none first NotJson none h = let bad = sym none ∙ h in absurd cc
+IsFirst_of_none first NotJson none h = absurd h
 IsFirst_of_none first BadShape none h = let bad = sym none ∙ h in absurd cc
 IsFirst_of_none first UnknownObject none h = let bad = sym none ∙ h in absurd cc
 IsFirst_of_none first (BadOp op) none h = let bad = sym none ∙ h in absurd cc

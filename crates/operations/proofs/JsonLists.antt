@@ -8,26 +8,7 @@ use Rattle.serde_json.specs.View.{view, items_of}
 use Rattle.serde_json.specs.declared.value.Value.{Value, Array}
 use Rattle.serde_json.proofs.Views.{view-Array}
 use Rattle.operations.specs.Json.{list, listed, elements}
-
-pub listed-items_of : (ds : List Data) → listed (items_of ds) ≡ ds
-listed-items_of [] = refl
-listed-items_of (d ∷ ds) = ap (λ (es : List Data). d ∷ es) (listed-items_of ds)
-
-pub items_of-listed : (ds : Items) → items_of (listed ds) ≡ ds
-items_of-listed no_items = refl
-items_of-listed (item d ds) = ap (λ (es : Items). item d es) (items_of-listed ds)
-
-pub elements-list : (ds : List Data) → elements (list ds) ≡ Some ds
-elements-list ds = ap (λ (es : List Data). Some es) (listed-items_of ds)
-
--- the list with these elements is this one
-pub list_from_elements : (d : Data) (ds : List Data) → elements d ≡ Some ds → d ≡ list ds
-list_from_elements null ds e = absurd cc
-list_from_elements (boolean b) ds e = absurd cc
-list_from_elements (number n) ds e = absurd cc
-list_from_elements (string s) ds e = absurd cc
-list_from_elements (array es) ds e = let h : listed es ≡ ds = cc in ap array (sym (items_of-listed es) ∙ ap items_of h)
-list_from_elements (object ms) ds e = absurd cc
+pub use Rattle.operations.specs.JsonLaws.{listed-items_of, items_of-listed, elements-list, list_from_elements}
 
 pub elements_from_array : (d : Data) (ds : List Data) → as_array d ≡ Some (items_of ds) → elements d ≡ Some ds
 elements_from_array null ds e = absurd cc

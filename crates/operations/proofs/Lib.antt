@@ -1,5 +1,8 @@
-pub mod JsonLists
+pub mod EntriesReading
 pub mod FirstRefusal
-pub mod SessionReading
-pub mod HistoryReading
 pub mod HistoryForm
+pub mod HistoryReading
+pub mod JsonLists
+pub mod PartsForm
+pub mod SessionReading
+pub mod AnyForms

@@ -121,10 +121,10 @@ module _ {C R : Type 0} (operation_at : Data → Option (C × Option R)) where
             short = omega arith;
             fitting = λ i c r here. let p = form_at ds es i (c, Some r) same here in fitting p.0 c r p.2;
             known_first = λ i j c d r lt first second.
-              let p = form_at ds es j (d, Some r) same second in
-              let fine : operation_refusal operation_at s ds j ≡ None = first_among_none (length ds) j (operation_refusal operation_at s ds) so_far.none (slice_get_within ds j p.0 p.1) in
-              let bad : operation_refusal operation_at s ds j ≡ Some (ReturnAfterUnknown (record { session = s; index = j })) =
-              rw (p.1, p.2, unknown_before ds es i j c same first lt) refl in
-              absurd cc
-          }
+                let p = form_at ds es j (d, Some r) same second in
+                let fine : operation_refusal operation_at s ds j ≡ None = first_among_none (length ds) j (operation_refusal operation_at s ds) so_far.none (slice_get_within ds j p.0 p.1) in
+                let bad : operation_refusal operation_at s ds j ≡ Some (ReturnAfterUnknown (record { session = s; index = j })) =
+                rw (p.1, p.2, unknown_before ds es i j c same first lt) refl in
+                absurd cc;
+          };
         }

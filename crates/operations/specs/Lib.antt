@@ -1,6 +1,12 @@
+pub mod AnyForm
 pub mod Form
 pub mod History
 pub mod Json
+pub mod JsonLaws
+pub mod KeyedFormLaws
 pub mod Reading
 pub mod Refusals
+pub mod RegisterForm
+pub mod RegisterFormLaws
 pub mod Spelling
+pub mod TableFormLaws

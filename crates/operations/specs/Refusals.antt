@@ -14,9 +14,9 @@ number_of TooManyOps = 7
 number_of Memory = 8
 number_of BadInitial = 29
 
--- an error is this first refusal, unless memory ran out
+-- an error is this first refusal, unless memory ran out; a value is JSON
 abbrev pub IsFirst : Option ReadError → ReadError → Type 0
-IsFirst first NotJson = first ≡ Some NotJson
+IsFirst first NotJson = ⊥
 IsFirst first BadShape = first ≡ Some BadShape
 IsFirst first UnknownObject = first ≡ Some UnknownObject
 IsFirst first (BadOp op) = first ≡ Some (BadOp op)

@@ -1,5 +1,5 @@
 -- How operations are spelled: a list of a word, the key where the object is keyed, the arguments, and the return or `"?"`.
-use Rattle.std.specs.Prelude.{◌≡◌, ℕ, ◌+◌, ◌^◌, ◌<◌, ◌==◌, nat_lt, List, [], ◌∷◌, ◌++◌, length, map, Bool, true, false, ◌&&◌, Option, Some, None, option_map, option_and_then, if◌then◌else◌}
+use Rattle.std.specs.Prelude.{◌≡◌, ℕ, ◌+◌, ◌^◌, ◌<◌, ◌==◌, nat_lt, nat_le, List, [], ◌∷◌, ◌++◌, length, map, Bool, true, false, ◌&&◌, Option, Some, None, option_map, option_and_then, if◌then◌else◌}
 use Rattle.serde_json.specs.Data.{Data, number, string, unsigned}
 use Rattle.serde_json.specs.Find.{as_str}
 use Rattle.objects.specs.declared.keyed.KeyedCall.{KeyedCall}
@@ -45,6 +45,10 @@ module _ {C R : Type 0} where
   abbrev pub keyed_at : (List ℕ → List Data → Option (C × List Data)) → (C → List Data → Option R) → Data → Option (KeyedCall C × Option R)
   keyed_at call_at ret_at d = option_and_then (keyed_parts_at call_at ret_at) (option_and_then word_key_rest (elements d))
 
+-- the elements of a list of 1 to 4,096
+abbrev pub table_elements : Data → Option (List Data)
+table_elements d = option_and_then (λ (ds : List Data). if nat_lt 0 (length ds) && nat_le (length ds) MAX_ENTRIES then Some ds else None) (elements d)
+
 -- a key that is above the one before it, where there is one
 abbrev pub is_above : Option ℕ → ℕ → Bool
 is_above None key = true
@@ -75,11 +79,7 @@ module _ {S : Type 0} where
   entries_at start_at before (d ∷ ds) =
       option_and_then (λ (e : ℕ × S). if is_above before e.0 then option_map (λ (es : List (ℕ × S)). e ∷ es) (entries_at start_at (Some e.0) ds) else None) (entry_at start_at d)
 
-  -- 1 to 4,096 entries
-  abbrev pub table_entries_at : (Data → Option S) → List Data → Option (List (ℕ × S))
-  table_entries_at start_at ds = if nat_lt 0 (length ds) && nat_lt (length ds) (MAX_ENTRIES + 1) then entries_at start_at None ds else None
-
   abbrev pub table_at : (Data → Option S) → List Data → Option (List (ℕ × S))
   table_at start_at [] = Some []
-  table_at start_at (d ∷ []) = option_and_then (table_entries_at start_at) (elements d)
+  table_at start_at (d ∷ []) = option_and_then (entries_at start_at None) (table_elements d)
   table_at start_at (d ∷ e ∷ ds) = None

@@ -1,17 +1,26 @@
 //! Operations and histories of replicated objects, and their JSON form.
 #![tactic(auto)]
 
+mod any_history;
 mod history;
 mod json;
+mod keyed_form;
+mod keys;
 mod named;
 mod op_id;
+mod parts;
 mod read_error;
+mod reader;
 mod reading;
+mod registers;
 mod spelled;
+mod unknown;
 mod writing;
 
+pub use any_history::AnyHistory;
 pub use history::History;
 pub use named::Named;
 pub use op_id::OpId;
 pub use read_error::ReadError;
+pub use reader::{history_of, read_history, value_of, write_history};
 pub use spelled::Spelled;

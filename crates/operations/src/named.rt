@@ -40,7 +40,11 @@ pub trait Named: SeqObject {
     fn read_operation(value: &Value) -> Option<(Self::Call, Option<Self::Ret>)>
         ensures { result ≡ operation_at (view value.now) };
 
-    fn write_operation(alloc: Global, call: Self::Call, ret: Option<Self::Ret>) -> Result<Value, AllocError>
+    fn write_operation(
+        alloc: Global,
+        call: Self::Call,
+        ret: Option<Self::Ret>,
+    ) -> Result<Value, AllocError>
         ensures { IfOk result (λ v. view v ≡ operation_form call ret) };
 
     fn read_start(alloc: Global, rest: &[Value]) -> Result<Option<Self::Start>, AllocError>

@@ -1,13 +1,18 @@
-ghost use Rattle.std.specs.Prelude.{◌≡◌, ◌≢◌, ℕ, List, [], ◌∷◌, ◌++◌, Option, Some, None, true, false, map, option_map, OnOk};
+ghost use Rattle.std.specs.Prelude.{◌≡◌, ◌≢◌, ℕ, List, [], ◌∷◌, ◌++◌, Option, Some, None, true, false, map, option_map, IfOk, OnOk};
 ghost use Rattle.serde_json.specs.Data.{Data};
 ghost use Rattle.serde_json.specs.View.{view};
 ghost use Rattle.serde_json.specs.Written.{has_float};
 ghost use Rattle.operations.specs.Form.{HaveNoFloats};
 ghost use Rattle.operations.specs.Json.{unknown};
+ghost use Rattle.operations.specs.Spelling.{entries_at, entry_at, entry_form, rest_form, spelled_at};
 
+use crate::json::elements_of;
+use crate::keys::{entry_of, is_above, key_of};
+use crate::unknown::{is_question_mark_alone, push_question_mark};
 use object_trait::SeqObject;
+use objects::Table;
 use serde_json::Value;
-use std::alloc::AllocError;
+use std::alloc::{AllocError, Global};
 
 /// An object whose operations are spelled by a word, the arguments of the call, and the return.
 ///
@@ -62,6 +67,80 @@ pub trait Spelled: SeqObject {
 
     fn write_start(start: &Self::Start) -> Value
         ensures { view result ≡ start_form start.now };
+
+    /// The call that a word and the values behind it spell, and its return where that is known.
+    fn read_spelled(word: &str, values: &[Value]) -> Option<(Self::Call, Option<Self::Ret>)>
+        ensures { result ≡ spelled_at call_at ret_at word.now (map view values.now) }
+    {
+        let (call, rest) = Self::read_call(word, values)?;
+        if is_question_mark_alone(rest) {
+            Some((call, None))
+        } else {
+            Some((call, Some(Self::read_ret(&call, rest)?)))
+        }
+    }
+
+    /// Puts the arguments of a call and its return, or `"?"`, behind the others.
+    fn push_rest(
+        alloc: Global,
+        call: &Self::Call,
+        ret: &Option<Self::Ret>,
+        values: &mut Vec<Value>,
+    ) -> Result<(), AllocError>
+        ensures { OnOk result (map view values.new.items ≡ map view values.old.items ++ rest_form arguments ret_form call.now ret.now) }
+    {
+        Self::push_arguments(call, values)?;
+        match ret {
+            Some(ret) => Self::push_ret(ret, values),
+            None => push_question_mark(alloc, values),
+        }
+    }
+
+    /// The key and the start of an entry of a table.
+    fn read_entry(value: &Value) -> Option<(u32, Self::Start)>
+        ensures { result ≡ entry_at start_at (view value.now) }
+    {
+        match elements_of(value)? {
+            [key, start] => Some((key_of(key)?, Self::read_start(start)?)),
+            _ => None,
+        }
+    }
+
+    /// The table of these entries, where their keys rise.
+    fn read_entries(
+        alloc: Global,
+        values: &[Value],
+    ) -> Result<Option<Table<Self::Start>>, AllocError>
+        ensures { IfOk result (λ t. t ≡ entries_at start_at None (map view values.now)) }
+    {
+        let mut table = Table::new(alloc);
+        let mut before = None;
+        for value in values {
+            let Some((key, start)) = Self::read_entry(value) else {
+                return Ok(None);
+            };
+            if !is_above(before, key) {
+                return Ok(None);
+            }
+            table.push(key, start)?;
+            before = Some(key);
+        }
+        Ok(Some(table))
+    }
+
+    /// The forms of the entries of a table.
+    fn write_entries(
+        alloc: Global,
+        entries: &[(u32, Self::Start)],
+    ) -> Result<Vec<Value>, AllocError>
+        ensures { IfOk result (λ vs. map view vs.items ≡ map (entry_form start_form) entries.now) }
+    {
+        let mut values = Vec::new(alloc);
+        for (key, start) in entries {
+            values.push(entry_of(alloc, *key, Self::write_start(start))?)?;
+        }
+        Ok(values)
+    }
 
     ghost call_read: { (w : List ℕ) (ds rest : List Data) (c : Self.Call) → call_at w ds ≡ Some (c, rest)
         → (w ≡ word_of c) × (ds ≡ arguments c ++ rest) };

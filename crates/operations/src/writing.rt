@@ -12,7 +12,10 @@ use serde_json::Value;
 use std::alloc::{AllocError, Global};
 
 /// The form of a session.
-fn write_session<O: Named>(alloc: Global, entries: &[(O::Call, Option<O::Ret>)]) -> Result<Value, AllocError>
+fn write_session<O: Named>(
+    alloc: Global,
+    entries: &[(O::Call, Option<O::Ret>)],
+) -> Result<Value, AllocError>
     ensures { IfOk result (λ v. view v ≡ session_form O.operation_form entries.now) }
 {
     let mut values = Vec::new(alloc);

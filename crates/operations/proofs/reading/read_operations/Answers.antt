@@ -35,16 +35,16 @@ loop-index-preserved g c =
     let op : OpId = record { session = c.args.s; index = c.loop-index.index } in
     let read : g.O.Named.operation_at (view v) ≡ Some c.in-Some.entry = sym c.read_operation.ensures ∙ c.in-Some.is in
     rw c.in_ok-push.ensures.items (elim c.if-is_none.branch [
-      | then-is_none w ↦ 
-        let none : is_some c.in-Some.entry.1 ≡ false = c.is_none.ensures ∙ ap not w.if-is_none.true in
-        reads_on g.O.Named.operation_at c.args.s (map view c.args.values.now) c.loop-index.entries.items c.loop-index.unknown_seen c.if-is_none.unknown_seen c.loop-index.index (view v) c.in-Some.entry
-        c.loop-index.invariant here read (unknown_return-refusal c.in-Some.entry c.loop-index.unknown_seen op none)
-        (w.unknown_seen-is ∙ sym (ap (λ b. c.loop-index.unknown_seen || b) (unknown_return c.in-Some.entry none) ∙ or_true c.loop-index.unknown_seen))
-      | else-is_none+else-unknown_seen w ↦ 
-        let some : is_some c.in-Some.entry.1 ≡ true = c.is_none.ensures ∙ ap not w.if-is_none.false in
-        reads_on g.O.Named.operation_at c.args.s (map view c.args.values.now) c.loop-index.entries.items c.loop-index.unknown_seen c.if-is_none.unknown_seen c.loop-index.index (view v) c.in-Some.entry
-        c.loop-index.invariant here read (known_return-refusal c.in-Some.entry c.loop-index.unknown_seen op some ∙ rw w.if-unknown_seen.false refl)
-        (w.unknown_seen-is ∙ sym (ap (λ b. c.loop-index.unknown_seen || b) (known_return c.in-Some.entry some) ∙ or_false c.loop-index.unknown_seen))
+      | then-is_none w ↦
+          let none : is_some c.in-Some.entry.1 ≡ false = c.is_none.ensures ∙ ap not w.if-is_none.true in
+          reads_on g.O.Named.operation_at c.args.s (map view c.args.values.now) c.loop-index.entries.items c.loop-index.unknown_seen c.if-is_none.unknown_seen c.loop-index.index (view v) c.in-Some.entry
+          c.loop-index.invariant here read (unknown_return-refusal c.in-Some.entry c.loop-index.unknown_seen op none)
+          (w.unknown_seen-is ∙ sym (ap (λ b. c.loop-index.unknown_seen || b) (unknown_return c.in-Some.entry none) ∙ or_true c.loop-index.unknown_seen))
+      | else-is_none+else-unknown_seen w ↦
+          let some : is_some c.in-Some.entry.1 ≡ true = c.is_none.ensures ∙ ap not w.if-is_none.false in
+          reads_on g.O.Named.operation_at c.args.s (map view c.args.values.now) c.loop-index.entries.items c.loop-index.unknown_seen c.if-is_none.unknown_seen c.loop-index.index (view v) c.in-Some.entry
+          c.loop-index.invariant here read (known_return-refusal c.in-Some.entry c.loop-index.unknown_seen op some ∙ rw w.if-unknown_seen.false refl)
+          (w.unknown_seen-is ∙ sym (ap (λ b. c.loop-index.unknown_seen || b) (known_return c.in-Some.entry some) ∙ or_false c.loop-index.unknown_seen))
     ])
 
 pub returns-clause-read : goal.returns-clause-read
@@ -52,5 +52,5 @@ returns-clause-read g c =
     is_read g.O.Named.operation_at g.O.SeqObject.matches (λ d call r e. (g.met.O.Named.operation_read d call (Some r) e).1) c.args.s (length c.args.values.now) (map view c.args.values.now) c.loop-index.entries.items c.loop-index.unknown_seen
     (simp length-map) c.requires
     (let end : c.loop-index.index ≡ length c.args.values.now = omega arith in
-     let P : ℕ → Type 0 = λ n. IsReadUpTo g.O.Named.operation_at c.args.s (map view c.args.values.now) c.loop-index.entries.items c.loop-index.unknown_seen n in
-     subst P end c.loop-index.invariant)
+    let P : ℕ → Type 0 = λ n. IsReadUpTo g.O.Named.operation_at c.args.s (map view c.args.values.now) c.loop-index.entries.items c.loop-index.unknown_seen n in
+    subst P end c.loop-index.invariant)

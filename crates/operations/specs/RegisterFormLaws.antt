@@ -1,0 +1,107 @@
+-- Reading undoes the spelling of a register, and nothing else is read.
+use Rattle.std.specs.Prelude.{◌≡◌, ◌≢◌, ℕ, ◌==◌, nat_eq, List, [], ◌∷◌, ◌++◌, codes, Bool, true, false, Option, Some, None, option_map, if◌then◌else◌, refl}
+use Rattle.std.specs.Cmp.Lexicographic.{pointwise, same_text}
+use Rattle.std.proofs.Common.{ap, sym, ◌∙◌, ⊎_elim, eqb}
+use Rattle.std.proofs.lemmas.Bool.{cases_Bool, eqb-true}
+use Rattle.std.proofs.lemmas.Option.{option_and_then_some, same_Some}
+use Rattle.serde_json.specs.Data.{Data, number, string, unsigned}
+use Rattle.serde_json.specs.Written.{has_float}
+use Rattle.objects.specs.Register.{matches}
+use Rattle.objects.specs.declared.register.RegisterCall.{RegisterCall}
+use Rattle.objects.specs.declared.register.RegisterCall.TheVariants.{Write, Read}
+use Rattle.objects.specs.declared.register.RegisterRet.{RegisterRet}
+use Rattle.objects.specs.declared.register.RegisterRet.TheVariants.{Done, Value}
+use Rattle.operations.specs.Form.{HaveNoFloats}
+use Rattle.operations.specs.Json.{whole_number, unknown}
+use Rattle.operations.specs.JsonLaws.{whole_number-read}
+use Rattle.operations.specs.RegisterForm.{word_of, arguments, ret_form, write_at, call_at, ret_at, start_form, start_at}
+
+number-read : {A : Type 0} (f : ℕ → A) (o : Option ℕ) (d : Data) (a : A) → whole_number d ≡ o → option_map f o ≡ Some a
+    → (n : ℕ) × (d ≡ number (unsigned n)) × (f n ≡ a)
+number-read f None d a e read = absurd cc
+number-read f (Some n) d a e read = (n, whole_number-read d n e, (cc))
+
+written : (d : Data) (n : ℕ) (ds rest : List Data) (c : RegisterCall) → d ≡ number (unsigned n) → Write n ≡ c → ds ≡ rest
+    → (codes "w" ≡ word_of c) × (d ∷ ds ≡ arguments c ++ rest)
+written d n ds rest c form call behind = rw (← call, ← behind, form) (refl, refl)
+
+write_read : (ds rest : List Data) (c : RegisterCall) → write_at ds ≡ Some (c, rest) → (codes "w" ≡ word_of c) × (ds ≡ arguments c ++ rest)
+write_read [] rest c e = absurd cc
+write_read (d ∷ ds) rest c e =
+    let p = number-read (λ (v : ℕ). (Write v, ds)) (whole_number d) d (c, rest) refl e in
+    written d p.0 ds rest c p.1 (ap (λ x. x.0) p.2) (ap (λ x. x.1) p.2)
+
+pub call_read : (w : List ℕ) (ds rest : List Data) (c : RegisterCall) → call_at w ds ≡ Some (c, rest) → (w ≡ word_of c) × (ds ≡ arguments c ++ rest)
+call_read w ds rest c e =
+    ⊎_elim
+    (λ (is_w : pointwise nat_eq w (codes "w") ≡ true).
+    let read = rw is_w at e in
+    let p = write_read ds rest c read in
+    (same_text w (codes "w") (sym is_w) ∙ p.0, p.1))
+    (λ (not_w : pointwise nat_eq w (codes "w") ≡ false). ⊎_elim
+    (λ (is_r : pointwise nat_eq w (codes "r") ≡ true).
+    let read : Some (Read, ds) ≡ Some (c, rest) = let h = rw not_w at e in rw is_r at h in
+    let same : (Read, ds) ≡ (c, rest) = same_Some (Read, ds) (c, rest) read in
+    let call : Read ≡ c = ap (λ x. x.0) same in
+    let behind : ds ≡ rest = ap (λ x. x.1) same in
+    rw (← call, ← behind) (same_text w (codes "r") (sym is_r), refl))
+    (λ (not_r : pointwise nat_eq w (codes "r") ≡ false). let h = rw not_w at e in let k : None ≡ Some (c, rest) = rw not_r at h in absurd cc)
+    (cases_Bool (pointwise nat_eq w (codes "r"))))
+    (cases_Bool (pointwise nat_eq w (codes "w")))
+
+pub call_again : (c : RegisterCall) (rest : List Data) → call_at (word_of c) (arguments c ++ rest) ≡ Some (c, rest)
+call_again (Write v) rest = refl
+call_again Read rest = refl
+
+answered : (d : Data) (n : ℕ) (r : RegisterRet) → d ≡ number (unsigned n) → Value n ≡ r → (d ∷ [] ≡ ret_form r) × (matches Read r ≡ true)
+answered d n r form ret = rw (← ret, form) (refl, refl)
+
+pub ret_read : (c : RegisterCall) (ds : List Data) (r : RegisterRet) → ret_at c ds ≡ Some r → (ds ≡ ret_form r) × (matches c r ≡ true)
+ret_read (Write v) [] r e = let h : Done ≡ r = cc in rw (← h) (refl, refl)
+ret_read (Write v) (d ∷ ds) r e = absurd cc
+ret_read Read [] r e = absurd cc
+ret_read Read (d ∷ []) r e =
+    let p = number-read (λ (v : ℕ). Value v) (whole_number d) d r refl e in
+    answered d p.0 r p.1 p.2
+ret_read Read (d ∷ f ∷ ds) r e = absurd cc
+
+pub ret_again : (c : RegisterCall) (r : RegisterRet) → matches c r ≡ true → ret_at c (ret_form r) ≡ Some r
+ret_again (Write v) Done e = refl
+ret_again (Write v) (Value n) e = absurd cc
+ret_again Read Done e = absurd cc
+ret_again Read (Value n) e = refl
+
+pub ret_is_known : (r : RegisterRet) → ret_form r ≢ unknown ∷ []
+ret_is_known Done e = absurd cc
+ret_is_known (Value v) e = let h : number (unsigned v) ≡ unknown = cc in absurd cc
+
+start_cases : (d : Data) (n s : ℕ) → whole_number d ≡ Some n → (if n == 0 then None else Some n) ≡ Some s → (d ≡ start_form s) × Unit {0} × (s ≢ 0)
+start_cases d n s e read =
+    ⊎_elim
+    (λ (is_0 : (n == 0) ≡ true). let h : None ≡ Some s = rw is_0 at read in absurd cc)
+    (λ (not_0 : (n == 0) ≡ false).
+    let h : Some n ≡ Some s = rw not_0 at read in
+    let same : n ≡ s = cc in
+    rw (← same) (whole_number-read d n e, tt, λ (z : n ≡ 0). let k = rw z at not_0 in absurd cc))
+    (cases_Bool (n == 0))
+
+pub start_read : (d : Data) (s : ℕ) → start_at d ≡ Some s → (d ≡ start_form s) × Unit {0} × (s ≢ 0)
+start_read d s e = option_and_then_some _ (whole_number d) s e (λ n number read. start_cases d n s number read)
+
+pub start_again : (s : ℕ) → Unit {0} → s ≢ 0 → start_at (start_form s) ≡ Some s
+start_again s _ not_plain =
+    ⊎_elim
+    (λ (is_0 : (s == 0) ≡ true). absurd (not_plain (eqb-true s 0 is_0)))
+    (λ (not_0 : (s == 0) ≡ false). rw not_0 refl)
+    (cases_Bool (s == 0))
+
+pub arguments_have_no_float : (c : RegisterCall) → HaveNoFloats (arguments c)
+arguments_have_no_float (Write v) = refl
+arguments_have_no_float Read = refl
+
+pub ret_has_no_float : (r : RegisterRet) → HaveNoFloats (ret_form r)
+ret_has_no_float Done = refl
+ret_has_no_float (Value v) = refl
+
+pub start_has_no_float : (s : ℕ) → has_float (start_form s) ≡ false
+start_has_no_float s = refl

@@ -1,0 +1,97 @@
+//! The JSON form of the histories of an object under keys.
+
+ghost use Rattle.std.specs.Prelude.{◌≡◌, ◌<◌, ◌^◌, [], ◌∷◌, map, option_map, IfOk};
+ghost use Rattle.serde_json.specs.View.{view};
+ghost use Rattle.operations.specs.Json.{elements};
+ghost use Rattle.operations.specs.Spelling.{keyed_form, keyed_at, table_elements, table_form, table_at};
+ghost use Rattle.operations.specs.KeyedFormLaws.{keyed_read, keyed_again, keyed_has_no_float};
+ghost use Rattle.operations.specs.TableFormLaws.{table_read, table_again, table_has_no_float};
+
+use crate::json::elements_of;
+use crate::keys::{keyed_parts, word_and_key};
+use crate::named::Named;
+use crate::spelled::Spelled;
+use objects::{Keyed, KeyedCall, MAX_ENTRIES, Table};
+use serde_json::Value;
+use std::alloc::{AllocError, Global};
+
+/// The elements of a table's form: 1 to 4,096.
+fn elements_of_table(value: &Value) -> Option<&[Value]>
+    ensures { option_map (λ vs. map view vs.now) result ≡ table_elements (view value.now) }
+{
+    let values = elements_of(value)?;
+    if 0 < values.len() && values.len() <= MAX_ENTRIES {
+        Some(values)
+    } else {
+        None
+    }
+}
+
+impl<O: Spelled> Named for Keyed<O> {
+    ghost name = { O.keyed_name };
+
+    ghost operation_form = { keyed_form O.word_of O.arguments O.ret_form };
+
+    ghost operation_at = { keyed_at O.call_at O.ret_at };
+
+    ghost start_form = { table_form O.start_form };
+
+    ghost start_at = { table_at O.start_at };
+
+    ghost is_call = { λ c. c.key < 2 ^ 32 };
+
+    ghost has_form = { λ _. Unit {0} };
+
+    ghost operation_read = { keyed_read O.word_of O.arguments O.ret_form O.call_at O.ret_at O.matches O.call_read O.ret_read };
+
+    ghost operation_again = { keyed_again O.word_of O.arguments O.ret_form O.call_at O.ret_at O.matches O.call_again O.ret_again O.ret_is_known };
+
+    ghost start_read = { table_read O.plain_start O.is_start O.start_form O.start_at O.start_read };
+
+    ghost start_again = { table_again O.plain_start O.is_start O.start_form O.start_at O.start_again };
+
+    ghost operation_has_no_float = { keyed_has_no_float O.word_of O.arguments O.ret_form O.arguments_have_no_float O.ret_has_no_float };
+
+    ghost start_has_no_float = { table_has_no_float O.start_form O.start_has_no_float };
+
+    fn name() -> &'static str {
+        O::keyed_name()
+    }
+
+    fn read_operation(value: &Value) -> Option<(KeyedCall<O::Call>, Option<O::Ret>)> {
+        let (word, key, rest) = keyed_parts(value)?;
+        let (call, ret) = O::read_spelled(word, rest)?;
+        Some((KeyedCall { key, call }, ret))
+    }
+
+    fn write_operation(
+        alloc: Global,
+        call: KeyedCall<O::Call>,
+        ret: Option<O::Ret>,
+    ) -> Result<Value, AllocError>
+        ensures { IfOk result (λ v. view v ≡ keyed_form O.word_of O.arguments O.ret_form call ret) }
+    {
+        let mut values = word_and_key(alloc, O::word(&call.call), call.key)?;
+        O::push_rest(alloc, &call.call, &ret, &mut values)?;
+        Ok(Value::from(values))
+    }
+
+    fn read_start(alloc: Global, rest: &[Value]) -> Result<Option<Table<O::Start>>, AllocError> {
+        match rest {
+            [] => Ok(Some(Table::new(alloc))),
+            [value] => match elements_of_table(value) {
+                Some(values) => O::read_entries(alloc, values),
+                None => Ok(None),
+            },
+            _ => Ok(None),
+        }
+    }
+
+    fn write_start(alloc: Global, start: &Table<O::Start>) -> Result<Option<Value>, AllocError> {
+        if start.is_empty() {
+            return Ok(None);
+        }
+        let values = O::write_entries(alloc, start.entries())?;
+        Ok(Some(Value::from(values)))
+    }
+}

@@ -1,0 +1,100 @@
+//! How a register is spelled.
+
+ghost use Rattle.std.specs.Prelude.{◌≡◌, ℕ, codes};
+ghost use Rattle.operations.specs.RegisterForm.{word_of, arguments, ret_form, call_at, ret_at, start_form, start_at};
+ghost use Rattle.operations.specs.RegisterFormLaws.{call_read, call_again, ret_read, ret_again, ret_is_known, start_read, start_again, arguments_have_no_float, ret_has_no_float, start_has_no_float};
+
+use crate::spelled::Spelled;
+use objects::{Register, RegisterCall, RegisterRet};
+use serde_json::Value;
+use std::alloc::AllocError;
+
+impl Spelled for Register {
+    ghost keyed_name = { codes "memory" };
+
+    ghost word_of = { word_of };
+
+    ghost arguments = { arguments };
+
+    ghost ret_form = { ret_form };
+
+    ghost call_at = { call_at };
+
+    ghost ret_at = { ret_at };
+
+    ghost start_form = { start_form };
+
+    ghost start_at = { start_at };
+
+    ghost call_read = { call_read };
+
+    ghost call_again = { call_again };
+
+    ghost ret_read = { ret_read };
+
+    ghost ret_again = { ret_again };
+
+    ghost ret_is_known = { ret_is_known };
+
+    ghost start_read = { start_read };
+
+    ghost start_again = { start_again };
+
+    ghost arguments_have_no_float = { arguments_have_no_float };
+
+    ghost ret_has_no_float = { ret_has_no_float };
+
+    ghost start_has_no_float = { start_has_no_float };
+
+    fn keyed_name() -> &'static str {
+        "memory"
+    }
+
+    fn word(call: &RegisterCall) -> &'static str {
+        match call {
+            RegisterCall::Write(_) => "w",
+            RegisterCall::Read => "r",
+        }
+    }
+
+    fn read_call<'a>(word: &str, values: &'a [Value]) -> Option<(RegisterCall, &'a [Value])> {
+        if word == "w" {
+            let (value, rest) = values.split_first()?;
+            Some((RegisterCall::Write(value.as_u64()?), rest))
+        } else if word == "r" {
+            Some((RegisterCall::Read, values))
+        } else {
+            None
+        }
+    }
+
+    fn read_ret(call: &RegisterCall, values: &[Value]) -> Option<RegisterRet> {
+        match (call, values) {
+            (RegisterCall::Write(_), []) => Some(RegisterRet::Done),
+            (RegisterCall::Read, [value]) => value.as_u64().map(RegisterRet::Value),
+            _ => None,
+        }
+    }
+
+    fn push_arguments(call: &RegisterCall, values: &mut Vec<Value>) -> Result<(), AllocError> {
+        match call {
+            RegisterCall::Write(value) => Ok(values.push(Value::from(*value))?),
+            RegisterCall::Read => Ok(()),
+        }
+    }
+
+    fn push_ret(ret: &RegisterRet, values: &mut Vec<Value>) -> Result<(), AllocError> {
+        match ret {
+            RegisterRet::Done => Ok(()),
+            RegisterRet::Value(value) => Ok(values.push(Value::from(*value))?),
+        }
+    }
+
+    fn read_start(value: &Value) -> Option<u64> {
+        value.as_u64().filter(|start| *start != 0)
+    }
+
+    fn write_start(start: &u64) -> Value {
+        Value::from(*start)
+    }
+}

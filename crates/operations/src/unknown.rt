@@ -1,0 +1,28 @@
+//! The text `"?"` in the place of a return that is not known.
+
+ghost use Rattle.std.specs.Prelude.{◌≡◌, [], ◌∷◌, ◌++◌, map, OnOk};
+ghost use Rattle.serde_json.specs.View.{view};
+ghost use Rattle.operations.specs.Json.{unknown as question_mark};
+ghost use Rattle.operations.specs.Spelling.{is_unknown_alone};
+
+use crate::json::is_question_mark;
+use serde_json::Value;
+use std::alloc::{AllocError, Global};
+
+/// Whether `"?"` stands there alone.
+pub fn is_question_mark_alone(values: &[Value]) -> bool
+    ensures { result ≡ is_unknown_alone (map view values.now) }
+{
+    match values {
+        [value] => is_question_mark(value),
+        _ => false,
+    }
+}
+
+/// Puts `"?"` behind the others.
+pub fn push_question_mark(alloc: Global, values: &mut Vec<Value>) -> Result<(), AllocError>
+    ensures { OnOk result (map view values.new.items ≡ map view values.old.items ++ question_mark ∷ []) }
+{
+    values.push(Value::try_from_str(alloc, "?")?)?;
+    Ok(())
+}
