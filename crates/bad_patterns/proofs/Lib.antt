@@ -1,0 +1,5 @@
+pub mod Listed
+pub mod Sorted
+pub mod Distinct
+pub mod Exclusion
+pub mod First

@@ -1,0 +1,5 @@
+use Rattle.bad_patterns.proofs.First.{no_pattern}
+use Rattle.bad_patterns.proofs.finding.find.Goals as goal
+
+pub returns-clause-none : goal.returns-clause-none
+returns-clause-none c = no_pattern c.args.h.now c.args.criterion c.first_thin_air_read.result c.map.result c.map.ensures.variant c.first_thin_air_read.ensures

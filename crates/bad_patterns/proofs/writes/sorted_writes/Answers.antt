@@ -1,0 +1,11 @@
+use Rattle.std.proofs.Common.{arith, rules}
+use Rattle.std.proofs.lemmas.List.Sorted.{answers_always}
+use Rattle.bad_patterns.proofs.Listed.{ListsWrites-end, ListsWrites-permutation}
+use Rattle.bad_patterns.proofs.writes.sorted_writes.Goals as goal
+
+pub returns-clause-writes : goal.returns-clause-writes
+returns-clause-writes c = ListsWrites-permutation _ _ _ c.sort_unstable_by_key.ensures.permutation
+    (ListsWrites-end c.args.h.now c.loop-session.session c.loop-session.writes.items (omega arith) c.loop-session.invariant)
+
+pub returns-clause-sorted : goal.returns-clause-sorted
+returns-clause-sorted c = c.sort_unstable_by_key.ensures.sorted (λ w. (w.key, w.value)) (answers_always _ _ _ (λ f a r q k. search rules))

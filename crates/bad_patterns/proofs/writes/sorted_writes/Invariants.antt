@@ -1,0 +1,6 @@
+use Rattle.bad_patterns.specs.Written.{ListsWritesBefore, op}
+use Rattle.bad_patterns.proofs.writes.sorted_writes.Given as goal
+
+-- the writes of the sessions so far are listed
+abbrev pub invariant-loop-session : goal.invariant-loop-session
+invariant-loop-session l = ListsWritesBefore l.h (op l.session 0) l.writes.items

@@ -1,0 +1,22 @@
+-- Which pattern is found.
+use Rattle.std.specs.Prelude.{◌≡◌, ℕ, ◌<◌}
+use Rattle.operations.specs.declared.op_id.OpId.{OpId}
+use Rattle.bad_patterns.specs.declared.pattern.Pattern.{Pattern}
+use Rattle.bad_patterns.specs.declared.pattern.Pattern.TheVariants.{ThinAirRead}
+use Rattle.bad_patterns.specs.Memory.{MemoryHistory}
+use Rattle.bad_patterns.specs.Kinds.{IsThinAirRead}
+use Rattle.bad_patterns.specs.Written.{op, IsEarlier}
+
+-- a thin-air read, and no earlier operation is one
+pub record IsFirst (h : MemoryHistory) (r : OpId) : Type 0 where
+  pub thin_air : IsThinAirRead h r
+  pub none_earlier : (a : OpId) → IsEarlier a r → ¬ IsThinAirRead h a
+
+abbrev pub IsFirstFound : MemoryHistory → Pattern → Type 0
+IsFirstFound h (ThinAirRead r) = IsFirst h r
+
+-- a thin-air read of a session, and no earlier operation of that session is one
+pub record IsFirstOf (h : MemoryHistory) (s : ℕ) (r : OpId) : Type 0 where
+  pub thin_air : IsThinAirRead h r
+  pub of_session : r.session ≡ s
+  pub none_earlier : (i : ℕ) → i < r.index → ¬ IsThinAirRead h (op s i)

@@ -1,0 +1,47 @@
+-- The bad patterns of Bouajjani, Enea, Guerraoui and Hamza ("On Verifying Causal Consistency", POPL 2017, the table of bad
+-- patterns), where the value 0 of the paper is the initial value of a variable.
+use Rattle.std.specs.Prelude.{◌≢◌, ◌⊎◌, ℕ, Bool, true, false, IsTrue}
+use Rattle.operations.specs.declared.op_id.OpId.{OpId}
+use Rattle.cert_check.specs.declared.criterion.Criterion.{Criterion}
+use Rattle.cert_check.specs.declared.criterion.Criterion.TheVariants.{Cc, Cm, Ccv}
+use Rattle.cert_check.specs.Orders.{program_past}
+use Rattle.bad_patterns.specs.declared.kind.Kind.{Kind}
+use Rattle.bad_patterns.specs.declared.kind.Kind.TheVariants.{CyclicCO, ThinAirRead, WriteCOInitRead, WriteCORead, WriteHBInitRead, CyclicHB, CyclicCF}
+use Rattle.bad_patterns.specs.Memory.{MemoryHistory, initial, Writes, Reads, IsDifferentiated}
+use Rattle.bad_patterns.specs.Relations.{Leads, ReadsFrom, CO, AreRivalWrites, CF, HB}
+
+-- which kinds exclude which criterion
+abbrev pub is_against : Kind → Criterion → Bool
+is_against CyclicCO criterion = true
+is_against ThinAirRead criterion = true
+is_against WriteCOInitRead criterion = true
+is_against WriteCORead criterion = true
+is_against WriteHBInitRead Cc = false
+is_against WriteHBInitRead Cm = true
+is_against WriteHBInitRead Ccv = false
+is_against CyclicHB Cc = false
+is_against CyclicHB Cm = true
+is_against CyclicHB Ccv = false
+is_against CyclicCF Cc = false
+is_against CyclicCF Cm = false
+is_against CyclicCF Ccv = true
+
+module _ (h : MemoryHistory) where
+  -- a known read of a value that is not the initial one and that nobody wrote
+  abbrev pub IsThinAirRead : OpId → Type 0
+  IsThinAirRead r = (x v : ℕ) × Reads h r x v × (v ≢ initial h x) × ((w : OpId) → ¬ Writes h w x v)
+
+  -- what each kind is
+  abbrev pub Shows : Kind → Type 0
+  Shows CyclicCO = (a : OpId) × CO h a a
+  Shows ThinAirRead = (r : OpId) × IsThinAirRead r
+  Shows WriteCOInitRead = (w r : OpId) × (x v : ℕ) × Writes h w x v × Reads h r x (initial h x) × CO h w r
+  Shows WriteCORead = (a b r : OpId) × ReadsFrom h a r × AreRivalWrites h a b × CO h a b × CO h b r
+  Shows WriteHBInitRead =
+      (o w r : OpId) × (x v : ℕ) × Writes h w x v × Reads h r x (initial h x) × IsTrue (program_past o r) × HB h o w r
+  Shows CyclicHB = (o a : OpId) × HB h o a a
+  Shows CyclicCF = (a : OpId) × Leads (λ b c. CO h b c ⊎ CF h b c) a a
+
+  -- a kind is present in a history of distinct values that shows it
+  abbrev pub IsPresent : Kind → Type 0
+  IsPresent kind = IsDifferentiated h × Shows kind

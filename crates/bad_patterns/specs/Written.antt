@@ -1,0 +1,40 @@
+-- Lists of the writes of a memory history.
+use Rattle.std.specs.Prelude.{◌≡◌, ◌⊎◌, ℕ, ◌<◌, List, Contains, IsSortedByKey}
+use Rattle.std.specs.Ordering.{nat_cmp, ordering_then}
+use Rattle.std.specs.declared.cmp.Ordering.{Ordering}
+use Rattle.operations.specs.declared.op_id.OpId.{OpId}
+use Rattle.bad_patterns.specs.declared.writes.Write.{Write}
+use Rattle.bad_patterns.specs.Memory.{MemoryHistory, Writes}
+
+-- the operation with this index of this session
+abbrev pub op : ℕ → ℕ → OpId
+op s i = record { session = s; index = i }
+
+-- the order of operations: by session, then by index
+abbrev pub IsEarlier : OpId → OpId → Type 0
+IsEarlier a b = (a.session < b.session) ⊎ ((a.session ≡ b.session) × (a.index < b.index))
+
+-- a list names the writes of h, and nothing else
+pub record ListsWrites (h : MemoryHistory) (writes : List Write) : Type 0 where
+  pub each : (a : OpId) (x v : ℕ) → Writes h a x v → Contains writes (record { op = a; key = x; value = v })
+  pub no_other : (w : Write) → Contains writes w → Writes h w.op w.key w.value
+
+-- a list names the writes of h that are earlier than an operation, and nothing but writes
+pub record ListsWritesBefore (h : MemoryHistory) (o : OpId) (writes : List Write) : Type 0 where
+  pub each : (a : OpId) (x v : ℕ) → IsEarlier a o → Writes h a x v → Contains writes (record { op = a; key = x; value = v })
+  pub no_other : (w : Write) → Contains writes w → Writes h w.op w.key w.value
+
+-- by variable, then by value
+abbrev pub by_variable : ℕ × ℕ → ℕ × ℕ → Ordering
+by_variable a b = ordering_then (nat_cmp a.0 b.0) (nat_cmp a.1 b.1)
+
+abbrev pub IsSorted : List Write → Type 0
+IsSorted writes = IsSortedByKey (λ w. (w.key, w.value)) by_variable writes
+
+-- if two entries write one value to one variable, they are of one operation
+abbrev pub IsOne : Write → Write → Type 0
+IsOne a b = a.key ≡ b.key → a.value ≡ b.value → a.op ≡ b.op
+
+-- no two operations among the writes write one value to one variable
+abbrev pub AreOnce : List Write → Type 0
+AreOnce writes = (a b : Write) → Contains writes a → Contains writes b → IsOne a b

@@ -1,0 +1,68 @@
+ghost use Rattle.std.specs.Prelude.{ℕ, IfNone, IfOk, IfSome, MatchOption};
+ghost use Rattle.bad_patterns.specs.Kinds.{IsThinAirRead};
+ghost use Rattle.bad_patterns.specs.Patterns.{IsBadPattern};
+ghost use Rattle.bad_patterns.specs.Written.{IsSorted, ListsWrites, op};
+ghost use Rattle.bad_patterns.specs.Found.{IsFirst, IsFirstFound, IsFirstOf};
+
+use crate::differentiation::are_distinct;
+use crate::kind::Kind;
+use crate::pattern::Pattern;
+use crate::thin_air::is_thin_air_read;
+use crate::writes::{Write, sorted_writes};
+use cert_check::Criterion;
+use objects::Memory;
+use operations::{History, OpId};
+use std::alloc::{AllocError, Global};
+
+/// A pattern that shows that the history does not meet the criterion, where there is one: the first read of a value that
+/// nobody wrote.
+///
+/// There is none where the history does not have distinct values. Fails for want of memory alone. O(n log n) for n
+/// operations.
+pub fn find(
+    alloc: Global,
+    h: &History<Memory>,
+    criterion: Criterion,
+) -> Result<Option<Pattern>, AllocError>
+    ensures found { IfOk result (λ found. IfSome found (IsBadPattern h.now criterion)) }
+    ensures first { IfOk result (λ found. IfSome found (IsFirstFound h.now)) }
+    ensures none { IfOk result (λ found. IfNone found ((pattern : Pattern) → ¬ IsBadPattern h.now criterion pattern)) }
+{
+    if !Kind::ThinAirRead.is_against(criterion) {
+        return Ok(None);
+    }
+    let writes = sorted_writes(alloc, h)?;
+    if !are_distinct(h, &writes) {
+        return Ok(None);
+    }
+    Ok(first_thin_air_read(h, &writes).map(Pattern::ThinAirRead))
+}
+
+/// The first thin-air read of the history. O(n log n) for n operations.
+fn first_thin_air_read(h: &History<Memory>, writes: &[Write]) -> Option<OpId>
+    requires writes { ListsWrites h.now writes.now }
+    requires sorted { IsSorted writes.now }
+    ensures { MatchOption result ((r : OpId) → ¬ IsThinAirRead h.now r) (IsFirst h.now) }
+{
+    for session in 0..h.sessions() as u64 {
+        if let Some(read) = first_thin_air_read_of(h, writes, session) {
+            return Some(read);
+        }
+    }
+    None
+}
+
+/// The first thin-air read of a session.
+fn first_thin_air_read_of(h: &History<Memory>, writes: &[Write], session: u64) -> Option<OpId>
+    requires writes { ListsWrites h.now writes.now }
+    requires sorted { IsSorted writes.now }
+    ensures { MatchOption result ((i : ℕ) → ¬ IsThinAirRead h.now (op session i)) (IsFirstOf h.now session) }
+{
+    for index in 0..h.len(session) as u64 {
+        let read = OpId { session, index };
+        if is_thin_air_read(h, writes, read) {
+            return Some(read);
+        }
+    }
+    None
+}

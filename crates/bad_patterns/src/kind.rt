@@ -1,0 +1,39 @@
+ghost use Rattle.std.specs.Prelude.{◌≡◌};
+ghost use Rattle.bad_patterns.specs.Kinds.{is_against};
+
+use cert_check::Criterion;
+
+/// The kinds of bad patterns, after Bouajjani, Enea, Guerraoui and Hamza, "On Verifying Causal Consistency" (2017).
+///
+/// The first four are against every criterion, the next two against causal memory, and the last against causal
+/// convergence.
+#[derive(Clone, Copy, Debug, PartialEq, Eq)]
+pub enum Kind {
+    /// The causal order has a cycle.
+    CyclicCO,
+    /// A read of a value that nobody wrote.
+    ThinAirRead,
+    /// A read of the initial value of a variable after a write of it.
+    WriteCOInitRead,
+    /// A read from a write after another write of the variable came between.
+    WriteCORead,
+    /// What an operation's session has read puts a write before a read of the initial value.
+    WriteHBInitRead,
+    /// What an operation's session has read puts an operation before itself.
+    CyclicHB,
+    /// The causal order and the conflicts of writes have a cycle together.
+    CyclicCF,
+}
+
+impl Kind {
+    /// Whether a history with a pattern of this kind can't meet the criterion.
+    pub fn is_against(self, criterion: Criterion) -> bool
+        ensures { result ≡ is_against self criterion }
+    {
+        match self {
+            Kind::CyclicCO | Kind::ThinAirRead | Kind::WriteCOInitRead | Kind::WriteCORead => true,
+            Kind::WriteHBInitRead | Kind::CyclicHB => criterion == Criterion::Cm,
+            Kind::CyclicCF => criterion == Criterion::Ccv,
+        }
+    }
+}

@@ -1,0 +1,22 @@
+ghost use Rattle.std.specs.Prelude.{◌↔◌, IsTrue};
+ghost use Rattle.bad_patterns.specs.Kinds.{IsThinAirRead};
+ghost use Rattle.bad_patterns.specs.Written.{IsSorted, ListsWrites};
+
+use crate::reads::{initial_value, known_read};
+use crate::writes::{Write, is_written};
+use objects::Memory;
+use operations::{History, OpId};
+
+/// Whether the operation is a known read of a value that is not the initial one and that nobody wrote.
+///
+/// The writes are those of the history. O(log n) for n operations.
+pub fn is_thin_air_read(h: &History<Memory>, writes: &[Write], op: OpId) -> bool
+    requires writes { ListsWrites h.now writes.now }
+    requires sorted { IsSorted writes.now }
+    ensures { IsTrue result ↔ IsThinAirRead h.now op }
+{
+    match known_read(h, op) {
+        Some((key, value)) => value != initial_value(h, key) && !is_written(writes, key, value),
+        None => false,
+    }
+}

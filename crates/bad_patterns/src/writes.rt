@@ -1,0 +1,63 @@
+ghost use Rattle.std.specs.Prelude.{◌≡◌, ◌+◌, ◌<◌, ◌↔◌, length, Contains, IfOk, IsTrue, OnOk};
+ghost use Rattle.bad_patterns.specs.Written.{IsSorted, ListsWrites, ListsWritesBefore, op};
+
+use objects::{Memory, RegisterCall};
+use operations::{History, OpId};
+use std::alloc::{AllocError, Global};
+
+/// An operation that writes a value to a variable.
+#[derive(Clone, Copy)]
+pub struct Write {
+    pub op: OpId,
+    pub key: u32,
+    pub value: u64,
+}
+
+/// The writes of a history, by variable and value. O(n log n) for n operations.
+pub fn sorted_writes(alloc: Global, h: &History<Memory>) -> Result<Vec<Write>, AllocError>
+    ensures writes { IfOk result (λ writes. ListsWrites h.now writes.items) }
+    ensures sorted { IfOk result (λ writes. IsSorted writes.items) }
+{
+    let mut writes = Vec::new(alloc);
+    for session in 0..h.sessions() {
+        push_writes(h, session, &mut writes)?;
+    }
+    writes.sort_unstable_by_key(|write| (write.key, write.value));
+    Ok(writes)
+}
+
+/// Puts the writes of a session behind those of the sessions before it.
+fn push_writes(
+    h: &History<Memory>,
+    session: usize,
+    writes: &mut Vec<Write>,
+) -> Result<(), AllocError>
+    requires exists { session < length h.now.1 }
+    requires so_far { ListsWritesBefore h.now (op session 0) writes.old.items }
+    ensures { OnOk result (ListsWritesBefore h.now (op (session + 1) 0) writes.new.items) }
+{
+    for (index, (call, _)) in h.session(session).iter().enumerate() {
+        if let RegisterCall::Write(value) = call.call {
+            let op = OpId {
+                session: session as u64,
+                index: index as u64,
+            };
+            writes.push(Write {
+                op,
+                key: call.key,
+                value,
+            })?;
+        }
+    }
+    Ok(())
+}
+
+/// Whether one of the writes, which are sorted, writes this value to this variable. O(log n) for n writes.
+pub fn is_written(writes: &[Write], key: u32, value: u64) -> bool
+    requires { IsSorted writes.now }
+    ensures { IsTrue result ↔ ((w : Write) × Contains writes.now w × (w.key ≡ key) × (w.value ≡ value)) }
+{
+    writes
+        .binary_search_by_key(&(key, value), |write| (write.key, write.value))
+        .is_ok()
+}

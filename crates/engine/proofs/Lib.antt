@@ -1,0 +1,2 @@
+pub mod FirstWord
+pub mod Usages

@@ -1,0 +1,10 @@
+use Rattle.std.proofs.Common.{◌≤◌, vec_len}
+use Rattle.std.specs.Io.KnownBytes.{Consumes}
+use Rattle.engine.specs.declared.input.TheConstants.{MOST_INPUT_BYTES}
+use Rattle.engine.proofs.input.read_input.Given as goal
+
+abbrev pub invariant-loop : goal.invariant-loop
+invariant-loop g l = record {
+  taken : Consumes (g.R.Read.remaining l.initial.reader) (g.R.Read.remaining l.reader) l.input.items;
+  within : vec_len l.input ≤ MOST_INPUT_BYTES;
+}

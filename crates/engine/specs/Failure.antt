@@ -1,0 +1,61 @@
+-- What the program says of a run: its exit status, and its line on standard error.
+use Rattle.std.specs.Prelude.{ℕ, List, ◌++◌, codes, decimal, Result, Ok, Err}
+use Rattle.engine.specs.declared.failure.RunError.{RunError}
+use Rattle.engine.specs.declared.failure.RunError.TheVariants.{History, TooLong, Memory, ReadFault, WriteFault}
+use Rattle.operations.specs.declared.op_id.OpId.{OpId}
+use Rattle.operations.specs.declared.read_error.ReadError.{ReadError}
+use Rattle.operations.specs.declared.read_error.ReadError.TheVariants.{BadOp, ReturnAfterUnknown, Memory as NoMemory}
+use Rattle.operations.specs.Refusals.{number_of}
+
+-- how a run fails whose input is refused: of want of memory alone it says so itself
+abbrev pub failure_of : ReadError → RunError
+failure_of NoMemory = Memory
+failure_of refusal = History refusal
+
+-- the exit status of a refused history: 4 where memory ran out, and else 1
+abbrev pub refusal_status : ReadError → ℕ
+refusal_status NoMemory = 4
+refusal_status _ = 1
+
+-- the exit status of a failed run: 1 for a refusal, 3 for a fault of the reader or the writer, 4 for want of memory
+abbrev pub failure_status : RunError → ℕ
+failure_status (History refusal) = refusal_status refusal
+failure_status TooLong = 1
+failure_status Memory = 4
+failure_status ReadFault = 3
+failure_status WriteFault = 3
+
+-- the exit status of a run: 0 where it was judged
+abbrev pub status_for : Result Unit RunError → ℕ
+status_for (Ok _) = 0
+status_for (Err e) = failure_status e
+
+-- `refused N`, and `refused N s.i`
+abbrev pub refused : ℕ → List ℕ
+refused number = codes "refused " ++ decimal number
+
+abbrev pub refused_at : ℕ → OpId → List ℕ
+refused_at number op =
+    codes "refused " ++ (decimal number ++ (codes " " ++ (decimal op.session ++ (codes "." ++ decimal op.index))))
+
+-- the line for a refused history: the number of the refusal, and the operation at fault where there is one
+abbrev pub refusal_line : ReadError → List ℕ
+refusal_line (BadOp op) = refused_at 4 op
+refusal_line (ReturnAfterUnknown op) = refused_at 5 op
+refusal_line NoMemory = codes "no memory"
+refusal_line refusal = refused (number_of refusal)
+
+-- the line for a failed run
+abbrev pub line_for : RunError → List ℕ
+line_for (History refusal) = refusal_line refusal
+line_for TooLong = codes "refused 9"
+line_for Memory = codes "no memory"
+line_for ReadFault = codes "read fault"
+line_for WriteFault = codes "write fault"
+
+-- what can come of reading the input, beside the input
+abbrev pub IsInputError : RunError → Type 0
+IsInputError TooLong = Unit {0}
+IsInputError ReadFault = Unit {0}
+IsInputError Memory = Unit {0}
+IsInputError _ = ⊥

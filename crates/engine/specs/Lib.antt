@@ -1,0 +1,5 @@
+pub mod CommandLine
+pub mod Failure
+pub mod Report
+pub mod Running
+pub mod Transfer

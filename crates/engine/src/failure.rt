@@ -1,0 +1,110 @@
+//! Why a run gave no answer, and what the program says of it.
+ghost use Rattle.std.specs.Prelude.{◌≡◌, IfOk, string_bytes};
+ghost use Rattle.engine.specs.Failure.{line_for, refusal_line, refused_at, status_for};
+
+use operations::{OpId, ReadError};
+use std::alloc::{AllocError, AllocFailed, Global};
+use thiserror::Error;
+
+/// Why a run gave no answer.
+#[derive(Debug, Drop, Error)]
+pub enum RunError {
+    /// The history in the input is refused.
+    #[error("the history is refused: {0}")]
+    History(ReadError),
+    /// The input has more bytes than are read.
+    #[error("the input has more than {most} bytes", most = crate::input::MOST_INPUT_BYTES)]
+    TooLong,
+    /// Memory ran out.
+    #[error("out of memory")]
+    Memory,
+    /// The reader failed, or it did not come to its end in as many read calls as a run makes.
+    #[error("the input could not be read")]
+    ReadFault,
+    /// The writer failed, or took nothing.
+    #[error("the answer could not be written")]
+    WriteFault,
+}
+
+impl From<AllocError> for RunError {
+    ghost use Rattle.std.specs.Prelude.{◌≡◌};
+    ghost use Rattle.engine.specs.declared.failure.RunError.TheVariants.{Memory};
+
+    ghost from_gives = { λ _ e. e ≡ Memory };
+
+    fn from(_refused: AllocError) -> RunError {
+        RunError::Memory
+    }
+}
+
+impl<T: Drop> From<AllocFailed<T>> for RunError {
+    ghost use Rattle.std.specs.Prelude.{◌≡◌};
+    ghost use Rattle.engine.specs.declared.failure.RunError.TheVariants.{Memory};
+
+    ghost from_gives = { λ _ e. e ≡ Memory };
+
+    fn from(_refused: AllocFailed<T>) -> RunError {
+        RunError::Memory
+    }
+}
+
+impl From<ReadError> for RunError {
+    ghost use Rattle.std.specs.Prelude.{◌≡◌};
+    ghost use Rattle.engine.specs.Failure.{failure_of};
+
+    ghost from_gives = { λ refusal e. e ≡ failure_of refusal };
+
+    fn from(refusal: ReadError) -> RunError {
+        match refusal {
+            ReadError::Memory => RunError::Memory,
+            _ => RunError::History(refusal),
+        }
+    }
+}
+
+/// The exit status after a run: 0 where it was judged, 1 where its input was refused, 3 where its reader or its writer
+/// failed, and 4 where memory ran out.
+pub fn status_of(outcome: &Result<(), RunError>) -> u8
+    ensures { result ≡ status_for outcome.now }
+{
+    match outcome {
+        Ok(()) => 0,
+        Err(RunError::Memory | RunError::History(ReadError::Memory)) => 4,
+        Err(RunError::ReadFault | RunError::WriteFault) => 3,
+        Err(RunError::History(_) | RunError::TooLong) => 1,
+    }
+}
+
+/// The line on standard error after a run that failed, without its line feed: `refused N`, `refused N s.i` with the
+/// operation that is at fault, `read fault`, `write fault` or `no memory`.
+pub fn fault_line(alloc: Global, error: &RunError) -> Result<String, AllocError>
+    ensures { IfOk result (λ line. string_bytes line ≡ line_for error.now) }
+{
+    match error {
+        RunError::History(refusal) => history_line(alloc, refusal),
+        RunError::TooLong => String::from_str(alloc, "refused 9"),
+        RunError::Memory => String::from_str(alloc, "no memory"),
+        RunError::ReadFault => String::from_str(alloc, "read fault"),
+        RunError::WriteFault => String::from_str(alloc, "write fault"),
+    }
+}
+
+// The line for a history that is refused.
+fn history_line(alloc: Global, refusal: &ReadError) -> Result<String, AllocError>
+    ensures { IfOk result (λ line. string_bytes line ≡ refusal_line refusal.now) }
+{
+    match refusal {
+        ReadError::Memory => String::from_str(alloc, "no memory"),
+        ReadError::BadOp(op) => operation_line(alloc, refusal.number(), *op),
+        ReadError::ReturnAfterUnknown(op) => operation_line(alloc, refusal.number(), *op),
+        _ => format!(in alloc; "refused {}", refusal.number()),
+    }
+}
+
+// The line for a refusal with the operation at fault.
+fn operation_line(alloc: Global, number: u8, op: OpId) -> Result<String, AllocError>
+    ensures { IfOk result (λ line. string_bytes line ≡ refused_at number op) }
+{
+    let OpId { session, index } = op;
+    format!(in alloc; "refused {number} {session}.{index}")
+}

@@ -1,0 +1,19 @@
+//! The engine of the program `causal_judge`: from the words of a command line and the bytes of an input to the bytes of
+//! an answer.
+#![tactic(auto)]
+
+mod command_line;
+mod failure;
+mod input;
+mod output;
+mod program;
+mod report;
+mod running;
+
+pub use command_line::{Order, Usage, command_of};
+pub use failure::{RunError, fault_line, status_of};
+pub use input::{MOST_INPUT_BYTES, MOST_READ_CALLS, read_input};
+pub use output::write_answer;
+pub use program::status_of_process;
+pub use report::{Answer, answer_of, report_line};
+pub use running::{answer_to, run};

@@ -1,0 +1,84 @@
+//! The process: its words, its streams and its exit status.
+ghost use Rattle.std.specs.Prelude.{◌≡◌, ◌≤◌, ◌⊎◌};
+ghost use Rattle.engine.specs.Failure.{status_for};
+ghost use Rattle.engine.specs.CommandLine.{IsUsageStatus};
+
+use crate::command_line::{Order, Usage, command_of};
+use crate::running::run;
+use crate::failure::{RunError, fault_line, status_of};
+use std::alloc::Global;
+use std::rt::Env;
+use std::{env, io};
+
+const USAGE_STATUS: u8 = 2;
+
+/// Does what the process's words order, and returns its exit status.
+///
+/// An answer or the help goes to standard output. What is wrong goes to standard error: the text of a usage fault,
+/// with status 2, or the line of a run that failed.
+pub fn status_of_process<P: Env + AllocGlobal + Input + Print + Eprint>(rt: &P) -> u8
+    ensures { result ≤ 4 }
+{
+    match order_of_process(rt) {
+        Ok(order) => {
+            let outcome = run(rt, &mut rt.reader(), &mut io::writer(rt), &order);
+            report(rt, outcome)
+        }
+        Err(usage) => report_usage(rt, usage),
+    }
+}
+
+// Writes what is said of words that give no order, and returns the exit status.
+fn report_usage<P: AllocGlobal + Print + Eprint>(rt: &P, usage: Usage) -> u8
+    ensures { IsUsageStatus usage result }
+{
+    match usage {
+        Usage::Help(text) => report(rt, rt.print(text).map_err(|_| RunError::WriteFault)),
+        Usage::Memory => report(rt, Err(RunError::Memory)),
+        Usage::Fault(text) => {
+            let _ = rt.eprint(text);
+            USAGE_STATUS
+        }
+    }
+}
+
+fn order_of_process<P: Env + AllocGlobal>(rt: &P) -> Result<Order, Usage> {
+    let words = words_of_process(rt)?;
+    command_of(rt.alloc(), words.as_slice())
+}
+
+fn words_of_process<P: Env + AllocGlobal>(rt: &P) -> Result<Vec<String>, Usage> {
+    match env::args(rt) {
+        Ok(words) => words.collect(rt.alloc()).map_err(|_| Usage::Memory),
+        Err(error) if error.kind() == io::ErrorKind::OutOfMemory => Err(Usage::Memory),
+        Err(_) => Err(bad_words(rt.alloc())),
+    }
+}
+
+// The fault of words that are no text.
+fn bad_words(alloc: Global) -> Usage {
+    let text =
+        "error: invalid UTF-8 was detected in one or more arguments\n\nFor more information, try '--help'.\n";
+    match String::from_str(alloc, text) {
+        Ok(text) => Usage::Fault(text),
+        Err(_) => Usage::Memory,
+    }
+}
+
+// Writes the line of a run that failed, and returns the exit status. Where there is no memory for the line, that is
+// what the process ends with.
+fn report<P: AllocGlobal + Eprint>(rt: &P, outcome: Result<(), RunError>) -> u8
+    ensures status { (result ≡ status_for outcome) ⊎ (result ≡ 4) }
+    ensures few { result ≤ 4 }
+{
+    let status = status_of(&outcome);
+    let Err(error) = outcome else {
+        return status;
+    };
+    let Ok(line) = fault_line(rt.alloc(), &error) else {
+        let _ = rt.eprintln("no memory");
+        return status_of(&Err(RunError::Memory));
+    };
+    let _ = rt.eprintln(line);
+    status
+}

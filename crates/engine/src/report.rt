@@ -1,0 +1,84 @@
+//! What is said of a history.
+
+ghost use Rattle.std.specs.Prelude.{◌≡◌, IfOk, string_bytes};
+ghost use Rattle.engine.specs.Report.{IsTrueOf, OnlyWithoutPattern, line_for, name_of, kind_name};
+
+use bad_patterns::{Kind, check_pattern, find};
+use cert_check::Criterion;
+use objects::Memory;
+use operations::{AnyHistory, History};
+use std::alloc::{AllocError, Global};
+
+/// What is known of a history and a criterion.
+#[derive(Clone, Copy, Debug, PartialEq, Eq)]
+pub enum Answer {
+    /// The history does not meet the criterion: a pattern of this kind is in it.
+    No(Kind),
+    /// Nothing is known.
+    Unknown,
+}
+
+/// What is known of a history and a criterion.
+///
+/// `No` where a bad pattern is found and checked. Fails for want of memory alone. O(n log n) for n operations.
+pub fn answer_of(alloc: Global, history: &AnyHistory, criterion: Criterion) -> Result<Answer, AllocError>
+    ensures truth { IfOk result (IsTrueOf history.now criterion) }
+    ensures unknown { IfOk result (OnlyWithoutPattern history.now criterion) }
+{
+    match history {
+        AnyHistory::Memory(history) => answer_of_memory(alloc, history, criterion),
+    }
+}
+
+// The same of a memory history.
+fn answer_of_memory(alloc: Global, history: &History<Memory>, criterion: Criterion) -> Result<Answer, AllocError>
+    ensures truth { IfOk result (IsTrueOf (AnyHistory.Memory history.now) criterion) }
+    ensures unknown { IfOk result (OnlyWithoutPattern (AnyHistory.Memory history.now) criterion) }
+{
+    let Some(pattern) = find(alloc, history, criterion)? else {
+        return Ok(Answer::Unknown);
+    };
+    if check_pattern(alloc, history, criterion, &pattern)? {
+        Ok(Answer::No(pattern.kind()))
+    } else {
+        Ok(Answer::Unknown)
+    }
+}
+
+/// The line of a report: the criterion, a space, the answer and a line feed.
+pub fn report_line(alloc: Global, criterion: Criterion, answer: Answer) -> Result<String, AllocError>
+    ensures { IfOk result (λ text. string_bytes text ≡ line_for criterion answer) }
+{
+    let name = criterion_name(criterion);
+    match answer {
+        Answer::No(kind) => {
+            let kind = name_of_kind(kind);
+            format!(in alloc; "{name} no {kind}\n")
+        }
+        Answer::Unknown => format!(in alloc; "{name} unknown\n"),
+    }
+}
+
+fn criterion_name(criterion: Criterion) -> &'static str
+    ensures { result.now ≡ name_of criterion }
+{
+    match criterion {
+        Criterion::Cc => "cc",
+        Criterion::Cm => "cm",
+        Criterion::Ccv => "ccv",
+    }
+}
+
+fn name_of_kind(kind: Kind) -> &'static str
+    ensures { result.now ≡ kind_name kind }
+{
+    match kind {
+        Kind::CyclicCO => "CyclicCO",
+        Kind::ThinAirRead => "ThinAirRead",
+        Kind::WriteCOInitRead => "WriteCOInitRead",
+        Kind::WriteCORead => "WriteCORead",
+        Kind::WriteHBInitRead => "WriteHBInitRead",
+        Kind::CyclicHB => "CyclicHB",
+        Kind::CyclicCF => "CyclicCF",
+    }
+}

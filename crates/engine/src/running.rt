@@ -1,0 +1,57 @@
+//! One run of the program: from the bytes of its input to the bytes of its answer.
+ghost use Rattle.std.specs.Prelude.{◌≡◌, ◌≢◌, IfErr, IfOk, OnOk, string_bytes};
+ghost use Rattle.std.specs.Io.KnownBytes.{IsAtEnd};
+ghost use Rattle.engine.specs.Running.{Answers, Fails, IsAnswer, IsAnswerError};
+
+use crate::command_line::Order;
+use crate::failure::RunError;
+use crate::input::read_input;
+use crate::output::write_answer;
+use crate::report::{answer_of, report_line};
+use cert_check::Criterion;
+use operations::read_history;
+use std::alloc::Global;
+use std::io::{Read, Write};
+
+/// Reads the whole input, makes the whole answer that the order asks for, and then writes it.
+///
+/// Nothing is written before the answer is made: after every error but a write fault the writer is as it was. How much
+/// was written before a write fault is not said, nor how much was read before an error. O(n log n) for an input of n
+/// bytes.
+pub fn run<P: AllocGlobal, R: Read, W: Write>(
+    rt: &P,
+    reader: &mut R,
+    writer: &mut W,
+    order: &Order,
+) -> Result<(), RunError>
+    ensures answered { OnOk result (Answers order.now (R.remaining reader.old)
+        (W.contents writer.old) (W.contents writer.new)) }
+    ensures end { OnOk result (IsAtEnd (R.remaining reader.new)) }
+
+    ensures failed { IfErr result (Fails order.now (R.remaining reader.old)) }
+    ensures unwritten { IfErr result (λ e. e ≢ RunError.WriteFault → writer.new ≡ writer.old) }
+{
+    let input = read_input(rt.alloc(), reader)?;
+    let answer = answer_to(rt.alloc(), input.as_slice(), order)?;
+    write_answer(writer, answer.as_bytes())
+}
+
+/// The whole answer to an input, as the order asks.
+pub fn answer_to(alloc: Global, input: &[u8], order: &Order) -> Result<String, RunError>
+    ensures answer { IfOk result (λ text. IsAnswer order.now input.now (string_bytes text)) }
+    ensures error { IfErr result (IsAnswerError order.now input.now) }
+{
+    match order {
+        Order::Judge => judge(alloc, input),
+    }
+}
+
+// The report on a history.
+fn judge(alloc: Global, input: &[u8]) -> Result<String, RunError>
+    ensures answer { IfOk result (λ text. IsAnswer Order.Judge input.now (string_bytes text)) }
+    ensures error { IfErr result (IsAnswerError Order.Judge input.now) }
+{
+    let history = read_history(alloc, input)?;
+    let answer = answer_of(alloc, &history, Criterion::Cc)?;
+    Ok(report_line(alloc, Criterion::Cc, answer)?)
+}
