@@ -1,5 +1,4 @@
-ghost use Rattle.std.specs.Prelude.{◌≡◌, IfOk};
-ghost use Rattle.std.specs.Prelude.{[], ◌∷◌};
+ghost use Rattle.std.specs.Prelude.{IfOk};
 
 use crate::laws::answer_depends_on_its_key;
 use crate::{Keyed, KeyedCall, Memory, Register, RegisterCall, RegisterRet, Table};

@@ -1,0 +1,83 @@
+use crate::devices::{Device, Sink};
+use engine::{Order, run, status_of};
+use std::process::Abort;
+
+/// Judges a text, and expects this answer.
+fn expect_line<P: Abort + AllocGlobal>(rt: &P, text: &str, line: &str) {
+    let mut sink = Sink::new(rt.alloc(), 64);
+    let outcome = run(
+        rt,
+        &mut Device::new(text.as_bytes(), 0, 64),
+        &mut sink,
+        &Order::Judge,
+    );
+    assert_eq!(rt; status_of(&outcome), 0, "{text}");
+    assert_eq!(rt; sink.taken.as_slice(), line.as_bytes(), "{text}");
+}
+
+#[test]
+fn read_of_a_value_that_nobody_wrote(rt: HostRuntime) {
+    expect_line(&rt, "[\"memory\",[[[\"r\",0,7]]]]", "cc no ThinAirRead\n");
+    expect_line(
+        &rt,
+        "[\"memory\",[[[\"w\",1,7]],[[\"r\",0,7]]]]",
+        "cc no ThinAirRead\n",
+    );
+    expect_line(
+        &rt,
+        " [ \"memory\" , [ [ [ \"\\u0072\", 0, 7 ] ] ] ] ",
+        "cc no ThinAirRead\n",
+    );
+}
+
+#[test]
+fn nothing_is_known_of_these_yet(rt: HostRuntime) {
+    let texts = [
+        "[\"memory\",[[[\"w\",0,1]],[[\"r\",0,1]]]]",
+        "[\"memory\",[]]",
+        "[\"memory\",[[]]]",
+        "[\"memory\",[[[\"w\",0,1,\"?\"]],[[\"r\",0,1]]]]",
+        "[\"memory\",[[[\"w\",0,1],[\"r\",0,\"?\"]]]]",
+    ];
+    for text in texts {
+        expect_line(&rt, text, "cc unknown\n");
+    }
+}
+
+#[test]
+fn without_distinct_values_there_is_no_no(rt: HostRuntime) {
+    let texts = [
+        "[\"memory\",[[[\"w\",0,1]],[[\"w\",0,1]],[[\"r\",0,1]]]]",
+        "[\"memory\",[[[\"w\",0,0],[\"r\",0,7]]]]",
+        "[\"memory\",[[[\"r\",0,7]],[[\"w\",1,4]],[[\"w\",1,4]]]]",
+        "[\"memory\",[[[\"w\",0,5]],[[\"r\",0,7]]],[[0,5]]]",
+    ];
+    for text in texts {
+        expect_line(&rt, text, "cc unknown\n");
+    }
+}
+
+#[test]
+fn unknown_return_is_no_read_of_the_initial_value(rt: HostRuntime) {
+    expect_line(&rt, "[\"memory\",[[[\"r\",0,\"?\"]]]]", "cc unknown\n");
+    expect_line(
+        &rt,
+        "[\"memory\",[[[\"r\",0,\"?\"]]],[[0,5]]]",
+        "cc unknown\n",
+    );
+}
+
+#[test]
+fn initial_values_are_those_of_the_table(rt: HostRuntime) {
+    expect_line(
+        &rt,
+        "[\"memory\",[[[\"r\",0,0]]],[[0,5]]]",
+        "cc no ThinAirRead\n",
+    );
+    expect_line(&rt, "[\"memory\",[[[\"r\",0,5]]],[[0,5]]]", "cc unknown\n");
+    expect_line(
+        &rt,
+        "[\"memory\",[[[\"r\",1,5]]],[[0,5]]]",
+        "cc no ThinAirRead\n",
+    );
+}

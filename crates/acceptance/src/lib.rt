@@ -1,0 +1,17 @@
+//! Tests that cross the crates: whole runs over readers and writers in memory.
+#![tactic(auto)]
+
+#[cfg(test)]
+mod command_lines;
+#[cfg(test)]
+mod devices;
+#[cfg(test)]
+mod failures;
+#[cfg(test)]
+mod judged;
+#[cfg(test)]
+mod refused;
+#[cfg(test)]
+mod runs;
+#[cfg(test)]
+mod texts;
