@@ -1,7 +1,7 @@
 //! How a register is spelled.
 
-ghost use Rattle.std.specs.Prelude.{◌≡◌, ℕ, codes};
-ghost use Rattle.operations.specs.RegisterForm.{word_of, arguments, ret_form, call_at, ret_at, start_form, start_at};
+ghost use Rattle.std.specs.Prelude.{codes};
+ghost use Rattle.operations.specs.RegisterForm.{word_of as register_word, arguments as register_arguments, ret_form as register_ret_form, call_at as register_call_at, ret_at as register_ret_at, start_form as register_start_form, start_at as register_start_at};
 ghost use Rattle.operations.specs.RegisterFormLaws.{call_read, call_again, ret_read, ret_again, ret_is_known, start_read, start_again, arguments_have_no_float, ret_has_no_float, start_has_no_float};
 
 use crate::spelled::Spelled;
@@ -12,19 +12,19 @@ use std::alloc::AllocError;
 impl Spelled for Register {
     ghost keyed_name = { codes "memory" };
 
-    ghost word_of = { word_of };
+    ghost word_of = { register_word };
 
-    ghost arguments = { arguments };
+    ghost arguments = { register_arguments };
 
-    ghost ret_form = { ret_form };
+    ghost ret_form = { register_ret_form };
 
-    ghost call_at = { call_at };
+    ghost call_at = { register_call_at };
 
-    ghost ret_at = { ret_at };
+    ghost ret_at = { register_ret_at };
 
-    ghost start_form = { start_form };
+    ghost start_form = { register_start_form };
 
-    ghost start_at = { start_at };
+    ghost start_at = { register_start_at };
 
     ghost call_read = { call_read };
 
