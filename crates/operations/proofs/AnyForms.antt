@@ -1,5 +1,5 @@
 -- The forms of the histories of each object.
-use Rattle.std.proofs.Common.{◌≡◌, ℕ, Bool, true, false, ◌||◌, List, [], ◌∷◌, map, Option, Some, None, refl, sym, ap, ◌∙◌, codes}
+use Rattle.std.proofs.Common.{◌≡◌, ◌<◌, ◌^◌, ℕ, Bool, true, false, ◌||◌, List, [], ◌∷◌, map, Option, Some, None, refl, sym, ap, ◌∙◌, codes}
 use Rattle.serde_json.specs.Data.{Data, string}
 use Rattle.serde_json.specs.View.{items_of}
 use Rattle.serde_json.specs.Written.{has_float, items_have_float}
@@ -7,16 +7,21 @@ use Rattle.operations.specs.declared.any_history.AnyHistory.{AnyHistory}
 use Rattle.operations.specs.declared.any_history.AnyHistory.TheVariants as histories
 use Rattle.operations.specs.declared.read_error.ReadError.{ReadError}
 use Rattle.operations.specs.declared.read_error.ReadError.TheVariants as errors
-use Rattle.operations.specs.AnyForm.{MemoryRecord, form_of, first_refusal, IsJson, IsRefusedFor}
-use Rattle.operations.specs.Form.{session_form, HaveNoFloats}
+use Rattle.operations.specs.AnyForm.{IsAnyHistory, MemoryRecord, form_of, first_refusal, IsJson, IsRefusedFor}
+use Rattle.operations.specs.Form.{ReadAs, session_form, HaveNoFloats}
 use Rattle.operations.specs.Json.{list}
 use Rattle.operations.specs.Reading.{parts_of}
 use Rattle.operations.specs.Refusals.{IsFirst}
 use Rattle.operations.specs.RegisterForm as register
-use Rattle.operations.specs.Spelling.{keyed_form, table_form, entry_form}
-use Rattle.operations.specs.KeyedFormLaws.{keyed_has_no_float}
-use Rattle.operations.specs.TableFormLaws.{table_has_no_float}
-use Rattle.operations.specs.RegisterFormLaws.{arguments_have_no_float, ret_has_no_float, start_has_no_float}
+use Rattle.operations.specs.Spelling.{keyed_form, keyed_at, table_form, table_at, entry_form}
+use Rattle.objects.specs.Register.{matches}
+use Rattle.objects.specs.declared.keyed.KeyedCall.{KeyedCall}
+use Rattle.objects.specs.declared.register.RegisterCall.{RegisterCall}
+use Rattle.objects.specs.declared.register.RegisterRet.{RegisterRet}
+use Rattle.operations.specs.KeyedFormLaws.{keyed_again, keyed_has_no_float}
+use Rattle.operations.specs.TableFormLaws.{table_again, table_has_no_float}
+use Rattle.operations.specs.RegisterFormLaws.{call_again, ret_again, ret_is_known, start_again, arguments_have_no_float, ret_has_no_float, start_has_no_float}
+use Rattle.operations.proofs.HistoryForm.{same_sessions, sessions_read}
 use Rattle.operations.proofs.PartsForm.{Parts, formed, parts_again, parts_again_with_start}
 
 pub same_form : (a b : List ℕ) (s t r q : List Data) → a ≡ b → s ≡ t → r ≡ q → formed (a, s, r) ≡ formed (b, t, q)
@@ -65,3 +70,33 @@ any_form_has_no_float (histories.Memory h) =
     form_has_no_float (codes "memory") (keyed_form register.word_of register.arguments register.ret_form) h.1 (table_form register.start_form h.0)
     (keyed_has_no_float register.word_of register.arguments register.ret_form arguments_have_no_float ret_has_no_float)
     (table_has_no_float register.start_form start_has_no_float h.0)
+
+-- the form of a memory history reads as that history
+abbrev memory_operation_form : KeyedCall RegisterCall → Option RegisterRet → Data
+memory_operation_form = keyed_form register.word_of register.arguments register.ret_form
+
+abbrev memory_operation_at : Data → Option (KeyedCall RegisterCall × Option RegisterRet)
+memory_operation_at = keyed_at register.call_at register.ret_at
+
+memory_sessions_read : (h : MemoryRecord) → IsAnyHistory (histories.Memory h) → ReadAs memory_operation_at (map (session_form memory_operation_form) h.1) h.1
+memory_sessions_read h is =
+    sessions_read memory_operation_at memory_operation_form (λ c. matches c.call) (λ c. c.key < 2 ^ 32)
+    (keyed_again register.word_of register.arguments register.ret_form register.call_at register.ret_at matches call_again ret_again ret_is_known)
+    h.1 is.0.each is.1
+
+memory_start_read : (h : MemoryRecord) → IsAnyHistory (histories.Memory h) → table_at register.start_at (table_form register.start_form h.0) ≡ Some h.0
+memory_start_read h is = table_again 0 (λ _. Unit {0}) register.start_form register.start_at start_again h.0 is.0.start tt
+
+memory_forms_are_distinct : (g h : MemoryRecord) → IsAnyHistory (histories.Memory g) → IsAnyHistory (histories.Memory h)
+    → form_of (histories.Memory g) ≡ form_of (histories.Memory h) → g ≡ h
+memory_forms_are_distinct g h is_g is_h same =
+    let sessions = map (session_form memory_operation_form) g.1 in
+    let parts = memory_parts (form_of (histories.Memory g)) (codes "memory", sessions, table_form register.start_form g.0) h (memory_parts_of sessions g.0) same in
+    let read : ReadAs memory_operation_at sessions h.1 = rw parts.0 (memory_sessions_read h is_h) in
+    let same_lists : g.1 ≡ h.1 = same_sessions memory_operation_at g.1 h.1 sessions (memory_sessions_read g is_g) read in
+    let starts : Option.Some g.0 ≡ Some h.0 = sym (memory_start_read g is_g) ∙ ap (table_at register.start_at) parts.1 ∙ memory_start_read h is_h in
+    let same_start : g.0 ≡ h.0 = cc in
+    rw (same_start, same_lists) refl
+
+pub any_forms_are_distinct : (g h : AnyHistory) → IsAnyHistory g → IsAnyHistory h → form_of g ≡ form_of h → g ≡ h
+any_forms_are_distinct (histories.Memory g) (histories.Memory h) is_g is_h same = ap histories.Memory (memory_forms_are_distinct g h is_g is_h same)

@@ -6,6 +6,7 @@ mod history;
 mod json;
 mod keyed_form;
 mod keys;
+pub mod laws;
 mod named;
 mod op_id;
 mod parts;
