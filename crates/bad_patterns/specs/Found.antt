@@ -12,6 +12,7 @@ pub record IsFirst (h : MemoryHistory) (r : OpId) : Type 0 where
   pub thin_air : IsThinAirRead h r
   pub none_earlier : (a : OpId) → IsEarlier a r → ¬ IsThinAirRead h a
 
+-- a pattern is the first of its kind
 abbrev pub IsFirstFound : MemoryHistory → Pattern → Type 0
 IsFirstFound h (ThinAirRead r) = IsFirst h r
 

@@ -9,6 +9,7 @@ use Rattle.bad_patterns.specs.declared.pattern.Pattern.TheVariants.{ThinAirRead}
 use Rattle.bad_patterns.specs.Memory.{MemoryHistory, memory_answer, IsDifferentiated}
 use Rattle.bad_patterns.specs.Kinds.{is_against, IsThinAirRead, IsPresent}
 
+-- the kind of a pattern
 abbrev pub kind_of : Pattern → Kind
 kind_of (ThinAirRead r) = kinds.ThinAirRead
 

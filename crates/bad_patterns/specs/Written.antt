@@ -24,10 +24,11 @@ pub record ListsWritesBefore (h : MemoryHistory) (o : OpId) (writes : List Write
   pub each : (a : OpId) (x v : ℕ) → IsEarlier a o → Writes h a x v → Contains writes (record { op = a; key = x; value = v })
   pub no_other : (w : Write) → Contains writes w → Writes h w.op w.key w.value
 
--- by variable, then by value
+-- the order by variable, then by value
 abbrev pub by_variable : ℕ × ℕ → ℕ × ℕ → Ordering
 by_variable a b = ordering_then (nat_cmp a.0 b.0) (nat_cmp a.1 b.1)
 
+-- the writes rise by variable and value, where equal ones are neighbours
 abbrev pub IsSorted : List Write → Type 0
 IsSorted writes = IsSortedByKey (λ w. (w.key, w.value)) by_variable writes
 

@@ -8,6 +8,8 @@ mod kind;
 pub mod laws;
 mod pattern;
 mod reads;
+#[cfg(test)]
+mod tests;
 mod thin_air;
 mod writes;
 

@@ -4,8 +4,8 @@ ghost use Rattle.engine.specs.Failure.{status_for};
 ghost use Rattle.engine.specs.CommandLine.{IsUsageStatus};
 
 use crate::command_line::{Order, Usage, command_of};
-use crate::running::run;
 use crate::failure::{RunError, fault_line, status_of};
+use crate::running::run;
 use std::alloc::Global;
 use std::rt::Env;
 use std::{env, io};

@@ -21,7 +21,11 @@ pub enum Answer {
 /// What is known of a history and a criterion.
 ///
 /// `No` where a bad pattern is found and checked. Fails for want of memory alone. O(n log n) for n operations.
-pub fn answer_of(alloc: Global, history: &AnyHistory, criterion: Criterion) -> Result<Answer, AllocError>
+pub fn answer_of(
+    alloc: Global,
+    history: &AnyHistory,
+    criterion: Criterion,
+) -> Result<Answer, AllocError>
     ensures truth { IfOk result (IsTrueOf history.now criterion) }
     ensures unknown { IfOk result (OnlyWithoutPattern history.now criterion) }
 {
@@ -31,7 +35,11 @@ pub fn answer_of(alloc: Global, history: &AnyHistory, criterion: Criterion) -> R
 }
 
 // The same of a memory history.
-fn answer_of_memory(alloc: Global, history: &History<Memory>, criterion: Criterion) -> Result<Answer, AllocError>
+fn answer_of_memory(
+    alloc: Global,
+    history: &History<Memory>,
+    criterion: Criterion,
+) -> Result<Answer, AllocError>
     ensures truth { IfOk result (IsTrueOf (AnyHistory.Memory history.now) criterion) }
     ensures unknown { IfOk result (OnlyWithoutPattern (AnyHistory.Memory history.now) criterion) }
 {
@@ -46,7 +54,11 @@ fn answer_of_memory(alloc: Global, history: &History<Memory>, criterion: Criteri
 }
 
 /// The line of a report: the criterion, a space, the answer and a line feed.
-pub fn report_line(alloc: Global, criterion: Criterion, answer: Answer) -> Result<String, AllocError>
+pub fn report_line(
+    alloc: Global,
+    criterion: Criterion,
+    answer: Answer,
+) -> Result<String, AllocError>
     ensures { IfOk result (λ text. string_bytes text ≡ line_for criterion answer) }
 {
     let name = criterion_name(criterion);

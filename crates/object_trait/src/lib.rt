@@ -7,4 +7,3 @@ mod seq_object;
 
 pub use replaying::replay;
 pub use seq_object::SeqObject;
-

@@ -6,7 +6,11 @@ use std::alloc::{AllocError, Global};
 /// The state that stands for these calls from this start.
 ///
 /// Fails for want of memory alone. One `apply` a call.
-pub fn replay<O: SeqObject>(alloc: Global, start: &O::Start, calls: &[O::Call]) -> Result<O, AllocError>
+pub fn replay<O: SeqObject>(
+    alloc: Global,
+    start: &O::Start,
+    calls: &[O::Call],
+) -> Result<O, AllocError>
     requires { O.is_start start.now }
     ensures { IfOk result (λ o. O.stands o start.now calls.now) }
 {

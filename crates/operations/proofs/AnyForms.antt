@@ -1,15 +1,13 @@
 -- The forms of the histories of each object.
-use Rattle.std.proofs.Common.{◌≡◌, ◌<◌, ◌^◌, ℕ, Bool, true, false, ◌||◌, List, [], ◌∷◌, map, Option, Some, None, refl, sym, ap, ◌∙◌, codes}
-use Rattle.serde_json.specs.Data.{Data, string}
-use Rattle.serde_json.specs.View.{items_of}
-use Rattle.serde_json.specs.Written.{has_float, items_have_float}
+use Rattle.std.proofs.Common.{◌≡◌, ◌<◌, ◌^◌, ℕ, false, List, [], ◌∷◌, map, Option, Some, refl, sym, ap, ◌∙◌, codes}
+use Rattle.serde_json.specs.Data.{Data}
+use Rattle.serde_json.specs.Written.{has_float}
 use Rattle.operations.specs.declared.any_history.AnyHistory.{AnyHistory}
 use Rattle.operations.specs.declared.any_history.AnyHistory.TheVariants as histories
 use Rattle.operations.specs.declared.read_error.ReadError.{ReadError}
 use Rattle.operations.specs.declared.read_error.ReadError.TheVariants as errors
 use Rattle.operations.specs.AnyForm.{IsAnyHistory, MemoryRecord, form_of, first_refusal, IsJson, IsRefusedFor}
 use Rattle.operations.specs.Form.{ReadAs, session_form, HaveNoFloats}
-use Rattle.operations.specs.Json.{list}
 use Rattle.operations.specs.Reading.{parts_of}
 use Rattle.operations.specs.Refusals.{IsFirst}
 use Rattle.operations.specs.RegisterForm as register

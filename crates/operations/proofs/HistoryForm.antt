@@ -1,18 +1,14 @@
 -- What reads as a history is its form, and the form of a history reads as that history and no other.
-use Rattle.std.proofs.Common.{◌≡◌, ◌⊎◌, ℕ, zero, suc, ◌+◌, ◌<◌, ◌≤◌, Bool, true, false, ◌||◌, List, [], ◌∷◌, ◌++◌, length, map, take, Option, Some, None, refl, sym, ap, subst, ◌∙◌, arith, inl, inr}
-use Rattle.std.specs.Prelude.{slice_get, slice_index_or, option_map, option_and_then}
-use Rattle.std.specs.List.{list_any}
-use Rattle.std.specs.Option.{option_or}
+use Rattle.std.proofs.Common.{◌≡◌, ◌⊎◌, ℕ, zero, suc, ◌<◌, ◌≤◌, Bool, true, false, ◌||◌, List, [], ◌∷◌, length, map, take, Option, Some, None, refl, sym, ap, ◌∙◌, arith, inl, inr}
+use Rattle.std.specs.Prelude.{slice_get, slice_index_or, option_map}
 use Rattle.std.proofs.lemmas.Bool.{le-ltb, cases_Bool}
 use Rattle.std.proofs.lemmas.List.{length-map}
-use Rattle.std.proofs.lemmas.Option.{slice_get-map, slice_get_within, slice_get-get_or}
 use Rattle.serde_json.specs.Data.{Data}
 use Rattle.operations.specs.declared.op_id.OpId.{OpId}
-use Rattle.operations.specs.declared.read_error.ReadError.{ReadError}
 use Rattle.operations.specs.History.{IsSession}
 use Rattle.operations.specs.Json.{list, elements}
 use Rattle.operations.specs.Form.{Fits, AreSessions, EachCall, ReadAs, session_at, session_form}
-use Rattle.operations.specs.Reading.{first_among, is_unknown_return, entry_refusal, operation_refusal, operations_refusal, session_refusal, sessions_refusal}
+use Rattle.operations.specs.Reading.{is_unknown_return, entry_refusal, operation_refusal, operations_refusal, session_refusal, sessions_refusal}
 use Rattle.operations.proofs.JsonLists.{elements-list, list_from_elements}
 use Rattle.operations.proofs.SessionReading.{form_at, unknown_among}
 use Rattle.operations.proofs.FirstRefusal.{all_none}

@@ -1,16 +1,15 @@
 -- Reading the sessions of a history, one after the other.
-use Rattle.std.proofs.Common.{◌≡◌, ◌⊎◌, ℕ, zero, suc, ◌+◌, ◌<◌, ◌≤◌, Bool, List, [], ◌∷◌, ◌++◌, length, map, take, get_or, Option, Some, None, Result, refl, sym, ap, ◌∙◌, arith, inl, inr}
-use Rattle.std.specs.Prelude.{slice_get, slice_index_or, option_map, option_and_then, IfOk}
+use Rattle.std.proofs.Common.{◌≡◌, ℕ, zero, suc, ◌+◌, ◌<◌, ◌≤◌, Bool, List, [], ◌∷◌, ◌++◌, length, map, take, get_or, Option, Some, None, refl, sym, ap, ◌∙◌, arith}
+use Rattle.std.specs.Prelude.{slice_get}
 use Rattle.std.proofs.lemmas.Bool.{le-ltb}
-use Rattle.std.proofs.lemmas.List.{take_more, length-map, map_push}
+use Rattle.std.proofs.lemmas.List.{take_more, map_push}
 use Rattle.std.proofs.lemmas.Option.{slice_get_within, get_or_from_slice_get}
-use Rattle.std.proofs.lemmas.Result.{IfOk-weaker}
 use Rattle.serde_json.specs.Data.{Data}
 use Rattle.operations.specs.declared.read_error.ReadError.{ReadError}
 use Rattle.operations.specs.declared.read_error.ReadError.TheVariants.{NotJson, BadShape, UnknownObject, BadOp, ReturnAfterUnknown, TooManySessions, TooManyOps, Memory, BadInitial}
 use Rattle.operations.specs.Refusals.{IsFirst}
 use Rattle.operations.specs.History.{IsSession}
-use Rattle.operations.specs.Json.{list, elements}
+use Rattle.operations.specs.Json.{elements}
 use Rattle.operations.specs.Form.{AreSessions, ReadAs, session_at}
 use Rattle.operations.specs.Reading.{first_among, operations_refusal, session_refusal, sessions_refusal}
 use Rattle.operations.proofs.FirstRefusal.{first_among_more, first_among_some}

@@ -1,15 +1,15 @@
 -- Reading undoes the form of an operation under a key, and nothing else is read: for each object by its own laws.
 use Rattle.std.specs.Prelude.{◌≡◌, ◌≢◌, ℕ, ◌<◌, ◌^◌, nat_lt, List, [], ◌∷◌, ◌++◌, Bool, true, false, ◌||◌, Option, Some, None, option_map, option_and_then, if◌then◌else◌, refl}
-use Rattle.std.proofs.Common.{ap, sym, subst, ◌∙◌, ⊎_elim}
+use Rattle.std.proofs.Common.{ap, subst, ◌∙◌, ⊎_elim}
 use Rattle.std.proofs.lemmas.Bool.{cases_Bool, ltb-true, lt-ltb}
 use Rattle.std.proofs.lemmas.Option.{same_Some}
-use Rattle.serde_json.specs.Data.{Data, number, string, unsigned, item}
+use Rattle.serde_json.specs.Data.{Data, number, string, unsigned}
 use Rattle.serde_json.specs.Find.{as_str}
 use Rattle.serde_json.specs.View.{items_of}
 use Rattle.serde_json.specs.Written.{has_float, items_have_float}
 use Rattle.objects.specs.declared.keyed.KeyedCall.{KeyedCall}
 use Rattle.operations.specs.Form.{Fits, HaveNoFloats}
-use Rattle.operations.specs.Json.{list, elements, whole_number, unknown, is_unknown}
+use Rattle.operations.specs.Json.{list, elements, whole_number, unknown}
 use Rattle.operations.specs.JsonLaws.{elements-list, list_from_elements, and_then_from, map_from, chosen, whole_number-read, as_str-read, is_unknown-read}
 use Rattle.operations.specs.Spelling.{key_at, is_unknown_alone, word_key_rest, rest_form, keyed_form, return_at, spelled_at, keyed_parts_at, keyed_at}
 

@@ -1,6 +1,6 @@
 -- Which refusal comes first where a JSON value is read as a history: its shape, its name, the number of its sessions, then
 -- each session in order (a list, not too long, and each operation in order), and its start at last.
-use Rattle.std.specs.Prelude.{◌≡◌, ℕ, zero, suc, List, [], ◌∷◌, length, take, Bool, true, false, nat_lt, Option, Some, None, option_and_then, option_map, slice_get, is_some, if◌then◌else◌}
+use Rattle.std.specs.Prelude.{ℕ, zero, suc, List, [], ◌∷◌, length, take, Bool, true, false, nat_lt, Option, Some, None, option_and_then, option_map, slice_get, is_some, if◌then◌else◌}
 use Rattle.std.specs.Option.{option_or}
 use Rattle.std.specs.List.{list_any}
 use Rattle.serde_json.specs.Data.{Data}
@@ -8,7 +8,7 @@ use Rattle.serde_json.specs.Find.{as_str}
 use Rattle.operations.specs.Json.{elements}
 use Rattle.operations.specs.declared.op_id.OpId.{OpId}
 use Rattle.operations.specs.declared.read_error.ReadError.{ReadError}
-use Rattle.operations.specs.declared.read_error.ReadError.TheVariants.{BadShape, UnknownObject, BadOp, ReturnAfterUnknown, TooManySessions, TooManyOps, BadInitial}
+use Rattle.operations.specs.declared.read_error.ReadError.TheVariants.{BadShape, BadOp, ReturnAfterUnknown, TooManySessions, TooManyOps, BadInitial}
 
 -- the first refusal among those of the places 0 to n - 1
 abbrev pub first_among : ℕ → (ℕ → Option ReadError) → Option ReadError

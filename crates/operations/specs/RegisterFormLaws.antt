@@ -1,10 +1,10 @@
 -- Reading undoes the spelling of a register, and nothing else is read.
-use Rattle.std.specs.Prelude.{◌≡◌, ◌≢◌, ℕ, ◌==◌, nat_eq, List, [], ◌∷◌, ◌++◌, codes, Bool, true, false, Option, Some, None, option_map, if◌then◌else◌, refl}
+use Rattle.std.specs.Prelude.{◌≡◌, ◌≢◌, ℕ, ◌==◌, nat_eq, List, [], ◌∷◌, ◌++◌, codes, true, false, Option, Some, None, option_map, if◌then◌else◌, refl}
 use Rattle.std.specs.Cmp.Lexicographic.{pointwise, same_text}
-use Rattle.std.proofs.Common.{ap, sym, ◌∙◌, ⊎_elim, eqb}
+use Rattle.std.proofs.Common.{ap, sym, ◌∙◌, ⊎_elim}
 use Rattle.std.proofs.lemmas.Bool.{cases_Bool, eqb-true}
 use Rattle.std.proofs.lemmas.Option.{option_and_then_some, same_Some}
-use Rattle.serde_json.specs.Data.{Data, number, string, unsigned}
+use Rattle.serde_json.specs.Data.{Data, number, unsigned}
 use Rattle.serde_json.specs.Written.{has_float}
 use Rattle.objects.specs.Register.{matches}
 use Rattle.objects.specs.declared.register.RegisterCall.{RegisterCall}

@@ -8,5 +8,4 @@ use crate::any_history::AnyHistory;
 /// No two histories have one form.
 pub fn forms_are_distinct()
     ensures { (g h : AnyHistory) → IsAnyHistory g → IsAnyHistory h → form_of g ≡ form_of h → g ≡ h }
-{
-}
+{}

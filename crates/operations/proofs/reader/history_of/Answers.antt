@@ -1,4 +1,4 @@
-use Rattle.std.proofs.Common.{◌≡◌, List, ℕ, Some, true, false, nat_eq, map, refl, sym, ap, ◌∙◌, codes, arith}
+use Rattle.std.proofs.Common.{◌≡◌, Some, true, nat_eq, map, sym, ap, ◌∙◌, codes, arith}
 use Rattle.std.specs.Prelude.{MatchResult}
 use Rattle.std.specs.Cmp.Lexicographic.{pointwise, same_text}
 use Rattle.std.proofs.lemmas.Grind.{common_steps}

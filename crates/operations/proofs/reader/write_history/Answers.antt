@@ -2,7 +2,6 @@ use Rattle.std.proofs.Common.{◌≡◌, false, ap, ◌∙◌}
 use Rattle.std.proofs.lemmas.Result.{IfOk-weaker}
 use Rattle.serde_json.specs.View.{view}
 use Rattle.serde_json.specs.Written.{has_float, compact_text}
-use Rattle.operations.specs.AnyForm.{form_of}
 use Rattle.operations.proofs.AnyForms.{any_form_has_no_float}
 use Rattle.operations.proofs.reader.write_history.Goals as goal
 

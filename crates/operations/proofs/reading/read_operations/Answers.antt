@@ -1,10 +1,9 @@
-use Rattle.std.proofs.Common.{◌≡◌, ℕ, length, subst, Bool, true, false, not, ◌||◌, Some, map, refl, sym, ap, ◌∙◌, arith}
+use Rattle.std.proofs.Common.{◌≡◌, ℕ, length, subst, true, false, not, ◌||◌, Some, map, refl, sym, ap, ◌∙◌, arith}
 use Rattle.std.proofs.lemmas.List.{length-map}
 use Rattle.std.specs.Prelude.{is_some}
 use Rattle.serde_json.specs.View.{view}
 use Rattle.operations.specs.declared.op_id.OpId.{OpId}
 use Rattle.operations.specs.declared.read_error.ReadError.TheVariants.{BadOp, ReturnAfterUnknown}
-use Rattle.operations.specs.Reading.{is_unknown_return}
 use Rattle.operations.proofs.JsonLists.{slice_get-mapped}
 use Rattle.operations.proofs.SessionReading.{IsReadUpTo, or_true, or_false, reads_on, refused_here, is_read, known_return, known_return-refusal, unknown_return, unknown_return-refusal}
 use Rattle.operations.proofs.reading.read_operations.Goals as goal

@@ -1,8 +1,8 @@
-use Rattle.std.proofs.Common.{◌≡◌, Some, map, sym, ap, ◌∙◌}
+use Rattle.std.proofs.Common.{◌≡◌, Some, map, sym, ap}
 use Rattle.std.proofs.lemmas.Result.{IfOk-weaker}
 use Rattle.serde_json.specs.View.{view}
 use Rattle.operations.specs.Json.{elements}
-use Rattle.operations.specs.Form.{session_at, IsReadFrom}
+use Rattle.operations.specs.Form.{IsReadFrom}
 use Rattle.operations.proofs.reading.read_session.Goals as goal
 
 pub returns-clause-read : goal.returns-clause-read

@@ -1,6 +1,5 @@
-use Rattle.std.proofs.Common.{◌≡◌, map, Some, None, sym, ◌∙◌, true, false}
+use Rattle.std.proofs.Common.{map, sym, ◌∙◌}
 use Rattle.serde_json.specs.View.{view}
-use Rattle.operations.specs.Spelling.{entry_at}
 use Rattle.operations.proofs.JsonLists.{slice_get-mapped}
 use Rattle.operations.proofs.EntriesReading.{no_entry, not_above, reads_on}
 use Rattle.operations.proofs.spelled.Spelled.read_entries.Goals as goal
