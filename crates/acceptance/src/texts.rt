@@ -1,4 +1,4 @@
-use operations::{read_history, write_history};
+use operations::{AnyHistory, read_history, write_history};
 use std::process::Abort;
 use std::test::Fail;
 
@@ -22,5 +22,15 @@ fn histories_are_written_as_they_were_read(rt: HostRuntime) -> Result<(), Fail> 
     for text in texts {
         expect_same_text(&rt, text)?;
     }
+    Ok(())
+}
+
+#[test]
+fn copies_are_equal(rt: HostRuntime) -> Result<(), Fail> {
+    let text = "[\"memory\",[[[\"w\",0,1],[\"r\",0,\"?\"]],[],[[\"r\",0,5]]],[[0,5]]]";
+    let AnyHistory::Memory(history) = read_history(rt.alloc(), text.as_bytes())?;
+    let copied = AnyHistory::Memory(history.copy(rt.alloc())?);
+    let again = write_history(rt.alloc(), &copied)?;
+    assert_eq!(rt; again.as_str(), text);
     Ok(())
 }
