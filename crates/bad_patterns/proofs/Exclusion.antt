@@ -12,14 +12,14 @@ use Rattle.objects.specs.Register.{last_written}
 use Rattle.objects.specs.Keyed.{calls_at}
 use Rattle.operations.specs.declared.op_id.OpId.{OpId}
 use Rattle.operations.specs.History.{entry, calls, session}
-use Rattle.cert_check.specs.Orders.{only}
+use Rattle.causal_order.specs.Orders.{only}
 use Rattle.cert_check.specs.declared.criterion.Criterion.{Criterion}
 use Rattle.cert_check.specs.declared.criterion.Criterion.TheVariants.{Cc, Cm, Ccv}
 use Rattle.cert_check.specs.Criteria.{IsCausallyConsistent, Meets}
 use Rattle.bad_patterns.specs.declared.pattern.Pattern.{Pattern}
 use Rattle.bad_patterns.specs.declared.pattern.Pattern.TheVariants.{ThinAirRead}
 use Rattle.bad_patterns.specs.Patterns.{IsBadPattern, IsTrueNo, kind_of}
-use Rattle.bad_patterns.specs.Memory.{MemoryCall, MemoryHistory, memory_answer, initial, Writes}
+use Rattle.causal_order.specs.Memory.{MemoryCall, MemoryHistory, memory_answer, initial, Writes}
 use Rattle.bad_patterns.specs.Kinds.{IsThinAirRead}
 
 -- a list has an element

@@ -7,11 +7,11 @@ use Rattle.bad_patterns.specs.declared.pattern.Pattern.{Pattern}
 use Rattle.bad_patterns.specs.declared.pattern.Pattern.TheVariants.{ThinAirRead}
 use Rattle.bad_patterns.specs.Patterns.{IsBadPattern}
 use Rattle.operations.specs.History.{IsOp, session}
-use Rattle.bad_patterns.specs.Memory.{MemoryHistory}
+use Rattle.causal_order.specs.Memory.{MemoryHistory}
 use Rattle.bad_patterns.specs.Kinds.{IsThinAirRead}
-use Rattle.bad_patterns.specs.Written.{op}
+use Rattle.causal_order.specs.Orders.{op}
 use Rattle.bad_patterns.specs.Found.{IsFirst, IsFirstOf}
-use Rattle.bad_patterns.proofs.Listed.{session-of_history}
+use Rattle.causal_order.specs.OrdersLaws.{session-of_history}
 
 module _ (h : MemoryHistory) where
   pub thin_air-of_history : (r : OpId) → IsThinAirRead h r → IsOp h r

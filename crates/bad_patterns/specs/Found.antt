@@ -3,9 +3,9 @@ use Rattle.std.specs.Prelude.{◌≡◌, ℕ, ◌<◌}
 use Rattle.operations.specs.declared.op_id.OpId.{OpId}
 use Rattle.bad_patterns.specs.declared.pattern.Pattern.{Pattern}
 use Rattle.bad_patterns.specs.declared.pattern.Pattern.TheVariants.{ThinAirRead}
-use Rattle.bad_patterns.specs.Memory.{MemoryHistory}
+use Rattle.causal_order.specs.Memory.{MemoryHistory}
 use Rattle.bad_patterns.specs.Kinds.{IsThinAirRead}
-use Rattle.bad_patterns.specs.Written.{op, IsEarlier}
+use Rattle.causal_order.specs.Orders.{op, IsEarlier}
 
 -- a thin-air read, and no earlier operation is one
 pub record IsFirst (h : MemoryHistory) (r : OpId) : Type 0 where

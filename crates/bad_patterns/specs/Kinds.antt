@@ -4,11 +4,11 @@ use Rattle.std.specs.Prelude.{◌≢◌, ◌⊎◌, ℕ, Bool, true, false, IsTr
 use Rattle.operations.specs.declared.op_id.OpId.{OpId}
 use Rattle.cert_check.specs.declared.criterion.Criterion.{Criterion}
 use Rattle.cert_check.specs.declared.criterion.Criterion.TheVariants.{Cc, Cm, Ccv}
-use Rattle.cert_check.specs.Orders.{program_past}
+use Rattle.causal_order.specs.Orders.{program_past}
 use Rattle.bad_patterns.specs.declared.kind.Kind.{Kind}
 use Rattle.bad_patterns.specs.declared.kind.Kind.TheVariants.{CyclicCO, ThinAirRead, WriteCOInitRead, WriteCORead, WriteHBInitRead, CyclicHB, CyclicCF}
-use Rattle.bad_patterns.specs.Memory.{MemoryHistory, initial, Writes, Reads, IsDifferentiated}
-use Rattle.bad_patterns.specs.Relations.{Leads, ReadsFrom, CO, AreRivalWrites, CF, HB}
+use Rattle.causal_order.specs.Memory.{MemoryHistory, initial, Writes, Reads, IsDifferentiated}
+use Rattle.causal_order.specs.Relations.{Leads, ReadsFrom, CO, AreRivalWrites, CF, HB}
 
 -- which kinds exclude which criterion
 abbrev pub is_against : Kind → Criterion → Bool

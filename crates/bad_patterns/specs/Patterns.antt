@@ -6,7 +6,7 @@ use Rattle.bad_patterns.specs.declared.kind.Kind.{Kind}
 use Rattle.bad_patterns.specs.declared.kind.Kind.TheVariants as kinds
 use Rattle.bad_patterns.specs.declared.pattern.Pattern.{Pattern}
 use Rattle.bad_patterns.specs.declared.pattern.Pattern.TheVariants.{ThinAirRead}
-use Rattle.bad_patterns.specs.Memory.{MemoryHistory, memory_answer, IsDifferentiated}
+use Rattle.causal_order.specs.Memory.{MemoryHistory, memory_answer, IsDifferentiated}
 use Rattle.bad_patterns.specs.Kinds.{is_against, IsThinAirRead, IsPresent}
 
 -- the kind of a pattern

@@ -1,12 +1,11 @@
 ghost use Rattle.std.specs.Prelude.{◌↔◌, IfOk, IsTrue};
 ghost use Rattle.bad_patterns.specs.Patterns.{IsBadPattern, IsShownBy, IsTrueNo, kind_of};
-ghost use Rattle.bad_patterns.specs.Written.{IsSorted, ListsWrites};
+ghost use Rattle.causal_order.specs.Written.{IsSorted, ListsWrites};
 
-use crate::differentiation::are_distinct;
 use crate::laws::bad_patterns_exclude_criteria;
 use crate::pattern::Pattern;
 use crate::thin_air::is_thin_air_read;
-use crate::writes::{Write, sorted_writes};
+use causal_order::{Write, are_distinct, sorted_writes};
 use cert_check::Criterion;
 use objects::Memory;
 use operations::History;

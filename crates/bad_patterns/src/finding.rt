@@ -1,14 +1,14 @@
 ghost use Rattle.std.specs.Prelude.{ℕ, IfNone, IfOk, IfSome, MatchOption};
 ghost use Rattle.bad_patterns.specs.Kinds.{IsThinAirRead};
 ghost use Rattle.bad_patterns.specs.Patterns.{IsBadPattern};
-ghost use Rattle.bad_patterns.specs.Written.{IsSorted, ListsWrites, op};
+ghost use Rattle.causal_order.specs.Orders.{op};
+ghost use Rattle.causal_order.specs.Written.{IsSorted, ListsWrites};
 ghost use Rattle.bad_patterns.specs.Found.{IsFirst, IsFirstFound, IsFirstOf};
 
-use crate::differentiation::are_distinct;
 use crate::kind::Kind;
 use crate::pattern::Pattern;
 use crate::thin_air::is_thin_air_read;
-use crate::writes::{Write, sorted_writes};
+use causal_order::{Write, are_distinct, sorted_writes};
 use cert_check::Criterion;
 use objects::Memory;
 use operations::{History, OpId};

@@ -1,6 +1,6 @@
 //! What holds of bad patterns. The functions do nothing: what they ensure is the law.
 
-ghost use Rattle.bad_patterns.specs.Memory.{MemoryHistory};
+ghost use Rattle.causal_order.specs.Memory.{MemoryHistory};
 ghost use Rattle.bad_patterns.specs.Patterns.{IsBadPattern, IsTrueNo, kind_of};
 
 use crate::pattern::Pattern;

@@ -1,9 +1,8 @@
 ghost use Rattle.std.specs.Prelude.{◌↔◌, IsTrue};
 ghost use Rattle.bad_patterns.specs.Kinds.{IsThinAirRead};
-ghost use Rattle.bad_patterns.specs.Written.{IsSorted, ListsWrites};
+ghost use Rattle.causal_order.specs.Written.{IsSorted, ListsWrites};
 
-use crate::reads::{initial_value, known_read};
-use crate::writes::{Write, is_written};
+use causal_order::{Write, initial_value, is_written, known_read};
 use objects::Memory;
 use operations::{History, OpId};
 

@@ -5,7 +5,7 @@ use Rattle.std.proofs.lemmas.Bool.{and_parts, or_cases}
 use Rattle.std.proofs.lemmas.Option.{same_Some}
 use Rattle.operations.specs.declared.op_id.OpId.{OpId}
 use Rattle.operations.specs.History.{Record, IsOp, session}
-use Rattle.cert_check.specs.Orders.{Order, only, past, StandsAt, IsLinearization}
+use Rattle.causal_order.specs.Orders.{Order, only, past, StandsAt, IsLinearization}
 use Rattle.cert_check.specs.Criteria.{every, IsCausalOrder}
 use Rattle.cert_check.proofs.Filtered.{filter_keeps, filter_from, filter_in_order}
 

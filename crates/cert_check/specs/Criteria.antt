@@ -5,7 +5,7 @@ use Rattle.operations.specs.declared.op_id.OpId.{OpId}
 use Rattle.operations.specs.History.{Record, IsOp, Precedes, session, entry, calls}
 use Rattle.cert_check.specs.declared.criterion.Criterion.{Criterion}
 use Rattle.cert_check.specs.declared.criterion.Criterion.TheVariants.{Cc, Cm, Ccv}
-use Rattle.cert_check.specs.Orders.{Ops, Order, only, program_past, past, StandsAt, IsLinearization}
+use Rattle.causal_order.specs.Orders.{Ops, Order, only, program_past, past, StandsAt, IsLinearization}
 
 module _ {S C R : Type 0} where
   -- all operations of a history

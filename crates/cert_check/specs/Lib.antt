@@ -1,2 +1,3 @@
-pub mod Orders
 pub mod Criteria
+pub mod Schedules
+pub mod Certificates

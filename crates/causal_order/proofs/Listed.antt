@@ -7,14 +7,13 @@ use Rattle.std.proofs.lemmas.List.Elements.{Contains-append_left, Contains-push,
 use Rattle.std.proofs.lemmas.List.Sorted.{Contains-permutation, IsPermutation-sym}
 use Rattle.operations.specs.declared.op_id.OpId.{OpId}
 use Rattle.operations.specs.History.{IsOp, session, entry}
-use Rattle.bad_patterns.specs.declared.writes.Write.{Write as WriteEntry}
+use Rattle.causal_order.specs.declared.writes.Write.{Write as WriteEntry}
 use Rattle.objects.specs.declared.register.RegisterCall.TheVariants.{Write}
 use Rattle.objects.specs.declared.register.RegisterRet.{RegisterRet}
-use Rattle.bad_patterns.specs.Memory.{MemoryCall, MemoryHistory, Writes}
-use Rattle.bad_patterns.specs.Written.{op, IsEarlier, ListsWrites, ListsWritesBefore}
-
-same_op : (a b : OpId) → a.session ≡ b.session → a.index ≡ b.index → a ≡ b
-same_op a b sessions indices = λ i. record { session = sessions i; index = indices i }
+use Rattle.causal_order.specs.Memory.{MemoryCall, MemoryHistory, Writes}
+use Rattle.causal_order.specs.Orders.{op, IsEarlier}
+use Rattle.causal_order.specs.OrdersLaws.{same_op, session-of_history}
+use Rattle.causal_order.specs.Written.{ListsWrites, ListsWritesBefore}
 
 -- a call is that of an entry
 pub entry-call : {C R : Type 0} (e : Option (C × R)) (c : C) → option_map (λ (p : C × R). p.0) e ≡ Some c → (r : R) × (e ≡ Some (c, r))
@@ -42,13 +41,6 @@ module _ (h : MemoryHistory) where
   pub write-of_history : (a : OpId) (x v : ℕ) → Writes h a x v → IsOp h a
   write-of_history a x v writes =
       let e = entry-call (entry h a) _ writes in slice_get_within (session h a.session) a.index _ e.1
-
-  -- an operation of the history is of one of its sessions
-  pub session-of_history : (a : OpId) → IsOp h a → a.session < length h.1
-  session-of_history a is_op = lt_of_not-le (λ (past : length h.1 ≤ a.session).
-      let none = get_or_past h.1 a.session [] past in
-      let below = subst (λ (es : List (MemoryCall × Option RegisterRet)). a.index < length es) none is_op in
-      omega arith)
 
   -- one write more
   pub ListsWritesBefore-write : (s i x v : ℕ) (writes : List WriteEntry) → Writes h (op s i) x v → ListsWritesBefore h (op s i) writes
@@ -102,7 +94,7 @@ module _ (h : MemoryHistory) where
   -- the end of the last session
   pub ListsWrites-end : (s : ℕ) (writes : List WriteEntry) → length h.1 ≤ s → ListsWritesBefore h (op s 0) writes → ListsWrites h writes
   ListsWrites-end s writes ended before = record {
-    each = λ a y u wrote. before.each a y u (inl (let below = session-of_history a (write-of_history a y u wrote) in omega arith)) wrote;
+    each = λ a y u wrote. before.each a y u (inl (let below = session-of_history h a (write-of_history a y u wrote) in omega arith)) wrote;
     no_other = before.no_other;
   }
 

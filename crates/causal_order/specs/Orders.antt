@@ -1,7 +1,15 @@
 -- Sets, orders and lists of operations, as Bouajjani, Enea, Guerraoui and Hamza use them ("On Verifying Causal
 -- Consistency", POPL 2017, sections 2 and 3).
-use Rattle.std.specs.Prelude.{◌≡◌, ℕ, ◌<◌, ◌==◌, ◌&&◌, ◌||◌, Bool, IsTrue, List, Some, slice_get, nat_le}
+use Rattle.std.specs.Prelude.{◌≡◌, ◌⊎◌, ℕ, ◌<◌, ◌==◌, ◌&&◌, ◌||◌, Bool, IsTrue, List, Some, slice_get, nat_le}
 use Rattle.operations.specs.declared.op_id.OpId.{OpId}
+
+-- the operation with this index of this session
+abbrev pub op : ℕ → ℕ → OpId
+op s i = record { session = s; index = i }
+
+-- the order of operations: by session, then by index
+abbrev pub IsEarlier : OpId → OpId → Type 0
+IsEarlier a b = (a.session < b.session) ⊎ ((a.session ≡ b.session) × (a.index < b.index))
 
 -- a set of operations, as a test
 abbrev pub Ops : Type 0

@@ -1,6 +1,6 @@
 use Rattle.std.specs.List.{AllAdjacentBelow}
-use Rattle.bad_patterns.specs.Written.{IsOne}
-use Rattle.bad_patterns.proofs.differentiation.are_once.Given as goal
+use Rattle.causal_order.specs.Written.{IsOne}
+use Rattle.causal_order.proofs.differentiation.are_once.Given as goal
 
 -- neighbours so far that write one value to one variable are one operation
 abbrev pub invariant-loop-i : goal.invariant-loop-i

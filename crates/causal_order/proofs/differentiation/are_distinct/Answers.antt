@@ -1,6 +1,6 @@
 use Rattle.std.proofs.Common.{sym, ◌∙◌}
-use Rattle.bad_patterns.proofs.Distinct.{once-from_differentiated, All-from_differentiated, differentiated-from}
-use Rattle.bad_patterns.proofs.differentiation.are_distinct.Goals as goal
+use Rattle.causal_order.proofs.Distinct.{once-from_differentiated, All-from_differentiated, differentiated-from}
+use Rattle.causal_order.proofs.differentiation.are_distinct.Goals as goal
 
 pub returns-then-are_once : goal.returns-then-are_once
 returns-then-are_once c = (

@@ -1,7 +1,7 @@
 use Rattle.std.proofs.Common.{arith, sym, refl, ◌-◌, ◌<◌, length}
 use Rattle.std.proofs.lemmas.List.Elements.{Contains-get_or}
-use Rattle.bad_patterns.proofs.Sorted.{once_from_neighbours, other_operation}
-use Rattle.bad_patterns.proofs.differentiation.are_once.Goals as goal
+use Rattle.causal_order.proofs.Sorted.{once_from_neighbours, other_operation}
+use Rattle.causal_order.proofs.differentiation.are_once.Goals as goal
 
 pub returns-then-ne : goal.returns-then-ne
 returns-then-ne c =

@@ -1,7 +1,7 @@
 use Rattle.std.proofs.Common.{arith, ap, length}
-use Rattle.bad_patterns.proofs.Listed.{ListsWritesBefore-write, ListsWritesBefore-other, ListsWritesBefore-session, Writes-read, no_write-read}
-use Rattle.bad_patterns.proofs.writes.push_writes.Goals as goal
-use Rattle.bad_patterns.proofs.writes.push_writes.Goals.{in-Write+in_ok-push, in_default}
+use Rattle.causal_order.proofs.Listed.{ListsWritesBefore-write, ListsWritesBefore-other, ListsWritesBefore-session, Writes-read, no_write-read}
+use Rattle.causal_order.proofs.writes.push_writes.Goals as goal
+use Rattle.causal_order.proofs.writes.push_writes.Goals.{in-Write+in_ok-push, in_default}
 
 pub loop-index-preserved : goal.loop-index-preserved
 loop-index-preserved c = elim c.match-call.branch [

@@ -11,8 +11,9 @@ use Rattle.std.proofs.lemmas.Option.{same_Some, slice_get-get_or}
 use Rattle.operations.specs.declared.op_id.OpId.{OpId}
 use Rattle.std.proofs.lemmas.List.Sorted.{searchable_from_sorted, sorted_far, ranks_by}
 use Rattle.std.proofs.lemmas.List.Elements.{Contains-get_or}
-use Rattle.bad_patterns.specs.declared.writes.Write.{Write}
-use Rattle.bad_patterns.specs.Written.{op, by_variable, IsSorted, IsOne, AreOnce}
+use Rattle.causal_order.specs.declared.writes.Write.{Write}
+use Rattle.causal_order.specs.Orders.{op}
+use Rattle.causal_order.specs.Written.{by_variable, IsSorted, IsOne, AreOnce}
 
 by_variable_total : IsTotalOrder by_variable
 by_variable_total = then_total (on_total (λ p. p.0) nat_cmp_total) (on_total (λ p. p.1) nat_cmp_total)

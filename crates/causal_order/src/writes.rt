@@ -1,5 +1,6 @@
 ghost use Rattle.std.specs.Prelude.{◌≡◌, ◌+◌, ◌<◌, ◌↔◌, length, Contains, IfOk, IsTrue, OnOk};
-ghost use Rattle.bad_patterns.specs.Written.{IsSorted, ListsWrites, ListsWritesBefore, op};
+ghost use Rattle.causal_order.specs.Orders.{op};
+ghost use Rattle.causal_order.specs.Written.{IsSorted, ListsWrites, ListsWritesBefore};
 
 use objects::{Memory, RegisterCall};
 use operations::{History, OpId};

@@ -1,5 +1,5 @@
 ghost use Rattle.std.specs.Prelude.{◌≡◌, ℕ, MatchOption};
-ghost use Rattle.bad_patterns.specs.Memory.{initial, Reads};
+ghost use Rattle.causal_order.specs.Memory.{initial, Reads};
 
 use objects::{Memory, RegisterCall, RegisterRet};
 use operations::{History, OpId};

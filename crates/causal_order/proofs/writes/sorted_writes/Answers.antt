@@ -1,7 +1,7 @@
 use Rattle.std.proofs.Common.{arith, rules}
 use Rattle.std.proofs.lemmas.List.Sorted.{answers_always}
-use Rattle.bad_patterns.proofs.Listed.{ListsWrites-end, ListsWrites-permutation}
-use Rattle.bad_patterns.proofs.writes.sorted_writes.Goals as goal
+use Rattle.causal_order.proofs.Listed.{ListsWrites-end, ListsWrites-permutation}
+use Rattle.causal_order.proofs.writes.sorted_writes.Goals as goal
 
 pub returns-clause-writes : goal.returns-clause-writes
 returns-clause-writes c = ListsWrites-permutation _ _ _ c.sort_unstable_by_key.ensures.permutation

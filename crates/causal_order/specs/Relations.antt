@@ -3,8 +3,8 @@
 use Rattle.std.specs.Prelude.{◌≡◌, ◌≢◌, ◌⊎◌, ℕ, ◌+◌, IsTrue, List}
 use Rattle.operations.specs.declared.op_id.OpId.{OpId}
 use Rattle.operations.specs.History.{IsOp, Precedes}
-use Rattle.cert_check.specs.Orders.{Order, StandsAt, program_past}
-use Rattle.bad_patterns.specs.Memory.{MemoryHistory, initial, Writes, Reads}
+use Rattle.causal_order.specs.Orders.{Order, StandsAt, program_past}
+use Rattle.causal_order.specs.Memory.{MemoryHistory, initial, Writes, Reads}
 
 -- a path in a relation: it joins each operation to the next
 abbrev pub IsPath : (OpId → OpId → Type 0) → List OpId → Type 0

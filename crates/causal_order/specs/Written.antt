@@ -1,18 +1,11 @@
 -- Lists of the writes of a memory history.
-use Rattle.std.specs.Prelude.{◌≡◌, ◌⊎◌, ℕ, ◌<◌, List, Contains, IsSortedByKey}
+use Rattle.std.specs.Prelude.{◌≡◌, ℕ, List, Contains, IsSortedByKey}
 use Rattle.std.specs.Ordering.{nat_cmp, ordering_then}
 use Rattle.std.specs.declared.cmp.Ordering.{Ordering}
 use Rattle.operations.specs.declared.op_id.OpId.{OpId}
-use Rattle.bad_patterns.specs.declared.writes.Write.{Write}
-use Rattle.bad_patterns.specs.Memory.{MemoryHistory, Writes}
-
--- the operation with this index of this session
-abbrev pub op : ℕ → ℕ → OpId
-op s i = record { session = s; index = i }
-
--- the order of operations: by session, then by index
-abbrev pub IsEarlier : OpId → OpId → Type 0
-IsEarlier a b = (a.session < b.session) ⊎ ((a.session ≡ b.session) × (a.index < b.index))
+use Rattle.causal_order.specs.Orders.{IsEarlier}
+use Rattle.causal_order.specs.declared.writes.Write.{Write}
+use Rattle.causal_order.specs.Memory.{MemoryHistory, Writes}
 
 -- a list names the writes of h, and nothing else
 pub record ListsWrites (h : MemoryHistory) (writes : List Write) : Type 0 where

@@ -1,5 +1,6 @@
-use Rattle.bad_patterns.specs.Written.{ListsWritesBefore, op}
-use Rattle.bad_patterns.proofs.writes.push_writes.Given as goal
+use Rattle.causal_order.specs.Orders.{op}
+use Rattle.causal_order.specs.Written.{ListsWritesBefore}
+use Rattle.causal_order.proofs.writes.push_writes.Given as goal
 
 -- the writes so far are listed
 abbrev pub invariant-loop-index : goal.invariant-loop-index

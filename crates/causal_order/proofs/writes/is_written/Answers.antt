@@ -1,7 +1,7 @@
 use Rattle.std.proofs.Common.{rules}
 use Rattle.std.proofs.lemmas.List.Sorted.{answers_always}
-use Rattle.bad_patterns.proofs.Sorted.{is_written-search}
-use Rattle.bad_patterns.proofs.writes.is_written.Goals as goal
+use Rattle.causal_order.proofs.Sorted.{is_written-search}
+use Rattle.causal_order.proofs.writes.is_written.Goals as goal
 
 pub returns : goal.returns
 returns c = is_written-search c.args.writes.now c.args.key c.args.value c.binary_search_by_key.result c.is_ok.result c.requires

@@ -1,0 +1,83 @@
+ghost use Rattle.std.specs.Prelude.{◌≡◌, ◌∷◌, ◌++◌, ◌<◌, List, [], length, slice_set, OnOk, OnErr, slice_index_or};
+ghost use Rattle.causal_order.specs.Vectors.{list_of};
+
+use crate::rows::Rows;
+use operations::OpId;
+use std::alloc::{AllocError, Global};
+use std::marker::Model;
+
+/// One list for each operation of some sessions.
+#[derive(Debug, Drop)]
+pub struct ByOperation<T> {
+    sessions: Vec<Rows<T>>,
+    alloc: Global,
+}
+
+/// For each operation, how many operations of each session are in its past, itself among them.
+pub type Vectors = ByOperation<u16>;
+
+impl<T> Model for ByOperation<T> {
+    ghost Value = { List (List (List T)) };
+
+    ghost view = { λ lists. lists.sessions.items };
+}
+
+impl<T> ByOperation<T> {
+    /// No sessions.
+    pub fn new(alloc: Global) -> ByOperation<T>
+        ensures { result ≡ [] }
+    {
+        ByOperation {
+            sessions: Vec::new(alloc),
+            alloc,
+        }
+    }
+
+    /// How many sessions there are.
+    pub fn sessions(&self) -> usize
+        ensures { result ≡ length self.now }
+    {
+        self.sessions.len()
+    }
+
+    /// How many operations a session has.
+    pub fn operations(&self, session: usize) -> usize
+        requires { session < length self.now }
+        ensures { result ≡ length (slice_index_or self.now session []) }
+    {
+        self.sessions[session].len()
+    }
+
+    /// The list of an operation.
+    pub fn get(&self, op: OpId) -> &[T]
+        requires session { op.session < length self.now }
+        requires index { op.index < length (slice_index_or self.now op.session []) }
+        ensures { result.now ≡ list_of self.now op }
+    {
+        self.sessions[op.session as usize].get(op.index as usize)
+    }
+}
+
+impl<T: Copy> ByOperation<T> {
+    /// Puts a session with no operations behind the others.
+    ///
+    /// Fails for want of memory alone, and the sessions are then as they were.
+    pub fn push_session(&mut self) -> Result<(), AllocError>
+        ensures ok { OnOk result (self.new ≡ self.old ++ [] ∷ []) }
+        ensures err { OnErr result (self.new ≡ self.old) }
+    {
+        self.sessions.push(Rows::new(self.alloc))?;
+        Ok(())
+    }
+
+    /// Puts the list of one operation more behind those of its session.
+    ///
+    /// Fails for want of memory alone, and the lists are then as they were.
+    pub fn push(&mut self, session: usize, list: &[T]) -> Result<(), AllocError>
+        requires { session < length self.old }
+        ensures ok { OnOk result (self.new ≡ slice_set self.old session (slice_index_or self.old session [] ++ list.now ∷ [])) }
+        ensures err { OnErr result (self.new ≡ self.old) }
+    {
+        self.sessions[session].push(list)
+    }
+}

@@ -1,0 +1,67 @@
+-- Certificates: for each operation of a history a vector of its past, and schedules or one list that explain the known
+-- returns, as a criterion demands (this project's profile).
+use Rattle.std.specs.Prelude.{◌≡◌, ◌≢◌, ℕ, ◌<◌, Bool, List, Option, Some, filter, length, nat_lt}
+use Rattle.operations.specs.declared.op_id.OpId.{OpId}
+use Rattle.operations.specs.History.{Record, IsOp, session}
+use Rattle.causal_order.specs.Orders.{Ops, IsEarlier, StandsAt, only, program_past}
+use Rattle.causal_order.specs.Vectors.{Counts, ByOperation, list_of, count, HasOneEach, AreVectorsOf, IsCounted, IsVectorOk}
+use Rattle.cert_check.specs.declared.criterion.Criterion.{Criterion}
+use Rattle.cert_check.specs.declared.criterion.Criterion.TheVariants as criteria
+use Rattle.cert_check.specs.declared.certificate.Certificate.{Certificate}
+use Rattle.cert_check.specs.declared.certificate.Certificate.TheVariants.{Cc, Cm, Ccv}
+use Rattle.cert_check.specs.Criteria.{Explains}
+use Rattle.cert_check.specs.Schedules.{times, named, StandsBefore, IsSchedule}
+
+-- the criterion of a certificate
+abbrev pub criterion_of : Certificate → Criterion
+criterion_of (Cc vectors schedules) = criteria.Cc
+criterion_of (Cm vectors schedules) = criteria.Cm
+criterion_of (Ccv vectors arbitration) = criteria.Ccv
+
+-- what the vector of o counts
+abbrev pub counted : Counts → OpId → Ops
+counted v o a = nat_lt a.index (count v o a.session)
+
+module _ {S C R : Type 0} where
+  -- a certificate has the shape of a history: a vector for each operation, and a schedule for each or one list in which
+  -- each session occurs as often as it has operations, and no other number occurs
+  abbrev pub HasShapeOf : Record S C R → Certificate → Type 0
+  HasShapeOf h (Cc vectors schedules) = AreVectorsOf h vectors × HasOneEach h schedules
+  HasShapeOf h (Cm vectors schedules) = AreVectorsOf h vectors × HasOneEach h schedules
+  HasShapeOf h (Ccv vectors arbitration) = AreVectorsOf h vectors × ((s : ℕ) → times s arbitration ≡ length (session h s))
+
+module _ {S C R : Type 0} (answer : S → List C → C → R) (h : Record S C R) where
+  -- the piece of o by a schedule: its vector and its schedule are good, and the operations that the schedule names
+  -- explain the known returns that are kept
+  pub record IsScheduledPiece (v : Counts) (schedule : List ℕ) (o : OpId) (kept : Ops) : Type 0 where
+    pub vector : IsVectorOk h v o
+    pub schedules : IsSchedule h v o schedule
+    pub explains : Explains answer h (named schedule) kept
+
+  -- the piece of o by one list: its vector is good, the others that its vector counts stand before it in the list, and
+  -- what the vector counts, in the list's order, explains the known return of o
+  pub record IsArbitratedPiece (v : Counts) (arbitration : List ℕ) (o : OpId) : Type 0 where
+    pub vector : IsVectorOk h v o
+    pub after_counted : (k : ℕ) (a : OpId) → StandsAt (named arbitration) k o → IsCounted v o a → a ≢ o → StandsBefore (named arbitration) k a
+    pub explains : Explains answer h (filter (counted v o) (named arbitration)) (only o)
+
+  -- the piece of the operation o in a certificate explains it
+  abbrev pub IsExplainedPiece : Certificate → OpId → Type 0
+  IsExplainedPiece (Cc vectors schedules) o = IsScheduledPiece vectors (list_of schedules o) o (only o)
+  IsExplainedPiece (Cm vectors schedules) o = IsScheduledPiece vectors (list_of schedules o) o (program_past o)
+  IsExplainedPiece (Ccv vectors arbitration) o = IsArbitratedPiece vectors arbitration o
+
+  -- every piece explains its operation
+  abbrev pub IsExplainedThroughout : Certificate → Type 0
+  IsExplainedThroughout certificate = (o : OpId) → IsOp h o → IsExplainedPiece certificate o
+
+  -- a certificate of a criterion and of good shape, of which every piece explains its operation
+  abbrev pub Certifies : Criterion → Certificate → Type 0
+  Certifies criterion certificate =
+      (criterion_of certificate ≡ criterion) × HasShapeOf h certificate × IsExplainedThroughout certificate
+
+  -- the first operation whose piece doesn't explain it
+  pub record IsFirstUnexplained (certificate : Certificate) (o : OpId) : Type 0 where
+    pub is_op : IsOp h o
+    pub unexplained : ¬ IsExplainedPiece certificate o
+    pub earlier : (a : OpId) → IsOp h a → IsEarlier a o → IsExplainedPiece certificate a

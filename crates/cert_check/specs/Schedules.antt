@@ -1,0 +1,31 @@
+-- Schedules: lists of session numbers, each of which names the next operation of its session (this project's profile).
+use Rattle.std.specs.Prelude.{◌≡◌, ◌≢◌, ℕ, ◌<◌, ◌==◌, ◌++◌, List, [], ◌∷◌}
+use Rattle.std.specs.List.{count_by}
+use Rattle.operations.specs.declared.op_id.OpId.{OpId}
+use Rattle.operations.specs.History.{Record, IsOp}
+use Rattle.causal_order.specs.Orders.{op, StandsAt}
+use Rattle.causal_order.specs.Vectors.{Counts, count, IsCounted}
+
+-- how often a list names the session s
+abbrev pub times : ℕ → List ℕ → ℕ
+times s schedule = count_by (λ t. t == s) schedule
+
+-- the operations that a list names behind another list, and those that it names alone
+abbrev pub named_after : List ℕ → List ℕ → List OpId
+named_after before [] = []
+named_after before (s ∷ schedule) = op s (times s before) ∷ named_after (before ++ s ∷ []) schedule
+
+abbrev pub named : List ℕ → List OpId
+named schedule = named_after [] schedule
+
+-- the operation a stands before the place k of a list
+abbrev pub StandsBefore : List OpId → ℕ → OpId → Type 0
+StandsBefore ops k a = (j : ℕ) × (j < k) × StandsAt ops j a
+
+module _ {S C R : Type 0} where
+  -- a schedule of the operation o: what it names is there, each named operation comes after all others that its own
+  -- vector counts, and as many of each session are named as the vector of o counts
+  pub record IsSchedule (h : Record S C R) (v : Counts) (o : OpId) (schedule : List ℕ) : Type 0 where
+    pub existing : (k : ℕ) (a : OpId) → StandsAt (named schedule) k a → IsOp h a
+    pub after_counted : (k : ℕ) (b a : OpId) → StandsAt (named schedule) k b → IsCounted v b a → a ≢ b → StandsBefore (named schedule) k a
+    pub ends : (s : ℕ) → times s schedule ≡ count v o s

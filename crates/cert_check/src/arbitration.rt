@@ -1,0 +1,31 @@
+ghost use Rattle.std.specs.Prelude.{◌≡◌, List, ℕ};
+
+use std::marker::Model;
+
+/// One list of session numbers, each of which names that session's next operation.
+#[derive(Debug, Drop)]
+pub struct Arbitration {
+    sessions: Vec<u8>,
+}
+
+impl Model for Arbitration {
+    ghost Value = { List ℕ };
+
+    ghost view = { λ arbitration. arbitration.sessions.items };
+}
+
+impl Arbitration {
+    /// The list with these session numbers.
+    pub fn of(sessions: Vec<u8>) -> Arbitration
+        ensures { result ≡ sessions.items }
+    {
+        Arbitration { sessions }
+    }
+
+    /// The session numbers, in order.
+    pub fn sessions(&self) -> &[u8]
+        ensures { result.now ≡ self.now }
+    {
+        self.sessions.as_slice()
+    }
+}

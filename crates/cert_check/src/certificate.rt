@@ -1,0 +1,36 @@
+ghost use Rattle.std.specs.Prelude.{◌≡◌};
+ghost use Rattle.cert_check.specs.Certificates.{criterion_of};
+
+use crate::arbitration::Arbitration;
+use crate::criterion::Criterion;
+use causal_order::{ByOperation, Vectors};
+
+/// For each operation, a list of session numbers, each of which names that session's next operation.
+pub type Schedules = ByOperation<u8>;
+
+/// What is offered as a proof that a history meets a criterion: the past of each operation as a vector, and in which
+/// order the calls explain the known returns.
+///
+/// Nothing is taken on trust: a certificate says something only where each of its pieces is checked.
+#[derive(Debug, Drop)]
+pub enum Certificate {
+    /// For causal consistency: for each operation a schedule of its past.
+    Cc(Vectors, Schedules),
+    /// For causal memory: the same.
+    Cm(Vectors, Schedules),
+    /// For causal convergence: one list of all operations.
+    Ccv(Vectors, Arbitration),
+}
+
+impl Certificate {
+    /// The criterion that it is for.
+    pub fn criterion(&self) -> Criterion
+        ensures { result ≡ criterion_of self.now }
+    {
+        match self {
+            Certificate::Cc(_, _) => Criterion::Cc,
+            Certificate::Cm(_, _) => Criterion::Cm,
+            Certificate::Ccv(_, _) => Criterion::Ccv,
+        }
+    }
+}
