@@ -1,2 +1,12 @@
 pub mod Filtered
 pub mod Convergent
+pub mod Named
+pub mod Pasts
+pub mod Sound
+pub mod Sessions
+pub mod Counting
+pub mod PastPieces
+pub mod Complete
+pub mod ListForms
+pub mod ListReading
+pub mod CertificateForms

@@ -1,3 +1,5 @@
 pub mod Criteria
 pub mod Schedules
 pub mod Certificates
+pub mod CertificateForm
+pub mod CertificateReading

@@ -1,8 +1,11 @@
 //! What holds of the criteria for every object. The functions do nothing: what they ensure is the law.
 
+ghost use Rattle.std.specs.Prelude.{◌↔◌};
 ghost use Rattle.operations.specs.History.{Record};
+ghost use Rattle.cert_check.specs.Certificates.{criterion_of, Certifies, HasShapeOf, IsExplainedThroughout};
 ghost use Rattle.cert_check.specs.Criteria.{Meets};
 
+use crate::certificate::Certificate;
 use crate::criterion::Criterion;
 use object_trait::SeqObject;
 
@@ -14,4 +17,15 @@ pub fn causal_memory_is_causally_consistent<O: SeqObject>()
 /// A causally convergent history is causally consistent.
 pub fn causal_convergence_is_causally_consistent<O: SeqObject>()
     ensures { (h : Record O.Start O.Call O.Ret) → Meets O.answer h Criterion.Ccv → Meets O.answer h Criterion.Cc }
+{}
+
+/// A certificate that fits a history, and of which every piece explains its operation, shows that the history meets the
+/// certificate's criterion.
+pub fn explained_certificates_show_their_criterion<O: SeqObject>()
+    ensures { (h : Record O.Start O.Call O.Ret) (c : Certificate) → HasShapeOf h c → IsExplainedThroughout O.answer h c → Meets O.answer h (criterion_of c) }
+{}
+
+/// A history meets a criterion exactly where some certificate of that criterion certifies it.
+pub fn met_exactly_where_certified<O: SeqObject>()
+    ensures { (h : Record O.Start O.Call O.Ret) (criterion : Criterion) → Meets O.answer h criterion ↔ ((c : Certificate) × Certifies O.answer h criterion c) }
 {}

@@ -1,2 +1,3 @@
 pub mod KeyedLemmas
+pub mod SetLemmas
 pub mod TableLemmas

@@ -1,6 +1,8 @@
 -- Equality tests that decide equality of values.
-use Rattle.std.specs.Prelude.{◌≡◌, ◌↔◌, ℕ, true, false, ◌==◌, refl}
-use Rattle.std.proofs.Common.{eq-eqb, ap}
+use Rattle.std.specs.Prelude.{◌≡◌, ◌↔◌, ℕ, Bool, true, false, ◌==◌, Option, Some, None, refl}
+use Rattle.std.specs.Option.{option_eq}
+use Rattle.std.specs.Bool.{beq}
+use Rattle.std.proofs.Common.{eq-eqb, ap, sym, ◌∙◌}
 use Rattle.std.proofs.lemmas.Bool.{eqb-true}
 
 -- two different values, and a test that says so
@@ -14,8 +16,29 @@ alike a = ((λ e. refl), λ e. refl)
 pub same_numbers : (a b : ℕ) → ((a == b) ≡ true) ↔ (a ≡ b)
 same_numbers a b = (eqb-true a b, eq-eqb a b)
 
--- a value that holds one number
-pub same_of_number : {A : Type 0} (f : ℕ → A) (back : A → ℕ) → ((n : ℕ) → back (f n) ≡ n)
-    → (a b : ℕ) → ((a == b) ≡ true → f a ≡ f b) × (f a ≡ f b → (a == b) ≡ true)
-same_of_number f back undoes a b =
-    (λ e. ap f (eqb-true a b e), λ e. let h : a ≡ b = let p = ap back e in cc (undoes a, undoes b) in eq-eqb a b h)
+-- values that hold one part each, and a test of the parts
+pub same_of_part : {A P : Type 0} (f : P → A) → ((a b : P) → f a ≡ f b → a ≡ b) → {eq : P → P → Bool} → ((a b : P) → (eq a b ≡ true) ↔ (a ≡ b))
+    → (a b : P) → (eq a b ≡ true → f a ≡ f b) × (f a ≡ f b → eq a b ≡ true)
+same_of_part f injective decides a b = ((λ e. ap f ((decides a b).0 e)), λ e. (decides a b).1 (injective a b e))
+
+-- values of two variants, and a test that tells them apart
+pub apart : {A : Type 0} (variant : A → ℕ) (a b : A) → (variant a == variant b) ≡ false → (false ≡ true → a ≡ b) × (a ≡ b → false ≡ true)
+apart variant a b differ = ((λ (e : false ≡ true). absurd cc), λ e. sym differ ∙ eq-eqb (variant a) (variant b) (ap variant e))
+
+-- the values of `()`
+pub same_units : (a b : Unit {0}) → (true ≡ true) ↔ (a ≡ b)
+same_units a b = ((λ e. refl), λ e. refl)
+
+-- values that may be absent
+pub same_options : {A : Type 0} {eq : A → A → Bool} → ((a b : A) → (eq a b ≡ true) ↔ (a ≡ b))
+    → (a b : Option A) → (option_eq eq a b ≡ true) ↔ (a ≡ b)
+same_options decides None None = alike None
+same_options decides None (Some b) = ((λ e. absurd cc), λ e. absurd cc)
+same_options decides (Some a) None = ((λ e. absurd cc), λ e. absurd cc)
+same_options decides (Some a) (Some b) = same_of_part Some (λ a b e. cc) decides a b
+
+pub same_truths : (a b : Bool) → (beq a b ≡ true) ↔ (a ≡ b)
+same_truths true true = alike true
+same_truths true false = ((λ e. absurd cc), λ e. absurd cc)
+same_truths false true = ((λ e. absurd cc), λ e. absurd cc)
+same_truths false false = alike false

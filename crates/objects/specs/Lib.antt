@@ -1,6 +1,9 @@
-pub mod Register
+pub mod AddRemoveSet
+pub mod Counter
 pub mod Equal
 pub mod Keyed
 pub mod KeyedLaws
+pub mod Queue
+pub mod Register
 pub mod Table
 pub mod TableLaws

@@ -1,11 +1,18 @@
-//! What holds of every keyed object.
+//! What holds of the objects, beside the laws of every object.
 
+ghost use Rattle.objects.specs.Counter.{StaysFull};
 ghost use Rattle.objects.specs.Keyed.{DependsOnItsKey};
 
+use crate::counter::Counter;
 use crate::keyed::Keyed;
 use object_trait::SeqObject;
 
 /// An answer at a key depends only on the start at that key and on the calls with that key.
 pub fn answer_depends_on_its_key<O: SeqObject>()
     ensures { DependsOnItsKey O.plain_start ⟦<Keyed<O> as SeqObject>⟧.answer }
+{}
+
+/// Once a counter answers the greatest `u64`, it answers the same after any further calls.
+pub fn counter_stays_full()
+    ensures { StaysFull ⟦<Counter as SeqObject>⟧.answer }
 {}

@@ -1,16 +1,31 @@
 //! The objects whose histories are judged, each with its answer over plain lists of calls.
 #![tactic(auto)]
 
+mod add_remove_set;
+mod counter;
 mod keyed;
 pub mod laws;
+mod queue;
 mod register;
 mod table;
 #[cfg(test)]
 mod tests;
 
+pub use add_remove_set::{AddRemoveSet, SetCall, SetRet};
+pub use counter::{Counter, CounterCall, CounterRet};
 pub use keyed::{Keyed, KeyedCall};
+pub use queue::{Queue, QueueCall, QueueRet};
 pub use register::{Register, RegisterCall, RegisterRet};
 pub use table::{MAX_ENTRIES, Table};
 
 /// A memory: a register for each variable.
 pub type Memory = Keyed<Register>;
+
+/// A counter for each key.
+pub type Counters = Keyed<Counter>;
+
+/// A set for each key.
+pub type Sets = Keyed<AddRemoveSet>;
+
+/// A queue for each key.
+pub type Queues = Keyed<Queue>;

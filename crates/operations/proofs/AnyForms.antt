@@ -1,44 +1,40 @@
 -- The forms of the histories of each object.
-use Rattle.std.proofs.Common.{◌≡◌, ◌<◌, ◌^◌, ℕ, false, List, [], ◌∷◌, map, Option, Some, refl, sym, ap, ◌∙◌, codes}
+use Rattle.std.proofs.Common.{◌≡◌, ◌≢◌, ◌<◌, ◌^◌, ◌++◌, ℕ, Bool, true, false, List, [], ◌∷◌, map, Option, Some, refl, sym, ap, ◌∙◌}
+use Rattle.std.proofs.lemmas.Option.{same_Some}
 use Rattle.serde_json.specs.Data.{Data}
 use Rattle.serde_json.specs.Written.{has_float}
+use Rattle.objects.specs.AddRemoveSet.{matches as set_matches}
+use Rattle.objects.specs.Counter.{matches as counter_matches}
+use Rattle.objects.specs.Queue.{matches as queue_matches}
+use Rattle.objects.specs.Register.{matches as register_matches}
+use Rattle.objects.specs.declared.keyed.KeyedCall.{KeyedCall}
 use Rattle.operations.specs.declared.any_history.AnyHistory.{AnyHistory}
 use Rattle.operations.specs.declared.any_history.AnyHistory.TheVariants as histories
+use Rattle.operations.specs.declared.object_name.ObjectName.TheVariants as names
 use Rattle.operations.specs.declared.read_error.ReadError.{ReadError}
 use Rattle.operations.specs.declared.read_error.ReadError.TheVariants as errors
-use Rattle.operations.specs.AnyForm.{IsAnyHistory, MemoryRecord, form_of, first_refusal, IsJson, IsRefusedFor}
-use Rattle.operations.specs.Form.{ReadAs, session_form, HaveNoFloats}
-use Rattle.operations.specs.Reading.{parts_of}
+use Rattle.operations.specs.AnyForm.{IsAnyHistory, IsPlainHistory, IsKeyedHistory, form_of, first_refusal, IsJson, IsRefusedFor}
+use Rattle.operations.specs.CallLaws.{no_start_again, no_start_has_no_float}
+use Rattle.operations.specs.CounterForm as counter
+use Rattle.operations.specs.CounterFormLaws as counter_laws
+use Rattle.operations.specs.Form.{Fits, EachCall, session_form, HaveNoFloats}
+use Rattle.operations.specs.History.{Record, IsHistory}
+use Rattle.operations.specs.Json.{unknown}
+use Rattle.operations.specs.KeyedFormLaws.{keyed_again, keyed_has_no_float}
+use Rattle.operations.specs.ObjectNames.{text_of}
+use Rattle.operations.specs.PlainFormLaws.{plain_again, plain_has_no_float}
+use Rattle.operations.specs.QueueForm as queue
+use Rattle.operations.specs.QueueFormLaws as queue_laws
 use Rattle.operations.specs.Refusals.{IsFirst}
 use Rattle.operations.specs.RegisterForm as register
-use Rattle.operations.specs.Spelling.{keyed_form, keyed_at, table_form, table_at, entry_form}
-use Rattle.objects.specs.Register.{matches}
-use Rattle.objects.specs.declared.keyed.KeyedCall.{KeyedCall}
-use Rattle.objects.specs.declared.register.RegisterCall.{RegisterCall}
-use Rattle.objects.specs.declared.register.RegisterRet.{RegisterRet}
-use Rattle.operations.specs.KeyedFormLaws.{keyed_again, keyed_has_no_float}
+use Rattle.operations.specs.RegisterFormLaws as register_laws
+use Rattle.operations.specs.SetForm as set
+use Rattle.operations.specs.SetFormLaws as set_laws
+use Rattle.operations.specs.Spelling.{plain_form, plain_at, keyed_form, keyed_at, table_form, table_at, no_start_form, no_start_at}
 use Rattle.operations.specs.TableFormLaws.{table_again, table_has_no_float}
-use Rattle.operations.specs.RegisterFormLaws.{call_again, ret_again, ret_is_known, start_again, arguments_have_no_float, ret_has_no_float, start_has_no_float}
+use Rattle.operations.proofs.AnyHistories.{only_with_name}
 use Rattle.operations.proofs.HistoryForm.{same_sessions, sessions_read}
-use Rattle.operations.proofs.PartsForm.{Parts, formed, parts_again, parts_again_with_start}
-
-pub same_form : (a b : List ℕ) (s t r q : List Data) → a ≡ b → s ≡ t → r ≡ q → formed (a, s, r) ≡ formed (b, t, q)
-same_form a b s t r q name sessions rest = rw (name, sessions, rest) refl
-
-memory_parts_of : (sessions : List Data) (start : List (ℕ × ℕ)) → parts_of (formed (codes "memory", sessions, table_form register.start_form start)) ≡ Some (codes "memory", sessions, table_form register.start_form start)
-memory_parts_of sessions [] = parts_again (codes "memory") sessions
-memory_parts_of sessions (e ∷ es) = parts_again_with_start (codes "memory") sessions (map (entry_form register.start_form) (e ∷ es))
-
-some_parts : (p q : Parts) → Option.Some p ≡ Some q → p ≡ q
-some_parts p q e = cc
-
--- the parts of the form of a memory history
-pub memory_parts : (d : Data) (p : Parts) (h : MemoryRecord) → parts_of d ≡ Some p → d ≡ form_of (histories.Memory h)
-    → (p.1 ≡ map (session_form (keyed_form register.word_of register.arguments register.ret_form)) h.1) × (p.2 ≡ table_form register.start_form h.0)
-memory_parts d p h parts form =
-    let sessions = map (session_form (keyed_form register.word_of register.arguments register.ret_form)) h.1 in
-    let same : p ≡ (codes "memory", sessions, table_form register.start_form h.0) = some_parts _ _ (sym parts ∙ ap parts_of form ∙ memory_parts_of sessions h.0) in
-    (ap (λ (q : Parts). q.1) same, ap (λ (q : Parts). q.2) same)
+use Rattle.operations.proofs.PartsForm.{formed}
 
 -- the first refusal of the value of a text is why the text is refused
 pub refused_for : (text : List ℕ) (d : Data) (e : ReadError) → IsJson text d → IsFirst (first_refusal d) e → IsRefusedFor text e
@@ -64,37 +60,104 @@ form_has_no_float name operation_form ss rest operations none =
     rw (map_has_no_float (session_form operation_form) (λ es. map_has_no_float (λ (e : _). operation_form e.0 e.1) (λ e. operations e.0 e.1) es) ss, none) refl
 
 pub any_form_has_no_float : (h : AnyHistory) → has_float (form_of h) ≡ false
+any_form_has_no_float (histories.Register h) =
+    form_has_no_float (text_of names.Register) (plain_form register.word_of register.arguments register.ret_form) h.1 []
+    (plain_has_no_float register.word_of register.arguments register.ret_form register_laws.arguments_have_no_float register_laws.ret_has_no_float) refl
+any_form_has_no_float (histories.Counter h) =
+    form_has_no_float (text_of names.Counter) (plain_form counter.word_of counter.arguments counter.ret_form) h.1 []
+    (plain_has_no_float counter.word_of counter.arguments counter.ret_form counter_laws.arguments_have_no_float counter_laws.ret_has_no_float) refl
+any_form_has_no_float (histories.Set h) =
+    form_has_no_float (text_of names.Set) (plain_form set.word_of set.arguments set.ret_form) h.1 []
+    (plain_has_no_float set.word_of set.arguments set.ret_form set_laws.arguments_have_no_float set_laws.ret_has_no_float) refl
+any_form_has_no_float (histories.Queue h) =
+    form_has_no_float (text_of names.Queue) (plain_form queue.word_of queue.arguments queue.ret_form) h.1 []
+    (plain_has_no_float queue.word_of queue.arguments queue.ret_form queue_laws.arguments_have_no_float queue_laws.ret_has_no_float) refl
 any_form_has_no_float (histories.Memory h) =
-    form_has_no_float (codes "memory") (keyed_form register.word_of register.arguments register.ret_form) h.1 (table_form register.start_form h.0)
-    (keyed_has_no_float register.word_of register.arguments register.ret_form arguments_have_no_float ret_has_no_float)
-    (table_has_no_float register.start_form start_has_no_float h.0)
+    form_has_no_float (text_of names.Memory) (keyed_form register.word_of register.arguments register.ret_form) h.1 (table_form register.start_form h.0)
+    (keyed_has_no_float register.word_of register.arguments register.ret_form register_laws.arguments_have_no_float register_laws.ret_has_no_float) (table_has_no_float register.start_form register_laws.start_has_no_float h.0)
+any_form_has_no_float (histories.Counters h) =
+    form_has_no_float (text_of names.Counters) (keyed_form counter.word_of counter.arguments counter.ret_form) h.1 (table_form no_start_form h.0)
+    (keyed_has_no_float counter.word_of counter.arguments counter.ret_form counter_laws.arguments_have_no_float counter_laws.ret_has_no_float) (table_has_no_float no_start_form no_start_has_no_float h.0)
+any_form_has_no_float (histories.Sets h) =
+    form_has_no_float (text_of names.Sets) (keyed_form set.word_of set.arguments set.ret_form) h.1 (table_form no_start_form h.0)
+    (keyed_has_no_float set.word_of set.arguments set.ret_form set_laws.arguments_have_no_float set_laws.ret_has_no_float) (table_has_no_float no_start_form no_start_has_no_float h.0)
+any_form_has_no_float (histories.Queues h) =
+    form_has_no_float (text_of names.Queues) (keyed_form queue.word_of queue.arguments queue.ret_form) h.1 (table_form no_start_form h.0)
+    (keyed_has_no_float queue.word_of queue.arguments queue.ret_form queue_laws.arguments_have_no_float queue_laws.ret_has_no_float) (table_has_no_float no_start_form no_start_has_no_float h.0)
 
--- the form of a memory history reads as that history
-abbrev memory_operation_form : KeyedCall RegisterCall → Option RegisterRet → Data
-memory_operation_form = keyed_form register.word_of register.arguments register.ret_form
+-- sessions with the same forms are the same
+module _ {C R : Type 0} (operation_form : C → Option R → Data) (operation_at : Data → Option (C × Option R)) (fits : C → R → Bool) (is_call : C → Type 0)
+    (again : (c : C) (r : Option R) → is_call c → Fits fits c r → operation_at (operation_form c r) ≡ Some (c, r)) where
+  sessions_are_the_same : {S : Type 0} (is_start : S → Type 0) (g h : Record S C R) → IsHistory is_start fits g → IsHistory is_start fits h
+      → EachCall is_call g.1 → EachCall is_call h.1 → map (session_form operation_form) g.1 ≡ map (session_form operation_form) h.1 → g.1 ≡ h.1
+  sessions_are_the_same is_start g h is_g is_h calls_g calls_h same =
+      same_sessions operation_at g.1 h.1 (map (session_form operation_form) g.1)
+      (sessions_read operation_at operation_form fits is_call again g.1 is_g.each calls_g)
+      (rw same (sessions_read operation_at operation_form fits is_call again h.1 is_h.each calls_h))
 
-abbrev memory_operation_at : Data → Option (KeyedCall RegisterCall × Option RegisterRet)
-memory_operation_at = keyed_at register.call_at register.ret_at
+-- histories with the same parts are the same
+module _ {C R : Type 0} (word_of : C → List ℕ) (arguments : C → List Data) (ret_form : R → List Data)
+    (call_at : List ℕ → List Data → Option (C × List Data)) (ret_at : C → List Data → Option R) (fits : C → R → Bool)
+    (call_again : (c : C) (rest : List Data) → call_at (word_of c) (arguments c ++ rest) ≡ Some (c, rest))
+    (ret_again : (c : C) (r : R) → fits c r ≡ true → ret_at c (ret_form r) ≡ Some r)
+    (ret_is_known : (r : R) → ret_form r ≢ unknown ∷ []) where
+  plain_histories : {S : Type 0} (plain : S) (g h : Record S C R) → IsPlainHistory plain fits g → IsPlainHistory plain fits h
+      → map (session_form (plain_form word_of arguments ret_form)) g.1 ≡ map (session_form (plain_form word_of arguments ret_form)) h.1 → g ≡ h
+  plain_histories plain g h is_g is_h same =
+      rw (is_g.1 ∙ sym is_h.1, sessions_are_the_same (plain_form word_of arguments ret_form) (plain_at call_at ret_at) fits (λ _. Unit {0})
+      (plain_again word_of arguments ret_form call_at ret_at fits call_again ret_again ret_is_known)
+      (λ _. Unit {0}) g h is_g.0 is_h.0 (λ s i c r here. tt) (λ s i c r here. tt) same) refl
 
-memory_sessions_read : (h : MemoryRecord) → IsAnyHistory (histories.Memory h) → ReadAs memory_operation_at (map (session_form memory_operation_form) h.1) h.1
-memory_sessions_read h is =
-    sessions_read memory_operation_at memory_operation_form (λ c. matches c.call) (λ c. c.key < 2 ^ 32)
-    (keyed_again register.word_of register.arguments register.ret_form register.call_at register.ret_at matches call_again ret_again ret_is_known)
-    h.1 is.0.each is.1
-
-memory_start_read : (h : MemoryRecord) → IsAnyHistory (histories.Memory h) → table_at register.start_at (table_form register.start_form h.0) ≡ Some h.0
-memory_start_read h is = table_again 0 (λ _. Unit {0}) register.start_form register.start_at start_again h.0 is.0.start tt
-
-memory_forms_are_distinct : (g h : MemoryRecord) → IsAnyHistory (histories.Memory g) → IsAnyHistory (histories.Memory h)
-    → form_of (histories.Memory g) ≡ form_of (histories.Memory h) → g ≡ h
-memory_forms_are_distinct g h is_g is_h same =
-    let sessions = map (session_form memory_operation_form) g.1 in
-    let parts = memory_parts (form_of (histories.Memory g)) (codes "memory", sessions, table_form register.start_form g.0) h (memory_parts_of sessions g.0) same in
-    let read : ReadAs memory_operation_at sessions h.1 = rw parts.0 (memory_sessions_read h is_h) in
-    let same_lists : g.1 ≡ h.1 = same_sessions memory_operation_at g.1 h.1 sessions (memory_sessions_read g is_g) read in
-    let starts : Option.Some g.0 ≡ Some h.0 = sym (memory_start_read g is_g) ∙ ap (table_at register.start_at) parts.1 ∙ memory_start_read h is_h in
-    let same_start : g.0 ≡ h.0 = cc in
-    rw (same_start, same_lists) refl
+  keyed_histories : {S : Type 0} (plain : S) (start_form : S → Data) (start_at : Data → Option S)
+      → ((s : S) → Unit {0} → s ≢ plain → start_at (start_form s) ≡ Some s)
+      → (g h : Record (List (ℕ × S)) (KeyedCall C) R) → IsKeyedHistory plain fits g → IsKeyedHistory plain fits h
+      → map (session_form (keyed_form word_of arguments ret_form)) g.1 ≡ map (session_form (keyed_form word_of arguments ret_form)) h.1
+      → table_form start_form g.0 ≡ table_form start_form h.0 → g ≡ h
+  keyed_histories plain start_form start_at start_again g h is_g is_h same starts =
+      let again_at = table_again plain (λ _. Unit {0}) start_form start_at start_again in
+      let same_start : g.0 ≡ h.0 = same_Some g.0 h.0 (sym (again_at g.0 is_g.0.start tt) ∙ ap (table_at start_at) starts ∙ again_at h.0 is_h.0.start tt) in
+      rw (same_start, sessions_are_the_same (keyed_form word_of arguments ret_form) (keyed_at call_at ret_at) (λ c. fits c.call) (λ c. c.key < 2 ^ 32)
+      (keyed_again word_of arguments ret_form call_at ret_at fits call_again ret_again ret_is_known)
+      _ g h is_g.0 is_h.0 is_g.1 is_h.1 same) refl
 
 pub any_forms_are_distinct : (g h : AnyHistory) → IsAnyHistory g → IsAnyHistory h → form_of g ≡ form_of h → g ≡ h
-any_forms_are_distinct (histories.Memory g) (histories.Memory h) is_g is_h same = ap histories.Memory (memory_forms_are_distinct g h is_g is_h same)
+any_forms_are_distinct (histories.Register g) h is_g is_h same =
+    only_with_name names.Register (map (session_form (plain_form register.word_of register.arguments register.ret_form)) g.1) [] (λ x. histories.Register g ≡ x)
+    (λ x is sessions start. ap histories.Register (plain_histories register.word_of register.arguments register.ret_form register.call_at register.ret_at register_matches
+    register_laws.call_again register_laws.ret_again register_laws.ret_is_known 0 g x is_g is sessions))
+    h is_h same
+any_forms_are_distinct (histories.Counter g) h is_g is_h same =
+    only_with_name names.Counter (map (session_form (plain_form counter.word_of counter.arguments counter.ret_form)) g.1) [] (λ x. histories.Counter g ≡ x)
+    (λ x is sessions start. ap histories.Counter (plain_histories counter.word_of counter.arguments counter.ret_form counter.call_at counter.ret_at counter_matches
+    counter_laws.call_again counter_laws.ret_again counter_laws.ret_is_known tt g x is_g is sessions))
+    h is_h same
+any_forms_are_distinct (histories.Set g) h is_g is_h same =
+    only_with_name names.Set (map (session_form (plain_form set.word_of set.arguments set.ret_form)) g.1) [] (λ x. histories.Set g ≡ x)
+    (λ x is sessions start. ap histories.Set (plain_histories set.word_of set.arguments set.ret_form set.call_at set.ret_at set_matches
+    set_laws.call_again set_laws.ret_again set_laws.ret_is_known tt g x is_g is sessions))
+    h is_h same
+any_forms_are_distinct (histories.Queue g) h is_g is_h same =
+    only_with_name names.Queue (map (session_form (plain_form queue.word_of queue.arguments queue.ret_form)) g.1) [] (λ x. histories.Queue g ≡ x)
+    (λ x is sessions start. ap histories.Queue (plain_histories queue.word_of queue.arguments queue.ret_form queue.call_at queue.ret_at queue_matches
+    queue_laws.call_again queue_laws.ret_again queue_laws.ret_is_known tt g x is_g is sessions))
+    h is_h same
+any_forms_are_distinct (histories.Memory g) h is_g is_h same =
+    only_with_name names.Memory (map (session_form (keyed_form register.word_of register.arguments register.ret_form)) g.1) (table_form register.start_form g.0) (λ x. histories.Memory g ≡ x)
+    (λ x is sessions start. ap histories.Memory (keyed_histories register.word_of register.arguments register.ret_form register.call_at register.ret_at register_matches
+    register_laws.call_again register_laws.ret_again register_laws.ret_is_known 0 register.start_form register.start_at register_laws.start_again g x is_g is sessions start))
+    h is_h same
+any_forms_are_distinct (histories.Counters g) h is_g is_h same =
+    only_with_name names.Counters (map (session_form (keyed_form counter.word_of counter.arguments counter.ret_form)) g.1) (table_form no_start_form g.0) (λ x. histories.Counters g ≡ x)
+    (λ x is sessions start. ap histories.Counters (keyed_histories counter.word_of counter.arguments counter.ret_form counter.call_at counter.ret_at counter_matches
+    counter_laws.call_again counter_laws.ret_again counter_laws.ret_is_known tt no_start_form no_start_at no_start_again g x is_g is sessions start))
+    h is_h same
+any_forms_are_distinct (histories.Sets g) h is_g is_h same =
+    only_with_name names.Sets (map (session_form (keyed_form set.word_of set.arguments set.ret_form)) g.1) (table_form no_start_form g.0) (λ x. histories.Sets g ≡ x)
+    (λ x is sessions start. ap histories.Sets (keyed_histories set.word_of set.arguments set.ret_form set.call_at set.ret_at set_matches
+    set_laws.call_again set_laws.ret_again set_laws.ret_is_known tt no_start_form no_start_at no_start_again g x is_g is sessions start))
+    h is_h same
+any_forms_are_distinct (histories.Queues g) h is_g is_h same =
+    only_with_name names.Queues (map (session_form (keyed_form queue.word_of queue.arguments queue.ret_form)) g.1) (table_form no_start_form g.0) (λ x. histories.Queues g ≡ x)
+    (λ x is sessions start. ap histories.Queues (keyed_histories queue.word_of queue.arguments queue.ret_form queue.call_at queue.ret_at queue_matches
+    queue_laws.call_again queue_laws.ret_again queue_laws.ret_is_known tt no_start_form no_start_at no_start_again g x is_g is sessions start))
+    h is_h same

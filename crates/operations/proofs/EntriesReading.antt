@@ -4,20 +4,8 @@ use Rattle.std.specs.Prelude.{slice_get, option_map}
 use Rattle.std.proofs.Math.Seq.{drop-cons}
 use Rattle.std.proofs.lemmas.Option.{slice_get_within, get_or_from_slice_get}
 use Rattle.serde_json.specs.Data.{Data}
+use Rattle.operations.specs.ListLaws.{rest_from, then_more}
 use Rattle.operations.specs.Spelling.{is_above, entry_at, entries_at}
-
--- the rest from a place begins with what stands there
-rest_from : {A : Type 0} (xs : List A) (i : ℕ) (x : A) → slice_get xs i ≡ Some x → drop i xs ≡ x ∷ drop (i + 1) xs
-rest_from xs i x here =
-    let lt : i < length xs = slice_get_within xs i x here in
-    let item : get_or xs i x ≡ x = get_or_from_slice_get xs i x x here in
-    rw add-one (drop-cons xs i x lt ∙ ap (λ y. y ∷ drop (suc i) xs) item)
-
--- one element more before those behind
-then_more : {A : Type 0} (xs : List A) (x : A) (o : Option (List A))
-    → option_map (λ es. xs ++ es) (option_map (λ es. x ∷ es) o) ≡ option_map (λ es. (xs ++ x ∷ []) ++ es) o
-then_more xs x None = refl
-then_more xs x (Some es) = ap Some (sym (append_assoc xs (x ∷ []) es))
 
 module _ {S : Type 0} (start_at : Data → Option S) where
   -- what all of these read as is the table so far, and behind it what the rest reads as

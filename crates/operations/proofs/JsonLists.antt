@@ -1,7 +1,5 @@
 -- JSON lists and the lists of their elements.
-use Rattle.std.proofs.Common.{◌≡◌, ℕ, ◌<◌, Vec, Global, List, length, map, get_or, Some, ap, sym, ◌∙◌}
-use Rattle.std.specs.Prelude.{slice_get, option_map}
-use Rattle.std.proofs.lemmas.Option.{slice_get-map, slice_get-get_or}
+use Rattle.std.proofs.Common.{◌≡◌, Vec, Global, List, map, Some, ap, sym, ◌∙◌}
 use Rattle.serde_json.specs.Data.{Data, null, boolean, number, string, array, object}
 use Rattle.serde_json.specs.Find.{as_array}
 use Rattle.serde_json.specs.View.{view, items_of}
@@ -17,10 +15,6 @@ elements_from_array (number n) ds e = absurd cc
 elements_from_array (string s) ds e = absurd cc
 elements_from_array (array es) ds e = let h : es ≡ items_of ds = cc in ap (λ (x : List Data). Some x) (ap listed h ∙ listed-items_of ds)
 elements_from_array (object ms) ds e = absurd cc
-
--- the value at a place, as its data
-pub slice_get-mapped : {A B : Type 0} (f : A → B) (xs : List A) (i : ℕ) (x : A) → x ≡ get_or xs i x → i < length xs → slice_get (map f xs) i ≡ Some (f x)
-slice_get-mapped f xs i x e lt = slice_get-map f xs i ∙ ap (option_map f) (slice_get-get_or xs i x lt ∙ ap (λ y. Some y) (sym e))
 
 -- the list of values that stand for these
 pub view_list : (v : Vec Value Global) (ds : List Data) → map view v.items ≡ ds → view (Array v) ≡ list ds

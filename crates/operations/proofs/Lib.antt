@@ -1,3 +1,6 @@
+pub mod AnyForms
+pub mod AnyHistories
+pub mod AnyReading
 pub mod EntriesReading
 pub mod FirstRefusal
 pub mod HistoryForm
@@ -5,4 +8,3 @@ pub mod HistoryReading
 pub mod JsonLists
 pub mod PartsForm
 pub mod SessionReading
-pub mod AnyForms

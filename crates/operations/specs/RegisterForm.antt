@@ -7,6 +7,7 @@ use Rattle.objects.specs.declared.register.RegisterCall.TheVariants.{Write, Read
 use Rattle.objects.specs.declared.register.RegisterRet.{RegisterRet}
 use Rattle.objects.specs.declared.register.RegisterRet.TheVariants.{Done, Value}
 use Rattle.operations.specs.Json.{whole_number}
+use Rattle.operations.specs.Spelling.{call_with}
 
 abbrev pub word_of : RegisterCall → List ℕ
 word_of (Write v) = codes "w"
@@ -22,14 +23,9 @@ abbrev pub ret_form : RegisterRet → List Data
 ret_form Done = []
 ret_form (Value v) = number (unsigned v) ∷ []
 
--- a write from its value, and what stands behind
-abbrev pub write_at : List Data → Option (RegisterCall × List Data)
-write_at [] = None
-write_at (d ∷ ds) = option_map (λ (v : ℕ). (Write v, ds)) (whole_number d)
-
 abbrev pub call_at : List ℕ → List Data → Option (RegisterCall × List Data)
 call_at word ds =
-    if pointwise nat_eq word (codes "w") then write_at ds
+    if pointwise nat_eq word (codes "w") then call_with Write ds
     else (if pointwise nat_eq word (codes "r") then Some (Read, ds) else None)
 
 abbrev pub ret_at : RegisterCall → List Data → Option RegisterRet

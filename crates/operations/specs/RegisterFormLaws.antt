@@ -1,9 +1,8 @@
 -- Reading undoes the spelling of a register, and nothing else is read.
-use Rattle.std.specs.Prelude.{◌≡◌, ◌≢◌, ℕ, ◌==◌, nat_eq, List, [], ◌∷◌, ◌++◌, codes, true, false, Option, Some, None, option_map, if◌then◌else◌, refl}
-use Rattle.std.specs.Cmp.Lexicographic.{pointwise, same_text}
-use Rattle.std.proofs.Common.{ap, sym, ◌∙◌, ⊎_elim}
+use Rattle.std.specs.Prelude.{◌≡◌, ◌≢◌, ℕ, ◌==◌, List, [], ◌∷◌, ◌++◌, codes, true, false, Some, None, if◌then◌else◌, refl}
+use Rattle.std.proofs.Common.{⊎_elim}
 use Rattle.std.proofs.lemmas.Bool.{cases_Bool, eqb-true}
-use Rattle.std.proofs.lemmas.Option.{option_and_then_some, same_Some}
+use Rattle.std.proofs.lemmas.Option.{option_and_then_some}
 use Rattle.serde_json.specs.Data.{Data, number, unsigned}
 use Rattle.serde_json.specs.Written.{has_float}
 use Rattle.objects.specs.Register.{matches}
@@ -14,40 +13,19 @@ use Rattle.objects.specs.declared.register.RegisterRet.TheVariants.{Done, Value}
 use Rattle.operations.specs.Form.{HaveNoFloats}
 use Rattle.operations.specs.Json.{whole_number, unknown}
 use Rattle.operations.specs.JsonLaws.{whole_number-read}
-use Rattle.operations.specs.RegisterForm.{word_of, arguments, ret_form, write_at, call_at, ret_at, start_form, start_at}
-
-number-read : {A : Type 0} (f : ℕ → A) (o : Option ℕ) (d : Data) (a : A) → whole_number d ≡ o → option_map f o ≡ Some a
-    → (n : ℕ) × (d ≡ number (unsigned n)) × (f n ≡ a)
-number-read f None d a e read = absurd cc
-number-read f (Some n) d a e read = (n, whole_number-read d n e, (cc))
-
-written : (d : Data) (n : ℕ) (ds rest : List Data) (c : RegisterCall) → d ≡ number (unsigned n) → Write n ≡ c → ds ≡ rest
-    → (codes "w" ≡ word_of c) × (d ∷ ds ≡ arguments c ++ rest)
-written d n ds rest c form call behind = rw (← call, ← behind, form) (refl, refl)
-
-write_read : (ds rest : List Data) (c : RegisterCall) → write_at ds ≡ Some (c, rest) → (codes "w" ≡ word_of c) × (ds ≡ arguments c ++ rest)
-write_read [] rest c e = absurd cc
-write_read (d ∷ ds) rest c e =
-    let p = number-read (λ (v : ℕ). (Write v, ds)) (whole_number d) d (c, rest) refl e in
-    written d p.0 ds rest c p.1 (ap (λ x. x.0) p.2) (ap (λ x. x.1) p.2)
+use Rattle.operations.specs.CallLaws.{by_word, alone_read, with_number_read, number-read}
+use Rattle.operations.specs.Spelling.{call_with}
+use Rattle.operations.specs.RegisterForm.{word_of, arguments, ret_form, call_at, ret_at, start_form, start_at}
 
 pub call_read : (w : List ℕ) (ds rest : List Data) (c : RegisterCall) → call_at w ds ≡ Some (c, rest) → (w ≡ word_of c) × (ds ≡ arguments c ++ rest)
 call_read w ds rest c e =
     ⊎_elim
-    (λ (is_w : pointwise nat_eq w (codes "w") ≡ true).
-    let read = rw is_w at e in
-    let p = write_read ds rest c read in
-    (same_text w (codes "w") (sym is_w) ∙ p.0, p.1))
-    (λ (not_w : pointwise nat_eq w (codes "w") ≡ false). ⊎_elim
-    (λ (is_r : pointwise nat_eq w (codes "r") ≡ true).
-    let read : Some (Read, ds) ≡ Some (c, rest) = let h = rw not_w at e in rw is_r at h in
-    let same : (Read, ds) ≡ (c, rest) = same_Some (Read, ds) (c, rest) read in
-    let call : Read ≡ c = ap (λ x. x.0) same in
-    let behind : ds ≡ rest = ap (λ x. x.1) same in
-    rw (← call, ← behind) (same_text w (codes "r") (sym is_r), refl))
-    (λ (not_r : pointwise nat_eq w (codes "r") ≡ false). let h = rw not_w at e in let k : None ≡ Some (c, rest) = rw not_r at h in absurd cc)
-    (cases_Bool (pointwise nat_eq w (codes "r"))))
-    (cases_Bool (pointwise nat_eq w (codes "w")))
+    (λ p. with_number_read word_of arguments Write w ds rest c (λ n. p.0) (λ n. refl) p.1)
+    (λ other. ⊎_elim
+    (λ p. alone_read word_of arguments Read w ds rest c p.0 refl p.1)
+    (λ none. absurd cc)
+    (by_word w (codes "r") (Some (Read, ds)) None (c, rest) other))
+    (by_word w (codes "w") (call_with Write ds) _ (c, rest) e)
 
 pub call_again : (c : RegisterCall) (rest : List Data) → call_at (word_of c) (arguments c ++ rest) ≡ Some (c, rest)
 call_again (Write v) rest = refl
@@ -61,7 +39,7 @@ ret_read (Write v) [] r e = let h : Done ≡ r = cc in rw (← h) (refl, refl)
 ret_read (Write v) (d ∷ ds) r e = absurd cc
 ret_read Read [] r e = absurd cc
 ret_read Read (d ∷ []) r e =
-    let p = number-read (λ (v : ℕ). Value v) (whole_number d) d r refl e in
+    let p = number-read Value d r e in
     answered d p.0 r p.1 p.2
 ret_read Read (d ∷ f ∷ ds) r e = absurd cc
 

@@ -1,6 +1,6 @@
 -- How operations are spelled: a list of a word, the key where the object is keyed, the arguments, and the return or `"?"`.
 use Rattle.std.specs.Prelude.{ℕ, ◌^◌, nat_lt, nat_le, List, [], ◌∷◌, ◌++◌, length, map, Bool, true, false, ◌&&◌, Option, Some, None, option_map, option_and_then, if◌then◌else◌}
-use Rattle.serde_json.specs.Data.{Data, number, string, unsigned}
+use Rattle.serde_json.specs.Data.{Data, null, number, string, unsigned}
 use Rattle.serde_json.specs.Find.{as_str}
 use Rattle.objects.specs.declared.keyed.KeyedCall.{KeyedCall}
 use Rattle.objects.specs.declared.table.TheConstants.{MAX_ENTRIES}
@@ -16,6 +16,11 @@ is_unknown_alone [] = false
 is_unknown_alone (d ∷ []) = is_unknown d
 is_unknown_alone (d ∷ e ∷ ds) = false
 
+-- a word and the rest
+abbrev pub word_rest : List Data → Option (List ℕ × List Data)
+word_rest [] = None
+word_rest (w ∷ rest) = option_map (λ (word : List ℕ). (word, rest)) (as_str w)
+
 -- a word, a key and the rest
 abbrev pub word_key_rest : List Data → Option (List ℕ × ℕ × List Data)
 word_key_rest [] = None
@@ -28,6 +33,9 @@ module _ {C R : Type 0} where
   rest_form arguments ret_form c None = arguments c ++ unknown ∷ []
   rest_form arguments ret_form c (Some r) = arguments c ++ ret_form r
 
+  abbrev pub plain_form : (C → List ℕ) → (C → List Data) → (R → List Data) → C → Option R → Data
+  plain_form word arguments ret_form c r = list (string (word c) ∷ rest_form arguments ret_form c r)
+
   abbrev pub keyed_form : (C → List ℕ) → (C → List Data) → (R → List Data) → KeyedCall C → Option R → Data
   keyed_form word arguments ret_form c r = list (string (word c.call) ∷ number (unsigned c.key) ∷ rest_form arguments ret_form c.call r)
 
@@ -39,11 +47,40 @@ module _ {C R : Type 0} where
   abbrev pub spelled_at : (List ℕ → List Data → Option (C × List Data)) → (C → List Data → Option R) → List ℕ → List Data → Option (C × Option R)
   spelled_at call_at ret_at word ds = option_and_then (λ (p : C × List Data). return_at ret_at p.0 p.1) (call_at word ds)
 
+  abbrev pub plain_at : (List ℕ → List Data → Option (C × List Data)) → (C → List Data → Option R) → Data → Option (C × Option R)
+  plain_at call_at ret_at d =
+      option_and_then (λ (p : List ℕ × List Data). spelled_at call_at ret_at p.0 p.1) (option_and_then word_rest (elements d))
+
   abbrev pub keyed_parts_at : (List ℕ → List Data → Option (C × List Data)) → (C → List Data → Option R) → List ℕ × ℕ × List Data → Option (KeyedCall C × Option R)
   keyed_parts_at call_at ret_at p = option_map (λ (e : C × Option R). (record { key = p.1; call = e.0 }, e.1)) (spelled_at call_at ret_at p.0 p.2)
 
   abbrev pub keyed_at : (List ℕ → List Data → Option (C × List Data)) → (C → List Data → Option R) → Data → Option (KeyedCall C × Option R)
   keyed_at call_at ret_at d = option_and_then (keyed_parts_at call_at ret_at) (option_and_then word_key_rest (elements d))
+
+-- a whole number first, and what stands behind it
+abbrev pub first_number : List Data → Option (ℕ × List Data)
+first_number [] = None
+first_number (d ∷ ds) = option_map (λ (n : ℕ). (n, ds)) (whole_number d)
+
+-- a call that takes a number, and what stands behind
+abbrev pub call_with : {C : Type 0} → (ℕ → C) → List Data → Option (C × List Data)
+call_with call ds = option_map (λ (p : ℕ × List Data). (call p.0, p.1)) (first_number ds)
+
+module _ {S : Type 0} where
+  -- without keys the start is the plain one, of which nothing is written
+  abbrev pub plain_start_form : S → List Data
+  plain_start_form start = []
+
+  abbrev pub plain_start_at : S → List Data → Option S
+  plain_start_at plain [] = Some plain
+  plain_start_at plain (d ∷ ds) = None
+
+-- an object that has no start but the plain one: its table of initial values has no entry
+abbrev pub no_start_form : Unit {0} → Data
+no_start_form start = null
+
+abbrev pub no_start_at : Data → Option (Unit {0})
+no_start_at d = None
 
 -- the elements of a list of 1 to 4,096
 abbrev pub table_elements : Data → Option (List Data)

@@ -99,7 +99,7 @@ module _ {S : Type 0} (plain : S) (is_start : S → Type 0) (start_form : S → 
 
     table_of_entries : (d : Data) (ds : List Data) (es : List (ℕ × S)) → d ≡ list ds → 0 < length ds → length ds ≤ MAX_ENTRIES
         → ds ≡ map (entry_form start_form) es → Rise None es → All IsEntry es
-        → (d ∷ [] ≡ table_form start_form es) × IsTable plain is_start es
+        → (d ∷ [] ≡ table_form start_form es) × IsTable plain is_start es × Unit {0}
     table_of_entries d ds [] is_list some few forms rise all = let none : length ds ≡ 0 = ap length forms in absurd (omega arith)
     table_of_entries d ds (e ∷ es) is_list some few forms rise all =
         let count : length ds ≡ length (e ∷ es) = ap length forms ∙ length-map (e ∷ es) (entry_form start_form) in (
@@ -111,11 +111,12 @@ module _ {S : Type 0} (plain : S) (is_start : S → Type 0) (start_form : S → 
             not_plain = All-weaker IsEntry (λ x. x.1 ≢ plain) (λ x entry. entry.other) (e ∷ es) all;
             each_start = All-weaker IsEntry (λ x. is_start x.1) (λ x entry. entry.good) (e ∷ es) all;
           },
+          tt,
         )
 
     pub table_read : (ds : List Data) (es : List (ℕ × S)) → table_at start_at ds ≡ Some es
-        → (ds ≡ table_form start_form es) × IsTable plain is_start es
-    table_read [] es read = let same : [] ≡ es = same_Some [] es read in rw (← same) (refl, empty_is_table plain is_start)
+        → (ds ≡ table_form start_form es) × IsTable plain is_start es × Unit {0}
+    table_read [] es read = let same : [] ≡ es = same_Some [] es read in rw (← same) (refl, empty_is_table plain is_start, tt)
     table_read (d ∷ []) es read =
         let p = and_then_from (entries_at start_at None) (table_elements d) es read in
         let q = and_then_from (λ (ds : List Data). if nat_lt 0 (length ds) && nat_le (length ds) MAX_ENTRIES then Some ds else None) (elements d) p.0 p.1 in

@@ -1,9 +1,24 @@
 use crate::history::History;
-use objects::Memory;
+use crate::plain_history::PlainHistory;
+use objects::{AddRemoveSet, Counter, Counters, Memory, Queue, Queues, Register, Sets};
 
 /// A history of one of the objects that have a name.
 #[derive(Drop)]
 pub enum AnyHistory {
+    /// A history of a register, `"register"`.
+    Register(PlainHistory<Register>),
+    /// A history of a counter, `"counter"`.
+    Counter(PlainHistory<Counter>),
+    /// A history of a set, `"set"`.
+    Set(PlainHistory<AddRemoveSet>),
+    /// A history of a queue, `"queue"`.
+    Queue(PlainHistory<Queue>),
     /// A history of registers under keys, `"memory"`.
     Memory(History<Memory>),
+    /// A history of counters under keys, `"counters"`.
+    Counters(History<Counters>),
+    /// A history of sets under keys, `"sets"`.
+    Sets(History<Sets>),
+    /// A history of queues under keys, `"queues"`.
+    Queues(History<Queues>),
 }

@@ -61,7 +61,7 @@ pub trait Named: SeqObject {
         → operation_at (operation_form c r) ≡ Some (c, r) };
 
     ghost start_read: { (ds : List Data) (s : Self.Start) → start_at ds ≡ Some s
-        → (ds ≡ start_form s) × Self.is_start s };
+        → (ds ≡ start_form s) × Self.is_start s × has_form s };
 
     ghost start_again: { (s : Self.Start) → Self.is_start s → has_form s → start_at (start_form s) ≡ Some s };
 

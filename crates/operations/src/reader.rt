@@ -1,21 +1,57 @@
 //! Reading and writing the JSON text of a history.
 
-ghost use Rattle.std.specs.Prelude.{◌≡◌, IfOk, IfErr, MatchResult, string_bytes};
+ghost use Rattle.std.specs.Prelude.{◌≡◌, ◌∷◌, map, IfOk, IfErr, MatchResult, string_bytes};
+ghost use Rattle.serde_json.specs.Data.{string};
 ghost use Rattle.serde_json.specs.View.{view};
 ghost use Rattle.serde_json.specs.Written.{compact_text};
-ghost use Rattle.operations.specs.AnyForm.{form_of, first_refusal, IsAnyHistory, IsJson, IsRefusedFor};
+ghost use Rattle.operations.specs.AnyForm.{form_of, first_refusal, refusal_of_object, IsAnyHistory, IsJson, IsReadAs, IsRefusedFor};
+ghost use Rattle.operations.specs.Json.{list};
+ghost use Rattle.operations.specs.ObjectNames.{text_of};
 ghost use Rattle.operations.specs.Refusals.{IsFirst};
 
 use crate::any_history::AnyHistory;
+use crate::object_name::{ObjectName, object_named};
 use crate::parts::parts_of;
+use crate::plain_history::PlainHistory;
 use crate::read_error::ReadError;
 use crate::reading::read_parts;
 use crate::writing::write_parts;
-use objects::Memory;
 use serde_json::Value;
 use std::alloc::{AllocError, Global};
 
-const MEMORY: &str = "memory";
+/// The history of the object with this name, from the forms of its sessions and of what stands behind them.
+fn read_named(
+    alloc: Global,
+    name: ObjectName,
+    sessions: &[Value],
+    rest: &[Value],
+) -> Result<AnyHistory, ReadError>
+    ensures { IsReadAs (list (string (text_of name) ∷ list (map view sessions.now) ∷ map view rest.now))
+        (refusal_of_object name (map view sessions.now) (map view rest.now)) result }
+{
+    match name {
+        ObjectName::Register => {
+            let history = read_parts(alloc, sessions, rest)?;
+            Ok(AnyHistory::Register(PlainHistory::of(history)))
+        }
+        ObjectName::Counter => {
+            let history = read_parts(alloc, sessions, rest)?;
+            Ok(AnyHistory::Counter(PlainHistory::of(history)))
+        }
+        ObjectName::Set => {
+            let history = read_parts(alloc, sessions, rest)?;
+            Ok(AnyHistory::Set(PlainHistory::of(history)))
+        }
+        ObjectName::Queue => {
+            let history = read_parts(alloc, sessions, rest)?;
+            Ok(AnyHistory::Queue(PlainHistory::of(history)))
+        }
+        ObjectName::Memory => Ok(AnyHistory::Memory(read_parts(alloc, sessions, rest)?)),
+        ObjectName::Counters => Ok(AnyHistory::Counters(read_parts(alloc, sessions, rest)?)),
+        ObjectName::Sets => Ok(AnyHistory::Sets(read_parts(alloc, sessions, rest)?)),
+        ObjectName::Queues => Ok(AnyHistory::Queues(read_parts(alloc, sessions, rest)?)),
+    }
+}
 
 /// The history whose form the value is.
 ///
@@ -32,11 +68,10 @@ pub fn history_of(alloc: Global, value: &Value) -> Result<AnyHistory, ReadError>
     let Some((name, sessions, rest)) = parts_of(value) else {
         return Err(ReadError::BadShape);
     };
-    if name != MEMORY {
+    let Some(name) = object_named(name) else {
         return Err(ReadError::UnknownObject);
-    }
-    let history = read_parts::<Memory>(alloc, sessions, rest)?;
-    Ok(AnyHistory::Memory(history))
+    };
+    read_named(alloc, name, sessions, rest)
 }
 
 /// The history whose form the text is, as JSON.
@@ -68,7 +103,14 @@ pub fn value_of(alloc: Global, history: &AnyHistory) -> Result<Value, AllocError
     ensures { IfOk result (λ v. view v ≡ form_of history.now) }
 {
     match history {
+        AnyHistory::Register(plain) => write_parts(alloc, plain.history()),
+        AnyHistory::Counter(plain) => write_parts(alloc, plain.history()),
+        AnyHistory::Set(plain) => write_parts(alloc, plain.history()),
+        AnyHistory::Queue(plain) => write_parts(alloc, plain.history()),
         AnyHistory::Memory(history) => write_parts(alloc, history),
+        AnyHistory::Counters(history) => write_parts(alloc, history),
+        AnyHistory::Sets(history) => write_parts(alloc, history),
+        AnyHistory::Queues(history) => write_parts(alloc, history),
     }
 }
 

@@ -1,30 +1,33 @@
 //! How a register is spelled.
 
 ghost use Rattle.std.specs.Prelude.{codes};
-ghost use Rattle.operations.specs.RegisterForm.{word_of as register_word, arguments as register_arguments, ret_form as register_ret_form, call_at as register_call_at, ret_at as register_ret_at, start_form as register_start_form, start_at as register_start_at};
+ghost use Rattle.operations.specs.RegisterForm as register;
 ghost use Rattle.operations.specs.RegisterFormLaws.{call_read, call_again, ret_read, ret_again, ret_is_known, start_read, start_again, arguments_have_no_float, ret_has_no_float, start_has_no_float};
 
 use crate::spelled::Spelled;
+use crate::words::first_number;
 use objects::{Register, RegisterCall, RegisterRet};
 use serde_json::Value;
 use std::alloc::AllocError;
 
 impl Spelled for Register {
+    ghost plain_name = { codes "register" };
+
     ghost keyed_name = { codes "memory" };
 
-    ghost word_of = { register_word };
+    ghost word_of = { register.word_of };
 
-    ghost arguments = { register_arguments };
+    ghost arguments = { register.arguments };
 
-    ghost ret_form = { register_ret_form };
+    ghost ret_form = { register.ret_form };
 
-    ghost call_at = { register_call_at };
+    ghost call_at = { register.call_at };
 
-    ghost ret_at = { register_ret_at };
+    ghost ret_at = { register.ret_at };
 
-    ghost start_form = { register_start_form };
+    ghost start_form = { register.start_form };
 
-    ghost start_at = { register_start_at };
+    ghost start_at = { register.start_at };
 
     ghost call_read = { call_read };
 
@@ -46,6 +49,10 @@ impl Spelled for Register {
 
     ghost start_has_no_float = { start_has_no_float };
 
+    fn plain_name() -> &'static str {
+        "register"
+    }
+
     fn keyed_name() -> &'static str {
         "memory"
     }
@@ -59,8 +66,8 @@ impl Spelled for Register {
 
     fn read_call<'a>(word: &str, values: &'a [Value]) -> Option<(RegisterCall, &'a [Value])> {
         if word == "w" {
-            let (value, rest) = values.split_first()?;
-            Some((RegisterCall::Write(value.as_u64()?), rest))
+            let (value, rest) = first_number(values)?;
+            Some((RegisterCall::Write(value), rest))
         } else if word == "r" {
             Some((RegisterCall::Read, values))
         } else {

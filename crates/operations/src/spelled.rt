@@ -4,10 +4,11 @@ ghost use Rattle.serde_json.specs.View.{view};
 ghost use Rattle.serde_json.specs.Written.{has_float};
 ghost use Rattle.operations.specs.Form.{HaveNoFloats};
 ghost use Rattle.operations.specs.Json.{unknown};
-ghost use Rattle.operations.specs.Spelling.{entries_at, entry_at, entry_form, rest_form, spelled_at};
+ghost use Rattle.operations.specs.Spelling.{entries_at, entry_at, entry_form, plain_at, plain_form, plain_start_at, rest_form, spelled_at};
 
 use crate::json::elements_of;
 use crate::keys::{entry_of, is_above, key_of};
+use crate::words::{plain_parts, word_alone};
 use crate::unknown::{is_question_mark_alone, push_question_mark};
 use object_trait::SeqObject;
 use objects::Table;
@@ -20,6 +21,9 @@ use std::alloc::{AllocError, Global};
 /// `"?"` in the place of a return that is not known. The laws say that reading undoes writing, and that nothing else is
 /// read.
 pub trait Spelled: SeqObject {
+    /// The name of the histories of this object.
+    ghost plain_name: { List ℕ };
+
     /// The name of the histories of this object under keys.
     ghost keyed_name: { List ℕ };
 
@@ -43,6 +47,9 @@ pub trait Spelled: SeqObject {
 
     /// The start of a form.
     ghost start_at: { Data → Option Self.Start };
+
+    fn plain_name() -> &'static str
+        ensures { result.now ≡ plain_name };
 
     fn keyed_name() -> &'static str
         ensures { result.now ≡ keyed_name };
@@ -93,6 +100,37 @@ pub trait Spelled: SeqObject {
         match ret {
             Some(ret) => Self::push_ret(ret, values),
             None => push_question_mark(alloc, values),
+        }
+    }
+
+    /// The operation without a key that the value spells.
+    fn read_plain(value: &Value) -> Option<(Self::Call, Option<Self::Ret>)>
+        ensures { result ≡ plain_at call_at ret_at (view value.now) }
+    {
+        let (word, rest) = plain_parts(value)?;
+        Self::read_spelled(word, rest)
+    }
+
+    /// The form of an operation without a key.
+    fn write_plain(
+        alloc: Global,
+        call: &Self::Call,
+        ret: &Option<Self::Ret>,
+    ) -> Result<Value, AllocError>
+        ensures { IfOk result (λ v. view v ≡ plain_form word_of arguments ret_form call.now ret.now) }
+    {
+        let mut values = word_alone(alloc, Self::word(call))?;
+        Self::push_rest(alloc, call, ret, &mut values)?;
+        Ok(Value::from(values))
+    }
+
+    /// The plain start, where nothing stands behind the sessions.
+    fn read_plain_start(alloc: Global, rest: &[Value]) -> Result<Option<Self::Start>, AllocError>
+        ensures { IfOk result (λ s. s ≡ plain_start_at Self.plain_start (map view rest.now)) }
+    {
+        match rest {
+            [] => Ok(Some(Self::plain(alloc)?)),
+            _ => Ok(None),
         }
     }
 

@@ -42,3 +42,8 @@ returns-clause-only g c = λ h is_history calls has_form sessions rest.
     let same_start : c.in-Some.start ≡ h.0 = cc in
     let same : ss ≡ h.1 = same_sessions g.O.Named.operation_at ss h.1 (map view c.args.sessions.now) c.in_ok-read.ensures.read read in
     c.of.ensures ∙ rw (same_start, same) refl
+
+pub returns-clause-has_form : goal.returns-clause-has_form
+returns-clause-has_form g c =
+    let read = sym c.in_ok-start.ensures ∙ c.in-Some.is in
+    rw c.of.ensures ((g.met.O.Named.start_read (map view c.args.rest.now) c.in-Some.start read).2)

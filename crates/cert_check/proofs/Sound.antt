@@ -1,0 +1,91 @@
+-- A certificate of which every piece explains its operation shows that its criterion is met.
+use Rattle.std.proofs.Common.{◌≡◌, ◌≢◌, ℕ, List, length, arith, sym, subst}
+use Rattle.std.specs.Prelude.{filter}
+use Rattle.operations.specs.declared.op_id.OpId.{OpId}
+use Rattle.operations.specs.History.{Record, IsOp, session}
+use Rattle.causal_order.specs.Orders.{Ops, only, program_past, past, StandsAt, IsLinearization}
+use Rattle.causal_order.specs.Vectors.{Counts, ByOperation, list_of, IsCounted, IsVectorOk}
+use Rattle.cert_check.specs.declared.certificate.Certificate.{Certificate}
+use Rattle.cert_check.specs.declared.certificate.Certificate.TheVariants.{Cc, Cm, Ccv}
+use Rattle.cert_check.specs.Criteria.{every, Explains, ExplainsEachPast, IsCausallyConvergent, Meets}
+use Rattle.cert_check.specs.Schedules.{times, named, StandsBefore, IsSchedule}
+use Rattle.cert_check.specs.Certificates.{counted, criterion_of, HasShapeOf, IsScheduledPiece, IsArbitratedPiece, IsExplainedThroughout}
+use Rattle.cert_check.proofs.Named.{named_each, named_within, named_once}
+use Rattle.cert_check.proofs.Pasts.{every-op, op-every, counted_before, counted_before-parts, counted_before-causal, past-from_counted, counted-from_past, past-is_counted}
+
+module _ {S C R : Type 0} (h : Record S C R) (v : Counts) (good : (o : OpId) → IsOp h o → IsVectorOk h v o) where
+  -- what a schedule of an operation names is a linearization of its past
+  scheduled_past : (o : OpId) (schedule : List ℕ) → IsOp h o → IsSchedule h v o schedule
+      → IsLinearization (past (counted_before h v) o) (counted_before h v) (named schedule)
+  scheduled_past o schedule is_op scheduled = record {
+    each = λ a inside.
+        let counts = counted-from_past h v good o a is_op inside in
+        let ends = scheduled.ends a.session in
+        named_each schedule a (omega arith);
+    no_other = λ k a stands.
+        let within = named_within schedule k a stands in
+        let ends = scheduled.ends a.session in
+        past-from_counted h v good o a is_op (omega arith);
+    once = named_once schedule;
+    ordered = λ j k a b at_j at_k before.
+        let p = counted_before-parts h v a b before in
+        let r = scheduled.after_counted k b a at_k p.counts p.apart in
+        let same : j ≡ r.0 = named_once schedule j r.0 a at_j r.2 in
+        let below = r.1 in
+        omega arith;
+  }
+
+  -- what one list names is a linearization of the history
+  arbitrated_whole : (arbitration : List ℕ) → ((s : ℕ) → times s arbitration ≡ length (session h s))
+      → ((o : OpId) → IsOp h o → (k : ℕ) (a : OpId) → StandsAt (named arbitration) k o → IsCounted v o a → a ≢ o → StandsBefore (named arbitration) k a)
+      → IsLinearization (every h) (counted_before h v) (named arbitration)
+  arbitrated_whole arbitration whole after_counted = record {
+    each = λ a inside.
+        let is_op = every-op h a inside in
+        let ends = whole a.session in
+        named_each arbitration a (omega arith);
+    no_other = λ k a stands.
+        let within = named_within arbitration k a stands in
+        let ends = whole a.session in
+        op-every h a (omega arith);
+    once = named_once arbitration;
+    ordered = λ j k a b at_j at_k before.
+        let p = counted_before-parts h v a b before in
+        let r = after_counted b p.second k a at_k p.counts p.apart in
+        let same : j ≡ r.0 = named_once arbitration j r.0 a at_j r.2 in
+        let below = r.1 in
+        omega arith;
+  }
+
+module _ {S C R : Type 0} (answer : S → List C → C → R) (h : Record S C R) where
+  -- good pieces by schedules explain each past
+  pub scheduled-explain : (v : Counts) (schedules : ByOperation ℕ) (kept : OpId → Ops)
+      → ((o : OpId) → IsOp h o → IsScheduledPiece answer h v (list_of schedules o) o (kept o)) → ExplainsEachPast answer h kept
+  scheduled-explain v schedules kept pieces =
+      let good : (o : OpId) → IsOp h o → IsVectorOk h v o = λ o is_op. (pieces o is_op).vector in (
+        counted_before h v,
+        counted_before-causal h v good,
+        λ o is_op.
+            (named (list_of schedules o), scheduled_past h v good o (list_of schedules o) is_op (pieces o is_op).schedules, (pieces o is_op).explains),
+      )
+
+  -- good pieces by one list show causal convergence
+  pub arbitrated-converge : (v : Counts) (arbitration : List ℕ) → ((s : ℕ) → times s arbitration ≡ length (session h s))
+      → ((o : OpId) → IsOp h o → IsArbitratedPiece answer h v arbitration o) → IsCausallyConvergent answer h
+  arbitrated-converge v arbitration whole pieces =
+      let good : (o : OpId) → IsOp h o → IsVectorOk h v o = λ o is_op. (pieces o is_op).vector in
+      let cut : (o : OpId) → IsOp h o → filter (counted v o) (named arbitration) ≡ filter (past (counted_before h v) o) (named arbitration) =
+      λ o is_op. λ i. filter (λ a. sym (past-is_counted h v good o a is_op) i) (named arbitration) in (
+        counted_before h v,
+        named arbitration,
+        counted_before-causal h v good,
+        arbitrated_whole h v good arbitration whole (λ o is_op. (pieces o is_op).after_counted),
+        λ o is_op.
+            subst (λ (ops : List OpId). Explains answer h ops (only o)) (cut o is_op) (pieces o is_op).explains,
+      )
+
+  -- a certificate shows its criterion
+  pub explained-meets : (c : Certificate) → HasShapeOf h c → IsExplainedThroughout answer h c → Meets answer h (criterion_of c)
+  explained-meets (Cc v schedules) shape explained = scheduled-explain v schedules only explained
+  explained-meets (Cm v schedules) shape explained = scheduled-explain v schedules program_past explained
+  explained-meets (Ccv v arbitration) shape explained = arbitrated-converge v arbitration shape.1 explained

@@ -1,0 +1,48 @@
+-- The JSON form of a certificate: `["cc", vectors, schedules]`, `["cm", vectors, schedules]` or `["ccv", vectors, list]`
+-- (this project's profile).
+use Rattle.std.specs.Prelude.{◌≡◌, ⊤, ℕ, ◌<◌, ◌^◌, List, [], ◌∷◌, All, map, codes}
+use Rattle.serde_json.specs.Data.{Data, number, string, unsigned}
+use Rattle.operations.specs.Json.{list}
+use Rattle.causal_order.specs.Vectors.{ByOperation}
+use Rattle.cert_check.specs.declared.cert_error.CertError.{CertError}
+use Rattle.cert_check.specs.declared.cert_error.CertError.TheVariants.{Memory, BadCertificate}
+use Rattle.cert_check.specs.declared.certificate.Certificate.{Certificate}
+use Rattle.cert_check.specs.declared.certificate.Certificate.TheVariants.{Cc, Cm, Ccv}
+
+-- a whole number
+abbrev pub number_form : ℕ → Data
+number_form n = number (unsigned n)
+
+-- a list, of the forms of its elements
+abbrev pub list_form : {A : Type 0} → (A → Data) → List A → Data
+list_form form xs = list (map form xs)
+
+-- a list for each session, in it one list of numbers for each of its operations
+abbrev pub lists_form : ByOperation ℕ → Data
+lists_form = list_form (list_form (list_form number_form))
+
+-- the form of a certificate
+abbrev pub form_of : Certificate → Data
+form_of (Cc vectors schedules) = list (string (codes "cc") ∷ lists_form vectors ∷ lists_form schedules ∷ [])
+form_of (Cm vectors schedules) = list (string (codes "cm") ∷ lists_form vectors ∷ lists_form schedules ∷ [])
+form_of (Ccv vectors arbitration) = list (string (codes "ccv") ∷ lists_form vectors ∷ list_form number_form arbitration ∷ [])
+
+-- numbers below a limit, in each list
+abbrev pub AreBelow : ℕ → ByOperation ℕ → Type 0
+AreBelow limit = All (All (All (λ n. n < limit)))
+
+-- a certificate, of counts below 2 ^ 16 and session numbers below 16
+abbrev pub IsCertificate : Certificate → Type 0
+IsCertificate (Cc vectors schedules) = AreBelow (2 ^ 16) vectors × AreBelow 16 schedules
+IsCertificate (Cm vectors schedules) = AreBelow (2 ^ 16) vectors × AreBelow 16 schedules
+IsCertificate (Ccv vectors arbitration) = AreBelow (2 ^ 16) vectors × All (λ s. s < 16) arbitration
+
+-- why a value is refused: it is the form of no certificate, or memory ran out
+abbrev pub IsRefusedFor : Data → CertError → Type 0
+IsRefusedFor d Memory = ⊤
+IsRefusedFor d BadCertificate = (c : Certificate) → IsCertificate c → ¬ (d ≡ form_of c)
+
+-- the number of a refusal
+abbrev pub number_of : CertError → ℕ
+number_of Memory = 8
+number_of BadCertificate = 20

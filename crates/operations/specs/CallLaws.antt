@@ -1,0 +1,59 @@
+-- What is common to the laws of all spellings: the word of a call, and a number behind it.
+use Rattle.std.specs.Prelude.{◌≡◌, ◌≢◌, ◌⊎◌, ℕ, nat_eq, List, [], ◌∷◌, ◌++◌, true, false, Option, Some, option_map, if◌then◌else◌, refl}
+use Rattle.std.specs.Cmp.Lexicographic.{pointwise, same_text}
+use Rattle.std.proofs.Common.{ap, sym, ◌∙◌, ⊎_elim, inl, inr}
+use Rattle.std.proofs.lemmas.Bool.{cases_Bool}
+use Rattle.std.proofs.lemmas.Option.{same_Some}
+use Rattle.serde_json.specs.Data.{Data, number, unsigned}
+use Rattle.serde_json.specs.Written.{has_float}
+use Rattle.operations.specs.Json.{whole_number}
+use Rattle.operations.specs.JsonLaws.{map_from, whole_number-read}
+use Rattle.operations.specs.Spelling.{first_number, call_with, no_start_form, no_start_at}
+
+-- what is read by a word is read for this word, or for another one
+pub by_word : {A : Type 0} (w word : List ℕ) (here other : Option A) (a : A) → (if pointwise nat_eq w word then here else other) ≡ Some a
+    → ((w ≡ word) × (here ≡ Some a)) ⊎ (other ≡ Some a)
+by_word w word here other a e =
+    ⊎_elim
+    (λ (t : pointwise nat_eq w word ≡ true). inl (same_text w word (sym t), (rw t at e)))
+    (λ (f : pointwise nat_eq w word ≡ false). inr (rw f at e))
+    (cases_Bool (pointwise nat_eq w word))
+
+module _ {C : Type 0} (word_of : C → List ℕ) (arguments : C → List Data) where
+  -- a call that takes nothing
+  pub alone_read : (c : C) (w : List ℕ) (ds rest : List Data) (d : C) → w ≡ word_of c → arguments c ≡ []
+      → ◌≡◌ {A = Option (C × List Data)} (Some (c, ds)) (Some (d, rest)) → (w ≡ word_of d) × (ds ≡ arguments d ++ rest)
+  alone_read c w ds rest d word none e =
+      let same : ◌≡◌ {A = C × List Data} (c, ds) (d, rest) = same_Some (c, ds) (d, rest) e in
+      let call : c ≡ d = ap (λ x. x.0) same in
+      let behind : ds ≡ rest = ap (λ x. x.1) same in
+      rw (← call, ← behind) (word, rw none refl)
+
+  taken : (c : C) (w : List ℕ) (x : Data) (n : ℕ) (ds rest : List Data) (d : C) → w ≡ word_of c → arguments c ≡ number (unsigned n) ∷ []
+      → x ≡ number (unsigned n) → c ≡ d → ds ≡ rest → (w ≡ word_of d) × (x ∷ ds ≡ arguments d ++ rest)
+  taken c w x n ds rest d word takes form call behind = rw (← call, ← behind) (word, rw (takes, form) refl)
+
+  -- a call that takes a number
+  pub with_number_read : (call : ℕ → C) (w : List ℕ) (ds rest : List Data) (d : C) → ((n : ℕ) → w ≡ word_of (call n))
+      → ((n : ℕ) → arguments (call n) ≡ number (unsigned n) ∷ []) → call_with call ds ≡ Some (d, rest) → (w ≡ word_of d) × (ds ≡ arguments d ++ rest)
+  with_number_read call w [] rest d word takes e = absurd cc
+  with_number_read call w (x ∷ ds) rest d word takes e =
+      let p = map_from (λ (p : ℕ × List Data). (call p.0, p.1)) (first_number (x ∷ ds)) (d, rest) e in
+      let q = map_from (λ (n : ℕ). (n, ds)) (whole_number x) p.0 p.1 in
+      let same : ◌≡◌ {A = C × List Data} (call q.0, ds) (d, rest) = ap (λ (y : ℕ × List Data). (call y.0, y.1)) q.2 ∙ p.2 in
+      taken (call q.0) w x q.0 ds rest d (word q.0) (takes q.0) (whole_number-read x q.0 q.1) (ap (λ y. y.0) same) (ap (λ y. y.1) same)
+
+-- what was made of a number
+pub number-read : {A : Type 0} (f : ℕ → A) (d : Data) (a : A) → option_map f (whole_number d) ≡ Some a → (n : ℕ) × (d ≡ number (unsigned n)) × (f n ≡ a)
+number-read f d a e = let p = map_from f (whole_number d) a e in (p.0, whole_number-read d p.0 p.1, p.2)
+
+-- ---- an object that has no start but the plain one
+
+pub no_start_read : (d : Data) (s : Unit {0}) → no_start_at d ≡ Some s → (d ≡ no_start_form s) × Unit {0} × (s ≢ tt)
+no_start_read d s e = absurd cc
+
+pub no_start_again : (s : Unit {0}) → Unit {0} → s ≢ tt → no_start_at (no_start_form s) ≡ Some s
+no_start_again s _ other = absurd (other refl)
+
+pub no_start_has_no_float : (s : Unit {0}) → has_float (no_start_form s) ≡ false
+no_start_has_no_float s = refl

@@ -1,0 +1,54 @@
+-- Reading undoes the spelling of a counter, and nothing else is read.
+use Rattle.std.specs.Prelude.{◌≡◌, ◌≢◌, ℕ, List, [], ◌∷◌, ◌++◌, codes, true, Some, None, refl}
+use Rattle.std.proofs.Common.{⊎_elim}
+use Rattle.serde_json.specs.Data.{Data, number, unsigned}
+use Rattle.objects.specs.Counter.{matches}
+use Rattle.objects.specs.declared.counter.CounterCall.{CounterCall}
+use Rattle.objects.specs.declared.counter.CounterCall.TheVariants.{Increment, Get}
+use Rattle.objects.specs.declared.counter.CounterRet.{CounterRet}
+use Rattle.objects.specs.declared.counter.CounterRet.TheVariants.{Done, Value}
+use Rattle.operations.specs.CallLaws.{by_word, alone_read, number-read}
+use Rattle.operations.specs.CounterForm.{word_of, arguments, ret_form, call_at, ret_at}
+use Rattle.operations.specs.Form.{HaveNoFloats}
+use Rattle.operations.specs.Json.{unknown}
+
+pub call_read : (w : List ℕ) (ds rest : List Data) (c : CounterCall) → call_at w ds ≡ Some (c, rest) → (w ≡ word_of c) × (ds ≡ arguments c ++ rest)
+call_read w ds rest c e =
+    ⊎_elim
+    (λ p. alone_read word_of arguments Increment w ds rest c p.0 refl p.1)
+    (λ other. ⊎_elim
+    (λ p. alone_read word_of arguments Get w ds rest c p.0 refl p.1)
+    (λ none. absurd cc)
+    (by_word w (codes "get") (Some (Get, ds)) None (c, rest) other))
+    (by_word w (codes "inc") (Some (Increment, ds)) _ (c, rest) e)
+
+pub call_again : (c : CounterCall) (rest : List Data) → call_at (word_of c) (arguments c ++ rest) ≡ Some (c, rest)
+call_again Increment rest = refl
+call_again Get rest = refl
+
+answered : (d : Data) (n : ℕ) (r : CounterRet) → d ≡ number (unsigned n) → Value n ≡ r → (d ∷ [] ≡ ret_form r) × (matches Get r ≡ true)
+answered d n r form ret = rw (← ret, form) (refl, refl)
+
+pub ret_read : (c : CounterCall) (ds : List Data) (r : CounterRet) → ret_at c ds ≡ Some r → (ds ≡ ret_form r) × (matches c r ≡ true)
+ret_read Increment [] r e = let h : Done ≡ r = cc in rw (← h) (refl, refl)
+ret_read Increment (d ∷ ds) r e = absurd cc
+ret_read Get [] r e = absurd cc
+ret_read Get (d ∷ []) r e = let p = number-read Value d r e in answered d p.0 r p.1 p.2
+ret_read Get (d ∷ f ∷ ds) r e = absurd cc
+
+pub ret_again : (c : CounterCall) (r : CounterRet) → matches c r ≡ true → ret_at c (ret_form r) ≡ Some r
+ret_again Increment Done e = refl
+ret_again Increment (Value n) e = absurd cc
+ret_again Get Done e = absurd cc
+ret_again Get (Value n) e = refl
+
+pub ret_is_known : (r : CounterRet) → ret_form r ≢ unknown ∷ []
+ret_is_known Done e = absurd cc
+ret_is_known (Value v) e = let h : number (unsigned v) ≡ unknown = cc in absurd cc
+
+pub arguments_have_no_float : (c : CounterCall) → HaveNoFloats (arguments c)
+arguments_have_no_float c = refl
+
+pub ret_has_no_float : (r : CounterRet) → HaveNoFloats (ret_form r)
+ret_has_no_float Done = refl
+ret_has_no_float (Value v) = refl

@@ -1,0 +1,75 @@
+-- Reading undoes the spelling of a set, and nothing else is read.
+use Rattle.std.specs.Prelude.{◌≡◌, ◌≢◌, ℕ, List, [], ◌∷◌, ◌++◌, codes, Bool, true, Some, None, refl}
+use Rattle.std.proofs.Common.{ap, ⊎_elim}
+use Rattle.serde_json.specs.Data.{Data, null, boolean, number, string, array, object}
+use Rattle.serde_json.specs.Find.{as_bool}
+use Rattle.objects.specs.AddRemoveSet.{matches}
+use Rattle.objects.specs.declared.add_remove_set.SetCall.{SetCall}
+use Rattle.objects.specs.declared.add_remove_set.SetCall.TheVariants.{Add, Remove, Has}
+use Rattle.objects.specs.declared.add_remove_set.SetRet.{SetRet}
+use Rattle.objects.specs.declared.add_remove_set.SetRet.TheVariants.{Done, Has as HasAnswer}
+use Rattle.operations.specs.CallLaws.{by_word, with_number_read}
+use Rattle.operations.specs.Form.{HaveNoFloats}
+use Rattle.operations.specs.Json.{unknown}
+use Rattle.operations.specs.JsonLaws.{map_from}
+use Rattle.operations.specs.SetForm.{word_of, arguments, ret_form, call_at, ret_at}
+use Rattle.operations.specs.Spelling.{call_with}
+
+pub call_read : (w : List ℕ) (ds rest : List Data) (c : SetCall) → call_at w ds ≡ Some (c, rest) → (w ≡ word_of c) × (ds ≡ arguments c ++ rest)
+call_read w ds rest c e =
+    ⊎_elim
+    (λ p. with_number_read word_of arguments Add w ds rest c (λ n. p.0) (λ n. refl) p.1)
+    (λ not_add. ⊎_elim
+    (λ p. with_number_read word_of arguments Remove w ds rest c (λ n. p.0) (λ n. refl) p.1)
+    (λ not_rem. ⊎_elim
+    (λ p. with_number_read word_of arguments Has w ds rest c (λ n. p.0) (λ n. refl) p.1)
+    (λ none. absurd cc)
+    (by_word w (codes "has") (call_with Has ds) None (c, rest) not_rem))
+    (by_word w (codes "rem") (call_with Remove ds) _ (c, rest) not_add))
+    (by_word w (codes "add") (call_with Add ds) _ (c, rest) e)
+
+pub call_again : (c : SetCall) (rest : List Data) → call_at (word_of c) (arguments c ++ rest) ≡ Some (c, rest)
+call_again (Add e) rest = refl
+call_again (Remove e) rest = refl
+call_again (Has e) rest = refl
+
+as_bool-read : (d : Data) (b : Bool) → as_bool d ≡ Some b → d ≡ boolean b
+as_bool-read null b e = absurd cc
+as_bool-read (boolean a) b e = let h : a ≡ b = cc in ap boolean h
+as_bool-read (number n) b e = absurd cc
+as_bool-read (string s) b e = absurd cc
+as_bool-read (array ds) b e = absurd cc
+as_bool-read (object ms) b e = absurd cc
+
+answered : (element : ℕ) (d : Data) (b : Bool) (r : SetRet) → d ≡ boolean b → HasAnswer b ≡ r → (d ∷ [] ≡ ret_form r) × (matches (Has element) r ≡ true)
+answered element d b r form ret = rw (← ret, form) (refl, refl)
+
+pub ret_read : (c : SetCall) (ds : List Data) (r : SetRet) → ret_at c ds ≡ Some r → (ds ≡ ret_form r) × (matches c r ≡ true)
+ret_read (Add u) [] r e = let h : Done ≡ r = cc in rw (← h) (refl, refl)
+ret_read (Add u) (d ∷ ds) r e = absurd cc
+ret_read (Remove u) [] r e = let h : Done ≡ r = cc in rw (← h) (refl, refl)
+ret_read (Remove u) (d ∷ ds) r e = absurd cc
+ret_read (Has u) [] r e = absurd cc
+ret_read (Has u) (d ∷ []) r e = let p = map_from HasAnswer (as_bool d) r e in answered u d p.0 r (as_bool-read d p.0 p.1) p.2
+ret_read (Has u) (d ∷ f ∷ ds) r e = absurd cc
+
+pub ret_again : (c : SetCall) (r : SetRet) → matches c r ≡ true → ret_at c (ret_form r) ≡ Some r
+ret_again (Add u) Done e = refl
+ret_again (Add u) (HasAnswer b) e = absurd cc
+ret_again (Remove u) Done e = refl
+ret_again (Remove u) (HasAnswer b) e = absurd cc
+ret_again (Has u) Done e = absurd cc
+ret_again (Has u) (HasAnswer b) e = refl
+
+pub ret_is_known : (r : SetRet) → ret_form r ≢ unknown ∷ []
+ret_is_known Done e = absurd cc
+ret_is_known (HasAnswer b) e = let h : boolean b ≡ unknown = cc in absurd cc
+
+pub arguments_have_no_float : (c : SetCall) → HaveNoFloats (arguments c)
+arguments_have_no_float (Add u) = refl
+arguments_have_no_float (Remove u) = refl
+arguments_have_no_float (Has u) = refl
+
+pub ret_has_no_float : (r : SetRet) → HaveNoFloats (ret_form r)
+ret_has_no_float Done = refl
+ret_has_no_float (HasAnswer b) = refl

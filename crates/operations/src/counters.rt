@@ -1,0 +1,104 @@
+//! How a counter is spelled.
+
+ghost use Rattle.std.specs.Prelude.{codes};
+ghost use Rattle.operations.specs.CounterForm as counter;
+ghost use Rattle.operations.specs.CounterFormLaws.{call_read, call_again, ret_read, ret_again, ret_is_known, arguments_have_no_float, ret_has_no_float};
+ghost use Rattle.operations.specs.CallLaws.{no_start_read, no_start_again, no_start_has_no_float};
+ghost use Rattle.operations.specs.Spelling.{no_start_form, no_start_at};
+
+use crate::spelled::Spelled;
+use objects::{Counter, CounterCall, CounterRet};
+use serde_json::Value;
+use std::alloc::AllocError;
+
+impl Spelled for Counter {
+    ghost plain_name = { codes "counter" };
+
+    ghost keyed_name = { codes "counters" };
+
+    ghost word_of = { counter.word_of };
+
+    ghost arguments = { counter.arguments };
+
+    ghost ret_form = { counter.ret_form };
+
+    ghost call_at = { counter.call_at };
+
+    ghost ret_at = { counter.ret_at };
+
+    ghost start_form = { no_start_form };
+
+    ghost start_at = { no_start_at };
+
+    ghost call_read = { call_read };
+
+    ghost call_again = { call_again };
+
+    ghost ret_read = { ret_read };
+
+    ghost ret_again = { ret_again };
+
+    ghost ret_is_known = { ret_is_known };
+
+    ghost start_read = { no_start_read };
+
+    ghost start_again = { no_start_again };
+
+    ghost arguments_have_no_float = { arguments_have_no_float };
+
+    ghost ret_has_no_float = { ret_has_no_float };
+
+    ghost start_has_no_float = { no_start_has_no_float };
+
+    fn plain_name() -> &'static str {
+        "counter"
+    }
+
+    fn keyed_name() -> &'static str {
+        "counters"
+    }
+
+    fn word(call: &CounterCall) -> &'static str {
+        match call {
+            CounterCall::Increment => "inc",
+            CounterCall::Get => "get",
+        }
+    }
+
+    fn read_call<'a>(word: &str, values: &'a [Value]) -> Option<(CounterCall, &'a [Value])> {
+        if word == "inc" {
+            Some((CounterCall::Increment, values))
+        } else if word == "get" {
+            Some((CounterCall::Get, values))
+        } else {
+            None
+        }
+    }
+
+    fn read_ret(call: &CounterCall, values: &[Value]) -> Option<CounterRet> {
+        match (call, values) {
+            (CounterCall::Increment, []) => Some(CounterRet::Done),
+            (CounterCall::Get, [value]) => value.as_u64().map(CounterRet::Value),
+            _ => None,
+        }
+    }
+
+    fn push_arguments(_call: &CounterCall, _values: &mut Vec<Value>) -> Result<(), AllocError> {
+        Ok(())
+    }
+
+    fn push_ret(ret: &CounterRet, values: &mut Vec<Value>) -> Result<(), AllocError> {
+        match ret {
+            CounterRet::Done => Ok(()),
+            CounterRet::Value(value) => Ok(values.push(Value::from(*value))?),
+        }
+    }
+
+    fn read_start(_value: &Value) -> Option<()> {
+        None
+    }
+
+    fn write_start(_start: &()) -> Value {
+        Value::Null
+    }
+}

@@ -1,0 +1,123 @@
+//! How a queue is spelled.
+
+ghost use Rattle.std.specs.Prelude.{◌≡◌, codes};
+ghost use Rattle.serde_json.specs.View.{view};
+ghost use Rattle.operations.specs.QueueForm.{popped_at};
+ghost use Rattle.operations.specs.QueueForm as queue;
+ghost use Rattle.operations.specs.QueueFormLaws.{call_read, call_again, ret_read, ret_again, ret_is_known, arguments_have_no_float, ret_has_no_float};
+ghost use Rattle.operations.specs.CallLaws.{no_start_read, no_start_again, no_start_has_no_float};
+ghost use Rattle.operations.specs.Spelling.{no_start_form, no_start_at};
+
+use crate::spelled::Spelled;
+use crate::words::first_number;
+use objects::{Queue, QueueCall, QueueRet};
+use serde_json::Value;
+use std::alloc::AllocError;
+
+/// What was popped: null for nothing.
+fn popped(value: &Value) -> Option<QueueRet>
+    ensures { result ≡ popped_at (view value.now) }
+{
+    if value.is_null() {
+        Some(QueueRet::Popped(None))
+    } else {
+        Some(QueueRet::Popped(Some(value.as_u64()?)))
+    }
+}
+
+impl Spelled for Queue {
+    ghost plain_name = { codes "queue" };
+
+    ghost keyed_name = { codes "queues" };
+
+    ghost word_of = { queue.word_of };
+
+    ghost arguments = { queue.arguments };
+
+    ghost ret_form = { queue.ret_form };
+
+    ghost call_at = { queue.call_at };
+
+    ghost ret_at = { queue.ret_at };
+
+    ghost start_form = { no_start_form };
+
+    ghost start_at = { no_start_at };
+
+    ghost call_read = { call_read };
+
+    ghost call_again = { call_again };
+
+    ghost ret_read = { ret_read };
+
+    ghost ret_again = { ret_again };
+
+    ghost ret_is_known = { ret_is_known };
+
+    ghost start_read = { no_start_read };
+
+    ghost start_again = { no_start_again };
+
+    ghost arguments_have_no_float = { arguments_have_no_float };
+
+    ghost ret_has_no_float = { ret_has_no_float };
+
+    ghost start_has_no_float = { no_start_has_no_float };
+
+    fn plain_name() -> &'static str {
+        "queue"
+    }
+
+    fn keyed_name() -> &'static str {
+        "queues"
+    }
+
+    fn word(call: &QueueCall) -> &'static str {
+        match call {
+            QueueCall::Push(_) => "push",
+            QueueCall::Pop => "pop",
+        }
+    }
+
+    fn read_call<'a>(word: &str, values: &'a [Value]) -> Option<(QueueCall, &'a [Value])> {
+        if word == "push" {
+            let (item, rest) = first_number(values)?;
+            Some((QueueCall::Push(item), rest))
+        } else if word == "pop" {
+            Some((QueueCall::Pop, values))
+        } else {
+            None
+        }
+    }
+
+    fn read_ret(call: &QueueCall, values: &[Value]) -> Option<QueueRet> {
+        match (call, values) {
+            (QueueCall::Push(_), []) => Some(QueueRet::Done),
+            (QueueCall::Pop, [value]) => popped(value),
+            _ => None,
+        }
+    }
+
+    fn push_arguments(call: &QueueCall, values: &mut Vec<Value>) -> Result<(), AllocError> {
+        match call {
+            QueueCall::Push(item) => Ok(values.push(Value::from(*item))?),
+            QueueCall::Pop => Ok(()),
+        }
+    }
+
+    fn push_ret(ret: &QueueRet, values: &mut Vec<Value>) -> Result<(), AllocError> {
+        match ret {
+            QueueRet::Done => Ok(()),
+            QueueRet::Popped(None) => Ok(values.push(Value::Null)?),
+            QueueRet::Popped(Some(item)) => Ok(values.push(Value::from(*item))?),
+        }
+    }
+
+    fn read_start(_value: &Value) -> Option<()> {
+        None
+    }
+
+    fn write_start(_start: &()) -> Value {
+        Value::Null
+    }
+}

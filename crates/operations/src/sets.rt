@@ -1,0 +1,113 @@
+//! How a set is spelled.
+
+ghost use Rattle.std.specs.Prelude.{codes};
+ghost use Rattle.operations.specs.SetForm as set;
+ghost use Rattle.operations.specs.SetFormLaws.{call_read, call_again, ret_read, ret_again, ret_is_known, arguments_have_no_float, ret_has_no_float};
+ghost use Rattle.operations.specs.CallLaws.{no_start_read, no_start_again, no_start_has_no_float};
+ghost use Rattle.operations.specs.Spelling.{no_start_form, no_start_at};
+
+use crate::spelled::Spelled;
+use crate::words::first_number;
+use objects::{AddRemoveSet, SetCall, SetRet};
+use serde_json::Value;
+use std::alloc::AllocError;
+
+impl Spelled for AddRemoveSet {
+    ghost plain_name = { codes "set" };
+
+    ghost keyed_name = { codes "sets" };
+
+    ghost word_of = { set.word_of };
+
+    ghost arguments = { set.arguments };
+
+    ghost ret_form = { set.ret_form };
+
+    ghost call_at = { set.call_at };
+
+    ghost ret_at = { set.ret_at };
+
+    ghost start_form = { no_start_form };
+
+    ghost start_at = { no_start_at };
+
+    ghost call_read = { call_read };
+
+    ghost call_again = { call_again };
+
+    ghost ret_read = { ret_read };
+
+    ghost ret_again = { ret_again };
+
+    ghost ret_is_known = { ret_is_known };
+
+    ghost start_read = { no_start_read };
+
+    ghost start_again = { no_start_again };
+
+    ghost arguments_have_no_float = { arguments_have_no_float };
+
+    ghost ret_has_no_float = { ret_has_no_float };
+
+    ghost start_has_no_float = { no_start_has_no_float };
+
+    fn plain_name() -> &'static str {
+        "set"
+    }
+
+    fn keyed_name() -> &'static str {
+        "sets"
+    }
+
+    fn word(call: &SetCall) -> &'static str {
+        match call {
+            SetCall::Add(_) => "add",
+            SetCall::Remove(_) => "rem",
+            SetCall::Has(_) => "has",
+        }
+    }
+
+    fn read_call<'a>(word: &str, values: &'a [Value]) -> Option<(SetCall, &'a [Value])> {
+        if word == "add" {
+            let (element, rest) = first_number(values)?;
+            Some((SetCall::Add(element), rest))
+        } else if word == "rem" {
+            let (element, rest) = first_number(values)?;
+            Some((SetCall::Remove(element), rest))
+        } else if word == "has" {
+            let (element, rest) = first_number(values)?;
+            Some((SetCall::Has(element), rest))
+        } else {
+            None
+        }
+    }
+
+    fn read_ret(call: &SetCall, values: &[Value]) -> Option<SetRet> {
+        match (call, values) {
+            (SetCall::Add(_) | SetCall::Remove(_), []) => Some(SetRet::Done),
+            (SetCall::Has(_), [value]) => value.as_bool().map(SetRet::Has),
+            _ => None,
+        }
+    }
+
+    fn push_arguments(call: &SetCall, values: &mut Vec<Value>) -> Result<(), AllocError> {
+        let (SetCall::Add(element) | SetCall::Remove(element) | SetCall::Has(element)) = call;
+        values.push(Value::from(*element))?;
+        Ok(())
+    }
+
+    fn push_ret(ret: &SetRet, values: &mut Vec<Value>) -> Result<(), AllocError> {
+        match ret {
+            SetRet::Done => Ok(()),
+            SetRet::Has(there) => Ok(values.push(Value::Bool(*there))?),
+        }
+    }
+
+    fn read_start(_value: &Value) -> Option<()> {
+        None
+    }
+
+    fn write_start(_start: &()) -> Value {
+        Value::Null
+    }
+}

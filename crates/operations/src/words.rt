@@ -1,0 +1,37 @@
+//! The word of an operation, and a number behind it.
+
+ghost use Rattle.std.specs.Prelude.{◌≡◌, [], ◌∷◌, map, option_map, option_and_then, IfOk};
+ghost use Rattle.serde_json.specs.Data.{string};
+ghost use Rattle.serde_json.specs.View.{view};
+ghost use Rattle.operations.specs.Json.{elements};
+ghost use Rattle.operations.specs.Spelling.{first_number as number_at_first, word_rest};
+
+use crate::json::elements_of;
+use serde_json::Value;
+use std::alloc::{AllocError, Global};
+
+/// The word and the rest of an operation without a key.
+pub fn plain_parts(value: &Value) -> Option<(&str, &[Value])>
+    ensures { option_map (λ p. (p.0.now, map view p.1.now)) result
+        ≡ option_and_then word_rest (elements (view value.now)) }
+{
+    let (word, rest) = elements_of(value)?.split_first()?;
+    Some((word.as_str()?, rest))
+}
+
+/// The first element of an operation: its word.
+pub fn word_alone(alloc: Global, word: &str) -> Result<Vec<Value>, AllocError>
+    ensures { IfOk result (λ vs. map view vs.items ≡ string word.now ∷ []) }
+{
+    let mut values = Vec::new(alloc);
+    values.push(Value::try_from_str(alloc, word)?)?;
+    Ok(values)
+}
+
+/// The whole number that stands first, and what stands behind it.
+pub fn first_number(values: &[Value]) -> Option<(u64, &[Value])>
+    ensures { option_map (λ p. (p.0, map view p.1.now)) result ≡ number_at_first (map view values.now) }
+{
+    let (number, rest) = values.split_first()?;
+    Some((number.as_u64()?, rest))
+}
