@@ -1,5 +1,5 @@
 -- What the list of writes says of distinct values.
-use Rattle.std.proofs.Common.{◌≡◌, ℕ, get_or, List, sym, refl}
+use Rattle.std.proofs.Common.{get_or, List, refl}
 use Rattle.std.specs.Prelude.{◌≢◌, All}
 use Rattle.std.proofs.lemmas.List.Elements.{All-contains, Contains-get_or}
 use Rattle.causal_order.specs.declared.writes.Write.{Write}

@@ -1,3 +1,9 @@
 pub mod Listed
 pub mod Sorted
 pub mod Distinct
+pub mod FirstWrites
+pub mod Outcomes
+pub mod Least
+pub mod Pushed
+pub mod NextVector
+pub mod Cycles

@@ -1,24 +1,19 @@
 -- Lists of writes, gathered operation by operation.
-use Rattle.std.proofs.Common.{◌≡◌, ℕ, ◌+◌, ◌<◌, ◌≤◌, ◌⊎◌, inl, inr, ⊎_elim, List, [], ◌∷◌, ◌++◌, length, get_or, arith, ap, sym, ◌∙◌, subst, eq-or-lt_of_le, lt_of_not-le}
-use Rattle.std.specs.Prelude.{Option, Some, None, option_map, Contains, slice_get, IsPermutation}
-use Rattle.std.proofs.lemmas.List.{get_or_past}
-use Rattle.std.proofs.lemmas.Option.{slice_get_within, slice_get-get_or, same_Some}
+use Rattle.std.proofs.Common.{◌≡◌, ℕ, ◌+◌, ◌<◌, ◌≤◌, ◌⊎◌, inl, inr, ⊎_elim, List, [], ◌∷◌, ◌++◌, length, get_or, arith, ap, sym, ◌∙◌, subst, eq-or-lt_of_le}
+use Rattle.std.specs.Prelude.{Option, Some, option_map, Contains, slice_get, IsPermutation}
+use Rattle.std.proofs.lemmas.Option.{slice_get-get_or, same_Some}
 use Rattle.std.proofs.lemmas.List.Elements.{Contains-append_left, Contains-push, Contains-push_cases}
 use Rattle.std.proofs.lemmas.List.Sorted.{Contains-permutation, IsPermutation-sym}
 use Rattle.operations.specs.declared.op_id.OpId.{OpId}
-use Rattle.operations.specs.History.{IsOp, session, entry}
+use Rattle.operations.specs.History.{session, entry}
 use Rattle.causal_order.specs.declared.writes.Write.{Write as WriteEntry}
 use Rattle.objects.specs.declared.register.RegisterCall.TheVariants.{Write}
 use Rattle.objects.specs.declared.register.RegisterRet.{RegisterRet}
 use Rattle.causal_order.specs.Memory.{MemoryCall, MemoryHistory, Writes}
+use Rattle.causal_order.specs.MemoryLaws.{same_written, write-of_history}
 use Rattle.causal_order.specs.Orders.{op, IsEarlier}
 use Rattle.causal_order.specs.OrdersLaws.{same_op, session-of_history}
 use Rattle.causal_order.specs.Written.{ListsWrites, ListsWritesBefore}
-
--- a call is that of an entry
-pub entry-call : {C R : Type 0} (e : Option (C × R)) (c : C) → option_map (λ (p : C × R). p.0) e ≡ Some c → (r : R) × (e ≡ Some (c, r))
-entry-call None c h = absurd cc
-entry-call (Some p) c h = let same : p.0 ≡ c = cc in (p.1, λ i. Some (same i, p.1))
 
 earlier_cases : (a : OpId) (s i : ℕ) → IsEarlier a (op s (i + 1)) → IsEarlier a (op s i) ⊎ (a ≡ op s i)
 earlier_cases a s i earlier =
@@ -31,17 +26,6 @@ earlier_cases a s i earlier =
     earlier
 
 module _ (h : MemoryHistory) where
-  -- a write has one variable and one value
-  pub same_written : (a : OpId) (x v y u : ℕ) → Writes h a x v → Writes h a y u → (x ≡ y) × (v ≡ u)
-  same_written a x v y u first second =
-      let same = same_Some _ _ (sym first ∙ second) in
-      let calls : Write v ≡ Write u = ap (λ (c : MemoryCall). c.call) same in
-      (ap (λ (c : MemoryCall). c.key) same, cc)
-
-  pub write-of_history : (a : OpId) (x v : ℕ) → Writes h a x v → IsOp h a
-  write-of_history a x v writes =
-      let e = entry-call (entry h a) _ writes in slice_get_within (session h a.session) a.index _ e.1
-
   -- one write more
   pub ListsWritesBefore-write : (s i x v : ℕ) (writes : List WriteEntry) → Writes h (op s i) x v → ListsWritesBefore h (op s i) writes
       → ListsWritesBefore h (op s (i + 1)) (writes ++ record { op = op s i; key = x; value = v } ∷ [])
@@ -49,7 +33,7 @@ module _ (h : MemoryHistory) where
     each = λ a y u earlier wrote. ⊎_elim
         (λ (old : IsEarlier a (op s i)). Contains-append_left writes _ _ (before.each a y u old wrote))
         (λ (here : a ≡ op s i).
-        let same = same_written (op s i) x v y u this (subst (λ (b : OpId). Writes h b y u) here wrote) in
+        let same = same_written h (op s i) x v y u this (subst (λ (b : OpId). Writes h b y u) here wrote) in
         let entry : ◌≡◌ {A = WriteEntry} (record { op = op s i; key = x; value = v }) (record { op = a; key = y; value = u }) =
         λ j. record { op = sym here j; key = same.0 j; value = same.1 j } in
         subst (λ (w : WriteEntry). Contains (writes ++ record { op = op s i; key = x; value = v } ∷ []) w) entry
@@ -82,7 +66,7 @@ module _ (h : MemoryHistory) where
         (λ (below : a.session < s + 1). ⊎_elim
         (λ (same : a.session ≡ s). inr (
           same,
-          let is_op = subst (λ (t : ℕ). a.index < length (session h t)) same (write-of_history a y u wrote) in omega arith,
+          let is_op = subst (λ (t : ℕ). a.index < length (session h t)) same (write-of_history h a y u wrote) in omega arith,
         ))
         (λ (earlier_session : a.session < s). inl earlier_session)
         (let up_to : a.session ≤ s = omega arith in eq-or-lt_of_le up_to))
@@ -94,7 +78,7 @@ module _ (h : MemoryHistory) where
   -- the end of the last session
   pub ListsWrites-end : (s : ℕ) (writes : List WriteEntry) → length h.1 ≤ s → ListsWritesBefore h (op s 0) writes → ListsWrites h writes
   ListsWrites-end s writes ended before = record {
-    each = λ a y u wrote. before.each a y u (inl (let below = session-of_history h a (write-of_history a y u wrote) in omega arith)) wrote;
+    each = λ a y u wrote. before.each a y u (inl (let below = session-of_history h a (write-of_history h a y u wrote) in omega arith)) wrote;
     no_other = before.no_other;
   }
 

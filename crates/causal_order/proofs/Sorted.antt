@@ -15,7 +15,7 @@ use Rattle.causal_order.specs.declared.writes.Write.{Write}
 use Rattle.causal_order.specs.Orders.{op}
 use Rattle.causal_order.specs.Written.{by_variable, IsSorted, IsOne, AreOnce}
 
-by_variable_total : IsTotalOrder by_variable
+pub by_variable_total : IsTotalOrder by_variable
 by_variable_total = then_total (on_total (λ p. p.0) nat_cmp_total) (on_total (λ p. p.1) nat_cmp_total)
 
 equal_numbers : (a b : ℕ) → nat_cmp a b ≡ Equal → a ≡ b
@@ -66,7 +66,7 @@ is_written-search writes key value (Err i) b sorted in_range split is = (
 )
 
 -- neither before the other
-tied : (a b : ℕ × ℕ) → is_lt (by_variable a b) ≡ false → is_lt (by_variable b a) ≡ false → by_variable a b ≡ Equal
+pub tied : (a b : ℕ × ℕ) → is_lt (by_variable a b) ≡ false → is_lt (by_variable b a) ≡ false → by_variable a b ≡ Equal
 tied a b not_less not_greater =
     elim (by_variable a b) as (λ r. by_variable a b ≡ r → is_lt r ≡ false → r ≡ Equal) [
       | Less ↦ λ is. λ no. absurd cc
@@ -103,7 +103,7 @@ module _ (writes : List Write) (sorted : IsSorted writes) (neighbours : AllAdjac
       let there : i + (j - i) ≡ j = omega arith in
       subst (λ (m : ℕ). IsOne (get_or writes i d) (get_or writes m d)) there (one_between i (j - i) (omega arith))
 
-contained-at : (writes : List Write) (a d : Write) (inside : Contains writes a) → get_or writes inside.0 d ≡ a
+pub contained-at : (writes : List Write) (a d : Write) (inside : Contains writes a) → get_or writes inside.0 d ≡ a
 contained-at writes a d inside =
     same_Some _ _ (sym (slice_get-get_or writes inside.0 d inside.1) ∙ slice_get-get_or writes inside.0 a inside.1) ∙ inside.2
 

@@ -1,6 +1,11 @@
 pub mod Orders
 pub mod OrdersLaws
 pub mod Memory
+pub mod MemoryLaws
 pub mod Relations
+pub mod RelationsLaws
 pub mod Written
 pub mod Vectors
+pub mod VectorsLaws
+pub mod Sources
+pub mod SourceOrder

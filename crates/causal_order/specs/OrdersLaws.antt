@@ -1,5 +1,5 @@
 -- What follows for the operations of a history.
-use Rattle.std.specs.Prelude.{◌≡◌, ℕ, ◌<◌, ◌≤◌, List, [], Option, length}
+use Rattle.std.specs.Prelude.{◌≡◌, ◌<◌, ◌≤◌, List, [], Option, length}
 use Rattle.std.proofs.Common.{subst, arith, lt_of_not-le}
 use Rattle.std.proofs.lemmas.List.{get_or_past}
 use Rattle.operations.specs.declared.op_id.OpId.{OpId}

@@ -1,5 +1,5 @@
 -- Lists of the writes of a memory history.
-use Rattle.std.specs.Prelude.{◌≡◌, ℕ, List, Contains, IsSortedByKey}
+use Rattle.std.specs.Prelude.{◌≡◌, ℕ, ◌<◌, List, Some, slice_get, Contains, IsSortedByKey}
 use Rattle.std.specs.Ordering.{nat_cmp, ordering_then}
 use Rattle.std.specs.declared.cmp.Ordering.{Ordering}
 use Rattle.operations.specs.declared.op_id.OpId.{OpId}
@@ -24,6 +24,16 @@ by_variable a b = ordering_then (nat_cmp a.0 b.0) (nat_cmp a.1 b.1)
 -- the writes rise by variable and value, where equal ones are neighbours
 abbrev pub IsSorted : List Write → Type 0
 IsSorted writes = IsSortedByKey (λ w. (w.key, w.value)) by_variable writes
+
+-- the writes of one value to one variable rise by operation
+abbrev pub AreInOrder : List Write → Type 0
+AreInOrder writes = (i j : ℕ) (a b : Write) → i < j → slice_get writes i ≡ Some a → slice_get writes j ≡ Some b
+    → a.key ≡ b.key → a.value ≡ b.value → ¬ IsEarlier b.op a.op
+
+-- o is the first of the operations that write the value v to the variable x
+pub record IsLeastWrite (writes : List Write) (x v : ℕ) (o : OpId) : Type 0 where
+  pub writes_it : Contains writes (record { op = o; key = x; value = v })
+  pub least : (w : Write) → Contains writes w → w.key ≡ x → w.value ≡ v → ¬ IsEarlier w.op o
 
 -- if two entries write one value to one variable, they are of one operation
 abbrev pub IsOne : Write → Write → Type 0

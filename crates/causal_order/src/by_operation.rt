@@ -1,4 +1,5 @@
-ghost use Rattle.std.specs.Prelude.{◌≡◌, ◌∷◌, ◌++◌, ◌<◌, List, [], length, slice_set, OnOk, OnErr, slice_index_or};
+ghost use Rattle.std.specs.Prelude.{◌≡◌, ◌∷◌, ◌++◌, ◌<◌, ◌↔◌, List, [], length, slice_set, IsTrue, OnOk, OnErr, slice_index_or};
+ghost use Rattle.causal_order.specs.Sources.{IsListed};
 ghost use Rattle.causal_order.specs.Vectors.{list_of};
 
 use crate::rows::Rows;
@@ -46,6 +47,14 @@ impl<T> ByOperation<T> {
         ensures { result ≡ length (slice_index_or self.now session []) }
     {
         self.sessions[session].len()
+    }
+
+    /// Whether the operation has a list.
+    pub fn contains(&self, op: OpId) -> bool
+        ensures { IsTrue result ↔ IsListed self.now op }
+    {
+        op.session < self.sessions() as u64
+            && op.index < self.operations(op.session as usize) as u64
     }
 
     /// The list of an operation.

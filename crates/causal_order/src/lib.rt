@@ -3,11 +3,17 @@
 
 mod by_operation;
 mod differentiation;
+mod order;
+mod placing;
 mod reads;
+mod reads_from;
 mod rows;
+mod vectors;
 mod writes;
 
 pub use by_operation::{ByOperation, Vectors};
 pub use differentiation::{are_distinct, is_differentiated};
+pub use order::memory_order;
 pub use reads::{initial_value, known_read};
-pub use writes::{Write, is_written, sorted_writes};
+pub use vectors::{count_of, is_at_most, vector_ok};
+pub use writes::{Write, is_written, least_write, sorted_writes};

@@ -1,6 +1,6 @@
-ghost use Rattle.std.specs.Prelude.{◌≡◌, ◌+◌, ◌<◌, ◌↔◌, length, Contains, IfOk, IsTrue, OnOk};
+ghost use Rattle.std.specs.Prelude.{◌≡◌, ◌+◌, ◌<◌, ◌↔◌, length, Contains, IfOk, IsTrue, MatchOption, OnOk};
 ghost use Rattle.causal_order.specs.Orders.{op};
-ghost use Rattle.causal_order.specs.Written.{IsSorted, ListsWrites, ListsWritesBefore};
+ghost use Rattle.causal_order.specs.Written.{AreInOrder, IsLeastWrite, IsSorted, ListsWrites, ListsWritesBefore};
 
 use objects::{Memory, RegisterCall};
 use operations::{History, OpId};
@@ -14,16 +14,17 @@ pub struct Write {
     pub value: u64,
 }
 
-/// The writes of a history, by variable and value. O(n log n) for n operations.
+/// The writes of a history, by variable, value and operation. O(n log n) for n operations.
 pub fn sorted_writes(alloc: Global, h: &History<Memory>) -> Result<Vec<Write>, AllocError>
     ensures writes { IfOk result (λ writes. ListsWrites h.now writes.items) }
     ensures sorted { IfOk result (λ writes. IsSorted writes.items) }
+    ensures in_order { IfOk result (λ writes. AreInOrder writes.items) }
 {
     let mut writes = Vec::new(alloc);
     for session in 0..h.sessions() {
         push_writes(h, session, &mut writes)?;
     }
-    writes.sort_unstable_by_key(|write| (write.key, write.value));
+    writes.sort_unstable_by_key(|write| (write.key, write.value, write.op));
     Ok(writes)
 }
 
@@ -61,4 +62,22 @@ pub fn is_written(writes: &[Write], key: u32, value: u64) -> bool
     writes
         .binary_search_by_key(&(key, value), |write| (write.key, write.value))
         .is_ok()
+}
+
+/// The first operation among the writes, which are sorted, that writes this value to this variable. O(log n) for n writes.
+pub fn least_write(writes: &[Write], key: u32, value: u64) -> Option<OpId>
+    requires sorted { IsSorted writes.now }
+    requires in_order { AreInOrder writes.now }
+    ensures { MatchOption result ((w : Write) → Contains writes.now w → w.key ≡ key → w.value ≡ value → ⊥) (IsLeastWrite writes.now key value) }
+{
+    let at = writes.partition_point(|write| (write.key, write.value) < (key, value));
+    if at == writes.len() {
+        return None;
+    }
+    let write = &writes[at];
+    if write.key == key && write.value == value {
+        Some(write.op)
+    } else {
+        None
+    }
 }

@@ -1,0 +1,125 @@
+-- Where no session can go on, the order is cyclic.
+use Rattle.std.specs.Prelude.{◌≡◌, ◌≢◌, ◌⊎◌, ℕ, ◌-◌, ◌<◌, ◌≤◌, [], length, Option, Some, None, slice_get}
+use Rattle.std.proofs.Common.{zero, suc, arith, get_or, sym, subst, ◌∙◌, inl, inr, ⊎_elim, refl, cond, ltb}
+use Rattle.std.proofs.lemmas.Bool.{cases_eq, cases_lt}
+use Rattle.std.proofs.lemmas.Bool.Decides.{nat_tests}
+use Rattle.std.proofs.lemmas.Option.{same_Some, slice_get-get_or}
+use Rattle.operations.specs.declared.op_id.OpId.{OpId}
+use Rattle.causal_order.specs.OrdersLaws.{same_op}
+use Rattle.causal_order.specs.RelationsLaws.{leads-edge, leads-first, leads-leads}
+use Rattle.causal_order.specs.Sources.{Sources, IsListed, AreListed, IsStep, Comes, IsUnfinished, next, IsReady}
+use Rattle.causal_order.specs.Vectors.{Counts}
+use Rattle.causal_order.proofs.Pushed.{listed-length}
+
+-- a number is among the first of a sequence, or it is not
+look_for : (g : ℕ → ℕ) (x n : ℕ) → ((j : ℕ) × (j < n) × (g j ≡ x)) ⊎ ((j : ℕ) → j < n → g j ≢ x)
+look_for g x zero = inr (λ j below. absurd (omega arith))
+look_for g x (suc n) = ⊎_elim
+    (λ (found : (j : ℕ) × (j < n) × (g j ≡ x)). inl (found.0, omega arith, found.2))
+    (λ (none : (j : ℕ) → j < n → g j ≢ x). ⊎_elim
+    (λ (last : g n ≡ x). inl (n, omega arith, last))
+    (λ (apart : g n ≢ x). inr (λ j below. ⊎_elim
+    (λ (before : j < n). none j before)
+    (λ (after : n ≤ j). let here : n ≡ j = omega arith in subst (λ (i : ℕ). g i ≢ x) here apart)
+    (cases_lt j n)))
+    (cases_eq (g n) x))
+    (look_for g x n)
+
+-- the numbers without p, moved together
+abbrev lower : ℕ → ℕ → ℕ
+lower p x = cond (ltb p x) (x - 1) x
+
+lower-below : (p x k : ℕ) → p < suc k → x < suc k → x ≢ p → lower p x < k
+lower-below p x k p_below x_below apart = grind (arith, nat_tests)
+
+lower-same : (p x y : ℕ) → x ≢ p → y ≢ p → lower p x ≡ lower p y → x ≡ y
+lower-same p x y x_apart y_apart same = grind (arith, nat_tests)
+
+-- two of k + 1 numbers below k are equal
+pub repeats : (k : ℕ) (g : ℕ → ℕ) → ((j : ℕ) → j ≤ k → g j < k) → (i j : ℕ) × (i < j) × (j ≤ k) × (g i ≡ g j)
+repeats zero g below = let none = below 0 (omega arith) in absurd (omega arith)
+repeats (suc k) g below = ⊎_elim
+    (λ (found : (j : ℕ) × (j < suc k) × (g (suc j) ≡ g 0)). (0, suc found.0, omega arith, omega arith, sym found.2))
+    (λ (none : (j : ℕ) → j < suc k → g (suc j) ≢ g 0).
+    let again = repeats k (λ j. lower (g 0) (g (suc j)))
+    (λ j up_to. lower-below (g 0) (g (suc j)) k (below 0 (omega arith)) (below (suc j) (omega arith)) (none j (omega arith))) in (
+      suc again.0,
+      suc again.1,
+      omega arith,
+      omega arith,
+      lower-same (g 0) (g (suc again.0)) (g (suc again.1)) (none again.0 (omega arith)) (none again.1 (omega arith)) again.4,
+    ))
+    (look_for (λ j. g (suc j)) (g 0) (suc k))
+
+-- the session of a source, or the one that is given
+abbrev session_or : ℕ → Option (Option OpId) → ℕ
+session_or s None = s
+session_or s (Some None) = s
+session_or s (Some (Some w)) = w.session
+
+module _ (sources : Sources) (v : Counts) (listed : AreListed sources) where
+  -- the session that the next operation of s waits for
+  abbrev waits_for : ℕ → ℕ
+  waits_for s = session_or s (slice_get (get_or sources s []) (length (get_or v s [])))
+
+  module _ (s : ℕ) (unfinished : IsUnfinished sources v s) (waits : ¬ IsReady sources v s) where
+    waiting : (e : Option (Option OpId)) → slice_get (get_or sources s []) (length (get_or v s [])) ≡ e
+        → IsUnfinished sources v (session_or s e) × Comes sources (next v (session_or s e)) (next v s)
+    waiting None is =
+        let there = sym is ∙ slice_get-get_or (get_or sources s []) (length (get_or v s [])) None unfinished in absurd cc
+    waiting (Some None) is = absurd (waits (record {
+      unfinished = unfinished;
+      source = λ w has. let apart = sym is ∙ has in absurd cc;
+    }))
+    waiting (Some (Some w)) is =
+        let above : length (get_or v w.session []) ≤ w.index = ⊎_elim
+        (λ (placed : w.index < length (get_or v w.session [])). absurd (waits (record {
+          unfinished = unfinished;
+          source = λ u has.
+              let same : w ≡ u = same_Some _ _ (same_Some _ _ (sym is ∙ has)) in
+              subst (λ (o : OpId). IsListed v o) same placed;
+        })))
+        (λ (above : length (get_or v w.session []) ≤ w.index). above)
+        (cases_lt w.index (length (get_or v w.session []))) in
+        let exists : w.index < length (get_or sources w.session []) = listed (next v s) w is in
+        let edge : IsStep sources w (next v s) = inr is in (
+          omega arith,
+          ⊎_elim
+              (λ (same : length (get_or v w.session []) ≡ w.index).
+              leads-edge (IsStep sources) (next v w.session) (next v s)
+              (subst (λ (o : OpId). IsStep sources o (next v s)) (same_op w (next v w.session) refl (sym same)) edge))
+              (λ (apart : length (get_or v w.session []) ≢ w.index).
+              leads-first (IsStep sources) (next v w.session) w (next v s) (inl ((refl, omega arith), exists))
+              (leads-edge (IsStep sources) w (next v s) edge))
+              (cases_eq (length (get_or v w.session [])) w.index),
+        )
+
+  module _ (none_ready : (s : ℕ) → ¬ IsReady sources v s) (s : ℕ) (unfinished : IsUnfinished sources v s) where
+    -- the sessions that wait for one another, from s on
+    walk : ℕ → ℕ
+    walk zero = s
+    walk (suc j) = waits_for (walk j)
+
+    walk-unfinished : (j : ℕ) → IsUnfinished sources v (walk j)
+    unfolding walk
+    walk-unfinished zero = unfinished
+    walk-unfinished (suc j) = (waiting (walk j) (walk-unfinished j) (none_ready (walk j)) _ refl).0
+
+    walk-step : (j : ℕ) → Comes sources (next v (walk (suc j))) (next v (walk j))
+    unfolding walk
+    walk-step j = (waiting (walk j) (walk-unfinished j) (none_ready (walk j)) _ refl).1
+
+    walk-comes : (i j : ℕ) → i < j → Comes sources (next v (walk j)) (next v (walk i))
+    walk-comes i zero below = absurd (omega arith)
+    walk-comes i (suc j) below = ⊎_elim
+        (λ (before : i < j). leads-leads (IsStep sources) _ _ _ (walk-step j) (walk-comes i j before))
+        (λ (after : j ≤ i). let here : j ≡ i = omega arith in
+        subst (λ (n : ℕ). Comes sources (next v (walk (suc j))) (next v (walk n))) here (walk-step j))
+        (cases_lt i j)
+
+    -- where no session is ready and one is unfinished, some operation comes before itself
+    pub stuck-cycle : (a : OpId) × Comes sources a a
+    stuck-cycle =
+        let again = repeats (length sources) walk (λ j _. listed-length sources (walk j) _ (walk-unfinished j)) in
+        let comes = walk-comes again.0 again.1 again.2 in
+        (next v (walk again.0), subst (λ (t : ℕ). Comes sources (next v t) (next v (walk again.0))) (sym again.4) comes)

@@ -1,0 +1,15 @@
+-- What follows for a result that may be an error, or nothing.
+use Rattle.std.proofs.Common.{Result, Ok, Err}
+use Rattle.std.specs.Prelude.{Option, Some, None, IfOk, IfSome, IfNone}
+
+module _ {A E : Type 0} where
+  pub some-weaker : (r : Result (Option A) E) (P Q R : A → Type 0) → ((x : A) → P x → Q x → R x)
+      → IfOk r (λ o. IfSome o P) → IfOk r (λ o. IfSome o Q) → IfOk r (λ o. IfSome o R)
+  some-weaker (Ok None) P Q R both p q = p
+  some-weaker (Ok (Some x)) P Q R both p q = both x p q
+  some-weaker (Err e) P Q R both p q = p
+
+  pub none-weaker : (r : Result (Option A) E) (P Q : Type 0) → (P → Q) → IfOk r (λ o. IfNone o P) → IfOk r (λ o. IfNone o Q)
+  none-weaker (Ok None) P Q weaker p = weaker p
+  none-weaker (Ok (Some x)) P Q weaker p = p
+  none-weaker (Err e) P Q weaker p = p

@@ -1,0 +1,55 @@
+use Rattle.std.proofs.Common.{inl}
+use Rattle.operations.specs.declared.op_id.OpId.{OpId}
+use Rattle.causal_order.specs.Sources.{Comes}
+use Rattle.causal_order.proofs.FirstWrites.{sources-exist, sources-present, counts-exact, counts-past, order-acyclic, order-from_steps, CO-from_sources, CO-by_sources}
+use Rattle.causal_order.proofs.Outcomes.{some-weaker, none-weaker}
+use Rattle.causal_order.proofs.order.memory_order.Goals as goal
+
+pub order_of-requires-clause-listed : goal.order_of-requires-clause-listed
+order_of-requires-clause-listed c =
+    sources-exist c.args.h.now c.in-Some.sources (rw c.in-Some.is at c.in_ok-sources.ensures.listed)
+
+pub returns-clause-exact : goal.returns-clause-exact
+returns-clause-exact c = λ distinct.
+    let lists = rw c.in-Some.is at c.in_ok-sources.ensures.listed in
+    some-weaker c.order_of.result _ _ _
+    (λ v so_far finished. counts-past c.args.h.now c.in-Some.sources lists v so_far finished distinct) c.order_of.ensures.exact c.order_of.ensures.finished
+
+pub returns-clause-acyclic : goal.returns-clause-acyclic
+returns-clause-acyclic c = λ distinct.
+    let lists = rw c.in-Some.is at c.in_ok-sources.ensures.listed in
+    some-weaker c.order_of.result _ _ _
+    (λ v so_far finished cyclic. order-acyclic c.args.h.now c.in-Some.sources lists v so_far finished cyclic.0 (CO-by_sources c.args.h.now distinct _ _ cyclic.1))
+    c.order_of.ensures.exact c.order_of.ensures.finished
+
+pub returns-clause-sources : goal.returns-clause-sources
+returns-clause-sources c =
+    let lists = rw c.in-Some.is at c.in_ok-sources.ensures.listed in
+    some-weaker c.order_of.result _ _ _ (λ v so_far finished. sources-present c.args.h.now c.in-Some.sources lists) c.order_of.ensures.exact c.order_of.ensures.finished
+
+pub returns-clause-none : goal.returns-clause-none
+returns-clause-none c = λ distinct.
+    let lists = rw c.in-Some.is at c.in_ok-sources.ensures.listed in
+    none-weaker c.order_of.result _ _
+    (λ (cycle : (a : OpId) × Comes c.in-Some.sources a a).
+    inl (cycle.0, CO-from_sources c.args.h.now _ _ (order-from_steps c.args.h.now c.in-Some.sources lists _ _ cycle.1)))
+    c.order_of.ensures.cyclic
+
+pub returns-clause-exact_by_sources : goal.returns-clause-exact_by_sources
+returns-clause-exact_by_sources c =
+    let lists = rw c.in-Some.is at c.in_ok-sources.ensures.listed in
+    some-weaker c.order_of.result _ _ _
+    (λ v so_far finished. counts-exact c.args.h.now c.in-Some.sources lists v so_far finished) c.order_of.ensures.exact c.order_of.ensures.finished
+
+pub returns-clause-acyclic_by_sources : goal.returns-clause-acyclic_by_sources
+returns-clause-acyclic_by_sources c =
+    let lists = rw c.in-Some.is at c.in_ok-sources.ensures.listed in
+    some-weaker c.order_of.result _ _ _
+    (λ v so_far finished. order-acyclic c.args.h.now c.in-Some.sources lists v so_far finished) c.order_of.ensures.exact c.order_of.ensures.finished
+
+pub returns-clause-none_by_sources : goal.returns-clause-none_by_sources
+returns-clause-none_by_sources c =
+    let lists = rw c.in-Some.is at c.in_ok-sources.ensures.listed in
+    none-weaker c.order_of.result _ _
+    (λ (cycle : (a : OpId) × Comes c.in-Some.sources a a). inl (cycle.0, order-from_steps c.args.h.now c.in-Some.sources lists _ _ cycle.1))
+    c.order_of.ensures.cyclic

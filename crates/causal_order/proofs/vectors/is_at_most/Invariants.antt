@@ -1,0 +1,6 @@
+use Rattle.std.proofs.Common.{ℕ, ◌<◌, ◌≤◌, get_or}
+use Rattle.causal_order.proofs.vectors.is_at_most.Given as goal
+
+-- the counts so far are at most their bounds
+abbrev pub invariant-loop-session : goal.invariant-loop-session
+invariant-loop-session l = (s : ℕ) → s < l.session → get_or l.counts s 0 ≤ get_or l.bounds s 0

@@ -1,0 +1,150 @@
+ghost use Rattle.std.specs.Prelude.{◌≡◌, ◌∷◌, ◌++◌, ◌<◌, ◌≤◌, ◌≢◌, ◌+◌, ◌-◌, ℕ, List, [], length, max, option_map, unwrap_or, slice_set, slice_index, slice_index_or, IfOk, IfNone, IfSome, MatchOption, OnOk, Some, slice_get, IsTrue, ◌↔◌};
+ghost use Rattle.operations.specs.declared.op_id.OpId.{OpId as Operation};
+ghost use Rattle.causal_order.specs.Sources.{AreListed, AreShort, AreVectorsSoFar, Comes, HasSource, IsListed, IsReady, IsUnfinished};
+ghost use Rattle.causal_order.specs.Vectors.{count, list_of};
+
+use crate::by_operation::Vectors;
+use crate::rows::Rows;
+use operations::OpId;
+use std::alloc::{AllocError, Global};
+
+/// For each session, for each of its operations, its source: the operation that it waits for besides the one before it.
+pub(crate) type Sources = Rows<Option<OpId>>;
+
+/// The vectors of the order that program order and the sources make, or `None` where it is cyclic.
+///
+/// Fails for want of memory alone. O(n k) for n operations of k sessions.
+pub(crate) fn order_of(alloc: Global, sources: &Sources) -> Result<Option<Vectors>, AllocError>
+    requires listed { AreListed sources.now }
+    requires short { AreShort sources.now }
+    ensures exact { IfOk result (λ order. IfSome order (AreVectorsSoFar sources.now)) }
+    ensures finished { IfOk result (λ order. IfSome order (λ v. (s : ℕ) → ¬ IsUnfinished sources.now v s)) }
+    ensures cyclic { IfOk result (λ order. IfNone order ((a : Operation) × Comes sources.now a a)) }
+{
+    let mut vectors = no_vectors(alloc, sources.len())?;
+    while let Some(session) = ready(sources, &vectors) {
+        place(alloc, sources, session, &mut vectors)?;
+    }
+    match unfinished(sources, &vectors) {
+        Some(_) => Ok(None),
+        None => Ok(Some(vectors)),
+    }
+}
+
+/// As many sessions, with no vectors.
+fn no_vectors(alloc: Global, sessions: usize) -> Result<Vectors, AllocError>
+    ensures sessions { IfOk result (λ v. length v ≡ sessions) }
+    ensures empty { IfOk result (λ v. (s : ℕ) → slice_index_or v s [] ≡ []) }
+{
+    let mut vectors = Vectors::new(alloc);
+    for _session in 0..sessions {
+        vectors.push_session()?;
+    }
+    Ok(vectors)
+}
+
+/// The first session that has an operation without a vector.
+fn unfinished(sources: &Sources, vectors: &Vectors) -> Option<usize>
+    requires { length vectors.now ≡ length sources.now }
+    ensures { MatchOption result ((s : ℕ) → ¬ IsUnfinished sources.now vectors.now s) (IsUnfinished sources.now vectors.now) }
+{
+    for session in 0..sources.len() {
+        if vectors.operations(session) < sources.get(session).len() {
+            return Some(session);
+        }
+    }
+    None
+}
+
+/// The first session whose next operation has a source with a vector, or no source.
+fn ready(sources: &Sources, vectors: &Vectors) -> Option<usize>
+    requires { length vectors.now ≡ length sources.now }
+    ensures { MatchOption result ((s : ℕ) → ¬ IsReady sources.now vectors.now s) (IsReady sources.now vectors.now) }
+{
+    for session in 0..sources.len() {
+        if is_ready(sources, vectors, session) {
+            return Some(session);
+        }
+    }
+    None
+}
+
+/// Whether a session has a next operation, and this a source with a vector, or no source.
+fn is_ready(sources: &Sources, vectors: &Vectors, session: usize) -> bool
+    requires sessions { length vectors.now ≡ length sources.now }
+    requires exists { session < length sources.now }
+    ensures { IsTrue result ↔ IsReady sources.now vectors.now session }
+{
+    match sources.get(session).get(vectors.operations(session)) {
+        None => false,
+        Some(None) => true,
+        Some(Some(source)) => vectors.contains(*source),
+    }
+}
+
+/// Gives the next operation of a session that is ready its vector.
+fn place(
+    alloc: Global,
+    sources: &Sources,
+    session: usize,
+    vectors: &mut Vectors,
+) -> Result<(), AllocError>
+    requires listed { AreListed sources.now }
+    requires short { AreShort sources.now }
+    requires ready { IsReady sources.now vectors.old session }
+    requires so_far { AreVectorsSoFar sources.now vectors.old }
+    ensures so_far { OnOk result (AreVectorsSoFar sources.now vectors.new) }
+    ensures placed { OnOk result ((row : List ℕ) × (vectors.new ≡ slice_set vectors.old session (slice_index_or vectors.old session [] ++ row ∷ []))) }
+{
+    let index = vectors.operations(session);
+    let op = OpId {
+        session: session as u64,
+        index: index as u64,
+    };
+    let row = vector_of(alloc, vectors, op, sources.get(session)[index])?;
+    vectors.push(session, &row)
+}
+
+/// The vector of the next operation of a session: what the operation before it and its source count, and itself.
+fn vector_of(
+    alloc: Global,
+    vectors: &Vectors,
+    op: OpId,
+    source: Option<OpId>,
+) -> Result<Vec<u16>, AllocError>
+    requires exists { op.session < length vectors.now }
+    requires next { op.index ≡ length (slice_index_or vectors.now op.session []) }
+    requires short { op.index < 256 }
+    requires source { (w : Operation) → source ≡ Some w → IsListed vectors.now w }
+    requires counts { (o : Operation) → IsListed vectors.now o → length (list_of vectors.now o) ≡ length vectors.now }
+    ensures counts { IfOk result (λ row. length row.items ≡ length vectors.now) }
+    ensures own { IfOk result (λ row. slice_index row.items op.session ≡ op.index + 1) }
+    ensures others { IfOk result (λ row. (s : ℕ) → s ≢ op.session → slice_index row.items s ≡ max (count vectors.now (record { session = op.session; index = op.index - 1 }) s) (unwrap_or (option_map (λ w. count vectors.now w s) source) 0)) }
+{
+    let mut row = vec![in alloc; 0; vectors.sessions()]?;
+    if op.index > 0 {
+        let before = OpId {
+            session: op.session,
+            index: op.index - 1,
+        };
+        raise(&mut row, vectors.get(before));
+    }
+    if let Some(source) = source {
+        raise(&mut row, vectors.get(source));
+    }
+    row[op.session as usize] = op.index as u16 + 1;
+    Ok(row)
+}
+
+/// Raises each count to the other one, where that is larger.
+fn raise(counts: &mut Vec<u16>, others: &[u16])
+    requires { length counts.old.items ≡ length others.now }
+    ensures counts { length counts.new.items ≡ length counts.old.items }
+    ensures larger { (s : ℕ) → slice_index counts.new.items s ≡ max (slice_index counts.old.items s) (slice_index others.now s) }
+{
+    for i in 0..others.len() {
+        if counts[i] < others[i] {
+            counts[i] = others[i];
+        }
+    }
+}

@@ -1,0 +1,114 @@
+ghost use Rattle.std.specs.Prelude.{◌≡◌, ◌≢◌, ℕ, ◌+◌, ◌≤◌, ◌↔◌, IsTrue, slice_index_or, length};
+ghost use Rattle.operations.specs.History.{IsOp, session};
+ghost use Rattle.causal_order.specs.Vectors.{count, AreVectorsOf, IsVectorOk};
+ghost use Rattle.causal_order.specs.VectorsLaws.{CountsHeld, HasListOf, IsPastLastOf, IsPastPredecessor};
+
+use crate::by_operation::Vectors;
+use object_trait::SeqObject;
+use operations::{History, OpId};
+
+/// Whether the vector of an operation counts a past: the operation itself as the last of its session, only operations
+/// that are there, and with its predecessor in program order and the last counted operation of each other session all
+/// that these count, where none of those others counts the operation.
+///
+/// The vectors are those of the history, one for each operation. O(k^2) for k sessions.
+pub fn vector_ok<O: SeqObject>(h: &History<O>, v: &Vectors, op: OpId) -> bool
+    requires shape { AreVectorsOf h.now v.now }
+    requires is_op { IsOp h.now op }
+    ensures { IsTrue result ↔ IsVectorOk h.now v.now op }
+{
+    counts_itself_last(v, op)
+        && counts_existing(h, v, op)
+        && counts_with_predecessor(v, op)
+        && counts_with_others(v, op)
+}
+
+/// How many operations of a session the vector of an operation counts.
+pub fn count_of(v: &Vectors, op: OpId, session: u64) -> u16
+    requires { HasListOf v.now op }
+    ensures { result ≡ count v.now op session }
+{
+    v.get(op).get(session as usize).copied().unwrap_or(0)
+}
+
+/// Whether each of some counts is at most the one at its place, where a place past the end has 0.
+pub fn is_at_most(counts: &[u16], bounds: &[u16]) -> bool
+    ensures { IsTrue result ↔ ((s : ℕ) → slice_index_or counts.now s 0 ≤ slice_index_or bounds.now s 0) }
+{
+    for (session, count) in counts.iter().enumerate() {
+        if *count > bounds.get(session).copied().unwrap_or(0) {
+            return false;
+        }
+    }
+    true
+}
+
+/// Whether the vector of an operation counts it as the last of its session.
+fn counts_itself_last(v: &Vectors, op: OpId) -> bool
+    requires { HasListOf v.now op }
+    ensures { IsTrue result ↔ (count v.now op op.session ≡ op.index + 1) }
+{
+    let count = u64::from(count_of(v, op, op.session));
+    count != 0 && count - 1 == op.index
+}
+
+/// Whether the vector of an operation counts only operations that are there.
+fn counts_existing<O: SeqObject>(h: &History<O>, v: &Vectors, op: OpId) -> bool
+    requires { HasListOf v.now op }
+    ensures { IsTrue result ↔ ((s : ℕ) → count v.now op s ≤ length (session h.now s)) }
+{
+    for (session, count) in v.get(op).iter().enumerate() {
+        if usize::from(*count) > h.len(session as u64) {
+            return false;
+        }
+    }
+    true
+}
+
+/// Whether the vector of an operation counts all that the operation before it in its session counts.
+fn counts_with_predecessor(v: &Vectors, op: OpId) -> bool
+    requires own { HasListOf v.now op }
+    ensures { IsTrue result ↔ IsPastPredecessor v.now op }
+{
+    if op.index == 0 {
+        return true;
+    }
+    let predecessor = OpId {
+        session: op.session,
+        index: op.index - 1,
+    };
+    is_at_most(v.get(predecessor), v.get(op))
+}
+
+/// Whether the vector of an operation counts all that the last counted operations of the other sessions count, and none
+/// of them counts the operation.
+fn counts_with_others(v: &Vectors, op: OpId) -> bool
+    requires own { HasListOf v.now op }
+    requires held { CountsHeld v.now op }
+    ensures { IsTrue result ↔ ((s : ℕ) → s ≢ op.session → IsPastLastOf v.now op s) }
+{
+    for session in 0..v.sessions() as u64 {
+        if session != op.session && !counts_with_last(v, op, session) {
+            return false;
+        }
+    }
+    true
+}
+
+/// Whether the vector of an operation counts all that the last operation that it counts of a session counts, and that
+/// one doesn't count the operation.
+fn counts_with_last(v: &Vectors, op: OpId, session: u64) -> bool
+    requires own { HasListOf v.now op }
+    requires held { CountsHeld v.now op }
+    ensures { IsTrue result ↔ IsPastLastOf v.now op session }
+{
+    let count = u64::from(count_of(v, op, session));
+    if count == 0 {
+        return true;
+    }
+    let last = OpId {
+        session,
+        index: count - 1,
+    };
+    is_at_most(v.get(last), v.get(op)) && u64::from(count_of(v, last, op.session)) <= op.index
+}
