@@ -7,6 +7,10 @@ pub mod Sessions
 pub mod Counting
 pub mod PastPieces
 pub mod Complete
+pub mod Shapes
+pub mod WalkSteps
+pub mod SchedulePieces
+pub mod CutSteps
 pub mod ListForms
 pub mod ListReading
 pub mod CertificateForms

@@ -65,3 +65,18 @@ module _ {S C R : Type 0} (answer : S → List C → C → R) (h : Record S C R)
     pub is_op : IsOp h o
     pub unexplained : ¬ IsExplainedPiece certificate o
     pub earlier : (a : OpId) → IsOp h a → IsEarlier a o → IsExplainedPiece certificate a
+
+-- a case file: a history, a criterion and, where there is one, a certificate
+abbrev pub CaseRecord : Type 0 → Type 0 → Type 0 → Type 0
+CaseRecord S C R = Record S C R × Criterion × Option Certificate
+
+module _ {S C R : Type 0} where
+  -- the certificate, where there is one, is for the criterion and has the shape of the history
+  abbrev pub IsCaseFile : CaseRecord S C R → Type 0
+  IsCaseFile file =
+      (certificate : Certificate) → file.2 ≡ Some certificate → (criterion_of certificate ≡ file.1) × HasShapeOf file.0 certificate
+
+  -- the certificate of a case file has a piece that explains the operation o
+  abbrev pub IsExplainedIn : (S → List C → C → R) → CaseRecord S C R → OpId → Type 0
+  IsExplainedIn answer file o =
+      (certificate : Certificate) × (file.2 ≡ Some certificate) × IsExplainedPiece answer file.0 certificate o

@@ -1,17 +1,30 @@
-//! What it means that a history is causally consistent: the three criteria and how they lie to one another.
+//! Certificates that a history meets a criterion, and their checker: the three criteria of causal consistency, what the
+//! pieces of a certificate show of them, and how the criteria lie to one another.
 #![tactic(auto)]
 
+mod arbitrated;
 mod arbitration;
+mod case_file;
 mod cert_error;
 mod certificate;
+mod checking;
 mod criterion;
+mod desk_error;
+mod kept;
 pub mod laws;
 mod number;
 mod reading;
 mod reading_lists;
+mod scheduled;
+mod shape;
+mod walk;
 
 pub use arbitration::Arbitration;
+pub use case_file::CaseFile;
 pub use cert_error::CertError;
 pub use certificate::{Certificate, Schedules};
+pub use checking::{Outcome, check_piece, first_unexplained};
 pub use criterion::Criterion;
+pub use desk_error::DeskError;
 pub use reading::read_certificate;
+pub use shape::shape_ok;

@@ -1,4 +1,10 @@
 //! The objects whose histories are judged, each with its answer over plain lists of calls.
+//!
+//! - [`Register`]: a read answers the value that was written last, or the start.
+//! - [`Counter`]: a get answers the number of increments, at most the greatest `u64`.
+//! - [`AddRemoveSet`]: a has answers whether the last add or remove of the element is an add.
+//! - [`Queue`]: a pop answers the first of the items that the earlier calls left, or `None`.
+//! - [`Keyed`]: one such object for each key.
 #![tactic(auto)]
 
 mod add_remove_set;

@@ -1,0 +1,155 @@
+-- A walk over the one list up to an operation: what it takes in, and that it comes to the operation.
+use Rattle.std.proofs.Common.{◌≡◌, ◌≢◌, ℕ, ◌+◌, ◌<◌, ◌≤◌, Bool, false, List, [], ◌∷◌, ◌++◌, length, take, drop, get_or, cond, refl, sym, ap, ◌∙◌, subst, arith, ⊎_elim, lt-ltb, take_all, append-nil}
+use Rattle.std.specs.Prelude.{IsTrue, Some, filter, slice_get}
+use Rattle.std.proofs.lemmas.Bool.{cases_eq, cases_lt, cond-true, cond-false}
+use Rattle.std.proofs.lemmas.List.{take-append-drop, drop_more, take_at}
+use Rattle.std.proofs.lemmas.List.Elements.{filter-append}
+use Rattle.std.proofs.lemmas.Option.{slice_get_within, get_or_from_slice_get, slice_get-get_or}
+use Rattle.operations.specs.declared.op_id.OpId.{OpId}
+use Rattle.operations.specs.History.{Record, IsOp, calls, entry, session}
+use Rattle.causal_order.specs.Orders.{op, only, StandsAt}
+use Rattle.causal_order.specs.OrdersLaws.{same_op}
+use Rattle.causal_order.specs.Vectors.{Counts, count, IsCounted, IsVectorOk}
+use Rattle.cert_check.specs.Certificates.{counted, IsArbitratedPiece}
+use Rattle.cert_check.specs.Schedules.{times, named, StandsBefore}
+use Rattle.cert_check.specs.Walks.{AreCountsAt, IsAnsweredAfter}
+use Rattle.cert_check.proofs.Convergent.{only-same}
+use Rattle.cert_check.proofs.Filtered.{filter_in_order}
+use Rattle.cert_check.proofs.Named.{times-next, times-same, times-other, times-take-le, named_once}
+use Rattle.cert_check.proofs.Pasts.{only-itself}
+use Rattle.cert_check.proofs.WalkSteps.{after_from_within, within_from_after}
+
+module _ {X : Type 0} (p : X → Bool) where
+  -- one element more, where it passes and where it doesn't
+  pub filter_push_yes : (xs : List X) (x : X) → IsTrue (p x) → filter p (xs ++ x ∷ []) ≡ filter p xs ++ x ∷ []
+  filter_push_yes xs x passes =
+      filter-append p xs (x ∷ []) ∙ ap (λ (ys : List X). filter p xs ++ ys) (cond-true (p x) (x ∷ []) [] passes)
+
+  pub filter_push_no : (xs : List X) (x : X) → p x ≡ false → filter p (xs ++ x ∷ []) ≡ filter p xs
+  filter_push_no xs x fails =
+      filter-append p xs (x ∷ []) ∙ ap (λ (ys : List X). filter p xs ++ ys) (cond-false (p x) (x ∷ []) [] fails) ∙ append-nil (filter p xs)
+
+  -- a list about one of its elements, and what a filter that keeps the element makes of it
+  split_at : (xs : List X) (i : ℕ) (x : X) → slice_get xs i ≡ Some x → xs ≡ take i xs ++ x ∷ drop (i + 1) xs
+  split_at xs i x here =
+      sym (take-append-drop i xs) ∙ ap (λ (ys : List X). take i xs ++ ys)
+      (drop_more xs i x (slice_get_within xs i x here) ∙ ap (λ (y : X). y ∷ drop (i + 1) xs) (get_or_from_slice_get xs i x x here))
+
+  filter_about : (xs : List X) (i : ℕ) (x : X) → slice_get xs i ≡ Some x → IsTrue (p x)
+      → filter p xs ≡ filter p (take i xs) ++ x ∷ filter p (drop (i + 1) xs)
+  filter_about xs i x here passes =
+      ap (filter p) (split_at xs i x here) ∙ filter-append p (take i xs) (x ∷ drop (i + 1) xs)
+      ∙ ap (λ (ys : List X). filter p (take i xs) ++ ys) (cond-true (p x) (x ∷ filter p (drop (i + 1) xs)) (filter p (drop (i + 1) xs)) passes)
+
+  slice_get_at : (xs ys : List X) (x : X) → slice_get (xs ++ x ∷ ys) (length xs) ≡ Some x
+  slice_get_at [] ys x = refl
+  slice_get_at (y ∷ xs) ys x = slice_get_at xs ys x
+
+  -- the place of the element among what the filter keeps, and the front before it
+  pub filter_stands : (xs : List X) (i : ℕ) (x : X) → slice_get xs i ≡ Some x → IsTrue (p x)
+      → slice_get (filter p xs) (length (filter p (take i xs))) ≡ Some x
+  filter_stands xs i x here passes =
+      subst (λ (ys : List X). slice_get ys (length (filter p (take i xs))) ≡ Some x) (sym (filter_about xs i x here passes))
+      (slice_get_at (filter p (take i xs)) (filter p (drop (i + 1) xs)) x)
+
+  pub filter_front : (xs : List X) (i : ℕ) (x : X) → slice_get xs i ≡ Some x → IsTrue (p x)
+      → take (length (filter p (take i xs))) (filter p xs) ≡ filter p (take i xs)
+  filter_front xs i x here passes =
+      ap (take (length (filter p (take i xs)))) (filter_about xs i x here passes)
+      ∙ take_at (filter p (take i xs)) (x ∷ filter p (drop (i + 1) xs)) (length (filter p (take i xs))) refl
+
+  -- where an element stands once, the filter has it once
+  pub filter_once : (xs : List X) (x : X) → ((j k : ℕ) → slice_get xs j ≡ Some x → slice_get xs k ≡ Some x → j ≡ k)
+      → (j k : ℕ) → slice_get (filter p xs) j ≡ Some x → slice_get (filter p xs) k ≡ Some x → j ≡ k
+  filter_once xs x once j k at_j at_k =
+      ⊎_elim
+      (λ (below : j < k). let r = filter_in_order p xs j k x x below at_j at_k in
+      let less = r.2 in
+      let same = once r.0 r.1 r.3 r.4 in absurd (omega arith))
+      (λ (up_to : k ≤ j). ⊎_elim
+      (λ (below : k < j). let r = filter_in_order p xs k j x x below at_k at_j in
+      let less = r.2 in
+      let same = once r.0 r.1 r.3 r.4 in absurd (omega arith))
+      (λ (other : j ≤ k). omega arith)
+      (cases_lt k j))
+      (cases_lt j k)
+
+-- a list that names each operation of a history as often as it is there
+module _ {S C R : Type 0} (h : Record S C R) (list : List ℕ) (whole : (s : ℕ) → times s list ≡ length (session h s)) where
+  times-whole : (s i : ℕ) → times s (take i list) ≤ length (session h s)
+  times-whole s i =
+      let all = whole s in
+      let every = ap (times s) (take_all (length list) list (omega arith)) in
+      ⊎_elim
+      (λ (below : i < length list). let up_to = times-take-le s list i (length list) (omega arith) in omega arith)
+      (λ (past : length list ≤ i). let same = ap (times s) (take_all i list past) in omega arith)
+      (cases_lt i (length list))
+
+  -- the operation that is named next is there
+  pub next_is_op : (i n s : ℕ) → slice_get list i ≡ Some s → (counts : List ℕ) → AreCountsAt list i n counts → IsOp h (op s (get_or counts s 0))
+  next_is_op i n s here counts at =
+      let next = times-next s list i s here in
+      let one = times-same s s refl in
+      let most = times-whole s (i + 1) in
+      let now = at.each s in
+      omega arith
+
+  -- at the end each operation was named
+  pub is_named : (o : OpId) → IsOp h o → (i : ℕ) → length list ≤ i → times o.session (take i list) ≤ o.index → ⊥
+  is_named o is_op i past not_yet =
+      let all = whole o.session in
+      let same = ap (times o.session) (take_all i list past) in
+      omega arith
+
+-- where another operation is named, the operation is named later
+pub not_named_yet : (list : List ℕ) (i n s : ℕ) → slice_get list i ≡ Some s → (counts : List ℕ) → AreCountsAt list i n counts
+    → (o : OpId) → op s (get_or counts s 0) ≢ o → times o.session (take i list) ≤ o.index → times o.session (take (i + 1) list) ≤ o.index
+not_named_yet list i n s here counts at o apart not_yet =
+    let next = times-next o.session list i s here in
+    let now = at.each s in
+    ⊎_elim
+    (λ (same : s ≡ o.session).
+    let one = times-same o.session s same in
+    let own = ap (λ (t : ℕ). times t (take i list)) same in
+    ⊎_elim
+    (λ (equal : get_or counts s 0 ≡ o.index). absurd (apart (same_op (op s (get_or counts s 0)) o same equal)))
+    (λ (other : get_or counts s 0 ≡ o.index → ⊥). omega arith)
+    (cases_eq (get_or counts s 0) o.index))
+    (λ (other : s ≡ o.session → ⊥). let none = times-other o.session s other in omega arith)
+    (cases_eq s o.session)
+
+-- the piece of an operation by the one list, at the operation's place
+module _ {S C R : Type 0} (answer : S → List C → C → R) (h : Record S C R) (v : Counts) (list : List ℕ) (o : OpId) (good : IsVectorOk h v o)
+    (i : ℕ) (stands : StandsAt (named list) i o) (counts : List ℕ) (at : AreCountsAt list (i + 1) (length h.1) counts) where
+  counts_itself : IsTrue (counted v o o)
+  counts_itself = let own = good.own in lt-ltb o.index (count v o o.session) (omega arith)
+
+  pub arbitrated-from : ((s : ℕ) → count v o s ≤ get_or counts s 0) → IsAnsweredAfter answer h (filter (counted v o) (take i (named list))) o
+      → IsArbitratedPiece answer h v list o
+  arbitrated-from within answered = record {
+    vector = good;
+    after_counted = λ k a there.
+      let same : i ≡ k = named_once list i k o stands there in
+      subst (λ (j : ℕ). IsCounted v o a → a ≢ o → StandsBefore (named list) j a) same
+      (after_from_within v list i (length h.1) o stands counts at within a);
+    explains = λ k x c r there alone known.
+      let is : x ≡ o = only-same o x alone in
+      let place : length (filter (counted v o) (take i (named list))) ≡ k =
+        filter_once (counted v o) (named list) o (λ j l. named_once list j l o)
+        (length (filter (counted v o) (take i (named list)))) k (filter_stands (counted v o) (named list) i o stands counts_itself)
+        (subst (λ (y : OpId). StandsAt (filter (counted v o) (named list)) k y) is there) in
+      let front : take k (filter (counted v o) (named list)) ≡ filter (counted v o) (take i (named list)) =
+        ap (λ (j : ℕ). take j (filter (counted v o) (named list))) (sym place) ∙ filter_front (counted v o) (named list) i o stands counts_itself in
+      subst (λ (ops : List OpId). r ≡ answer h.0 (calls h ops) c) (sym front)
+      (answered c r (subst (λ (y : OpId). entry h y ≡ Some (c, Some r)) is known));
+  }
+
+  pub arbitrated-within : IsArbitratedPiece answer h v list o → (s : ℕ) → count v o s ≤ get_or counts s 0
+  arbitrated-within piece =
+      within_from_after v list i (length h.1) o stands counts at (λ a. piece.after_counted i a stands)
+
+  pub arbitrated-answered : IsArbitratedPiece answer h v list o → IsAnsweredAfter answer h (filter (counted v o) (take i (named list))) o
+  arbitrated-answered piece c r known =
+      subst (λ (ops : List OpId). r ≡ answer h.0 (calls h ops) c) (filter_front (counted v o) (named list) i o stands counts_itself)
+      (piece.explains (length (filter (counted v o) (take i (named list)))) o c r
+          (filter_stands (counted v o) (named list) i o stands counts_itself) (only-itself o) known)

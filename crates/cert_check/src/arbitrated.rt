@@ -1,0 +1,64 @@
+ghost use Rattle.std.specs.Prelude.{◌≡◌, ◌+◌, ◌↔◌, ℕ, filter, length, IfOk, IsTrue, take};
+ghost use Rattle.operations.specs.History.{session, IsOp};
+ghost use Rattle.causal_order.specs.Orders.{StandsAt};
+ghost use Rattle.causal_order.specs.Vectors.{AreVectorsOf};
+ghost use Rattle.cert_check.specs.Certificates.{counted, IsArbitratedPiece};
+ghost use Rattle.cert_check.specs.Schedules.{named, times};
+ghost use Rattle.cert_check.specs.Walks.{IsWalkAt};
+
+use crate::walk::Walk;
+use causal_order::{Vectors, vector_ok};
+use object_trait::SeqObject;
+use operations::{History, OpId};
+use std::alloc::{AllocError, Global};
+
+/// Whether the vector of an operation and the one list explain its known return.
+///
+/// Fails for want of memory alone. O(n + k^2) for n operations and k sessions, and one call of the object for each
+/// operation that the vector counts.
+pub fn is_arbitrated_piece<O: SeqObject>(
+    alloc: Global,
+    h: &History<O>,
+    v: &Vectors,
+    list: &[u8],
+    op: OpId,
+) -> Result<bool, AllocError>
+    requires shape { AreVectorsOf h.now v.now }
+    requires whole { (s : ℕ) → times s list.now ≡ length (session h.now s) }
+    requires is_op { IsOp h.now op }
+    ensures { IfOk result (λ yes. IsTrue yes ↔ IsArbitratedPiece O.answer h.now v.now list.now op) }
+{
+    if !vector_ok(h, v, op) {
+        return Ok(false);
+    }
+    let mut walk = walk_to(alloc, h, v, list, op)?;
+    if !walk.has_named_all(v, op) {
+        return Ok(false);
+    }
+    walk.take_in(h, op)
+}
+
+/// Walks over the list until it names an operation, and takes in the operations before it that its vector counts.
+fn walk_to<O: SeqObject>(
+    alloc: Global,
+    h: &History<O>,
+    v: &Vectors,
+    list: &[u8],
+    op: OpId,
+) -> Result<Walk<O>, AllocError>
+    requires shape { AreVectorsOf h.now v.now }
+    requires whole { (s : ℕ) → times s list.now ≡ length (session h.now s) }
+    requires is_op { IsOp h.now op }
+    ensures { IfOk result (λ walk. (i : ℕ) × StandsAt (named list.now) i op
+        × IsWalkAt O.stands h.now list.now (i + 1) (filter (counted v.now op) (take i (named list.now))) walk.counts.items walk.object) }
+{
+    let mut walk = Walk::new(alloc, h)?;
+    for session in list {
+        let next = walk.name_next(h, *session).unwrap();
+        if next == op {
+            return Ok(walk);
+        }
+        walk.take_in_counted(h, v, op, next)?;
+    }
+    unreachable!()
+}
