@@ -2,15 +2,18 @@ use engine::{Order, Usage, command_of};
 use std::test::Fail;
 
 #[test]
-fn judge_is_an_order(rt: HostRuntime) {
-    let order = command_of(rt.alloc(), &["causal_judge", "judge"]).expect(&rt, "an order");
-    assert_eq!(rt; order, Order::Judge);
+fn commands_are_orders(rt: HostRuntime) {
+    let judge = command_of(rt.alloc(), &["causal_judge", "judge"]).expect(&rt, "an order");
+    assert_eq!(rt; judge, Order::Judge);
+    let check = command_of(rt.alloc(), &["causal_judge", "check"]).expect(&rt, "an order");
+    assert_eq!(rt; check, Order::Check);
 }
 
 #[test]
 fn any_other_words_are_a_fault(rt: HostRuntime) -> Result<(), Fail> {
-    let lines: [&[&str]; 8] = [
+    let lines: [&[&str]; 9] = [
         &["causal_judge"],
+        &["causal_judge", "check", "judge"],
         &[],
         &["causal_judge", "judges"],
         &["causal_judge", "--judge"],

@@ -30,6 +30,8 @@ fn each_failure_has_its_status_and_its_line(rt: HostRuntime) -> Result<(), Fail>
         (RunError::History(ReadError::TooManyOps), 1, "refused 7"),
         (RunError::History(ReadError::Memory), 4, "no memory"),
         (RunError::History(ReadError::BadInitial), 1, "refused 29"),
+        (RunError::BadCertificate, 1, "refused 20"),
+        (RunError::ShapeMismatch, 1, "refused 21"),
         (RunError::TooLong, 1, "refused 9"),
         (RunError::Memory, 4, "no memory"),
         (RunError::ReadFault, 3, "read fault"),

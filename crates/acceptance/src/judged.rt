@@ -1,18 +1,10 @@
-use crate::devices::{Device, Sink};
-use engine::{Order, run, status_of};
+use crate::asking::expect_answer;
+use engine::Order;
 use std::process::Abort;
 
 /// Judges a text, and expects this answer.
 fn expect_line<P: Abort + AllocGlobal>(rt: &P, text: &str, line: &str) {
-    let mut sink = Sink::new(rt.alloc(), 64);
-    let outcome = run(
-        rt,
-        &mut Device::new(text.as_bytes(), 0, 64),
-        &mut sink,
-        &Order::Judge,
-    );
-    assert_eq!(rt; status_of(&outcome), 0, "{text}");
-    assert_eq!(rt; sink.taken.as_slice(), line.as_bytes(), "{text}");
+    expect_answer(rt, Order::Judge, text, line);
 }
 
 #[test]
@@ -80,4 +72,20 @@ fn initial_values_are_those_of_the_table(rt: HostRuntime) {
         "[\"memory\",[[[\"r\",1,5]]],[[0,5]]]",
         "cc no ThinAirRead\n",
     );
+}
+
+#[test]
+fn nothing_is_known_of_the_other_objects(rt: HostRuntime) {
+    let texts = [
+        r#"["register",[[["r",7]]]]"#,
+        r#"["counter",[[["inc"]],[["get",1]]]]"#,
+        r#"["set",[[["has",1,true]]]]"#,
+        r#"["queue",[[["pop",5]]]]"#,
+        r#"["counters",[[["get",0,1]]]]"#,
+        r#"["sets",[[["has",0,1,true]]]]"#,
+        r#"["queues",[[["pop",0,5]]]]"#,
+    ];
+    for text in texts {
+        expect_line(&rt, text, "cc unknown\n");
+    }
 }

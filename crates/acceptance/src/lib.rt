@@ -2,6 +2,10 @@
 #![tactic(auto)]
 
 #[cfg(test)]
+mod asking;
+#[cfg(test)]
+mod checked;
+#[cfg(test)]
 mod command_lines;
 #[cfg(test)]
 mod devices;
@@ -10,8 +14,12 @@ mod failures;
 #[cfg(test)]
 mod judged;
 #[cfg(test)]
+mod patterns;
+#[cfg(test)]
 mod refused;
 #[cfg(test)]
 mod runs;
+#[cfg(test)]
+mod small_histories;
 #[cfg(test)]
 mod texts;

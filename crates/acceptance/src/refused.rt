@@ -1,23 +1,12 @@
-use crate::devices::{Device, Sink};
-use engine::{Order, fault_line, run, status_of};
+use crate::asking::{self, expect_answer};
+use engine::Order;
 use std::alloc::{AllocError, Global};
 use std::process::Abort;
 use std::test::Fail;
 
-/// Judges a text, and expects that it is refused with this line, and that nothing is written.
+/// Judges a text, and expects that it is refused with this line.
 fn expect_refusal<P: Abort + AllocGlobal>(rt: &P, text: &[u8], line: &str) -> Result<(), Fail> {
-    let mut sink = Sink::new(rt.alloc(), 64);
-    let outcome = run(
-        rt,
-        &mut Device::new(text, 0, 65_536),
-        &mut sink,
-        &Order::Judge,
-    );
-    assert_eq!(rt; status_of(&outcome), 1, "{line}");
-    let error = outcome.err().ok_or("a refusal")?;
-    assert_eq!(rt; fault_line(rt.alloc(), &error)?.as_str(), line);
-    assert!(rt; sink.taken.is_empty());
-    Ok(())
+    asking::expect_refusal(rt, Order::Judge, text, line)
 }
 
 /// A memory history of so many sessions, each of so many writes of its own key.
@@ -72,7 +61,8 @@ fn values_that_have_no_shape(rt: HostRuntime) -> Result<(), Fail> {
 fn names_of_no_object(rt: HostRuntime) -> Result<(), Fail> {
     expect_refusal(&rt, b"[\"foo\",[[[\"x\"]]]]", "refused 3")?;
     expect_refusal(&rt, b"[\"Memory\",[]]", "refused 3")?;
-    expect_refusal(&rt, b"[\"counter\",[],[[0,5]]]", "refused 3")?;
+    expect_refusal(&rt, b"[\"Counter\",[]]", "refused 3")?;
+    expect_refusal(&rt, b"[\"memories\",[]]", "refused 3")?;
     Ok(())
 }
 
@@ -91,6 +81,27 @@ fn operations_that_are_no_form(rt: HostRuntime) -> Result<(), Fail> {
         b"[\"memory\",[[],[[\"w\",0,1],[\"r\",0]]]]",
         "refused 4 1.1",
     )?;
+    Ok(())
+}
+
+#[test]
+fn operations_that_are_no_form_of_the_object(rt: HostRuntime) -> Result<(), Fail> {
+    let texts = [
+        r#"["set",[[["has",1,0]]]]"#,
+        r#"["register",[[["w",1,"ok"]]]]"#,
+        r#"["register",[[["w",0,1]]]]"#,
+        r#"["counter",[[["inc",1]]]]"#,
+        r#"["counter",[[["get"]]],[[0,5]]]"#,
+        r#"["queue",[[["push",null]]]]"#,
+        r#"["queue",[[["pop",false]]]]"#,
+        r#"["counters",[[["inc"]]]]"#,
+        r#"["sets",[[["add",1]]]]"#,
+        r#"["queues",[[["pop",null]]]]"#,
+        r#"["queues",[[["pop",4294967296,null]]]]"#,
+    ];
+    for text in texts {
+        expect_refusal(&rt, text.as_bytes(), "refused 4 0.0")?;
+    }
     Ok(())
 }
 
@@ -119,17 +130,26 @@ fn starts_that_are_no_table(rt: HostRuntime) -> Result<(), Fail> {
 }
 
 #[test]
+fn tables_under_the_other_names(rt: HostRuntime) -> Result<(), Fail> {
+    let texts = [
+        r#"["register",[],[[0,5]]]"#,
+        r#"["counter",[],[[0,5]]]"#,
+        r#"["set",[],[]]"#,
+        r#"["queue",[],[]]"#,
+        r#"["counters",[],[[0,5]]]"#,
+        r#"["sets",[],[[0,null]]]"#,
+        r#"["queues",[],[]]"#,
+    ];
+    for text in texts {
+        expect_refusal(&rt, text.as_bytes(), "refused 29")?;
+    }
+    expect_refusal(&rt, br#"["counter",[],0]"#, "refused 2")
+}
+
+#[test]
 fn as_many_sessions_and_operations_as_may_be(rt: HostRuntime) -> Result<(), Fail> {
     let full = writes(rt.alloc(), 16, 256)?;
-    let mut sink = Sink::new(rt.alloc(), 64);
-    let outcome = run(
-        &rt,
-        &mut Device::new(full.as_bytes(), 0, 65_536),
-        &mut sink,
-        &Order::Judge,
-    );
-    assert_eq!(rt; status_of(&outcome), 0);
-    assert_eq!(rt; sink.taken.as_slice(), b"cc unknown\n".as_slice());
+    expect_answer(&rt, Order::Judge, full.as_str(), "cc unknown\n");
     expect_refusal(&rt, writes(rt.alloc(), 17, 1)?.as_bytes(), "refused 6")?;
     expect_refusal(&rt, writes(rt.alloc(), 1, 257)?.as_bytes(), "refused 7")?;
     Ok(())

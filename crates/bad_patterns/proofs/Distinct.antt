@@ -9,15 +9,8 @@ use Rattle.operations.specs.declared.op_id.OpId.{OpId}
 use Rattle.causal_order.specs.declared.writes.Write.{Write}
 use Rattle.causal_order.specs.Memory.{MemoryCall, MemoryHistory, initial, Writes, Reads, IsDifferentiated}
 use Rattle.bad_patterns.specs.Kinds.{IsThinAirRead}
+use Rattle.causal_order.specs.MemoryLaws.{same_read}
 use Rattle.causal_order.specs.Written.{ListsWrites, AreOnce}
-
--- a known read has one variable and one value
-pub same_read : (h : MemoryHistory) (r : OpId) (x v y u : ℕ) → Reads h r x v → Reads h r y u → (x ≡ y) × (v ≡ u)
-same_read h r x v y u first second =
-    let same = same_Some _ _ (sym first ∙ second) in
-    let keys : x ≡ y = ap (λ (e : MemoryCall × Option RegisterRet). e.0.key) same in
-    let rets : Value v ≡ Value u = same_Some _ _ (ap (λ (e : MemoryCall × Option RegisterRet). e.1) same) in
-    (keys, cc)
 
 module _ (h : MemoryHistory) (writes : List Write) (lists : ListsWrites h writes) where
   -- a known read of a value that is not the initial one is out of thin air where that value is not written

@@ -50,10 +50,10 @@ module _ (h : MemoryHistory) where
         earlier;
   }
 
-  -- a history without a thin-air read has no pattern
+  -- a history without a thin-air read has no pattern of that kind
   pub no_pattern : (criterion : Criterion) (read : Option OpId) (found : Option Pattern) → is_some found ≡ is_some read
       → MatchOption read ((r : OpId) → ¬ IsThinAirRead h r) (IsFirst h)
-      → IfNone found ((pattern : Pattern) → ¬ IsBadPattern h criterion pattern)
-  no_pattern criterion None None same none = elim [ ThinAirRead r ↦ λ bad. none r bad.shown ]
+      → IfNone found ((r : OpId) → ¬ IsBadPattern h criterion (ThinAirRead r))
+  no_pattern criterion None None same none = λ r bad. none r bad.shown
   no_pattern criterion (Some r) None same first = absurd cc
   no_pattern criterion read (Some pattern) same first = tt

@@ -1,3 +1,9 @@
 pub mod Distinct
 pub mod Exclusion
 pub mod First
+pub mod LastWrites
+pub mod Leads
+pub mod Neighbours
+pub mod ReadPasts
+pub mod Shown
+pub mod PatternReading

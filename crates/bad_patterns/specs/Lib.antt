@@ -1,3 +1,5 @@
 pub mod Kinds
+pub mod Paths
 pub mod Patterns
 pub mod Found
+pub mod PatternForm

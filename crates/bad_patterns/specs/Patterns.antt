@@ -1,21 +1,47 @@
 -- What shows a bad pattern in a history, and what follows.
-use Rattle.std.specs.Prelude.{IsTrue}
+use Rattle.std.specs.Prelude.{ℕ, List, IsTrue}
+use Rattle.operations.specs.declared.op_id.OpId.{OpId}
 use Rattle.cert_check.specs.declared.criterion.Criterion.{Criterion}
 use Rattle.cert_check.specs.Criteria.{Meets}
 use Rattle.bad_patterns.specs.declared.kind.Kind.{Kind}
 use Rattle.bad_patterns.specs.declared.kind.Kind.TheVariants as kinds
 use Rattle.bad_patterns.specs.declared.pattern.Pattern.{Pattern}
-use Rattle.bad_patterns.specs.declared.pattern.Pattern.TheVariants.{ThinAirRead}
-use Rattle.causal_order.specs.Memory.{MemoryHistory, memory_answer, IsDifferentiated}
+use Rattle.bad_patterns.specs.declared.pattern.Pattern.TheVariants.{CyclicCO, ThinAirRead, WriteCOInitRead, WriteCORead, CyclicCF}
+use Rattle.causal_order.specs.Memory.{MemoryHistory, memory_answer, initial, Writes, Reads, IsDifferentiated}
+use Rattle.causal_order.specs.Relations.{ReadsFrom, AreRivalWrites}
 use Rattle.bad_patterns.specs.Kinds.{is_against, IsThinAirRead, IsPresent}
+use Rattle.bad_patterns.specs.Paths.{GoesFrom, HasEdge, IsCycle}
 
 -- the kind of a pattern
 abbrev pub kind_of : Pattern → Kind
+kind_of (CyclicCO path) = kinds.CyclicCO
 kind_of (ThinAirRead r) = kinds.ThinAirRead
+kind_of (WriteCOInitRead path) = kinds.WriteCOInitRead
+kind_of (WriteCORead first second) = kinds.WriteCORead
+kind_of (CyclicCF links) = kinds.CyclicCF
 
--- the operations of a pattern are as its kind says
-abbrev pub IsShownBy : MemoryHistory → Pattern → Type 0
-IsShownBy h (ThinAirRead r) = IsThinAirRead h r
+module _ (h : MemoryHistory) where
+  -- a path with an edge goes from an operation to itself
+  abbrev pub IsCyclicPath : List OpId → Type 0
+  IsCyclicPath path = HasEdge path × ((a : OpId) × GoesFrom h path a a)
+
+  -- a path goes from a write to a read of the initial value of its variable
+  abbrev pub IsPathToInitialRead : List OpId → Type 0
+  IsPathToInitialRead path =
+      (w r : OpId) × (x v : ℕ) × Writes h w x v × Reads h r x (initial h x) × GoesFrom h path w r
+
+  -- one path goes from a write that r reads from to another write of its variable, and one goes from there to r
+  abbrev pub ArePathsToOverwrittenRead : List OpId → List OpId → Type 0
+  ArePathsToOverwrittenRead first second =
+      (a b r : OpId) × ReadsFrom h a r × AreRivalWrites h a b × GoesFrom h first a b × GoesFrom h second b r
+
+  -- the operations of a pattern are as its kind says
+  abbrev pub IsShownBy : Pattern → Type 0
+  IsShownBy (CyclicCO path) = IsCyclicPath path
+  IsShownBy (ThinAirRead r) = IsThinAirRead h r
+  IsShownBy (WriteCOInitRead path) = IsPathToInitialRead path
+  IsShownBy (WriteCORead first second) = ArePathsToOverwrittenRead first second
+  IsShownBy (CyclicCF links) = IsCycle h links
 
 -- a pattern against a criterion in a history of distinct values
 pub record IsBadPattern (h : MemoryHistory) (criterion : Criterion) (pattern : Pattern) : Type 0 where

@@ -2,8 +2,10 @@ ghost use Rattle.std.specs.Prelude.{◌↔◌, IfOk, IsTrue};
 ghost use Rattle.bad_patterns.specs.Patterns.{IsBadPattern, IsShownBy, IsTrueNo, kind_of};
 ghost use Rattle.causal_order.specs.Written.{IsSorted, ListsWrites};
 
+use crate::cycle::is_cycle;
 use crate::laws::bad_patterns_exclude_criteria;
 use crate::pattern::Pattern;
+use crate::routes::{are_paths_to_overwritten_read, is_cyclic_path, is_path_to_initial_read};
 use crate::thin_air::is_thin_air_read;
 use causal_order::{Write, are_distinct, sorted_writes};
 use cert_check::Criterion;
@@ -16,7 +18,7 @@ use std::alloc::{AllocError, Global};
 /// It does where the history has distinct values, the pattern's kind is against the criterion, and the pattern's
 /// operations are in the history and as its kind says.
 ///
-/// Fails for want of memory alone. O(n log n) for n operations.
+/// Fails for want of memory alone. O(n log n) for n operations of the history and of the pattern.
 pub fn check_pattern(
     alloc: Global,
     h: &History<Memory>,
@@ -37,13 +39,18 @@ pub fn check_pattern(
     Ok(is_shown(h, &writes, pattern))
 }
 
-/// Whether the operations of a pattern are as its kind says.
+/// Whether the operations of a pattern are as its kind says. O(n log m) for n operations of the pattern and m writes and
+/// initial values of the history.
 fn is_shown(h: &History<Memory>, writes: &[Write], pattern: &Pattern) -> bool
     requires writes { ListsWrites h.now writes.now }
     requires sorted { IsSorted writes.now }
     ensures { IsTrue result ↔ IsShownBy h.now pattern.now }
 {
     match pattern {
+        Pattern::CyclicCO(path) => is_cyclic_path(h, path),
         Pattern::ThinAirRead(read) => is_thin_air_read(h, writes, *read),
+        Pattern::WriteCOInitRead(path) => is_path_to_initial_read(h, path),
+        Pattern::WriteCORead(first, second) => are_paths_to_overwritten_read(h, first, second),
+        Pattern::CyclicCF(links) => is_cycle(h, links.links()),
     }
 }

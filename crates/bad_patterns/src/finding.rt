@@ -1,6 +1,7 @@
 ghost use Rattle.std.specs.Prelude.{ℕ, IfNone, IfOk, IfSome, MatchOption};
 ghost use Rattle.bad_patterns.specs.Kinds.{IsThinAirRead};
 ghost use Rattle.bad_patterns.specs.Patterns.{IsBadPattern};
+ghost use Rattle.bad_patterns.specs.declared.pattern.Pattern.TheVariants.{ThinAirRead};
 ghost use Rattle.causal_order.specs.Orders.{op};
 ghost use Rattle.causal_order.specs.Written.{IsSorted, ListsWrites};
 ghost use Rattle.bad_patterns.specs.Found.{IsFirst, IsFirstFound, IsFirstOf};
@@ -14,10 +15,10 @@ use objects::Memory;
 use operations::{History, OpId};
 use std::alloc::{AllocError, Global};
 
-/// A pattern that shows that the history does not meet the criterion, where there is one: the first read of a value that
-/// nobody wrote.
+/// The first read of a value that nobody wrote, where there is one: a pattern that shows that the history does not meet
+/// the criterion.
 ///
-/// There is none where the history does not have distinct values. Fails for want of memory alone. O(n log n) for n
+/// Patterns of other kinds are not looked for. There is none where the history does not have distinct values. Fails for want of memory alone. O(n log n) for n
 /// operations.
 pub fn find(
     alloc: Global,
@@ -26,7 +27,7 @@ pub fn find(
 ) -> Result<Option<Pattern>, AllocError>
     ensures found { IfOk result (λ found. IfSome found (IsBadPattern h.now criterion)) }
     ensures first { IfOk result (λ found. IfSome found (IsFirstFound h.now)) }
-    ensures none { IfOk result (λ found. IfNone found ((pattern : Pattern) → ¬ IsBadPattern h.now criterion pattern)) }
+    ensures none { IfOk result (λ found. IfNone found ((r : OpId) → ¬ IsBadPattern h.now criterion (ThinAirRead r))) }
 {
     if !Kind::ThinAirRead.is_against(criterion) {
         return Ok(None);

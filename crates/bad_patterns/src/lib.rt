@@ -2,16 +2,23 @@
 #![tactic(auto)]
 
 mod checking;
+mod cycle;
+mod edges;
 mod finding;
 mod kind;
 pub mod laws;
+mod link;
+mod path;
 mod pattern;
-#[cfg(test)]
-mod tests;
+mod reading;
+mod routes;
 mod thin_air;
 
 pub use causal_order::is_differentiated;
 pub use checking::check_pattern;
 pub use finding::find;
 pub use kind::Kind;
+pub use link::{Link, Links};
+pub use path::Path;
 pub use pattern::Pattern;
+pub use reading::read_pattern;

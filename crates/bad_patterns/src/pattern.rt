@@ -2,13 +2,23 @@ ghost use Rattle.std.specs.Prelude.{◌≡◌};
 ghost use Rattle.bad_patterns.specs.Patterns.{kind_of};
 
 use crate::kind::Kind;
+use crate::link::Links;
+use crate::path::Path;
 use operations::OpId;
 
 /// A bad pattern, with the operations that show it.
-#[derive(Debug, Drop, PartialEq, Eq)]
+#[derive(Debug, Drop)]
 pub enum Pattern {
+    /// A path with an edge that ends where it begins.
+    CyclicCO(Path),
     /// The read of a value that nobody wrote.
     ThinAirRead(OpId),
+    /// A path from a write to a read of the initial value of its variable.
+    WriteCOInitRead(Path),
+    /// A path from a write to another write of its variable, and one from there to a read that reads from the first.
+    WriteCORead(Path, Path),
+    /// Links, each of which begins where the one before ends, and the first where the last ends.
+    CyclicCF(Links),
 }
 
 impl Pattern {
@@ -17,7 +27,11 @@ impl Pattern {
         ensures { result ≡ kind_of self.now }
     {
         match self {
+            Pattern::CyclicCO(_) => Kind::CyclicCO,
             Pattern::ThinAirRead(_) => Kind::ThinAirRead,
+            Pattern::WriteCOInitRead(_) => Kind::WriteCOInitRead,
+            Pattern::WriteCORead(_, _) => Kind::WriteCORead,
+            Pattern::CyclicCF(_) => Kind::CyclicCF,
         }
     }
 }

@@ -11,7 +11,7 @@ use Rattle.causal_order.specs.Orders.{op, Order, only, past}
 use Rattle.causal_order.specs.OrdersLaws.{session-of_history}
 use Rattle.causal_order.specs.Vectors.{ByOperation, Counts, list_of, count, IsCounted, HasOneEach, AreVectorsOf}
 use Rattle.cert_check.specs.Criteria.{IsCausalOrder}
-use Rattle.cert_check.proofs.Convergent.{only-same}
+use Rattle.cert_check.specs.ConvergentLaws.{only-same}
 
 -- how far a test is passed below n, where it is passed before each number at which it is passed
 reach : (ℕ → Bool) → ℕ → ℕ

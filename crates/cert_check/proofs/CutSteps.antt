@@ -13,8 +13,8 @@ use Rattle.causal_order.specs.Vectors.{Counts, count, IsCounted, IsVectorOk}
 use Rattle.cert_check.specs.Certificates.{counted, IsArbitratedPiece}
 use Rattle.cert_check.specs.Schedules.{times, named, StandsBefore}
 use Rattle.cert_check.specs.Walks.{AreCountsAt, IsAnsweredAfter}
-use Rattle.cert_check.proofs.Convergent.{only-same}
-use Rattle.cert_check.proofs.Filtered.{filter_in_order}
+use Rattle.cert_check.specs.ConvergentLaws.{only-same}
+use Rattle.cert_check.specs.FilteredLaws.{filter_in_order}
 use Rattle.cert_check.proofs.Named.{times-next, times-same, times-other, times-take-le, named_once}
 use Rattle.cert_check.proofs.Pasts.{only-itself}
 use Rattle.cert_check.proofs.WalkSteps.{after_from_within, within_from_after}

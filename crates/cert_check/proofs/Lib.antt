@@ -1,5 +1,3 @@
-pub mod Filtered
-pub mod Convergent
 pub mod Named
 pub mod Pasts
 pub mod Sound

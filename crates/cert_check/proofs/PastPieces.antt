@@ -10,7 +10,7 @@ use Rattle.causal_order.specs.Vectors.{Counts, count, IsCounted, IsWithin, IsVec
 use Rattle.cert_check.specs.Criteria.{every, IsCausalOrder, Explains}
 use Rattle.cert_check.specs.Schedules.{times, named, IsSchedule}
 use Rattle.cert_check.specs.Certificates.{counted, IsArbitratedPiece}
-use Rattle.cert_check.proofs.Convergent.{only-same}
+use Rattle.cert_check.specs.ConvergentLaws.{only-same}
 use Rattle.cert_check.proofs.Counting.{past-of_history, past-closed}
 use Rattle.cert_check.proofs.Named.{named_each, named_within}
 use Rattle.cert_check.proofs.Pasts.{only-itself, every-op, op-every}

@@ -10,7 +10,7 @@ use Rattle.causal_order.specs.OrdersLaws.{same_op}
 use Rattle.causal_order.specs.Vectors.{Counts, count, IsCounted, IsWithin, IsVectorOk}
 use Rattle.cert_check.specs.Criteria.{every, IsCausalOrder}
 use Rattle.cert_check.specs.Certificates.{counted}
-use Rattle.cert_check.proofs.Convergent.{only-same}
+use Rattle.cert_check.specs.ConvergentLaws.{only-same}
 
 -- an operation is itself, and no other
 pub only-itself : (o : OpId) → IsTrue (only o o)

@@ -6,3 +6,5 @@ pub mod CertificatesLaws
 pub mod Walks
 pub mod CertificateForm
 pub mod CertificateReading
+pub mod FilteredLaws
+pub mod ConvergentLaws

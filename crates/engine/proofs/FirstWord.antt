@@ -1,6 +1,7 @@
 -- A command line in which `clap` finds no fault begins, behind the program's name, with the name of a command.
 use Rattle.std.proofs.Common.{◌≡◌, ◌∙◌, ◌&&◌, ◌||◌, ◌++◌, ℕ, Bool, true, false, zero, suc, refl, ap, sym, List, [], ◌∷◌, length, Option, Some, None, is_some, codes, append-nil, append_assoc, true≢false, ◌==◌, cond}
-use Rattle.std.specs.Prelude.{find, fold, slice_get}
+use Rattle.std.specs.Prelude.{find, fold, slice_get, option_map, option_and_then}
+use Rattle.std.proofs.lemmas.Option.{same_Some}
 use Rattle.std.proofs.lemmas.Slice.Eq.{bytes_eq-Decides}
 use Rattle.clap.specs.Simple.{built_leaf, entered, names_of}
 use Rattle.std.specs.Option.{option_map_or}
@@ -11,7 +12,9 @@ use Rattle.clap.specs.Faults.{entered_fault, bundle_fault, bundle_step_fault, ch
 use Rattle.clap.specs.Lexer.{long_of, short_of}
 use Rattle.clap.specs.Kinds.{or_else}
 use Rattle.clap.specs.declared.error.ErrorKind.TheVariants.{DisplayHelp, InvalidSubcommand}
-use Rattle.engine.specs.CommandLine.{command_line, judge as judge_app}
+use Rattle.engine.specs.declared.command_line.Order.{Order}
+use Rattle.engine.specs.declared.command_line.Order.TheVariants.{Judge, Check}
+use Rattle.engine.specs.CommandLine.{command_line, command_word, order_in, order_of, check as check_app, judge as judge_app}
 
 -- the program's own level, as `clap` builds it: it has the flag `--help` alone
 abbrev level : Shape
@@ -162,33 +165,74 @@ first_word names (w ∷ words) has below left e =
 abbrev names : Names
 names = names_of (built command_line)
 
--- a word that names a command, and not `help`, is `judge`
-judge_met : (w name : Text) → subcommand_met names idle w ≡ Some name → bytes_eq name (codes "help") ≡ false → (w ≡ codes "judge") × (name ≡ codes "judge")
-judge_met w name met no_help = by_word (bytes_eq (codes "judge") w) (bytes_eq (codes "help") w) refl refl
+-- a word that names a command, and not `help`, is the word of an order
+command_met : (w name : Text) → subcommand_met names idle w ≡ Some name → bytes_eq name (codes "help") ≡ false
+    → (order : Order) × (w ≡ command_word order) × (name ≡ command_word order)
+command_met w name met no_help = by_word (bytes_eq (codes "judge") w) (bytes_eq (codes "check") w) (bytes_eq (codes "help") w) refl refl refl
   where
-    by_word : (is_judge is_help : Bool) → bytes_eq (codes "judge") w ≡ is_judge → bytes_eq (codes "help") w ≡ is_help
-        → (w ≡ codes "judge") × (name ≡ codes "judge")
-    by_word true is_help judge help = (sym ((bytes_eq-Decides (codes "judge") w).0 judge), (let is = rw judge at met in cc))
-    by_word false true judge help =
-        let is : codes "help" ≡ name = (let some = rw (judge, help) at met in cc) in
+    by_word : (is_judge is_check is_help : Bool) → bytes_eq (codes "judge") w ≡ is_judge → bytes_eq (codes "check") w ≡ is_check
+        → bytes_eq (codes "help") w ≡ is_help → (order : Order) × (w ≡ command_word order) × (name ≡ command_word order)
+    by_word true is_check is_help judge check help =
+        (Judge, sym ((bytes_eq-Decides (codes "judge") w).0 judge), (let is = rw judge at met in cc))
+    by_word false true is_help judge check help =
+        (Check, sym ((bytes_eq-Decides (codes "check") w).0 check), (let is = rw (judge, check) at met in cc))
+    by_word false false true judge check help =
+        let is : codes "help" ≡ name = (let some = rw (judge, check, help) at met in cc) in
         absurd (true≢false (rw (← is) at no_help))
-    by_word false false judge help = absurd (let none = rw (judge, help) at met in cc)
+    by_word false false false judge check help = absurd (let none = rw (judge, check, help) at met in cc)
 
--- a command line without a fault names `judge`, and enters it
-pub record NamesJudge (words : List Text) : Type 0 where
-  pub named : slice_get words 1 ≡ Some (codes "judge")
+-- what is left of the words for a command
+abbrev rows_for : Order → List Text → List Row
+rows_for Judge others = rows_after (built_leaf judge_app.top).rules [] others
+rows_for Check others = rows_after (built_leaf check_app.top).rules [] others
+
+enters : (order : Order) (others : List Text) → entered (built command_line) (Some (command_word order, others)) ≡ Some (command_word order, rows_for order others)
+enters Judge others = refl
+enters Check others = refl
+
+-- a command line without a fault names an order's command, and enters it
+pub record NamesCommand (words : List Text) : Type 0 where
+  pub order : Order
+  pub named : slice_get words 1 ≡ Some (command_word order)
   pub rows : List Row
-  pub entered : subcommand_of command_line words ≡ Some (codes "judge", rows)
+  pub entered : subcommand_of command_line words ≡ Some (command_word order, rows)
 
-pub faultless : (words : List Text) → fault_of command_line words ≡ [] → NamesJudge words
+pub faultless : (words : List Text) → fault_of command_line words ≡ [] → NamesCommand words
 faultless [] e = absurd (let begins = first_word names [] false [] (λ none. refl) e in cc)
 faultless (program ∷ words) e =
     let app = built command_line in
     let stop = (walk level.rules names nothing_held words).stopped in
     let begins = first_word names words (is_some (entered app stop)) (entered_fault app stop) (λ none. ap (λ s. is_some (entered app s)) none) e in
-    let judge = judge_met begins.word begins.name begins.met begins.no_help in
+    let command = command_met begins.word begins.name begins.met begins.no_help in
     record {
-      named = ap (λ (ws : List Text). slice_get (program ∷ ws) 1) begins.parts ∙ ap Some judge.0;
-      rows = rows_after (built_leaf judge_app.top).rules [] begins.others;
-      entered = ap (entered app) (begins.stopped ∙ ap (λ n. Some (n, begins.others)) judge.1);
+      order = command.0;
+      named = ap (λ (ws : List Text). slice_get (program ∷ ws) 1) begins.parts ∙ ap Some command.1;
+      rows = rows_for command.0 begins.others;
+      entered = ap (entered app) (begins.stopped ∙ ap (λ n. Some (n, begins.others)) command.2) ∙ enters command.0 begins.others;
     }
+
+-- a command line without a fault names the command that is met, and enters it
+pub record NamesOrder (words : List Text) (order : Order) : Type 0 where
+  pub named : slice_get words 1 ≡ Some (command_word order)
+  pub given : order_in words ≡ Some order
+
+order_of-word : (order : Order) (rows : List Row) → order_of (command_word order, rows) ≡ Some order
+order_of-word Judge rows = refl
+order_of-word Check rows = refl
+
+pub names_order : (words : List Text) (order : Order) → fault_of command_line words ≡ []
+    → option_map (λ (p : Text × List Row). p.0) (subcommand_of command_line words) ≡ Some (command_word order) → NamesOrder words order
+names_order words order accepted met =
+    let is = faultless words accepted in
+    let same : command_word is.order ≡ command_word order = same_Some _ _ (sym (ap (option_map (λ (p : Text × List Row). p.0)) is.entered) ∙ met) in
+    record {
+      named = is.named ∙ ap Some same;
+      given = ap (option_and_then order_of) is.entered ∙ ap (λ (word : Text). order_of (word, is.rows)) same ∙ order_of-word order is.rows;
+    }
+
+-- an order is known by its word
+pub order_from_word : (order other : Order) → command_word order ≡ command_word other → order ≡ other
+order_from_word Judge Judge e = refl
+order_from_word Judge Check e = absurd (true≢false (sym ((bytes_eq-Decides (codes "judge") (codes "check")).1 e)))
+order_from_word Check Judge e = absurd (true≢false (sym ((bytes_eq-Decides (codes "check") (codes "judge")).1 e)))
+order_from_word Check Check e = refl

@@ -25,3 +25,8 @@ only_memory (k ∷ ks) u none any = absurd (cc)
 pub judge_is_faultless : (program : Text) → fault_of command_line (program ∷ codes "judge" ∷ []) ≡ []
 unfolding clap_on_literals
 judge_is_faultless program = refl
+
+-- nor in `causal_judge check`
+pub check_is_faultless : (program : Text) → fault_of command_line (program ∷ codes "check" ∷ []) ≡ []
+unfolding clap_on_literals
+check_is_faultless program = refl

@@ -7,7 +7,7 @@ use Rattle.clap.specs.Words.{App, IsAmong, Kinds, Row, Text, new_app, subcommand
 use Rattle.clap.specs.declared.error.kind.ErrorKind.{ErrorKind}
 use Rattle.clap.specs.declared.error.kind.ErrorKind.TheVariants.{DisplayHelp, OutOfMemory}
 use Rattle.engine.specs.declared.command_line.Order.{Order}
-use Rattle.engine.specs.declared.command_line.Order.TheVariants.{Judge}
+use Rattle.engine.specs.declared.command_line.Order.TheVariants.{Judge, Check}
 use Rattle.engine.specs.declared.command_line.Usage.{Usage}
 use Rattle.engine.specs.declared.command_line.Usage.TheVariants.{Fault, Help, Memory}
 
@@ -17,20 +17,26 @@ top =
     let app = new_app (codes "causal_judge") in
     record app { top = record app.top { subcommand_required = true } }
 
--- the command `judge` takes nothing
+-- the commands `judge` and `check` take nothing
 abbrev pub judge : App
 judge = new_app (codes "judge")
 
+abbrev pub check : App
+check = new_app (codes "check")
+
 abbrev pub command_line : App
-command_line = with_subcommand top judge.top
+command_line = with_subcommand (with_subcommand top judge.top) check.top
 
 -- the word that names an order's command
 abbrev pub command_word : Order → Text
 command_word Judge = codes "judge"
+command_word Check = codes "check"
 
 -- the order of a subcommand, from its name and its options
 abbrev pub order_of : Text × List Row → Option Order
-order_of subcommand = if bytes_eq subcommand.0 (codes "judge") then Some Judge else None
+order_of subcommand =
+    if bytes_eq subcommand.0 (codes "judge") then Some Judge
+    else (if bytes_eq subcommand.0 (codes "check") then Some Check else None)
 
 -- the order that a command line gives, where it has no fault
 abbrev pub order_in : List Text → Option Order

@@ -1,16 +1,29 @@
 -- What the program says of a run: its exit status, and its line on standard error.
 use Rattle.std.specs.Prelude.{ℕ, List, ◌++◌, codes, decimal, Result, Ok, Err}
 use Rattle.engine.specs.declared.failure.RunError.{RunError}
-use Rattle.engine.specs.declared.failure.RunError.TheVariants.{History, TooLong, Memory, ReadFault, WriteFault}
+use Rattle.engine.specs.declared.failure.RunError.TheVariants.{History, BadCertificate, ShapeMismatch, TooLong, Memory, ReadFault, WriteFault}
 use Rattle.operations.specs.declared.op_id.OpId.{OpId}
 use Rattle.operations.specs.declared.read_error.ReadError.{ReadError}
 use Rattle.operations.specs.declared.read_error.ReadError.TheVariants.{BadOp, ReturnAfterUnknown, Memory as NoMemory}
 use Rattle.operations.specs.Refusals.{number_of}
+use Rattle.cert_check.specs.declared.cert_error.CertError.{CertError}
+use Rattle.cert_check.specs.declared.cert_error.CertError.TheVariants as certificates
+use Rattle.cert_check.specs.declared.desk_error.DeskError.{DeskError}
+use Rattle.cert_check.specs.declared.desk_error.DeskError.TheVariants as desks
 
 -- how a run fails whose input is refused: of want of memory alone it says so itself
 abbrev pub failure_of : ReadError → RunError
 failure_of NoMemory = Memory
 failure_of refusal = History refusal
+
+-- how a run fails whose certificate has no form, or not the shape of the history
+abbrev pub certificate_failure : CertError → RunError
+certificate_failure certificates.Memory = Memory
+certificate_failure certificates.BadCertificate = BadCertificate
+
+abbrev pub desk_failure : DeskError → RunError
+desk_failure desks.Memory = Memory
+desk_failure desks.ShapeMismatch = ShapeMismatch
 
 -- the exit status of a refused history: 4 where memory ran out, and else 1
 abbrev pub refusal_status : ReadError → ℕ
@@ -20,6 +33,8 @@ refusal_status _ = 1
 -- the exit status of a failed run: 1 for a refusal, 3 for a fault of the reader or the writer, 4 for want of memory
 abbrev pub failure_status : RunError → ℕ
 failure_status (History refusal) = refusal_status refusal
+failure_status BadCertificate = 1
+failure_status ShapeMismatch = 1
 failure_status TooLong = 1
 failure_status Memory = 4
 failure_status ReadFault = 3
@@ -48,6 +63,8 @@ refusal_line refusal = refused (number_of refusal)
 -- the line for a failed run
 abbrev pub line_for : RunError → List ℕ
 line_for (History refusal) = refusal_line refusal
+line_for BadCertificate = codes "refused 20"
+line_for ShapeMismatch = codes "refused 21"
 line_for TooLong = codes "refused 9"
 line_for Memory = codes "no memory"
 line_for ReadFault = codes "read fault"

@@ -1,5 +1,6 @@
 pub mod CommandLine
 pub mod Failure
 pub mod Report
+pub mod Checking
 pub mod Running
 pub mod Transfer

@@ -1,26 +1,64 @@
 -- What a line of a report says, and when it is true.
-use Rattle.std.specs.Prelude.{◌≡◌, ⊤, ℕ, List, ◌++◌, codes}
+use Rattle.std.specs.Prelude.{◌≡◌, ⊤, ⊥, ℕ, List, ◌++◌, codes, decimal, Some, None}
 use Rattle.cert_check.specs.declared.criterion.Criterion.{Criterion}
 use Rattle.cert_check.specs.declared.criterion.Criterion.TheVariants.{Cc, Cm, Ccv}
 use Rattle.operations.specs.declared.any_history.AnyHistory.{AnyHistory}
 use Rattle.operations.specs.declared.any_history.AnyHistory.TheVariants as histories
 use Rattle.bad_patterns.specs.declared.kind.Kind.{Kind}
 use Rattle.bad_patterns.specs.declared.kind.Kind.TheVariants.{CyclicCO, ThinAirRead, WriteCOInitRead, WriteCORead, WriteHBInitRead, CyclicHB, CyclicCF}
-use Rattle.bad_patterns.specs.declared.pattern.Pattern.{Pattern}
-use Rattle.bad_patterns.specs.Patterns.{IsBadPattern, IsTrueNo}
+use Rattle.objects.specs.Register.{answer as register_answer}
+use Rattle.objects.specs.Counter.{answer as counter_answer}
+use Rattle.objects.specs.AddRemoveSet.{answer as set_answer}
+use Rattle.objects.specs.Queue.{answer as queue_answer}
+use Rattle.objects.specs.Keyed.{answer as keyed_answer}
+use Rattle.operations.specs.History.{Record}
+use Rattle.causal_order.specs.Memory.{memory_answer}
+use Rattle.cert_check.specs.Criteria.{Meets}
+use Rattle.bad_patterns.specs.Kinds.{IsPresent}
+use Rattle.bad_patterns.specs.Patterns.{IsTrueNo}
 use Rattle.engine.specs.declared.report.Answer.{Answer}
-use Rattle.engine.specs.declared.report.Answer.TheVariants.{No, Unknown}
+use Rattle.engine.specs.declared.report.Answer.TheVariants.{Yes, No, Unknown}
 
--- an answer is true of a history: a no names a kind that is against the criterion and present, and the history does not
--- meet the criterion; unknown says nothing
+-- a fact about what an object answers and a history of it
+abbrev pub Fact : Type 1
+Fact = {S C R : Type 0} → (S → List C → C → R) → Record S C R → Type 0
+
+-- the fact about a history and what its own object answers
+abbrev pub HoldsOf : Fact → AnyHistory → Type 0
+HoldsOf fact (histories.Register h) = fact register_answer h
+HoldsOf fact (histories.Counter h) = fact counter_answer h
+HoldsOf fact (histories.Set h) = fact set_answer h
+HoldsOf fact (histories.Queue h) = fact queue_answer h
+HoldsOf fact (histories.Memory h) = fact memory_answer h
+HoldsOf fact (histories.Counters h) = fact (keyed_answer tt counter_answer) h
+HoldsOf fact (histories.Sets h) = fact (keyed_answer tt set_answer) h
+HoldsOf fact (histories.Queues h) = fact (keyed_answer tt queue_answer) h
+
+-- the history meets the criterion
+abbrev pub IsMet : AnyHistory → Criterion → Type 0
+IsMet history criterion = HoldsOf (λ answer h. Meets answer h criterion) history
+
+-- the kind is against the criterion and present, and the history does not meet the criterion
+abbrev pub IsExcluded : AnyHistory → Criterion → Kind → Type 0
+IsExcluded (histories.Memory h) criterion kind = IsTrueNo h criterion kind
+IsExcluded _ criterion kind = ⊥
+
+-- an answer is true of a history: with a yes it meets the criterion; a no names a kind that excludes it; unknown says
+-- nothing
 abbrev pub IsTrueOf : AnyHistory → Criterion → Answer → Type 0
-IsTrueOf (histories.Memory h) criterion (No kind) = IsTrueNo h criterion kind
-IsTrueOf (histories.Memory h) criterion Unknown = ⊤
+IsTrueOf history criterion Yes = IsMet history criterion
+IsTrueOf history criterion (No kind) = IsExcluded history criterion kind
+IsTrueOf history criterion (Unknown place) = ⊤
 
--- unknown is answered only where no pattern shows that the history does not meet the criterion
-abbrev pub OnlyWithoutPattern : AnyHistory → Criterion → Answer → Type 0
-OnlyWithoutPattern (histories.Memory h) criterion (No kind) = ⊤
-OnlyWithoutPattern (histories.Memory h) criterion Unknown = (pattern : Pattern) → ¬ IsBadPattern h criterion pattern
+-- nothing is left unknown where a value is read out of thin air, in a history of distinct values
+abbrev pub HasNoThinAir : AnyHistory → Type 0
+HasNoThinAir (histories.Memory h) = ¬ IsPresent h ThinAirRead
+HasNoThinAir _ = ⊤
+
+abbrev pub OnlyWithoutThinAir : AnyHistory → Answer → Type 0
+OnlyWithoutThinAir history Yes = ⊤
+OnlyWithoutThinAir history (No kind) = ⊤
+OnlyWithoutThinAir history (Unknown place) = HasNoThinAir history
 
 abbrev pub name_of : Criterion → List ℕ
 name_of Cc = codes "cc"
@@ -39,4 +77,7 @@ kind_name CyclicCF = codes "CyclicCF"
 -- the criterion, a space, the answer, and a line feed
 abbrev pub line_for : Criterion → Answer → List ℕ
 line_for criterion (No kind) = name_of criterion ++ (codes " no " ++ (kind_name kind ++ codes "\n"))
-line_for criterion Unknown = name_of criterion ++ codes " unknown\n"
+line_for criterion Yes = name_of criterion ++ codes " yes\n"
+line_for criterion (Unknown None) = name_of criterion ++ codes " unknown\n"
+line_for criterion (Unknown (Some o)) =
+    name_of criterion ++ (codes " unknown " ++ (decimal o.session ++ (codes "." ++ (decimal o.index ++ codes "\n"))))

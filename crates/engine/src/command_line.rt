@@ -2,7 +2,7 @@
 ghost use Rattle.std.specs.Prelude.{◌≡◌, ℕ, List, [], ◌∷◌, IfErr, IfOk, MatchResult, Some, codes, false, map, slice_get};
 ghost use Rattle.clap.specs.Words.{HasKind, app_of, fault_of, kind_of, subcommand_of, subcommand_rows_of};
 ghost use Rattle.clap.specs.declared.builder.Command.TheViews.{out-Command};
-ghost use Rattle.engine.specs.CommandLine.{IsUsageFor, IsUsageOf, command_line, command_word, judge, order_in};
+ghost use Rattle.engine.specs.CommandLine.{IsUsageFor, IsUsageOf, check, command_line, command_word, judge, order_in};
 
 use clap::error::ErrorKind;
 use clap::{ArgMatches, Command, Error};
@@ -14,6 +14,8 @@ use std::convert::AsStr;
 pub enum Order {
     /// Judges the history in the input.
     Judge,
+    /// Checks the certificate in the input against the history in it.
+    Check,
 }
 
 /// Why a command line gives no order.
@@ -39,16 +41,30 @@ pub fn command_of<S: AsStr>(alloc: Global, words: &[S]) -> Result<Order, Usage>
     ensures named { IfOk result (λ order. slice_get (map S.text words.now) 1 ≡ Some (command_word order)) }
     ensures usage { IfErr result (IsUsageFor (fault_of command_line (map S.text words.now))) }
 
-    // In plain words, of the command line `causal_judge judge`.
+    // In plain words, of the command lines `causal_judge judge` and `causal_judge check`.
     ensures judge { (program : List ℕ) → map S.text words.now ≡ program ∷ codes "judge" ∷ []
         → MatchResult result (λ order. order ≡ Order.Judge) (λ usage. usage ≡ Usage.Memory) }
+    ensures check { (program : List ℕ) → map S.text words.now ≡ program ∷ codes "check" ∷ []
+        → MatchResult result (λ order. order ≡ Order.Check) (λ usage. usage ≡ Usage.Memory) }
 {
     let matches = match matches_of(alloc, words) {
         Ok(matches) => matches,
         Err(error) => return Err(usage_of(alloc, &error)),
     };
     match matches.subcommand_name() {
-        Some("judge") => Ok(Order::Judge),
+        Some(word) => Ok(order_of_word(word)),
+        None => unreachable!(),
+    }
+}
+
+// The order whose command a word names.
+fn order_of_word(word: &str) -> Order
+    requires { (order : Order) × (word.now ≡ command_word order) }
+    ensures { word.now ≡ command_word result }
+{
+    match word {
+        "judge" => Order::Judge,
+        "check" => Order::Check,
         _ => unreachable!(),
     }
 }
@@ -72,7 +88,8 @@ fn program<'a>(alloc: Global) -> Result<Command<'a>, AllocError>
             "Judges a recorded history of replicated objects by the criteria of causal consistency",
         )
         .subcommand_required(true)
-        .subcommand(judge_command(alloc))
+        .subcommand(judge_command(alloc))?
+        .subcommand(check_command(alloc))
 }
 
 fn judge_command<'a>(alloc: Global) -> Command<'a>
@@ -80,6 +97,13 @@ fn judge_command<'a>(alloc: Global) -> Command<'a>
     ensures local { (out-Command result).has_globals ≡ false }
 {
     Command::new(alloc, "judge").about("Reads a history and judges it")
+}
+
+fn check_command<'a>(alloc: Global) -> Command<'a>
+    ensures app { app_of result ≡ check }
+    ensures local { (out-Command result).has_globals ≡ false }
+{
+    Command::new(alloc, "check").about("Reads a history and a certificate of it, and checks it")
 }
 
 // What the program says where there are no matches.

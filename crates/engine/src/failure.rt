@@ -2,6 +2,7 @@
 ghost use Rattle.std.specs.Prelude.{◌≡◌, IfOk, string_bytes};
 ghost use Rattle.engine.specs.Failure.{line_for, refusal_line, refused_at, status_for};
 
+use cert_check::{CertError, DeskError};
 use operations::{OpId, ReadError};
 use std::alloc::{AllocError, AllocFailed, Global};
 use thiserror::Error;
@@ -12,6 +13,12 @@ pub enum RunError {
     /// The history in the input is refused.
     #[error("the history is refused: {0}")]
     History(ReadError),
+    /// The certificate in the input has no form of a certificate.
+    #[error("the certificate has no form of a certificate")]
+    BadCertificate,
+    /// The certificate in the input does not have the shape of the history.
+    #[error("the certificate does not have the shape of the history")]
+    ShapeMismatch,
     /// The input has more bytes than are read.
     #[error("the input has more than {most} bytes", most = crate::input::MOST_INPUT_BYTES)]
     TooLong,
@@ -48,6 +55,34 @@ impl<T: Drop> From<AllocFailed<T>> for RunError {
     }
 }
 
+impl From<CertError> for RunError {
+    ghost use Rattle.std.specs.Prelude.{◌≡◌};
+    ghost use Rattle.engine.specs.Failure.{certificate_failure};
+
+    ghost from_gives = { λ refusal e. e ≡ certificate_failure refusal };
+
+    fn from(refusal: CertError) -> RunError {
+        match refusal {
+            CertError::Memory => RunError::Memory,
+            CertError::BadCertificate => RunError::BadCertificate,
+        }
+    }
+}
+
+impl From<DeskError> for RunError {
+    ghost use Rattle.std.specs.Prelude.{◌≡◌};
+    ghost use Rattle.engine.specs.Failure.{desk_failure};
+
+    ghost from_gives = { λ refusal e. e ≡ desk_failure refusal };
+
+    fn from(refusal: DeskError) -> RunError {
+        match refusal {
+            DeskError::Memory => RunError::Memory,
+            DeskError::ShapeMismatch => RunError::ShapeMismatch,
+        }
+    }
+}
+
 impl From<ReadError> for RunError {
     ghost use Rattle.std.specs.Prelude.{◌≡◌};
     ghost use Rattle.engine.specs.Failure.{failure_of};
@@ -71,7 +106,12 @@ pub fn status_of(outcome: &Result<(), RunError>) -> u8
         Ok(()) => 0,
         Err(RunError::Memory | RunError::History(ReadError::Memory)) => 4,
         Err(RunError::ReadFault | RunError::WriteFault) => 3,
-        Err(RunError::History(_) | RunError::TooLong) => 1,
+        Err(
+            RunError::History(_)
+            | RunError::BadCertificate
+            | RunError::ShapeMismatch
+            | RunError::TooLong,
+        ) => 1,
     }
 }
 
@@ -83,6 +123,8 @@ pub fn fault_line(alloc: Global, error: &RunError) -> Result<String, AllocError>
     match error {
         RunError::History(refusal) => history_line(alloc, refusal),
         RunError::TooLong => String::from_str(alloc, "refused 9"),
+        RunError::BadCertificate => String::from_str(alloc, "refused 20"),
+        RunError::ShapeMismatch => String::from_str(alloc, "refused 21"),
         RunError::Memory => String::from_str(alloc, "no memory"),
         RunError::ReadFault => String::from_str(alloc, "read fault"),
         RunError::WriteFault => String::from_str(alloc, "write fault"),

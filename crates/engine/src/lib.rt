@@ -2,6 +2,7 @@
 //! an answer.
 #![tactic(auto)]
 
+mod checking;
 mod command_line;
 mod failure;
 mod input;
@@ -10,6 +11,7 @@ mod program;
 mod report;
 mod running;
 
+pub use checking::answer_of_certificate;
 pub use command_line::{Order, Usage, command_of};
 pub use failure::{RunError, fault_line, status_of};
 pub use input::{MOST_INPUT_BYTES, MOST_READ_CALLS, read_input};

@@ -1,21 +1,23 @@
 //! What is said of a history.
 
 ghost use Rattle.std.specs.Prelude.{◌≡◌, IfOk, string_bytes};
-ghost use Rattle.engine.specs.Report.{IsTrueOf, OnlyWithoutPattern, line_for, name_of, kind_name};
+ghost use Rattle.engine.specs.Report.{IsTrueOf, OnlyWithoutThinAir, line_for, name_of, kind_name};
 
 use bad_patterns::{Kind, check_pattern, find};
 use cert_check::Criterion;
 use objects::Memory;
-use operations::{AnyHistory, History};
+use operations::{AnyHistory, History, OpId};
 use std::alloc::{AllocError, Global};
 
 /// What is known of a history and a criterion.
 #[derive(Clone, Copy, Debug, PartialEq, Eq)]
 pub enum Answer {
+    /// The history meets the criterion.
+    Yes,
     /// The history does not meet the criterion: a pattern of this kind is in it.
     No(Kind),
-    /// Nothing is known.
-    Unknown,
+    /// Nothing is known; the first operation that is not explained, where one was looked for.
+    Unknown(Option<OpId>),
 }
 
 /// What is known of a history and a criterion.
@@ -27,10 +29,11 @@ pub fn answer_of(
     criterion: Criterion,
 ) -> Result<Answer, AllocError>
     ensures truth { IfOk result (IsTrueOf history.now criterion) }
-    ensures unknown { IfOk result (OnlyWithoutPattern history.now criterion) }
+    ensures unknown { IfOk result (OnlyWithoutThinAir history.now) }
 {
     match history {
         AnyHistory::Memory(history) => answer_of_memory(alloc, history, criterion),
+        _ => Ok(Answer::Unknown(None)),
     }
 }
 
@@ -41,15 +44,15 @@ fn answer_of_memory(
     criterion: Criterion,
 ) -> Result<Answer, AllocError>
     ensures truth { IfOk result (IsTrueOf (AnyHistory.Memory history.now) criterion) }
-    ensures unknown { IfOk result (OnlyWithoutPattern (AnyHistory.Memory history.now) criterion) }
+    ensures unknown { IfOk result (OnlyWithoutThinAir (AnyHistory.Memory history.now)) }
 {
     let Some(pattern) = find(alloc, history, criterion)? else {
-        return Ok(Answer::Unknown);
+        return Ok(Answer::Unknown(None));
     };
     if check_pattern(alloc, history, criterion, &pattern)? {
         Ok(Answer::No(pattern.kind()))
     } else {
-        Ok(Answer::Unknown)
+        Ok(Answer::Unknown(None))
     }
 }
 
@@ -63,11 +66,15 @@ pub fn report_line(
 {
     let name = criterion_name(criterion);
     match answer {
+        Answer::Yes => format!(in alloc; "{name} yes\n"),
         Answer::No(kind) => {
             let kind = name_of_kind(kind);
             format!(in alloc; "{name} no {kind}\n")
         }
-        Answer::Unknown => format!(in alloc; "{name} unknown\n"),
+        Answer::Unknown(None) => format!(in alloc; "{name} unknown\n"),
+        Answer::Unknown(Some(OpId { session, index })) => {
+            format!(in alloc; "{name} unknown {session}.{index}\n")
+        }
     }
 }
 

@@ -3,6 +3,7 @@ ghost use Rattle.std.specs.Prelude.{◌≡◌, ◌≢◌, IfErr, IfOk, OnOk, str
 ghost use Rattle.std.specs.Io.KnownBytes.{IsAtEnd};
 ghost use Rattle.engine.specs.Running.{Answers, Fails, IsAnswer, IsAnswerError};
 
+use crate::checking::check;
 use crate::command_line::Order;
 use crate::failure::RunError;
 use crate::input::read_input;
@@ -43,6 +44,7 @@ pub fn answer_to(alloc: Global, input: &[u8], order: &Order) -> Result<String, R
 {
     match order {
         Order::Judge => judge(alloc, input),
+        Order::Check => check(alloc, input),
     }
 }
 

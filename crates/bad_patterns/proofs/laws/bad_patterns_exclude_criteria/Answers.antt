@@ -1,4 +1,4 @@
-use Rattle.bad_patterns.proofs.Exclusion.{pattern-excludes}
+use Rattle.bad_patterns.proofs.Shown.{pattern-excludes}
 use Rattle.bad_patterns.proofs.laws.bad_patterns_exclude_criteria.Goals as goal
 
 pub returns : goal.returns

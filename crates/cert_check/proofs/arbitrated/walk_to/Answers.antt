@@ -8,7 +8,7 @@ use Rattle.causal_order.specs.Orders.{StandsAt, only}
 use Rattle.cert_check.specs.Certificates.{counted}
 use Rattle.cert_check.specs.Schedules.{named}
 use Rattle.cert_check.specs.Walks.{IsWalkAt}
-use Rattle.cert_check.proofs.Convergent.{only-same}
+use Rattle.cert_check.specs.ConvergentLaws.{only-same}
 use Rattle.cert_check.proofs.CutSteps.{next_is_op, not_named_yet}
 use Rattle.cert_check.proofs.Named.{take_next}
 use Rattle.cert_check.proofs.Pasts.{only-itself}

@@ -1,7 +1,10 @@
-use crate::{Kind, Pattern, check_pattern, find, is_differentiated};
+//! What the patterns of small histories are.
+
+use bad_patterns::{Kind, Pattern, check_pattern, find, is_differentiated, read_pattern};
 use cert_check::Criterion;
 use objects::Memory;
 use operations::{AnyHistory, History, OpId, ReadError, read_history};
+use serde_json::Value;
 use std::alloc::Global;
 use std::test::Fail;
 
@@ -10,11 +13,27 @@ const CRITERIA: [Criterion; 3] = [Criterion::Cc, Criterion::Cm, Criterion::Ccv];
 fn memory(alloc: Global, text: &str) -> Result<History<Memory>, ReadError> {
     match read_history(alloc, text.as_bytes())? {
         AnyHistory::Memory(history) => Ok(history),
+        _ => Err(ReadError::UnknownObject),
+    }
+}
+
+fn pattern(alloc: Global, text: &str) -> Result<Option<Pattern>, ReadError> {
+    let value: Result<Value, serde_json::Error> = serde_json::from_str(alloc, text);
+    match value {
+        Ok(value) => Ok(read_pattern(alloc, &value)?),
+        Err(_) => Err(ReadError::NotJson),
     }
 }
 
 fn thin_air_read(session: u64, index: u64) -> Pattern {
     Pattern::ThinAirRead(OpId { session, index })
+}
+
+fn is_thin_air_read(pattern: &Option<Pattern>, session: u64, index: u64) -> bool {
+    match pattern {
+        Some(Pattern::ThinAirRead(read)) => *read == OpId { session, index },
+        _ => false,
+    }
 }
 
 #[test]
@@ -34,7 +53,7 @@ fn first_thin_air_read_is_found_and_accepted(rt: HostRuntime) -> Result<(), Fail
         assert!(rt; is_differentiated(rt.alloc(), &history)?);
         for criterion in CRITERIA {
             let found = find(rt.alloc(), &history, criterion)?;
-            assert_eq!(rt; found, Some(thin_air_read(session, index)), "in {text}");
+            assert!(rt; is_thin_air_read(&found, session, index), "in {text}");
             assert!(rt;
                 check_pattern(rt.alloc(), &history, criterion, &pattern)?,
                 "in {text}"
@@ -56,9 +75,8 @@ fn nothing_is_found_where_every_read_has_a_source(rt: HostRuntime) -> Result<(),
     for text in cases {
         let history = memory(rt.alloc(), text)?;
         assert!(rt; is_differentiated(rt.alloc(), &history)?, "in {text}");
-        assert_eq!(rt;
-            find(rt.alloc(), &history, Criterion::Cc)?,
-            None,
+        assert!(rt;
+            find(rt.alloc(), &history, Criterion::Cc)?.is_none(),
             "in {text}"
         );
     }
@@ -75,9 +93,8 @@ fn nothing_is_found_where_values_are_not_distinct(rt: HostRuntime) -> Result<(),
     for text in cases {
         let history = memory(rt.alloc(), text)?;
         assert!(rt; !is_differentiated(rt.alloc(), &history)?, "in {text}");
-        assert_eq!(rt;
-            find(rt.alloc(), &history, Criterion::Cc)?,
-            None,
+        assert!(rt;
+            find(rt.alloc(), &history, Criterion::Cc)?.is_none(),
             "in {text}"
         );
         assert!(rt;
@@ -94,12 +111,52 @@ fn pattern_that_is_not_there_is_refused(rt: HostRuntime) -> Result<(), Fail> {
         rt.alloc(),
         r#"["memory",[[["r",0,7],["w",0,1],["r",0,1],["r",0,"?"]]]]"#,
     )?;
-    for (session, index) in [(0, 1), (0, 2), (0, 3), (0, 4), (9, 0)] {
-        let pattern = thin_air_read(session, index);
-        assert!(rt;
-            !check_pattern(rt.alloc(), &history, Criterion::Cc, &pattern)?,
-            "at {session}.{index}"
-        );
+    let cases = [
+        r#"["ThinAirRead",[0,1]]"#,
+        r#"["ThinAirRead",[0,2]]"#,
+        r#"["ThinAirRead",[0,3]]"#,
+        r#"["ThinAirRead",[0,4]]"#,
+        r#"["ThinAirRead",[9,0]]"#,
+        r#"["CyclicCO",[]]"#,
+        r#"["CyclicCO",[[0,0]]]"#,
+        r#"["CyclicCO",[[0,0],[0,1]]]"#,
+        r#"["CyclicCO",[[0,0],[0,1],[0,0]]]"#,
+        r#"["WriteCOInitRead",[[0,1],[0,2]]]"#,
+        r#"["WriteCORead",[[0,1]],[[0,1],[0,2]]]"#,
+        r#"["CyclicCF",[["co",[0,0],[0,1]],["co",[0,1],[0,2]]]]"#,
+    ];
+    for text in cases {
+        let Some(pattern) = pattern(rt.alloc(), text)? else {
+            return Err(ReadError::BadShape.into());
+        };
+        for criterion in CRITERIA {
+            assert!(rt;
+                !check_pattern(rt.alloc(), &history, criterion, &pattern)?,
+                "of {text}"
+            );
+        }
+    }
+    Ok(())
+}
+
+#[test]
+fn value_of_another_form_is_no_pattern(rt: HostRuntime) -> Result<(), Fail> {
+    let cases = [
+        "7",
+        "[]",
+        r#"["CyclicHB",[[0,0]]]"#,
+        r#"["ThinAirRead"]"#,
+        r#"["ThinAirRead",[0]]"#,
+        r#"["ThinAirRead",[0,-1]]"#,
+        r#"["ThinAirRead",[0,0,0]]"#,
+        r#"["CyclicCO",[0,0]]"#,
+        r#"["WriteCORead",[[0,0]]]"#,
+        r#"["CyclicCF",[["co",[0,0]]]]"#,
+        r#"["CyclicCF",[["co",[[0,0]],[0,1]]]]"#,
+        r#"["CyclicCF",[["hb",[0,0],[0,1]]]]"#,
+    ];
+    for text in cases {
+        assert!(rt; pattern(rt.alloc(), text)?.is_none(), "of {text}");
     }
     Ok(())
 }

@@ -7,7 +7,7 @@ use Rattle.operations.specs.declared.op_id.OpId.{OpId}
 use Rattle.operations.specs.History.{Record, IsOp, session}
 use Rattle.causal_order.specs.Orders.{Order, only, past, StandsAt, IsLinearization}
 use Rattle.cert_check.specs.Criteria.{every, IsCausalOrder}
-use Rattle.cert_check.proofs.Filtered.{filter_keeps, filter_from, filter_in_order}
+use Rattle.cert_check.specs.FilteredLaws.{filter_keeps, filter_from, filter_in_order}
 
 pub only-same : (o a : OpId) → IsTrue (only o a) → a ≡ o
 only-same o a t =

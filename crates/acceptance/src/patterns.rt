@@ -1,0 +1,88 @@
+//! What `check_pattern` says of patterns as JSON.
+
+use bad_patterns::{check_pattern, read_pattern};
+use cert_check::Criterion;
+use objects::Memory;
+use operations::{AnyHistory, History, read_history};
+use serde_json::Value;
+use std::alloc::Global;
+use std::process::Abort;
+use std::test::Fail;
+
+/// A value that is read, through another session, from a write that another one overwrote.
+const OVERWRITTEN: &str =
+    r#"["memory",[[["w",0,1],["w",1,1]],[["r",1,1],["w",0,2]],[["r",0,2],["r",0,1]]]]"#;
+
+/// A value that is read before it is written.
+const READ_AHEAD: &str = r#"["memory",[[["r",0,1],["w",0,1]]]]"#;
+
+/// Two sessions that see their own write before that of the other.
+const DIVERGING: &str = r#"["memory",[[["w",0,1],["r",0,2]],[["w",0,2],["r",0,1]]]]"#;
+
+/// A variable that is read as it was at the start, after it was written.
+const FORGOTTEN: &str = r#"["memory",[[["w",0,0],["r",0,5]]],[[0,5]]]"#;
+
+const CYCLE_OF_CONFLICTS: &str =
+    r#"["CyclicCF",[["cf",[[0,0],[0,1]],[1,0]],["cf",[[1,0],[1,1]],[0,0]]]]"#;
+
+fn memory_history(alloc: Global, text: &str) -> Result<History<Memory>, Fail> {
+    match read_history(alloc, text.as_bytes())? {
+        AnyHistory::Memory(history) => Ok(history),
+        _ => Err("a memory history".into()),
+    }
+}
+
+/// Whether the pattern shows that the history does not meet the criterion.
+fn is_shown<P: Abort + AllocGlobal>(
+    rt: &P,
+    history: &str,
+    criterion: Criterion,
+    pattern: &str,
+) -> Result<bool, Fail> {
+    let history = memory_history(rt.alloc(), history)?;
+    let value = Value::from_slice(rt.alloc(), pattern.as_bytes())?;
+    let pattern = read_pattern(rt.alloc(), &value)?.ok_or("a pattern")?;
+    Ok(check_pattern(rt.alloc(), &history, criterion, &pattern)?)
+}
+
+#[test]
+fn paths_to_a_read_of_an_overwritten_value(rt: HostRuntime) -> Result<(), Fail> {
+    let pattern = r#"["WriteCORead",[[0,0],[0,1],[1,0],[1,1]],[[1,1],[2,0],[2,1]]]"#;
+    assert!(rt; is_shown(&rt, OVERWRITTEN, Criterion::Cc, pattern)?);
+    assert!(rt; is_shown(&rt, OVERWRITTEN, Criterion::Cm, pattern)?);
+    let patterns = [
+        r#"["WriteCORead",[[0,0],[1,1]],[[1,1],[2,0],[2,1]]]"#,
+        r#"["WriteCORead",[[9,0],[0,1],[1,0],[1,1]],[[1,1],[2,0],[2,1]]]"#,
+        r#"["WriteCORead",[[0,0],[0,1],[1,0],[9,0]],[[1,1],[2,0],[2,1]]]"#,
+        r#"["WriteCORead",[[0,0],[0,1],[1,0],[1,1]],[[1,1],[2,0],[9,0]]]"#,
+    ];
+    for pattern in patterns {
+        assert!(rt; !is_shown(&rt, OVERWRITTEN, Criterion::Cc, pattern)?, "{pattern}");
+    }
+    Ok(())
+}
+
+#[test]
+fn path_that_ends_where_it_begins(rt: HostRuntime) -> Result<(), Fail> {
+    let cycle = r#"["CyclicCO",[[0,0],[0,1],[0,0]]]"#;
+    assert!(rt; is_shown(&rt, READ_AHEAD, Criterion::Cc, cycle)?);
+    assert!(rt; !is_shown(&rt, READ_AHEAD, Criterion::Cc, r#"["CyclicCO",[[0,0]]]"#)?);
+    assert!(rt; !is_shown(&rt, r#"["memory",[]]"#, Criterion::Cc, cycle)?);
+    Ok(())
+}
+
+#[test]
+fn cycle_of_conflicts_is_against_convergence_alone(rt: HostRuntime) -> Result<(), Fail> {
+    assert!(rt; is_shown(&rt, DIVERGING, Criterion::Ccv, CYCLE_OF_CONFLICTS)?);
+    assert!(rt; !is_shown(&rt, DIVERGING, Criterion::Cc, CYCLE_OF_CONFLICTS)?);
+    assert!(rt; !is_shown(&rt, DIVERGING, Criterion::Cm, CYCLE_OF_CONFLICTS)?);
+    Ok(())
+}
+
+#[test]
+fn read_of_the_initial_value_after_a_write(rt: HostRuntime) -> Result<(), Fail> {
+    let pattern = r#"["WriteCOInitRead",[[0,0],[0,1]]]"#;
+    assert!(rt; is_shown(&rt, FORGOTTEN, Criterion::Cc, pattern)?);
+    assert!(rt; !is_shown(&rt, READ_AHEAD, Criterion::Cc, pattern)?);
+    Ok(())
+}

@@ -1,0 +1,95 @@
+-- The past of a known read, in a list that explains it.
+use Rattle.std.proofs.Common.{◌≡◌, ℕ, zero, suc, ◌<◌, ◌≤◌, ◌⊎◌, ⊎_elim, List, [], ◌∷◌, take, sym, ap, ◌∙◌, subst, refl, eq-eqb, arith}
+use Rattle.std.specs.Prelude.{◌≢◌, Option, Some, option_map, slice_get, IsTrue, ◌==◌}
+use Rattle.std.proofs.lemmas.Option.{same_Some}
+use Rattle.std.proofs.lemmas.Bool.{and_from, or_left, or_right, or_cases}
+use Rattle.objects.specs.declared.register.RegisterCall.TheVariants.{Write, Read}
+use Rattle.objects.specs.declared.register.RegisterRet.{RegisterRet}
+use Rattle.objects.specs.declared.register.RegisterRet.TheVariants.{Value}
+use Rattle.operations.specs.declared.op_id.OpId.{OpId}
+use Rattle.operations.specs.History.{calls}
+use Rattle.causal_order.specs.Orders.{Order, only, past, StandsAt, IsLinearization}
+use Rattle.causal_order.specs.Memory.{MemoryCall, MemoryHistory, memory_answer, initial, Writes, Reads, IsDifferentiated}
+use Rattle.cert_check.specs.Criteria.{Explains}
+use Rattle.cert_check.specs.ConvergentLaws.{only-same}
+use Rattle.bad_patterns.proofs.LastWrites.{IsUnwritten, IsLastWrite, answer-cases}
+
+module _ {X : Type 0} where
+  -- what stands in the front part of a list stands in the list
+  take-from : (n : ℕ) (xs : List X) (k : ℕ) (a : X) → slice_get (take n xs) k ≡ Some a → (k < n) × (slice_get xs k ≡ Some a)
+  take-from zero xs k a at = absurd cc
+  take-from (suc n) [] k a at = absurd cc
+  take-from (suc n) (x ∷ xs) zero a at = (omega arith, at)
+  take-from (suc n) (x ∷ xs) (suc k) a at = let rest = take-from n xs k a at in (omega arith, rest.1)
+
+  -- what stands before a place stands in the part before it
+  pub take-stands : (n : ℕ) (xs : List X) (k : ℕ) (a : X) → k < n → slice_get xs k ≡ Some a → slice_get (take n xs) k ≡ Some a
+  take-stands zero xs k a below at = absurd (omega arith)
+  take-stands (suc n) [] k a below at = absurd cc
+  take-stands (suc n) (x ∷ xs) zero a below at = at
+  take-stands (suc n) (x ∷ xs) (suc k) a below at = take-stands n xs k a (omega arith) at
+
+pub itself : (r : OpId) → IsTrue (only r r)
+itself r = and_from (r.session == r.session) (r.index == r.index) (eq-eqb r.session r.session refl) (eq-eqb r.index r.index refl)
+
+module _ (h : MemoryHistory) where
+  -- a write is no read
+  pub write-or_read : (a b : OpId) (x v y u : ℕ) → Writes h a x v → Reads h b y u → a ≢ b
+  write-or_read a b x v y u writes reads same =
+      let here : Writes h b x v = rw (← same) writes in
+      let both = sym here ∙ ap (option_map (λ (e : MemoryCall × Option RegisterRet). e.0)) reads in
+      let call : Write v ≡ Read = ap (λ (c : MemoryCall). c.call) (same_Some _ _ both) in absurd cc
+
+  module _ (distinct : IsDifferentiated h) (co : Order) (r : OpId) (ops : List OpId) (linear : IsLinearization (past co r) co ops)
+      (explains : Explains memory_answer h ops (only r)) (x v : ℕ) (reads : Reads h r x v) where
+    -- where the read stands
+    pub place : (k : ℕ) × StandsAt ops k r
+    place = linear.each r (or_left (only r r) (co r r) (itself r))
+
+    -- what is before the read in the order stands before it in the list
+    pub stands_before : (a : OpId) → IsTrue (co a r) → (k : ℕ) × (k < place.0) × StandsAt ops k a
+    stands_before a before =
+        let there = linear.each a (or_right (only r a) (co a r) before) in
+        (there.0, linear.ordered there.0 place.0 a r there.1 place.1 before, there.1)
+
+    -- the value that is read is initial, or that of the last write before the read
+    pub value-cases : (IsUnwritten h x (take place.0 ops) × (v ≡ initial h x)) ⊎ ((w : OpId) × IsLastWrite h x (take place.0 ops) w v)
+    value-cases = answer-cases h x (take place.0 ops) v (explains place.0 r (record { key = x; call = Read }) (Value v) place.1 (itself r) reads)
+
+    -- before a read of the initial value there is no write
+    pub no_write_before : v ≡ initial h x → (w : OpId) (u : ℕ) → Writes h w x u → ¬ IsTrue (co w r)
+    no_write_before start w u wrote before =
+        let there = stands_before w before in
+        ⊎_elim
+        (λ (none : IsUnwritten h x (take place.0 ops) × (v ≡ initial h x)).
+        none.0 there.0 w u (take-stands place.0 ops there.0 w there.1 there.2) wrote)
+        (λ (some : (w : OpId) × IsLastWrite h x (take place.0 ops) w v). distinct.not_initial some.0 x v some.1.writes start)
+        value-cases
+
+    -- the write that is read is the last write of the variable before the read
+    pub source-last : v ≢ initial h x → (w : OpId) → Writes h w x v → IsLastWrite h x (take place.0 ops) w v
+    source-last other w wrote =
+        ⊎_elim
+        (λ (none : IsUnwritten h x (take place.0 ops) × (v ≡ initial h x)). absurd (other none.1))
+        (λ (some : (w : OpId) × IsLastWrite h x (take place.0 ops) w v).
+        subst (λ (a : OpId). IsLastWrite h x (take place.0 ops) a v) (distinct.once some.0 w x v some.1.writes wrote) some.1)
+        value-cases
+
+    -- where the write that is read stands
+    pub source-stands : v ≢ initial h x → (w : OpId) → Writes h w x v → (k : ℕ) × StandsAt ops k w
+        × ((a : OpId) (u : ℕ) (j : ℕ) → j < place.0 → StandsAt ops j a → Writes h a x u → j ≤ k)
+    source-stands other w wrote =
+        let last = source-last other w wrote in (
+          last.place,
+          (take-from place.0 ops last.place w last.stands).1,
+          λ a u j below at writes. last.last j a u (take-stands place.0 ops j a below at) writes,
+        )
+
+    -- the write that is read is before the read in the order
+    pub source-before : v ≢ initial h x → (w : OpId) → Writes h w x v → IsTrue (co w r)
+    source-before other w wrote =
+        let there = source-stands other w wrote in
+        ⊎_elim
+        (λ (alone : IsTrue (only r w)). absurd (write-or_read w r x v x v wrote reads (only-same r w alone)))
+        (λ (before : IsTrue (co w r)). before)
+        (or_cases (only r w) (co w r) (linear.no_other there.0 w there.1))

@@ -1,0 +1,122 @@
+-- What a pattern names shows its kind, and so excludes the criteria that the kind is against.
+use Rattle.std.proofs.Common.{◌≡◌, ℕ, zero, suc, ◌+◌, ◌-◌, ◌<◌, ◌⊎◌, inl, inr, List, [], ◌∷◌, length, map, get_or, sym, ap, ◌∙◌, subst, refl, arith, add-one}
+use Rattle.std.specs.Prelude.{◌≢◌, Some, slice_get, option_map, IsTrue}
+use Rattle.std.proofs.lemmas.Option.{same_Some, slice_get_within, slice_get-get_or, get_or_from_slice_get, slice_get-map}
+use Rattle.operations.specs.declared.op_id.OpId.{OpId}
+use Rattle.operations.specs.JsonLaws.{map_from}
+use Rattle.causal_order.specs.Orders.{StandsAt}
+use Rattle.causal_order.specs.Memory.{MemoryHistory, memory_answer}
+use Rattle.causal_order.specs.Relations.{IsPath, CO, CF}
+use Rattle.cert_check.specs.declared.criterion.Criterion.{Criterion}
+use Rattle.cert_check.specs.declared.criterion.Criterion.TheVariants.{Cc, Cm, Ccv}
+use Rattle.cert_check.specs.Criteria.{Meets}
+use Rattle.bad_patterns.specs.declared.kind.Kind.TheVariants as kinds
+use Rattle.bad_patterns.specs.declared.link.Link.{Link}
+use Rattle.bad_patterns.specs.declared.link.Link.TheVariants.{Co, Cf}
+use Rattle.bad_patterns.specs.declared.pattern.Pattern.{Pattern}
+use Rattle.bad_patterns.specs.declared.pattern.Pattern.TheVariants.{CyclicCO, ThinAirRead, WriteCOInitRead, WriteCORead, CyclicCF}
+use Rattle.bad_patterns.specs.Kinds.{is_against, Shows}
+use Rattle.bad_patterns.specs.Paths.{begin_of, end_of, IsLink, AreClosed, AreJoined, IsCycle}
+use Rattle.bad_patterns.specs.Patterns.{kind_of, IsShownBy, IsBadPattern, IsTrueNo}
+use Rattle.bad_patterns.proofs.Exclusion.{consistency-excluded, convergence-excluded}
+use Rattle.bad_patterns.proofs.Leads.{leads-step, goes-leads, goes-apart}
+use Rattle.bad_patterns.proofs.ReadPasts.{write-or_read}
+
+module _ (h : MemoryHistory) where
+  -- a step of a cycle of the causal order and conflicts
+  abbrev IsStep : OpId → OpId → Type 0
+  IsStep a b = CO h a b ⊎ CF h a b
+
+  link-step : (l : Link) (a : OpId) → IsLink h l → begin_of l ≡ Some a → IsStep a (end_of l)
+  link-step (Co b c) a edge begins = let same : b ≡ a = same_Some b a begins in inl (leads-step _ a c (rw (← same) edge))
+  link-step (Cf path w) a (b, r, goes, (x, v, wrote, reads, other), rival) begins =
+      let same : b ≡ a = same_Some b a (sym goes.first ∙ begins) in
+      let writes = rival.1 in
+      rw (← same) (inr (rival, (r, goes-apart h path b r (write-or_read h b r writes.0 writes.1 x v writes.3 reads) goes, (x, v, wrote, reads, other))))
+
+  module _ (links : List Link) (cycle : IsCycle h links) where
+    abbrev last : Link
+    last = cycle.closed.0
+
+    -- where the links end, with the end of the last one in front
+    abbrev ends : List OpId
+    ends = end_of last ∷ map end_of links
+
+    -- the link that leads to a place
+    link-to : (k : ℕ) (b : OpId) → StandsAt ends (k + 1) b → (l : Link) × (slice_get links k ≡ Some l) × (end_of l ≡ b)
+    link-to k b stands =
+        let there : slice_get (map end_of links) k ≡ Some b = rw add-one at stands in
+        map_from end_of (slice_get links k) b (sym (slice_get-map end_of links k) ∙ there)
+
+    link-from : (k : ℕ) (a : OpId) (l : Link) → StandsAt ends k a → slice_get links k ≡ Some l → begin_of l ≡ Some a
+    link-from zero a l stands at =
+        let closed = cycle.closed in
+        let first : closed.1 ≡ l = same_Some _ _ (sym closed.3 ∙ at) in
+        let here : end_of last ≡ a = same_Some _ _ stands in
+        rw (← first, ← here) closed.4
+    link-from (suc k) a l stands at =
+        let before = map_from end_of (slice_get links k) a (sym (slice_get-map end_of links k) ∙ stands) in
+        let next : k + 1 ≡ suc k = omega arith in
+        rw (← before.2) (cycle.joined k before.0 l before.1 (ap (slice_get links) next ∙ at))
+
+    link-at : (k : ℕ) (l : Link) → slice_get links k ≡ Some l → IsLink h l
+    link-at k l at =
+        subst (λ (l : Link). IsLink h l) (get_or_from_slice_get links k l l at) (cycle.each k l (slice_get_within links k l at))
+
+    cycle-shows : Shows h kinds.CyclicCF
+    cycle-shows = (
+      end_of last,
+      (
+        ends,
+        length links - 1,
+        λ k a b at_a at_b.
+            let l = link-to k b at_b in
+            subst (λ (b : OpId). IsStep a b) l.2 (link-step l.0 a (link-at k l.0 l.1) (link-from k a l.0 at_a l.1)),
+        refl,
+        rw add-one (slice_get-map end_of links (length links - 1) ∙ ap (option_map end_of) cycle.closed.2),
+      ),
+    )
+
+  pub pattern-shows : (pattern : Pattern) → IsShownBy h pattern → Shows h (kind_of pattern)
+  pattern-shows (CyclicCO path) (edge, (a, goes)) = (a, goes-leads h path a a edge goes)
+  pattern-shows (ThinAirRead r) shown = (r, shown)
+  pattern-shows (WriteCOInitRead path) (w, r, x, v, wrote, reads, goes) =
+      (w, r, x, v, wrote, reads, goes-apart h path w r (write-or_read h w r x v x _ wrote reads) goes)
+  pattern-shows (WriteCORead first second) (a, b, r, from, rival, above, below) =
+      let writes = rival.1 in (
+        a,
+        b,
+        r,
+        from,
+        rival,
+        goes-apart h first a b rival.0 above,
+        goes-apart h second b r (write-or_read h b r writes.0 writes.2 from.0 from.1 writes.4 from.3) below,
+      )
+  pattern-shows (CyclicCF links) cycle = cycle-shows links cycle
+
+  module _ (of_cm : Meets memory_answer h Cm → Meets memory_answer h Cc) (of_ccv : Meets memory_answer h Ccv → Meets memory_answer h Cc) where
+    to_consistency : (criterion : Criterion) → Meets memory_answer h criterion → Meets memory_answer h Cc
+    to_consistency Cc met = met
+    to_consistency Cm met = of_cm met
+    to_consistency Ccv met = of_ccv met
+
+    not_met : (criterion : Criterion) (pattern : Pattern) → IsBadPattern h criterion pattern → ¬ Meets memory_answer h criterion
+    not_met criterion (CyclicCO path) bad met =
+        consistency-excluded h bad.differentiated kinds.CyclicCO refl (pattern-shows (CyclicCO path) bad.shown) (to_consistency criterion met)
+    not_met criterion (ThinAirRead r) bad met =
+        consistency-excluded h bad.differentiated kinds.ThinAirRead refl (pattern-shows (ThinAirRead r) bad.shown) (to_consistency criterion met)
+    not_met criterion (WriteCOInitRead path) bad met =
+        consistency-excluded h bad.differentiated kinds.WriteCOInitRead refl (pattern-shows (WriteCOInitRead path) bad.shown) (to_consistency criterion met)
+    not_met criterion (WriteCORead first second) bad met =
+        consistency-excluded h bad.differentiated kinds.WriteCORead refl (pattern-shows (WriteCORead first second) bad.shown) (to_consistency criterion met)
+    not_met Cc (CyclicCF links) bad met = let against = bad.against in absurd cc
+    not_met Cm (CyclicCF links) bad met = let against = bad.against in absurd cc
+    not_met Ccv (CyclicCF links) bad met = convergence-excluded h bad.differentiated (pattern-shows (CyclicCF links) bad.shown) met
+
+    -- a bad pattern excludes its criterion, where each criterion contains causal consistency
+    pub pattern-excludes : (criterion : Criterion) (pattern : Pattern) → IsBadPattern h criterion pattern → IsTrueNo h criterion (kind_of pattern)
+    pattern-excludes criterion pattern bad = record {
+      against = bad.against;
+      present = (bad.differentiated, pattern-shows pattern bad.shown);
+      not_met = not_met criterion pattern bad;
+    }

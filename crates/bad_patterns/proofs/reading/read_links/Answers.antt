@@ -1,0 +1,17 @@
+use Rattle.std.proofs.Common.{arith, ◌≤◌, length, ap, ◌∙◌, sym}
+use Rattle.serde_json.specs.View.{view}
+use Rattle.bad_patterns.specs.PatternForm.{link_form, links_form}
+use Rattle.bad_patterns.proofs.PatternReading.{list-read, no_list, forms-more}
+use Rattle.bad_patterns.proofs.reading.read_links.Goals as goal
+
+pub returns-in_default-2 : goal.returns-in_default-2
+returns-in_default-2 c =
+    let none = rw c.in_default-2.is at c.in_ok-link.ensures in
+    no_list view (view c.args.value.now) c.in-Some.values.now c.in-Some.ensures link_form c.loop-value.value-index c.value-item.result c.value-item.is c.loop-value-test.true
+    none
+
+pub returns : goal.returns
+returns c =
+    let ended : length c.in-Some.values.now ≤ c.loop-value.value-index = omega arith in
+    list-read view (view c.args.value.now) c.in-Some.values.now c.in-Some.ensures link_form c.loop-value.links.items c.loop-value.value-index ended c.loop-value.invariant
+    ∙ ap links_form (sym c.of.ensures)

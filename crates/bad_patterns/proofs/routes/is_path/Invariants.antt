@@ -1,0 +1,7 @@
+use Rattle.causal_order.specs.Relations.{IsEdge}
+use Rattle.bad_patterns.proofs.Neighbours.{AreRelatedUpTo}
+use Rattle.bad_patterns.proofs.routes.is_path.Given as goal
+
+-- each operation so far is joined to the next
+abbrev pub invariant-loop-i : goal.invariant-loop-i
+invariant-loop-i l = AreRelatedUpTo (IsEdge l.h) l.ops l.i

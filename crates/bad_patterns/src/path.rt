@@ -1,0 +1,38 @@
+ghost use Rattle.std.specs.Prelude.{◌≡◌};
+
+use operations::OpId;
+use std::marker::Model;
+
+/// Operations, one after the other, of which each is to be joined to the next by an edge of the causal order: the two
+/// stand in one session in this order, or the next one reads from it.
+///
+/// It goes from its first operation to its last. One operation alone is a path with no edge.
+#[derive(Debug, Drop)]
+pub struct Path {
+    ops: Vec<OpId>,
+}
+
+impl Model for Path {
+    ghost use Rattle.std.specs.Prelude.{List};
+    ghost use Rattle.operations.specs.declared.op_id.OpId.{OpId};
+
+    ghost Value = { List OpId };
+
+    ghost view = { λ path. path.ops.items };
+}
+
+impl Path {
+    /// The path over these operations.
+    pub fn of(ops: Vec<OpId>) -> Path
+        ensures { result ≡ ops.items }
+    {
+        Path { ops }
+    }
+
+    /// The operations, in order.
+    pub fn ops(&self) -> &[OpId]
+        ensures { result.now ≡ self.now }
+    {
+        self.ops.as_slice()
+    }
+}

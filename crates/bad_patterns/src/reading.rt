@@ -1,0 +1,171 @@
+//! Reading a pattern from a JSON value.
+
+ghost use Rattle.std.specs.Prelude.{◌≡◌, ◌≢◌, ℕ, List, ◌∷◌, [], codes, map, IfOk, MatchOption};
+ghost use Rattle.serde_json.specs.Data.{Data};
+ghost use Rattle.serde_json.specs.View.{view};
+ghost use Rattle.bad_patterns.specs.PatternForm.{form_of, link_form, links_form, op_form, path_form, worded, IsRead};
+
+use crate::link::{Link, Links};
+use crate::path::Path;
+use crate::pattern::Pattern;
+use operations::{OpId, elements_of};
+use serde_json::Value;
+use std::alloc::{AllocError, Global};
+
+/// The pattern that a JSON value is the form of, where it is one.
+///
+/// The form is a list of the name of the kind and what shows it: `["CyclicCO",path]`, `["ThinAirRead",op]`,
+/// `["WriteCOInitRead",path]`, `["WriteCORead",path,path]` or `["CyclicCF",links]`. An operation is `[session,index]`, a
+/// path is a list of operations, and links are a list of `["co",op,op]` and `["cf",path,op]`. A path and links may be
+/// empty, and the operations may be of no history.
+///
+/// Fails for want of memory alone. O(n) for n operations of the pattern.
+pub fn read_pattern(alloc: Global, value: &Value) -> Result<Option<Pattern>, AllocError>
+    ensures { IfOk result (IsRead form_of (view value.now)) }
+{
+    match word_and_rest(value) {
+        Some((word, rest)) => read_worded(alloc, word, rest),
+        None => Ok(None),
+    }
+}
+
+/// The pattern of a kind that has this name, and of what shows it.
+fn read_worded(alloc: Global, name: &str, rest: &[Value]) -> Result<Option<Pattern>, AllocError>
+    ensures { IfOk result (IsRead form_of (worded name.now (map view rest.now))) }
+{
+    match rest {
+        [part] => read_part(alloc, name, part),
+        [first, second] => {
+            if name == "WriteCORead" {
+                read_two_paths(alloc, first, second)
+            } else {
+                Ok(None)
+            }
+        }
+        _ => Ok(None),
+    }
+}
+
+/// The pattern of a kind that has this name, and of the one thing that shows it.
+fn read_part(alloc: Global, name: &str, part: &Value) -> Result<Option<Pattern>, AllocError>
+    ensures { IfOk result (IsRead form_of (worded name.now (view part.now ∷ []))) }
+{
+    if name == "CyclicCO" {
+        Ok(read_path(alloc, part)?.map(Pattern::CyclicCO))
+    } else if name == "ThinAirRead" {
+        Ok(read_op(part).map(Pattern::ThinAirRead))
+    } else if name == "WriteCOInitRead" {
+        Ok(read_path(alloc, part)?.map(Pattern::WriteCOInitRead))
+    } else if name == "CyclicCF" {
+        Ok(read_links(alloc, part)?.map(Pattern::CyclicCF))
+    } else {
+        Ok(None)
+    }
+}
+
+/// The pattern that two paths show.
+fn read_two_paths(
+    alloc: Global,
+    first: &Value,
+    second: &Value,
+) -> Result<Option<Pattern>, AllocError>
+    ensures { IfOk result (IsRead form_of (worded (codes "WriteCORead") (view first.now ∷ view second.now ∷ []))) }
+{
+    let Some(above) = read_path(alloc, first)? else {
+        return Ok(None);
+    };
+    let Some(below) = read_path(alloc, second)? else {
+        return Ok(None);
+    };
+    Ok(Some(Pattern::WriteCORead(above, below)))
+}
+
+/// The links that a value is the form of.
+fn read_links(alloc: Global, value: &Value) -> Result<Option<Links>, AllocError>
+    ensures { IfOk result (IsRead links_form (view value.now)) }
+{
+    let Some(values) = elements_of(value) else {
+        return Ok(None);
+    };
+    let mut links = Vec::new(alloc);
+    for value in values {
+        let Some(link) = read_link(alloc, value)? else {
+            return Ok(None);
+        };
+        links.push(link)?;
+    }
+    Ok(Some(Links::of(links)))
+}
+
+/// The link that a value is the form of.
+fn read_link(alloc: Global, value: &Value) -> Result<Option<Link>, AllocError>
+    ensures { IfOk result (IsRead link_form (view value.now)) }
+{
+    let Some((word, rest)) = word_and_rest(value) else {
+        return Ok(None);
+    };
+    match rest {
+        [first, second] => read_worded_link(alloc, word, first, second),
+        _ => Ok(None),
+    }
+}
+
+/// The link of this word and of what shows it.
+fn read_worded_link(
+    alloc: Global,
+    word: &str,
+    first: &Value,
+    second: &Value,
+) -> Result<Option<Link>, AllocError>
+    ensures { IfOk result (IsRead link_form (worded word.now (view first.now ∷ view second.now ∷ []))) }
+{
+    let Some(end) = read_op(second) else {
+        return Ok(None);
+    };
+    if word == "co" {
+        Ok(read_op(first).map(|begin| Link::Co(begin, end)))
+    } else if word == "cf" {
+        Ok(read_path(alloc, first)?.map(|path| Link::Cf(path, end)))
+    } else {
+        Ok(None)
+    }
+}
+
+/// The path that a value is the form of.
+fn read_path(alloc: Global, value: &Value) -> Result<Option<Path>, AllocError>
+    ensures { IfOk result (IsRead path_form (view value.now)) }
+{
+    let Some(values) = elements_of(value) else {
+        return Ok(None);
+    };
+    let mut ops = Vec::new(alloc);
+    for value in values {
+        let Some(op) = read_op(value) else {
+            return Ok(None);
+        };
+        ops.push(op)?;
+    }
+    Ok(Some(Path::of(ops)))
+}
+
+/// The operation that a value is the form of.
+fn read_op(value: &Value) -> Option<OpId>
+    ensures { IsRead op_form (view value.now) result }
+{
+    match elements_of(value)? {
+        [session, index] => Some(OpId {
+            session: session.as_u64()?,
+            index: index.as_u64()?,
+        }),
+        _ => None,
+    }
+}
+
+/// The word that a list begins with, and what stands behind it.
+fn word_and_rest(value: &Value) -> Option<(&str, &[Value])>
+    ensures { MatchOption result ((word : List ℕ) (ds : List Data) → view value.now ≢ worded word ds)
+        (λ p. view value.now ≡ worded p.0.now (map view p.1.now)) }
+{
+    let (word, rest) = elements_of(value)?.split_first()?;
+    Some((word.as_str()?, rest))
+}

@@ -1,0 +1,71 @@
+//! Where the paths of a pattern go.
+
+ghost use Rattle.std.specs.Prelude.{◌↔◌, IsTrue, MatchOption};
+ghost use Rattle.operations.specs.declared.op_id.OpId.{OpId};
+ghost use Rattle.causal_order.specs.Relations.{IsEdge, IsPath};
+ghost use Rattle.bad_patterns.specs.Paths.{GoesFrom};
+ghost use Rattle.bad_patterns.specs.Patterns.{ArePathsToOverwrittenRead, IsCyclicPath, IsPathToInitialRead};
+
+use crate::edges::{are_rival_writes, is_edge, reads_from, reads_initial};
+use crate::path::Path;
+use objects::Memory;
+use operations::{History, OpId};
+
+/// Whether each of the operations is joined to the next by an edge of the causal order.
+fn is_path(h: &History<Memory>, ops: &[OpId]) -> bool
+    ensures { IsTrue result ↔ IsPath (IsEdge h.now) ops.now }
+{
+    for i in 1..ops.len() {
+        if !is_edge(h, ops[i - 1], ops[i]) {
+            return false;
+        }
+    }
+    true
+}
+
+/// The operations that a path goes from and to, where it is one of the history's causal order.
+///
+/// O(n log m) for n operations of the path and m initial values of the history.
+pub fn ends_of(h: &History<Memory>, path: &Path) -> Option<(OpId, OpId)>
+    ensures { MatchOption result ((a b : OpId) → ¬ GoesFrom h.now path.now a b) (λ ends. GoesFrom h.now path.now ends.0 ends.1) }
+{
+    let ops = path.ops();
+    if !is_path(h, ops) {
+        return None;
+    }
+    let (Some(first), Some(last)) = (ops.first(), ops.last()) else {
+        return None;
+    };
+    Some((*first, *last))
+}
+
+/// Whether a path with an edge ends where it begins.
+pub fn is_cyclic_path(h: &History<Memory>, path: &Path) -> bool
+    ensures { IsTrue result ↔ IsCyclicPath h.now path.now }
+{
+    let Some(ends) = ends_of(h, path) else {
+        return false;
+    };
+    path.ops().len() > 1 && ends.0 == ends.1
+}
+
+/// Whether a path goes from a write to a read of the initial value of its variable.
+pub fn is_path_to_initial_read(h: &History<Memory>, path: &Path) -> bool
+    ensures { IsTrue result ↔ IsPathToInitialRead h.now path.now }
+{
+    let Some(ends) = ends_of(h, path) else {
+        return false;
+    };
+    reads_initial(h, ends.0, ends.1)
+}
+
+/// Whether the first path goes from a write to another write of its variable, and the second from there to a read that
+/// reads from the first write.
+pub fn are_paths_to_overwritten_read(h: &History<Memory>, first: &Path, second: &Path) -> bool
+    ensures { IsTrue result ↔ ArePathsToOverwrittenRead h.now first.now second.now }
+{
+    let (Some(above), Some(below)) = (ends_of(h, first), ends_of(h, second)) else {
+        return false;
+    };
+    above.1 == below.0 && reads_from(h, above.0, below.1) && are_rival_writes(h, above.0, above.1)
+}

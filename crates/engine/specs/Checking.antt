@@ -1,0 +1,97 @@
+-- What is said of a history and a certificate of it.
+use Rattle.std.specs.Prelude.{◌≡◌, ◌≢◌, ◌⊎◌, ⊤, ⊥, ℕ, List, [], ◌∷◌, Option, Some, None}
+use Rattle.serde_json.specs.Data.{Data}
+use Rattle.operations.specs.declared.read_error.ReadError.{ReadError}
+use Rattle.operations.specs.declared.read_error.ReadError.TheVariants as errors
+use Rattle.operations.specs.declared.any_history.AnyHistory.{AnyHistory}
+use Rattle.operations.specs.History.{Record}
+use Rattle.operations.specs.Json.{elements, list}
+use Rattle.operations.specs.AnyForm.{first_refusal, form_of, IsJson}
+use Rattle.cert_check.specs.declared.certificate.Certificate.{Certificate}
+use Rattle.cert_check.specs.Certificates.{HasShapeOf, IsExplainedThroughout, IsFirstUnexplained}
+use Rattle.cert_check.specs.CertificateForm.{form_of as certificate_form, IsCertificate}
+use Rattle.operations.specs.Refusals.{IsFirst}
+use Rattle.cert_check.specs.Certificates.{criterion_of}
+use Rattle.engine.specs.declared.failure.RunError.{RunError}
+use Rattle.engine.specs.declared.failure.RunError.TheVariants.{History, BadCertificate, ShapeMismatch, Memory}
+use Rattle.engine.specs.Report.{HoldsOf, IsTrueOf, line_for}
+use Rattle.engine.specs.declared.report.Answer.{Answer}
+use Rattle.engine.specs.declared.report.Answer.TheVariants.{Yes, No, Unknown}
+
+-- a history's form and another value in one JSON list, and a text of it
+abbrev pub pair_form : Data → Data → Data
+pair_form history certificate = list (history ∷ certificate ∷ [])
+
+abbrev pub IsPair : List ℕ → Data → Data → Type 0
+IsPair text history certificate = IsJson text (pair_form history certificate)
+
+-- the first refusal of a pair: it is no list of two elements, or its history has this first refusal
+abbrev pub first_of_pair : List Data → Option ReadError
+first_of_pair [] = Some errors.BadShape
+first_of_pair (h ∷ []) = Some errors.BadShape
+first_of_pair (h ∷ c ∷ []) = first_refusal h
+first_of_pair (h ∷ c ∷ d ∷ ds) = Some errors.BadShape
+
+abbrev pub pair_refusal : Option (List Data) → Option ReadError
+pair_refusal None = Some errors.BadShape
+pair_refusal (Some ds) = first_of_pair ds
+
+-- the second element of a pair is no form of a certificate
+abbrev pub HasBadCertificate : Data → Type 0
+HasBadCertificate pair =
+    (h : AnyHistory) × (d : Data) × (pair ≡ pair_form (form_of h) d) × ((c : Certificate) → IsCertificate c → d ≢ certificate_form c)
+
+-- why a value is refused as a pair of a history and a certificate: the first refusal is that of the list or of the
+-- history, or else the certificate has no form
+abbrev pub IsPairErrorOf : Data → RunError → Type 0
+IsPairErrorOf pair (History refusal) = IsFirst (pair_refusal (elements pair)) refusal
+IsPairErrorOf pair BadCertificate = HasBadCertificate pair
+IsPairErrorOf pair Memory = ⊤
+IsPairErrorOf pair _ = ⊥
+
+-- why a text is refused: it is no JSON, or so is its value
+abbrev pub IsPairError : List ℕ → RunError → Type 0
+IsPairError text Memory = ⊤
+IsPairError text (History refusal) =
+    ((refusal ≡ errors.NotJson) × ((d : Data) → ¬ IsJson text d)) ⊎ ((d : Data) × IsJson text d × IsFirst (pair_refusal (elements d)) refusal)
+IsPairError text BadCertificate = (d : Data) × IsJson text d × HasBadCertificate d
+IsPairError text _ = ⊥
+
+module _ {S C R : Type 0} (answer : S → List C → C → R) (h : Record S C R) where
+  -- what is said of a certificate: yes where every piece explains its operation, and else unknown with the first that
+  -- doesn't
+  abbrev pub IsSaidOf : Certificate → Answer → Type 0
+  IsSaidOf certificate Yes = IsExplainedThroughout answer h certificate
+  IsSaidOf certificate (No kind) = ⊥
+  IsSaidOf certificate (Unknown None) = ⊥
+  IsSaidOf certificate (Unknown (Some o)) = IsFirstUnexplained answer h certificate o
+
+-- a certificate has the shape of a history
+abbrev pub HasShape : AnyHistory → Certificate → Type 0
+HasShape history certificate = HoldsOf (λ answer h. HasShapeOf h certificate) history
+
+-- an answer says what the pieces of a certificate of the history show
+abbrev pub IsShown : AnyHistory → Certificate → Answer → Type 0
+IsShown history certificate said = HoldsOf (λ answer h. IsSaidOf answer h certificate said) history
+
+-- the certificate of a text has another shape than its history
+abbrev pub HasOtherShape : List ℕ → Type 0
+HasOtherShape text = (h : AnyHistory) × (c : Certificate) × IsPair text (form_of h) (certificate_form c) × ¬ HasShape h c
+
+-- why a certificate with a form is not checked: it does not have the shape of the history, or memory ran out
+abbrev pub IsCheckError : Type 0 → RunError → Type 0
+IsCheckError has_shape ShapeMismatch = ¬ has_shape
+IsCheckError has_shape Memory = ⊤
+IsCheckError has_shape _ = ⊥
+
+-- the text answers the pair in the input: it is the line of what the pieces of its certificate show, which is true of its
+-- history
+pub record IsCheckReport (input text : List ℕ) : Type 0 where
+  pub history : AnyHistory
+  pub certificate : Certificate
+  pub answer : Answer
+  pub read : IsPair input (form_of history) (certificate_form certificate)
+  pub shape : HasShape history certificate
+  pub shown : IsShown history certificate answer
+  pub true_of : IsTrueOf history (criterion_of certificate) answer
+  pub line : text ≡ line_for (criterion_of certificate) answer

@@ -1,0 +1,108 @@
+//! What is said of a history and a certificate of it.
+
+ghost use Rattle.std.specs.Prelude.{◌≡◌, IfErr, IfOk, string_bytes};
+ghost use Rattle.serde_json.specs.View.{view};
+ghost use Rattle.cert_check.specs.Certificates.{HasShapeOf, criterion_of};
+ghost use Rattle.cert_check.specs.Criteria.{Meets};
+ghost use Rattle.cert_check.specs.CertificateForm.{form_of as certificate_form};
+ghost use Rattle.operations.specs.AnyForm.{form_of};
+ghost use Rattle.engine.specs.Report.{IsTrueOf};
+ghost use Rattle.engine.specs.Running.{IsAnswer, IsAnswerError};
+ghost use Rattle.engine.specs.Checking.{HasShape, IsCheckError, IsPair, IsPairError, IsPairErrorOf, IsSaidOf, IsShown, pair_form};
+
+use crate::command_line::Order;
+use crate::failure::RunError;
+use crate::report::{Answer, report_line};
+use cert_check::{CaseFile, Certificate, first_unexplained, read_certificate};
+use object_trait::SeqObject;
+use operations::{AnyHistory, History, ReadError, elements_of, history_of};
+use serde_json::Value;
+use std::alloc::Global;
+
+/// The line on the certificate in the input, which stands there behind its history.
+pub fn check(alloc: Global, input: &[u8]) -> Result<String, RunError>
+    ensures answer { IfOk result (λ text. IsAnswer Order.Check input.now (string_bytes text)) }
+    ensures error { IfErr result (IsAnswerError Order.Check input.now) }
+{
+    let (history, certificate) = read_pair(alloc, input)?;
+    let criterion = certificate.criterion();
+    let answer = answer_of_certificate(alloc, history, certificate)?;
+    Ok(report_line(alloc, criterion, answer)?)
+}
+
+/// What the pieces of a certificate of a history show.
+///
+/// `Yes` where every piece explains its operation, and then the history meets the certificate's criterion; else `Unknown`
+/// with the first operation whose piece doesn't. `ShapeMismatch` where the certificate does not have the shape of the
+/// history, and `Memory` where an allocation was refused. O(n p k) for n operations with pasts of p operations in k
+/// sessions.
+pub fn answer_of_certificate(
+    alloc: Global,
+    history: AnyHistory,
+    certificate: Certificate,
+) -> Result<Answer, RunError>
+    ensures shape { IfOk result (λ _. HasShape history certificate) }
+    ensures shown { IfOk result (IsShown history certificate) }
+    ensures truth { IfOk result (IsTrueOf history (criterion_of certificate)) }
+    ensures error { IfErr result (IsCheckError (HasShape history certificate)) }
+{
+    match history {
+        AnyHistory::Register(plain) => answer_of_pieces(alloc, plain.into_history(), certificate),
+        AnyHistory::Counter(plain) => answer_of_pieces(alloc, plain.into_history(), certificate),
+        AnyHistory::Set(plain) => answer_of_pieces(alloc, plain.into_history(), certificate),
+        AnyHistory::Queue(plain) => answer_of_pieces(alloc, plain.into_history(), certificate),
+        AnyHistory::Memory(history) => answer_of_pieces(alloc, history, certificate),
+        AnyHistory::Counters(history) => answer_of_pieces(alloc, history, certificate),
+        AnyHistory::Sets(history) => answer_of_pieces(alloc, history, certificate),
+        AnyHistory::Queues(history) => answer_of_pieces(alloc, history, certificate),
+    }
+}
+
+// The same for the histories of one object.
+fn answer_of_pieces<O: SeqObject>(
+    alloc: Global,
+    history: History<O>,
+    certificate: Certificate,
+) -> Result<Answer, RunError>
+    ensures shape { IfOk result (λ _. HasShapeOf history certificate) }
+    ensures shown { IfOk result (IsSaidOf O.answer history certificate) }
+    ensures truth { IfOk result (λ answer. answer ≡ Answer.Yes → Meets O.answer history (criterion_of certificate)) }
+    ensures error { IfErr result (IsCheckError (HasShapeOf history certificate)) }
+{
+    let criterion = certificate.criterion();
+    let file = CaseFile::new(history, criterion, Some(certificate))?;
+    match first_unexplained(alloc, &file)? {
+        None => Ok(Answer::Yes),
+        Some(op) => Ok(Answer::Unknown(Some(op))),
+    }
+}
+
+// The history and the certificate of an input.
+fn read_pair(alloc: Global, input: &[u8]) -> Result<(AnyHistory, Certificate), RunError>
+    ensures read { IfOk result (λ pair. IsPair input.now (form_of pair.0) (certificate_form pair.1)) }
+    ensures error { IfErr result (IsPairError input.now) }
+{
+    match Value::from_slice(alloc, input) {
+        Ok(value) => pair_of(alloc, &value),
+        Err(refused) => {
+            if refused.is_memory() {
+                Err(RunError::Memory)
+            } else {
+                Err(RunError::History(ReadError::NotJson))
+            }
+        }
+    }
+}
+
+// The history and the certificate of a value.
+fn pair_of(alloc: Global, value: &Value) -> Result<(AnyHistory, Certificate), RunError>
+    ensures read { IfOk result (λ pair. view value.now ≡ pair_form (form_of pair.0) (certificate_form pair.1)) }
+    ensures error { IfErr result (IsPairErrorOf (view value.now)) }
+{
+    let Some([history, certificate]) = elements_of(value) else {
+        return Err(RunError::History(ReadError::BadShape));
+    };
+    let history = history_of(alloc, history)?;
+    let certificate = read_certificate(alloc, certificate)?;
+    Ok((history, certificate))
+}
