@@ -57,7 +57,10 @@ fn paths_to_a_read_of_an_overwritten_value(rt: HostRuntime) -> Result<(), Fail> 
         r#"["WriteCORead",[[0,0],[0,1],[1,0],[1,1]],[[1,1],[2,0],[9,0]]]"#,
     ];
     for pattern in patterns {
-        assert!(rt; !is_shown(&rt, OVERWRITTEN, Criterion::Cc, pattern)?, "{pattern}");
+        assert!(rt;
+            !is_shown(&rt, OVERWRITTEN, Criterion::Cc, pattern)?,
+            "{pattern}"
+        );
     }
     Ok(())
 }

@@ -1,2 +1,3 @@
 pub mod FirstWord
 pub mod Usages
+pub mod Pairs

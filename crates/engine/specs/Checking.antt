@@ -1,5 +1,5 @@
 -- What is said of a history and a certificate of it.
-use Rattle.std.specs.Prelude.{◌≡◌, ◌≢◌, ◌⊎◌, ⊤, ⊥, ℕ, List, [], ◌∷◌, Option, Some, None}
+use Rattle.std.specs.Prelude.{◌≡◌, ◌≢◌, ◌⊎◌, ⊤, ℕ, List, [], ◌∷◌, Option, Some, None}
 use Rattle.serde_json.specs.Data.{Data}
 use Rattle.operations.specs.declared.read_error.ReadError.{ReadError}
 use Rattle.operations.specs.declared.read_error.ReadError.TheVariants as errors
@@ -68,11 +68,11 @@ module _ {S C R : Type 0} (answer : S → List C → C → R) (h : Record S C R)
 
 -- a certificate has the shape of a history
 abbrev pub HasShape : AnyHistory → Certificate → Type 0
-HasShape history certificate = HoldsOf (λ answer h. HasShapeOf h certificate) history
+HasShape history certificate = HoldsOf (λ S C R answer h. HasShapeOf h certificate) history
 
 -- an answer says what the pieces of a certificate of the history show
 abbrev pub IsShown : AnyHistory → Certificate → Answer → Type 0
-IsShown history certificate said = HoldsOf (λ answer h. IsSaidOf answer h certificate said) history
+IsShown history certificate said = HoldsOf (λ S C R answer h. IsSaidOf answer h certificate said) history
 
 -- the certificate of a text has another shape than its history
 abbrev pub HasOtherShape : List ℕ → Type 0

@@ -1,5 +1,5 @@
 -- What a line of a report says, and when it is true.
-use Rattle.std.specs.Prelude.{◌≡◌, ⊤, ⊥, ℕ, List, ◌++◌, codes, decimal, Some, None}
+use Rattle.std.specs.Prelude.{◌≡◌, ⊤, ℕ, List, ◌++◌, codes, decimal, Some, None}
 use Rattle.cert_check.specs.declared.criterion.Criterion.{Criterion}
 use Rattle.cert_check.specs.declared.criterion.Criterion.TheVariants.{Cc, Cm, Ccv}
 use Rattle.operations.specs.declared.any_history.AnyHistory.{AnyHistory}
@@ -21,22 +21,22 @@ use Rattle.engine.specs.declared.report.Answer.TheVariants.{Yes, No, Unknown}
 
 -- a fact about what an object answers and a history of it
 abbrev pub Fact : Type 1
-Fact = {S C R : Type 0} → (S → List C → C → R) → Record S C R → Type 0
+Fact = (S C R : Type 0) → (S → List C → C → R) → Record S C R → Type 0
 
 -- the fact about a history and what its own object answers
 abbrev pub HoldsOf : Fact → AnyHistory → Type 0
-HoldsOf fact (histories.Register h) = fact register_answer h
-HoldsOf fact (histories.Counter h) = fact counter_answer h
-HoldsOf fact (histories.Set h) = fact set_answer h
-HoldsOf fact (histories.Queue h) = fact queue_answer h
-HoldsOf fact (histories.Memory h) = fact memory_answer h
-HoldsOf fact (histories.Counters h) = fact (keyed_answer tt counter_answer) h
-HoldsOf fact (histories.Sets h) = fact (keyed_answer tt set_answer) h
-HoldsOf fact (histories.Queues h) = fact (keyed_answer tt queue_answer) h
+HoldsOf fact (histories.Register h) = fact _ _ _ register_answer h
+HoldsOf fact (histories.Counter h) = fact _ _ _ counter_answer h
+HoldsOf fact (histories.Set h) = fact _ _ _ set_answer h
+HoldsOf fact (histories.Queue h) = fact _ _ _ queue_answer h
+HoldsOf fact (histories.Memory h) = fact _ _ _ memory_answer h
+HoldsOf fact (histories.Counters h) = fact _ _ _ (keyed_answer tt counter_answer) h
+HoldsOf fact (histories.Sets h) = fact _ _ _ (keyed_answer tt set_answer) h
+HoldsOf fact (histories.Queues h) = fact _ _ _ (keyed_answer tt queue_answer) h
 
 -- the history meets the criterion
 abbrev pub IsMet : AnyHistory → Criterion → Type 0
-IsMet history criterion = HoldsOf (λ answer h. Meets answer h criterion) history
+IsMet history criterion = HoldsOf (λ S C R answer h. Meets answer h criterion) history
 
 -- the kind is against the criterion and present, and the history does not meet the criterion
 abbrev pub IsExcluded : AnyHistory → Criterion → Kind → Type 0

@@ -1,14 +1,15 @@
 //! What is said of a history and a certificate of it.
 
-ghost use Rattle.std.specs.Prelude.{◌≡◌, IfErr, IfOk, string_bytes};
+ghost use Rattle.std.specs.Prelude.{◌≡◌, IfErr, IfOk, MatchOption, Some, string_bytes};
 ghost use Rattle.serde_json.specs.View.{view};
 ghost use Rattle.cert_check.specs.Certificates.{HasShapeOf, criterion_of};
 ghost use Rattle.cert_check.specs.Criteria.{Meets};
 ghost use Rattle.cert_check.specs.CertificateForm.{form_of as certificate_form};
 ghost use Rattle.operations.specs.AnyForm.{form_of};
+ghost use Rattle.operations.specs.Json.{elements};
 ghost use Rattle.engine.specs.Report.{IsTrueOf};
 ghost use Rattle.engine.specs.Running.{IsAnswer, IsAnswerError};
-ghost use Rattle.engine.specs.Checking.{HasShape, IsCheckError, IsPair, IsPairError, IsPairErrorOf, IsSaidOf, IsShown, pair_form};
+ghost use Rattle.engine.specs.Checking.{HasShape, IsCheckError, IsPair, IsPairError, IsPairErrorOf, IsSaidOf, IsShown, pair_form, pair_refusal};
 
 use crate::command_line::Order;
 use crate::failure::RunError;
@@ -95,14 +96,26 @@ fn read_pair(alloc: Global, input: &[u8]) -> Result<(AnyHistory, Certificate), R
 }
 
 // The history and the certificate of a value.
+#[tactic(auto, using(crate::proofs::Pairs::pair_refused, crate::proofs::Pairs::pair_without_certificate))]
 fn pair_of(alloc: Global, value: &Value) -> Result<(AnyHistory, Certificate), RunError>
     ensures read { IfOk result (λ pair. view value.now ≡ pair_form (form_of pair.0) (certificate_form pair.1)) }
     ensures error { IfErr result (IsPairErrorOf (view value.now)) }
 {
-    let Some([history, certificate]) = elements_of(value) else {
+    let Some(parts) = parts_of(value) else {
         return Err(RunError::History(ReadError::BadShape));
     };
-    let history = history_of(alloc, history)?;
-    let certificate = read_certificate(alloc, certificate)?;
+    let history = history_of(alloc, parts.0)?;
+    let certificate = read_certificate(alloc, parts.1)?;
     Ok((history, certificate))
+}
+
+// The two elements of a list of two.
+fn parts_of(value: &Value) -> Option<(&Value, &Value)>
+    ensures { MatchOption result (pair_refusal (elements (view value.now)) ≡ Some ReadError.BadShape)
+        (λ parts. view value.now ≡ pair_form (view parts.0.now) (view parts.1.now)) }
+{
+    match elements_of(value)? {
+        [history, certificate] => Some((history, certificate)),
+        _ => None,
+    }
 }

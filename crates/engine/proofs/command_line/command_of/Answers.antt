@@ -26,7 +26,6 @@ returns-in-Err-clause-check g c program is =
     let usage = usage_among _ c.in-Err.error _ c.in-Err.ensures.refused c.usage_of.ensures in
     only_memory _ _ (ap (fault_of command_line) is ∙ check_is_faultless program) usage
 
-
 pub order_of_word-requires : goal.order_of_word-requires
 order_of_word-requires g c =
     let is = faultless (map g.S.AsStr.text c.args.words.now) c.in-Ok.ensures.accepted in
