@@ -1,91 +1,124 @@
+//! What `judge` says of histories.
+
 use crate::asking::expect_answer;
 use engine::Order;
+use std::alloc::{AllocError, Global};
 use std::process::Abort;
+use std::test::Fail;
 
-/// Judges a text, and expects this answer.
-fn expect_line<P: Abort + AllocGlobal>(rt: &P, text: &str, line: &str) {
-    expect_answer(rt, Order::Judge, text, line);
+/// Judges each text, and expects this answer.
+fn expect_each<P: Abort + AllocGlobal>(rt: &P, texts: &[&str], line: &str) {
+    for text in texts {
+        expect_answer(rt, Order::Judge, text, line);
+    }
+}
+
+#[test]
+fn each_read_has_a_source_that_explains_it(rt: HostRuntime) {
+    let texts = [
+        r#"["memory",[[["w",0,1]],[["r",0,1]]]]"#,
+        r#"["memory",[]]"#,
+        r#"["memory",[[]]]"#,
+        r#"["memory",[[["w",0,1],["r",0,2]],[["w",0,2],["r",0,1]]]]"#,
+        r#"["memory",[[["w",2,1],["w",0,1],["w",1,1]],[["w",0,2],["r",2,0],["r",1,1],["r",0,2]]]]"#,
+        r#"["memory",[[["w",0,1]],[["w",0,2],["r",0,1],["r",0,2]]]]"#,
+        r#"["memory",[[["w",0,1]],[["w",0,1]],[["r",0,1]]]]"#,
+        r#"["memory",[[["w",0,1],["r",0,"?"]]]]"#,
+        r#"["memory",[[["w",0,1,"?"]],[["r",0,1]]]]"#,
+        r#"["memory",[[["w",0,0]],[["r",0,0]]]]"#,
+        r#"["memory",[[["r",0,5]]],[[0,5]]]"#,
+        r#"["memory",[[["r",0,"?"]]],[[0,5]]]"#,
+    ];
+    expect_each(&rt, &texts, "cc yes\n");
 }
 
 #[test]
 fn read_of_a_value_that_nobody_wrote(rt: HostRuntime) {
-    expect_line(&rt, "[\"memory\",[[[\"r\",0,7]]]]", "cc no ThinAirRead\n");
-    expect_line(
-        &rt,
-        "[\"memory\",[[[\"w\",1,7]],[[\"r\",0,7]]]]",
-        "cc no ThinAirRead\n",
-    );
-    expect_line(
-        &rt,
-        " [ \"memory\" , [ [ [ \"\\u0072\", 0, 7 ] ] ] ] ",
-        "cc no ThinAirRead\n",
-    );
+    let texts = [
+        r#"["memory",[[["r",0,7]]]]"#,
+        r#"["memory",[[["w",1,7]],[["r",0,7]]]]"#,
+        r#" [ "memory" , [ [ [ "\u0072", 0, 7 ] ] ] ] "#,
+        r#"["memory",[[["r",0,0]]],[[0,5]]]"#,
+        r#"["memory",[[["r",1,5]]],[[0,5]]]"#,
+    ];
+    expect_each(&rt, &texts, "cc no ThinAirRead\n");
 }
 
 #[test]
-fn nothing_is_known_of_these_yet(rt: HostRuntime) {
+fn patterns_of_the_causal_order(rt: HostRuntime) {
+    expect_each(
+        &rt,
+        &[r#"["memory",[[["w",0,1],["w",1,1]],[["r",1,1],["w",0,2]],[["r",0,2],["r",0,1]]]]"#],
+        "cc no WriteCORead\n",
+    );
+    expect_each(
+        &rt,
+        &[r#"["memory",[[["r",0,1],["w",0,1]]]]"#],
+        "cc no CyclicCO\n",
+    );
     let texts = [
-        "[\"memory\",[[[\"w\",0,1]],[[\"r\",0,1]]]]",
-        "[\"memory\",[]]",
-        "[\"memory\",[[]]]",
-        "[\"memory\",[[[\"w\",0,1,\"?\"]],[[\"r\",0,1]]]]",
-        "[\"memory\",[[[\"w\",0,1],[\"r\",0,\"?\"]]]]",
+        r#"["memory",[[["w",0,1],["r",0,0]]]]"#,
+        r#"["memory",[[["w",0,0],["r",0,5]]],[[0,5]]]"#,
     ];
-    for text in texts {
-        expect_line(&rt, text, "cc unknown\n");
-    }
+    expect_each(&rt, &texts, "cc no WriteCOInitRead\n");
 }
 
 #[test]
 fn without_distinct_values_there_is_no_no(rt: HostRuntime) {
     let texts = [
-        "[\"memory\",[[[\"w\",0,1]],[[\"w\",0,1]],[[\"r\",0,1]]]]",
-        "[\"memory\",[[[\"w\",0,0],[\"r\",0,7]]]]",
-        "[\"memory\",[[[\"r\",0,7]],[[\"w\",1,4]],[[\"w\",1,4]]]]",
-        "[\"memory\",[[[\"w\",0,5]],[[\"r\",0,7]]],[[0,5]]]",
+        r#"["memory",[[["w",0,0],["r",0,7]]]]"#,
+        r#"["memory",[[["r",0,7]],[["w",1,4]],[["w",1,4]]]]"#,
+        r#"["memory",[[["w",0,5]],[["r",0,7]]],[[0,5]]]"#,
     ];
-    for text in texts {
-        expect_line(&rt, text, "cc unknown\n");
-    }
+    expect_each(&rt, &texts, "cc unknown\n");
 }
 
 #[test]
-fn unknown_return_is_no_read_of_the_initial_value(rt: HostRuntime) {
-    expect_line(&rt, "[\"memory\",[[[\"r\",0,\"?\"]]]]", "cc unknown\n");
-    expect_line(
-        &rt,
-        "[\"memory\",[[[\"r\",0,\"?\"]]],[[0,5]]]",
-        "cc unknown\n",
-    );
-}
-
-#[test]
-fn initial_values_are_those_of_the_table(rt: HostRuntime) {
-    expect_line(
-        &rt,
-        "[\"memory\",[[[\"r\",0,0]]],[[0,5]]]",
-        "cc no ThinAirRead\n",
-    );
-    expect_line(&rt, "[\"memory\",[[[\"r\",0,5]]],[[0,5]]]", "cc unknown\n");
-    expect_line(
-        &rt,
-        "[\"memory\",[[[\"r\",1,5]]],[[0,5]]]",
-        "cc no ThinAirRead\n",
-    );
-}
-
-#[test]
-fn nothing_is_known_of_the_other_objects(rt: HostRuntime) {
+fn the_other_objects_are_explained_by_program_order_alone(rt: HostRuntime) {
     let texts = [
-        r#"["register",[[["r",7]]]]"#,
-        r#"["counter",[[["inc"]],[["get",1]]]]"#,
-        r#"["set",[[["has",1,true]]]]"#,
-        r#"["queue",[[["pop",5]]]]"#,
-        r#"["counters",[[["get",0,1]]]]"#,
-        r#"["sets",[[["has",0,1,true]]]]"#,
-        r#"["queues",[[["pop",0,5]]]]"#,
+        r#"["register",[[["w",7],["r",7]]]]"#,
+        r#"["counter",[[["inc"],["get",1]],[["get",0]]]]"#,
+        r#"["set",[[["add",1],["has",1,true],["rem",1],["has",1,false]]]]"#,
+        r#"["queue",[[["push",5],["pop",5],["pop",null]]]]"#,
+        r#"["counters",[[["get",0,0]]]]"#,
+        r#"["sets",[[["has",0,1,false]]]]"#,
+        r#"["queues",[[["pop",0,null]]]]"#,
     ];
-    for text in texts {
-        expect_line(&rt, text, "cc unknown\n");
+    expect_each(&rt, &texts, "cc yes\n");
+    let texts = [
+        r#"["register",[[["w",7]],[["r",7]]]]"#,
+        r#"["counter",[[["inc"]],[["get",1]]]]"#,
+        r#"["set",[[],[["has",1,true]]]]"#,
+        r#"["queues",[[["push",1,5]],[["pop",1,5]]]]"#,
+    ];
+    expect_each(&rt, &texts, "cc unknown 1.0\n");
+}
+
+/// The history of a session that writes 1 to `most` to one variable, and of another that reads these values.
+fn written_and_read(alloc: Global, most: u64, reads: &[u64]) -> Result<String, AllocError> {
+    let mut text = String::from_str(alloc, r#"["memory",[["#)?;
+    for value in 1..=most {
+        let comma = if value == 1 { "" } else { "," };
+        text.push_str(format!(in alloc; "{comma}[\"w\",0,{value}]")?.as_str())?;
     }
+    text.push_str("],[")?;
+    for (place, value) in reads.iter().enumerate() {
+        let comma = if place == 0 { "" } else { "," };
+        text.push_str(format!(in alloc; "{comma}[\"r\",0,{value}]")?.as_str())?;
+    }
+    text.push_str("]]]")?;
+    Ok(text)
+}
+
+#[test]
+fn values_may_be_read_in_their_order_alone(rt: HostRuntime) -> Result<(), Fail> {
+    let mut values = Vec::new(rt.alloc());
+    for value in 1..=256 {
+        values.push(value)?;
+    }
+    let in_order = written_and_read(rt.alloc(), 256, &values)?;
+    expect_answer(&rt, Order::Judge, in_order.as_str(), "cc yes\n");
+    let backward = written_and_read(rt.alloc(), 256, &[256, 255])?;
+    expect_answer(&rt, Order::Judge, backward.as_str(), "cc no WriteCORead\n");
+    Ok(())
 }

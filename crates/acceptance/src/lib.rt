@@ -12,7 +12,11 @@ mod devices;
 #[cfg(test)]
 mod failures;
 #[cfg(test)]
+mod found_patterns;
+#[cfg(test)]
 mod judged;
+#[cfg(test)]
+mod made_certificates;
 #[cfg(test)]
 mod patterns;
 #[cfg(test)]

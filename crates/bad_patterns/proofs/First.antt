@@ -1,5 +1,5 @@
 -- Which operation is the first thin-air read.
-use Rattle.std.proofs.Common.{◌≡◌, ℕ, ◌+◌, ◌<◌, ◌≤◌, ⊎_elim, length, arith, subst, ◌∙◌, eq-or-lt_of_le, Option, Some, None, is_some, MatchOption, IfNone}
+use Rattle.std.proofs.Common.{◌≡◌, ℕ, ◌+◌, ◌<◌, ◌≤◌, ⊎_elim, length, arith, subst, ◌∙◌, eq-or-lt_of_le, Option, Some, None, Result, Ok, Err, IfOk, IfNone}
 use Rattle.std.proofs.lemmas.Option.{slice_get_within}
 use Rattle.operations.specs.declared.op_id.OpId.{OpId}
 use Rattle.cert_check.specs.declared.criterion.Criterion.{Criterion}
@@ -50,10 +50,13 @@ module _ (h : MemoryHistory) where
         earlier;
   }
 
-  -- a history without a thin-air read has no pattern of that kind
-  pub no_pattern : (criterion : Criterion) (read : Option OpId) (found : Option Pattern) → is_some found ≡ is_some read
-      → MatchOption read ((r : OpId) → ¬ IsThinAirRead h r) (IsFirst h)
-      → IfNone found ((r : OpId) → ¬ IsBadPattern h criterion (ThinAirRead r))
-  no_pattern criterion None None same none = λ r bad. none r bad.shown
-  no_pattern criterion (Some r) None same first = absurd cc
-  no_pattern criterion read (Some pattern) same first = tt
+  -- a pattern that is the first thin-air read, and one of another kind
+  pub first-same : (read r : OpId) → ThinAirRead read ≡ ThinAirRead r → IsFirst h read → IsFirst h r
+  first-same read r same first = let is : read ≡ r = cc in subst (λ (o : OpId). IsFirst h o) is first
+
+  -- a history without a thin-air read has no pattern of that kind, whatever else is found
+  pub no_pattern : {E : Type 0} (criterion : Criterion) (found : Result (Option Pattern) E) → ((r : OpId) → ¬ IsThinAirRead h r)
+      → IfOk found (λ p. IfNone p ((r : OpId) → ¬ IsBadPattern h criterion (ThinAirRead r)))
+  no_pattern criterion (Ok None) none = λ r bad. none r bad.shown
+  no_pattern criterion (Ok (Some pattern)) none = tt
+  no_pattern criterion (Err e) none = tt

@@ -7,3 +7,4 @@ pub mod Neighbours
 pub mod ReadPasts
 pub mod Shown
 pub mod PatternReading
+pub mod KnownSources

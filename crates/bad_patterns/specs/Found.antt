@@ -12,9 +12,9 @@ pub record IsFirst (h : MemoryHistory) (r : OpId) : Type 0 where
   pub thin_air : IsThinAirRead h r
   pub none_earlier : (a : OpId) → IsEarlier a r → ¬ IsThinAirRead h a
 
--- a pattern is the first thin-air read
+-- a pattern that is a thin-air read is the first one
 abbrev pub IsFirstFound : MemoryHistory → Pattern → Type 0
-IsFirstFound h pattern = (r : OpId) × (pattern ≡ ThinAirRead r) × IsFirst h r
+IsFirstFound h pattern = (r : OpId) → pattern ≡ ThinAirRead r → IsFirst h r
 
 -- a thin-air read of a session, and no earlier operation of that session is one
 pub record IsFirstOf (h : MemoryHistory) (s : ℕ) (r : OpId) : Type 0 where

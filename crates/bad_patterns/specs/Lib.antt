@@ -3,3 +3,4 @@ pub mod Paths
 pub mod Patterns
 pub mod Found
 pub mod PatternForm
+pub mod KnownSources

@@ -41,7 +41,7 @@ pub fn check_pattern(
 
 /// Whether the operations of a pattern are as its kind says. O(n log m) for n operations of the pattern and m writes and
 /// initial values of the history.
-fn is_shown(h: &History<Memory>, writes: &[Write], pattern: &Pattern) -> bool
+pub fn is_shown(h: &History<Memory>, writes: &[Write], pattern: &Pattern) -> bool
     requires writes { ListsWrites h.now writes.now }
     requires sorted { IsSorted writes.now }
     ensures { IsTrue result ↔ IsShownBy h.now pattern.now }

@@ -12,6 +12,7 @@ mod path;
 mod pattern;
 mod reading;
 mod routes;
+mod search;
 mod thin_air;
 
 pub use causal_order::is_differentiated;

@@ -9,7 +9,7 @@ use Rattle.causal_order.specs.OrdersLaws.{same_op}
 use Rattle.causal_order.specs.RelationsLaws.{leads-edge, leads-first, leads-leads}
 use Rattle.causal_order.specs.Sources.{Sources, IsListed, AreListed, IsStep, Comes, IsUnfinished, next, IsReady}
 use Rattle.causal_order.specs.Vectors.{Counts}
-use Rattle.causal_order.proofs.Pushed.{listed-length}
+use Rattle.causal_order.specs.PushedLaws.{listed-length}
 
 -- a number is among the first of a sequence, or it is not
 look_for : (g : ℕ → ℕ) (x n : ℕ) → ((j : ℕ) × (j < n) × (g j ≡ x)) ⊎ ((j : ℕ) → j < n → g j ≢ x)

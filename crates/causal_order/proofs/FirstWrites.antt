@@ -17,7 +17,7 @@ use Rattle.causal_order.specs.SourceOrder.{LacksSource, IsSource, IsSourceEdge, 
 use Rattle.causal_order.specs.Sources.{Sources, HasSource, IsListed, AreListed, IsStep, Comes, IsUnfinished, AreVectorsSoFar}
 use Rattle.causal_order.specs.Vectors.{Counts, IsCounted}
 use Rattle.causal_order.specs.Written.{ListsWrites, IsLeastWrite}
-use Rattle.causal_order.proofs.Pushed.{listed-length}
+use Rattle.causal_order.specs.PushedLaws.{listed-length}
 
 module _ (h : MemoryHistory) where
   module _ (writes : List Write) (lists : ListsWrites h writes) (r : OpId) (x v : ℕ) (reads : Reads h r x v) where

@@ -4,6 +4,8 @@ pub mod Distinct
 pub mod FirstWrites
 pub mod Outcomes
 pub mod Least
-pub mod Pushed
 pub mod NextVector
 pub mod Cycles
+pub mod Flat
+pub mod OwnVectors
+pub mod Walked

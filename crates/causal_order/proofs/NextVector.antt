@@ -11,7 +11,7 @@ use Rattle.causal_order.specs.OrdersLaws.{same_op}
 use Rattle.causal_order.specs.RelationsLaws.{leads-edge, from-edge, last-edge, leads-back, IsFrom}
 use Rattle.causal_order.specs.Sources.{Sources, HasSource, IsListed, IsStep, Comes, next, IsReady, AreVectorsSoFar}
 use Rattle.causal_order.specs.Vectors.{Counts, list_of, count, IsCounted}
-use Rattle.causal_order.proofs.Pushed.{pushed, listed-length, pushed-other, pushed-length, pushed-old, pushed-cases, pushed-value_old, pushed-value_next}
+use Rattle.causal_order.specs.PushedLaws.{pushed, listed-length, pushed-other, pushed-length, pushed-old, pushed-cases, pushed-value_old, pushed-value_next}
 
 -- what has no vector counts nothing
 counted-listed : (v : Counts) (o a : OpId) → IsCounted v o a → IsListed v o

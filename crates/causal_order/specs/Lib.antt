@@ -9,3 +9,9 @@ pub mod Vectors
 pub mod VectorsLaws
 pub mod Sources
 pub mod SourceOrder
+pub mod FlatRows
+pub mod Gathered
+pub mod ProgramOrder
+pub mod Topological
+pub mod PushedLaws
+pub mod GatheredLaws

@@ -1,6 +1,6 @@
-ghost use Rattle.std.specs.Prelude.{◌≡◌, ◌∷◌, ◌++◌, ◌<◌, ◌≤◌, ◌≢◌, ◌+◌, ◌-◌, ℕ, List, [], length, max, option_map, unwrap_or, slice_set, slice_index, slice_index_or, IfOk, IfNone, IfSome, MatchOption, OnOk, Some, slice_get, IsTrue, ◌↔◌};
+ghost use Rattle.std.specs.Prelude.{◌≡◌, ◌∷◌, ◌++◌, ◌<◌, ◌≢◌, ◌+◌, ◌-◌, ℕ, List, [], length, max, option_map, unwrap_or, slice_set, slice_index, slice_index_or, IfOk, IfNone, IfSome, MatchOption, OnOk, Some, IsTrue, ◌↔◌};
 ghost use Rattle.operations.specs.declared.op_id.OpId.{OpId as Operation};
-ghost use Rattle.causal_order.specs.Sources.{AreListed, AreShort, AreVectorsSoFar, Comes, HasSource, IsListed, IsReady, IsUnfinished};
+ghost use Rattle.causal_order.specs.Sources.{AreListed, AreShort, AreVectorsSoFar, Comes, IsListed, IsReady, IsUnfinished};
 ghost use Rattle.causal_order.specs.Vectors.{count, list_of};
 
 use crate::by_operation::Vectors;
@@ -9,12 +9,12 @@ use operations::OpId;
 use std::alloc::{AllocError, Global};
 
 /// For each session, for each of its operations, its source: the operation that it waits for besides the one before it.
-pub(crate) type Sources = Rows<Option<OpId>>;
+pub type Sources = Rows<Option<OpId>>;
 
 /// The vectors of the order that program order and the sources make, or `None` where it is cyclic.
 ///
 /// Fails for want of memory alone. O(n k) for n operations of k sessions.
-pub(crate) fn order_of(alloc: Global, sources: &Sources) -> Result<Option<Vectors>, AllocError>
+pub fn order_of(alloc: Global, sources: &Sources) -> Result<Option<Vectors>, AllocError>
     requires listed { AreListed sources.now }
     requires short { AreShort sources.now }
     ensures exact { IfOk result (λ order. IfSome order (AreVectorsSoFar sources.now)) }

@@ -1,4 +1,4 @@
-ghost use Rattle.std.specs.Prelude.{◌≡◌, ◌<◌, length, IfOk, IfNone, IfSome, MatchOption};
+ghost use Rattle.std.specs.Prelude.{◌<◌, length, IfOk, IfNone, IfSome, MatchOption};
 ghost use Rattle.operations.specs.History.{session as operations_of};
 ghost use Rattle.causal_order.specs.SourceOrder.{IsSourceOf, LacksSource, ListsSources, ListsSourcesBelow};
 ghost use Rattle.causal_order.specs.Written.{AreInOrder, IsSorted, ListsWrites};
@@ -59,7 +59,7 @@ fn session_sources(
 
 /// The source of an operation, `Some(None)` where it has none, or `None` where it is a known read of a value that nobody
 /// writes.
-fn source_of(h: &History<Memory>, writes: &[Write], op: OpId) -> Option<Option<OpId>>
+pub fn source_of(h: &History<Memory>, writes: &[Write], op: OpId) -> Option<Option<OpId>>
     requires writes { ListsWrites h.now writes.now }
     requires sorted { IsSorted writes.now }
     requires in_order { AreInOrder writes.now }

@@ -1,19 +1,22 @@
-ghost use Rattle.std.specs.Prelude.{◌≡◌, ◌∷◌, ◌++◌, ◌<◌, List, [], length, map, OnOk, OnErr, slice_index_or};
+ghost use Rattle.std.specs.Prelude.{◌≡◌, ◌∷◌, ◌++◌, ◌<◌, ◌≤◌, List, [], length, OnOk, OnErr, slice_index, slice_index_or};
+ghost use Rattle.causal_order.specs.FlatRows.{cut, start_of, RisesTo};
 
 use std::alloc::{AllocError, Global};
 use std::marker::Model;
 
-/// Lists, one after the other.
+/// Lists, one after the other: all their items in one vector, and where each list ends.
 #[derive(Debug, Drop)]
 pub struct Rows<T> {
-    rows: Vec<Vec<T>>,
-    alloc: Global,
+    items: Vec<T>,
+    ends: Vec<usize>,
 }
 
 impl<T> Model for Rows<T> {
     ghost Value = { List (List T) };
 
-    ghost view = { λ rows. map (λ row. row.items) rows.rows.items };
+    ghost view = { λ rows. cut rows.items.items 0 rows.ends.items };
+
+    ghost invariant = { λ rows. RisesTo 0 rows.ends.items (length rows.items.items) };
 }
 
 impl<T> Rows<T> {
@@ -22,8 +25,8 @@ impl<T> Rows<T> {
         ensures { result ≡ [] }
     {
         Rows {
-            rows: Vec::new(alloc),
-            alloc,
+            items: Vec::new(alloc),
+            ends: Vec::new(alloc),
         }
     }
 
@@ -31,28 +34,52 @@ impl<T> Rows<T> {
     pub fn len(&self) -> usize
         ensures { result ≡ length self.now }
     {
-        self.rows.len()
+        self.ends.len()
     }
 
-    /// The list numbered `i`.
+    /// The list numbered `i`. O(1).
     pub fn get(&self, i: usize) -> &[T]
         requires { i < length self.now }
         ensures { result.now ≡ slice_index_or self.now i [] }
     {
-        &self.rows[i]
+        part(&self.items, &self.ends, i)
     }
+}
+
+/// The part of the items that ends at the i-th of these places.
+fn part<'a, T>(items: &'a [T], ends: &[usize], i: usize) -> &'a [T]
+    requires exists { i < length ends.now }
+    requires rises { RisesTo 0 ends.now (length items.now) }
+    ensures { result.now ≡ slice_index_or (cut items.now 0 ends.now) i [] }
+{
+    let range = range_of(items.len(), ends, i);
+    &items[range.0..range.1]
+}
+
+/// Where the i-th part of so many items begins and ends.
+fn range_of(len: usize, ends: &[usize], i: usize) -> (usize, usize)
+    requires exists { i < length ends.now }
+    requires rises { RisesTo 0 ends.now len }
+    ensures start { result.0 ≡ start_of 0 ends.now i }
+    ensures end { result.1 ≡ slice_index ends.now i }
+    ensures ordered { result.0 ≤ result.1 }
+    ensures inside { result.1 ≤ len }
+{
+    let start = if i == 0 { 0 } else { ends[i - 1] };
+    (start, ends[i])
 }
 
 impl<T: Copy> Rows<T> {
     /// Puts a copy of a list behind the others.
     ///
-    /// Fails for want of memory alone, and the lists are then as they were.
+    /// Fails for want of memory alone, and the lists are then as they were. O(m) for m items, on average.
     pub fn push(&mut self, row: &[T]) -> Result<(), AllocError>
         ensures ok { OnOk result (self.new ≡ self.old ++ row.now ∷ []) }
         ensures err { OnErr result (self.new ≡ self.old) }
     {
-        let copy = Vec::from_slice(self.alloc, row)?;
-        self.rows.push(copy)?;
+        self.ends.reserve(1)?;
+        self.items.extend_from_slice(row)?;
+        self.ends.push(self.items.len())?;
         Ok(())
     }
 }

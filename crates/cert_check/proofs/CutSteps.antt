@@ -129,19 +129,19 @@ module _ {S C R : Type 0} (answer : S → List C → C → R) (h : Record S C R)
   arbitrated-from within answered = record {
     vector = good;
     after_counted = λ k a there.
-      let same : i ≡ k = named_once list i k o stands there in
-      subst (λ (j : ℕ). IsCounted v o a → a ≢ o → StandsBefore (named list) j a) same
-      (after_from_within v list i (length h.1) o stands counts at within a);
+        let same : i ≡ k = named_once list i k o stands there in
+        subst (λ (j : ℕ). IsCounted v o a → a ≢ o → StandsBefore (named list) j a) same
+        (after_from_within v list i (length h.1) o stands counts at within a);
     explains = λ k x c r there alone known.
-      let is : x ≡ o = only-same o x alone in
-      let place : length (filter (counted v o) (take i (named list))) ≡ k =
+        let is : x ≡ o = only-same o x alone in
+        let place : length (filter (counted v o) (take i (named list))) ≡ k =
         filter_once (counted v o) (named list) o (λ j l. named_once list j l o)
         (length (filter (counted v o) (take i (named list)))) k (filter_stands (counted v o) (named list) i o stands counts_itself)
         (subst (λ (y : OpId). StandsAt (filter (counted v o) (named list)) k y) is there) in
-      let front : take k (filter (counted v o) (named list)) ≡ filter (counted v o) (take i (named list)) =
+        let front : take k (filter (counted v o) (named list)) ≡ filter (counted v o) (take i (named list)) =
         ap (λ (j : ℕ). take j (filter (counted v o) (named list))) (sym place) ∙ filter_front (counted v o) (named list) i o stands counts_itself in
-      subst (λ (ops : List OpId). r ≡ answer h.0 (calls h ops) c) (sym front)
-      (answered c r (subst (λ (y : OpId). entry h y ≡ Some (c, Some r)) is known));
+        subst (λ (ops : List OpId). r ≡ answer h.0 (calls h ops) c) (sym front)
+        (answered c r (subst (λ (y : OpId). entry h y ≡ Some (c, Some r)) is known));
   }
 
   pub arbitrated-within : IsArbitratedPiece answer h v list o → (s : ℕ) → count v o s ≤ get_or counts s 0
@@ -152,4 +152,4 @@ module _ {S C R : Type 0} (answer : S → List C → C → R) (h : Record S C R)
   arbitrated-answered piece c r known =
       subst (λ (ops : List OpId). r ≡ answer h.0 (calls h ops) c) (filter_front (counted v o) (named list) i o stands counts_itself)
       (piece.explains (length (filter (counted v o) (take i (named list)))) o c r
-          (filter_stands (counted v o) (named list) i o stands counts_itself) (only-itself o) known)
+      (filter_stands (counted v o) (named list) i o stands counts_itself) (only-itself o) known)

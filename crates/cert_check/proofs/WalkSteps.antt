@@ -36,21 +36,21 @@ module _ (list : List ℕ) (i n s : ℕ) (here : slice_get list i ≡ Some s) (c
   counted_in inside = record {
     width = length-set counts s (get_or counts s 0 + 1) ∙ at.width;
     each = λ t.
-      let width = at.width in
-      let before = at.each t in
-      let next = times-next t list i s here in
-      ⊎_elim
-      (λ (same : t ≡ s).
-      let one = times-same t s (sym same) in
-      let counted = get_or-set_same counts s (get_or counts s 0 + 1) 0 (omega arith) in
-      let place = ap (λ (k : ℕ). get_or (set counts s (get_or counts s 0 + 1)) k 0) same in
-      let own = ap (λ (k : ℕ). get_or counts k 0) same in
-      omega arith)
-      (λ (other : t ≡ s → ⊥).
-      let none = times-other t s (λ e. other (sym e)) in
-      let kept = get_or-set_other counts s t (get_or counts s 0 + 1) 0 other in
-      omega arith)
-      (cases_eq t s);
+        let width = at.width in
+        let before = at.each t in
+        let next = times-next t list i s here in
+        ⊎_elim
+        (λ (same : t ≡ s).
+        let one = times-same t s (sym same) in
+        let counted = get_or-set_same counts s (get_or counts s 0 + 1) 0 (omega arith) in
+        let place = ap (λ (k : ℕ). get_or (set counts s (get_or counts s 0 + 1)) k 0) same in
+        let own = ap (λ (k : ℕ). get_or counts k 0) same in
+        omega arith)
+        (λ (other : t ≡ s → ⊥).
+        let none = times-other t s (λ e. other (sym e)) in
+        let kept = get_or-set_other counts s t (get_or counts s 0 + 1) 0 other in
+        omega arith)
+        (cases_eq t s);
   }
 
 -- with an operation itself counted in, its vector is at most the running counts exactly where all others that it counts
@@ -86,11 +86,11 @@ module _ (v : Counts) (list : List ℕ) (i n : ℕ) (o : OpId) (stands : StandsA
       ⊎_elim
       (λ (below : get_or counts s 0 < count v o s).
       let apart : op s (get_or counts s 0) ≢ o = λ e.
-        let same : s ≡ o.session = ap (λ (x : OpId). x.session) e in
-        let equal : get_or counts s 0 ≡ o.index = ap (λ (x : OpId). x.index) e in
-        let one = times-same s o.session (sym same) in
-        let own = ap (λ (t : ℕ). times t (take i list)) same in
-        omega arith in
+      let same : s ≡ o.session = ap (λ (x : OpId). x.session) e in
+      let equal : get_or counts s 0 ≡ o.index = ap (λ (x : OpId). x.index) e in
+      let one = times-same s o.session (sym same) in
+      let own = ap (λ (t : ℕ). times t (take i list)) same in
+      omega arith in
       let before = counted_from_before list i (op s (get_or counts s 0)) (after (op s (get_or counts s 0)) below apart) in
       let up_to = times-take-le s list i (i + 1) (omega arith) in
       absurd (omega arith))
@@ -126,10 +126,10 @@ module _ {S C R X : Type 0} (stands : X → S → List C → Type 0) (answer : S
     step-ok within answered = record {
       existing = λ x there. subst (IsOp h) (only_here x there) is_op;
       after_counted = λ x a there.
-        subst (λ (y : OpId). IsCounted v y a → a ≢ y → StandsBefore (named list) i a) (only_here x there)
-        (after_from_within v list i (length h.1) o named_here later counting within a);
+          subst (λ (y : OpId). IsCounted v y a → a ≢ y → StandsBefore (named list) i a) (only_here x there)
+          (after_from_within v list i (length h.1) o named_here later counting within a);
       explains = λ x there.
-        subst (λ (y : OpId). IsTrue (kept y) → IsAnsweredAfter answer h (take i (named list)) y) (only_here x there) answered;
+          subst (λ (y : OpId). IsTrue (kept y) → IsAnsweredAfter answer h (take i (named list)) y) (only_here x there) answered;
     }
 
     pub step-on : (object : X) → stands object h.0 (calls h (take i (named list) ++ o ∷ []))

@@ -108,7 +108,7 @@ fn first_of_session<O: SeqObject>(
     ensures { IfOk result (λ first. MatchOption first
         ((i : ℕ) → IsOp h.now (op session i) → IsExplainedPiece O.answer h.now certificate.now (op session i))
         (λ o. (o.session ≡ session) × IsOp h.now o × (¬ IsExplainedPiece O.answer h.now certificate.now o)
-            × ((i : ℕ) → i < o.index → IsExplainedPiece O.answer h.now certificate.now (op session i)))) }
+        × ((i : ℕ) → i < o.index → IsExplainedPiece O.answer h.now certificate.now (op session i)))) }
 {
     for index in 0..h.len(session as u64) {
         let op = OpId {

@@ -40,7 +40,7 @@ impl<O: SeqObject> Walk<O> {
         ensures next { MatchOption result
             ((¬ IsOp h.now (op session (slice_index_or self.old.counts.items session 0))) × (self.new.counts.items ≡ self.old.counts.items))
             (λ next. (next ≡ op session (slice_index_or self.old.counts.items session 0)) × IsOp h.now next
-                × (self.new.counts.items ≡ slice_set self.old.counts.items session (slice_index_or self.old.counts.items session 0 + 1))) }
+            × (self.new.counts.items ≡ slice_set self.old.counts.items session (slice_index_or self.old.counts.items session 0 + 1))) }
     {
         let place = usize::from(session);
         if place >= self.counts.len() {

@@ -1,3 +1,4 @@
 pub mod FirstWord
 pub mod Usages
 pub mod Pairs
+pub mod Founded

@@ -50,6 +50,12 @@ IsTrueOf history criterion Yes = IsMet history criterion
 IsTrueOf history criterion (No kind) = IsExcluded history criterion kind
 IsTrueOf history criterion (Unknown place) = ⊤
 
+-- a yes where the criterion is met, or nothing is known
+abbrev pub IsFounded : Type 0 → Answer → Type 0
+IsFounded met Yes = met
+IsFounded met (No kind) = ⊥
+IsFounded met (Unknown place) = ⊤
+
 -- nothing is left unknown where a value is read out of thin air, in a history of distinct values
 abbrev pub HasNoThinAir : AnyHistory → Type 0
 HasNoThinAir (histories.Memory h) = ¬ IsPresent h ThinAirRead

@@ -60,7 +60,7 @@ pub fn answer_of_certificate(
 }
 
 // The same for the histories of one object.
-fn answer_of_pieces<O: SeqObject>(
+pub fn answer_of_pieces<O: SeqObject>(
     alloc: Global,
     history: History<O>,
     certificate: Certificate,

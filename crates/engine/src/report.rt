@@ -1,12 +1,11 @@
-//! What is said of a history.
+//! What is said of a history, and the line that says it.
 
 ghost use Rattle.std.specs.Prelude.{◌≡◌, IfOk, string_bytes};
-ghost use Rattle.engine.specs.Report.{IsTrueOf, OnlyWithoutThinAir, line_for, name_of, kind_name};
+ghost use Rattle.engine.specs.Report.{line_for, name_of, kind_name};
 
-use bad_patterns::{Kind, check_pattern, find};
+use bad_patterns::Kind;
 use cert_check::Criterion;
-use objects::Memory;
-use operations::{AnyHistory, History, OpId};
+use operations::OpId;
 use std::alloc::{AllocError, Global};
 
 /// What is known of a history and a criterion.
@@ -18,42 +17,6 @@ pub enum Answer {
     No(Kind),
     /// Nothing is known; the first operation that is not explained, where one was looked for.
     Unknown(Option<OpId>),
-}
-
-/// What is known of a history and a criterion.
-///
-/// `No` where a bad pattern is found and checked. Fails for want of memory alone. O(n log n) for n operations.
-pub fn answer_of(
-    alloc: Global,
-    history: &AnyHistory,
-    criterion: Criterion,
-) -> Result<Answer, AllocError>
-    ensures truth { IfOk result (IsTrueOf history.now criterion) }
-    ensures unknown { IfOk result (OnlyWithoutThinAir history.now) }
-{
-    match history {
-        AnyHistory::Memory(history) => answer_of_memory(alloc, history, criterion),
-        _ => Ok(Answer::Unknown(None)),
-    }
-}
-
-// The same of a memory history.
-fn answer_of_memory(
-    alloc: Global,
-    history: &History<Memory>,
-    criterion: Criterion,
-) -> Result<Answer, AllocError>
-    ensures truth { IfOk result (IsTrueOf (AnyHistory.Memory history.now) criterion) }
-    ensures unknown { IfOk result (OnlyWithoutThinAir (AnyHistory.Memory history.now)) }
-{
-    let Some(pattern) = find(alloc, history, criterion)? else {
-        return Ok(Answer::Unknown(None));
-    };
-    if check_pattern(alloc, history, criterion, &pattern)? {
-        Ok(Answer::No(pattern.kind()))
-    } else {
-        Ok(Answer::Unknown(None))
-    }
 }
 
 /// The line of a report: the criterion, a space, the answer and a line feed.

@@ -7,8 +7,9 @@ use crate::checking::check;
 use crate::command_line::Order;
 use crate::failure::RunError;
 use crate::input::read_input;
+use crate::judging::answer_of;
 use crate::output::write_answer;
-use crate::report::{answer_of, report_line};
+use crate::report::report_line;
 use cert_check::Criterion;
 use operations::read_history;
 use std::alloc::Global;
@@ -54,6 +55,6 @@ fn judge(alloc: Global, input: &[u8]) -> Result<String, RunError>
     ensures error { IfErr result (IsAnswerError Order.Judge input.now) }
 {
     let history = read_history(alloc, input)?;
-    let answer = answer_of(alloc, &history, Criterion::Cc)?;
+    let answer = answer_of(alloc, history, Criterion::Cc)?;
     Ok(report_line(alloc, Criterion::Cc, answer)?)
 }

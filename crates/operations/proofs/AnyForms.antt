@@ -104,9 +104,12 @@ module _ {C R : Type 0} (word_of : C → List ℕ) (arguments : C → List Data)
   plain_histories : {S : Type 0} (plain : S) (g h : Record S C R) → IsPlainHistory plain fits g → IsPlainHistory plain fits h
       → map (session_form (plain_form word_of arguments ret_form)) g.1 ≡ map (session_form (plain_form word_of arguments ret_form)) h.1 → g ≡ h
   plain_histories plain g h is_g is_h same =
-      rw (is_g.1 ∙ sym is_h.1, sessions_are_the_same (plain_form word_of arguments ret_form) (plain_at call_at ret_at) fits (λ _. Unit {0})
-      (plain_again word_of arguments ret_form call_at ret_at fits call_again ret_again ret_is_known)
-      (λ _. Unit {0}) g h is_g.0 is_h.0 (λ s i c r here. tt) (λ s i c r here. tt) same) refl
+      rw (
+        is_g.1 ∙ sym is_h.1,
+        sessions_are_the_same (plain_form word_of arguments ret_form) (plain_at call_at ret_at) fits (λ _. Unit {0})
+            (plain_again word_of arguments ret_form call_at ret_at fits call_again ret_again ret_is_known)
+            (λ _. Unit {0}) g h is_g.0 is_h.0 (λ s i c r here. tt) (λ s i c r here. tt) same,
+      ) refl
 
   keyed_histories : {S : Type 0} (plain : S) (start_form : S → Data) (start_at : Data → Option S)
       → ((s : S) → Unit {0} → s ≢ plain → start_at (start_form s) ≡ Some s)
@@ -116,9 +119,12 @@ module _ {C R : Type 0} (word_of : C → List ℕ) (arguments : C → List Data)
   keyed_histories plain start_form start_at start_again g h is_g is_h same starts =
       let again_at = table_again plain (λ _. Unit {0}) start_form start_at start_again in
       let same_start : g.0 ≡ h.0 = same_Some g.0 h.0 (sym (again_at g.0 is_g.0.start tt) ∙ ap (table_at start_at) starts ∙ again_at h.0 is_h.0.start tt) in
-      rw (same_start, sessions_are_the_same (keyed_form word_of arguments ret_form) (keyed_at call_at ret_at) (λ c. fits c.call) (λ c. c.key < 2 ^ 32)
-      (keyed_again word_of arguments ret_form call_at ret_at fits call_again ret_again ret_is_known)
-      _ g h is_g.0 is_h.0 is_g.1 is_h.1 same) refl
+      rw (
+        same_start,
+        sessions_are_the_same (keyed_form word_of arguments ret_form) (keyed_at call_at ret_at) (λ c. fits c.call) (λ c. c.key < 2 ^ 32)
+            (keyed_again word_of arguments ret_form call_at ret_at fits call_again ret_again ret_is_known)
+            _ g h is_g.0 is_h.0 is_g.1 is_h.1 same,
+      ) refl
 
 pub any_forms_are_distinct : (g h : AnyHistory) → IsAnyHistory g → IsAnyHistory h → form_of g ≡ form_of h → g ≡ h
 any_forms_are_distinct (histories.Register g) h is_g is_h same =

@@ -1,5 +1,5 @@
 -- JSON lists and the lists of their elements.
-use Rattle.std.proofs.Common.{◌≡◌, Vec, Global, List, map, Some, ap, sym, ◌∙◌}
+use Rattle.std.proofs.Common.{◌≡◌, Vec, Global, List, map, Some, ap, ◌∙◌}
 use Rattle.serde_json.specs.Data.{Data, null, boolean, number, string, array, object}
 use Rattle.serde_json.specs.Find.{as_array}
 use Rattle.serde_json.specs.View.{view, items_of}

@@ -20,8 +20,8 @@ ghost use Rattle.operations.specs.Spelling.{plain_form, plain_at, plain_start_fo
 use crate::named::Named;
 use crate::spelled::Spelled;
 use objects::{
-    AddRemoveSet, Counter, CounterCall, CounterRet, Queue, QueueCall, QueueRet, Register, RegisterCall, RegisterRet,
-    SetCall, SetRet,
+    AddRemoveSet, Counter, CounterCall, CounterRet, Queue, QueueCall, QueueRet, Register,
+    RegisterCall, RegisterRet, SetCall, SetRet,
 };
 use serde_json::Value;
 use std::alloc::{AllocError, Global};

@@ -8,8 +8,8 @@ ghost use Rattle.operations.specs.Spelling.{entries_at, entry_at, entry_form, pl
 
 use crate::json::elements_of;
 use crate::keys::{entry_of, is_above, key_of};
-use crate::words::{plain_parts, word_alone};
 use crate::unknown::{is_question_mark_alone, push_question_mark};
+use crate::words::{plain_parts, word_alone};
 use object_trait::SeqObject;
 use objects::Table;
 use serde_json::Value;
@@ -104,7 +104,7 @@ pub trait Spelled: SeqObject {
     }
 
     /// The operation without a key that the value spells.
-    fn read_plain(value: &Value) -> Option<(Self::Call, Option<Self::Ret>)>
+    final fn read_plain(value: &Value) -> Option<(Self::Call, Option<Self::Ret>)>
         ensures { result ≡ plain_at call_at ret_at (view value.now) }
     {
         let (word, rest) = plain_parts(value)?;
@@ -112,7 +112,7 @@ pub trait Spelled: SeqObject {
     }
 
     /// The form of an operation without a key.
-    fn write_plain(
+    final fn write_plain(
         alloc: Global,
         call: &Self::Call,
         ret: &Option<Self::Ret>,
@@ -125,7 +125,10 @@ pub trait Spelled: SeqObject {
     }
 
     /// The plain start, where nothing stands behind the sessions.
-    fn read_plain_start(alloc: Global, rest: &[Value]) -> Result<Option<Self::Start>, AllocError>
+    final fn read_plain_start(
+        alloc: Global,
+        rest: &[Value],
+    ) -> Result<Option<Self::Start>, AllocError>
         ensures { IfOk result (λ s. s ≡ plain_start_at Self.plain_start (map view rest.now)) }
     {
         match rest {

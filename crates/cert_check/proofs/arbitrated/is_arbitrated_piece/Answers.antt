@@ -15,7 +15,7 @@ returns-then-not-has_named_all g c =
       (λ e. absurd cc),
       λ piece. absurd (both_ways c.has_named_all.result c.if-not-has_named_all.true
           (c.has_named_all.ensures.1 (arbitrated-within g.O.SeqObject.answer c.args.h.now c.args.v.now c.args.list.now c.args.op good
-                  reached.0 reached.1 c.in_ok-walk.walk.counts.items reached.2.counting piece))),
+          reached.0 reached.1 c.in_ok-walk.walk.counts.items reached.2.counting piece))),
     )
 
 pub returns : goal.returns

@@ -21,8 +21,8 @@ unwrap-next-requires g c =
     let list = c.args.list.now in
     let here = slice_get-get_or list i 0 c.loop-session-test.true in
     some_since c.name_next.result _ _ c.name_next.ensures.next (λ none. none.0
-        (next_is_op c.args.h.now list c.requires.whole i (length c.args.h.now.1) (get_or list i 0) here
-            c.loop-session.walk.counts.items c.loop-session.invariant.0.counting))
+    (next_is_op c.args.h.now list c.requires.whole i (length c.args.h.now.1) (get_or list i 0) here
+    c.loop-session.walk.counts.items c.loop-session.invariant.0.counting))
 
 pub returns-then-eq : goal.returns-then-eq
 returns-then-eq g c =
@@ -32,15 +32,18 @@ returns-then-eq g c =
     let counts = c.loop-session.walk.counts.items in
     let at = c.loop-session.invariant.0 in
     let next = MatchOption-at_some _ _ c.unwrap-next.result c.unwrap-next.ensures c.name_next.ensures.next in
-    let is : c.unwrap-next.result ≡ c.args.op = only-same c.args.op c.unwrap-next.result (sym c.eq.ensures ∙ c.if-eq.true) in
-    (i, subst (λ (o : OpId). StandsAt (named list) i o) is
-        (named_here g.O.SeqObject.stands g.O.SeqObject.answer c.args.h.now c.args.v.now (only c.args.op) list i (get_or list i 0) here
-            counts at.counting c.unwrap-next.result next.0 next.1 c.name_next.new.self.counts.items next.2), record {
-      counting = counting g.O.SeqObject.stands g.O.SeqObject.answer c.args.h.now c.args.v.now (only c.args.op) list i (get_or list i 0) here
+    let is : c.unwrap-next.result ≡ c.args.op = only-same c.args.op c.unwrap-next.result (sym c.eq.ensures ∙ c.if-eq.true) in (
+      i,
+      subst (λ (o : OpId). StandsAt (named list) i o) is
+          (named_here g.O.SeqObject.stands g.O.SeqObject.answer c.args.h.now c.args.v.now (only c.args.op) list i (get_or list i 0) here
+          counts at.counting c.unwrap-next.result next.0 next.1 c.name_next.new.self.counts.items next.2),
+      record {
+        counting = counting g.O.SeqObject.stands g.O.SeqObject.answer c.args.h.now c.args.v.now (only c.args.op) list i (get_or list i 0) here
             counts at.counting c.unwrap-next.result next.0 next.1 c.name_next.new.self.counts.items next.2;
-      state = subst (λ object. g.O.SeqObject.stands object c.args.h.now.0 (calls c.args.h.now (filter (counted c.args.v.now c.args.op) (take i (named list)))))
+        state = subst (λ object. g.O.SeqObject.stands object c.args.h.now.0 (calls c.args.h.now (filter (counted c.args.v.now c.args.op) (take i (named list)))))
             (sym c.name_next.ensures.object) at.state;
-    })
+      },
+    )
 
 pub loop-session-preserved : goal.loop-session-preserved
 loop-session-preserved g c =
@@ -51,16 +54,17 @@ loop-session-preserved g c =
     let at = c.loop-session.invariant.0 in
     let next = MatchOption-at_some _ _ c.unwrap-next.result c.unwrap-next.ensures c.name_next.ensures.next in
     let stands = named_here g.O.SeqObject.stands g.O.SeqObject.answer c.args.h.now c.args.v.now (only c.args.op) list i (get_or list i 0) here
-            counts at.counting c.unwrap-next.result next.0 next.1 c.name_next.new.self.counts.items next.2 in
+    counts at.counting c.unwrap-next.result next.0 next.1 c.name_next.new.self.counts.items next.2 in
     let taken = c.in_ok-take_in_counted.ensures.state (take i (named list))
-        (subst (λ object. g.O.SeqObject.stands object c.args.h.now.0 (calls c.args.h.now (filter (counted c.args.v.now c.args.op) (take i (named list)))))
-            (sym c.name_next.ensures.object) at.state) in
-    (record {
-      counting = counting g.O.SeqObject.stands g.O.SeqObject.answer c.args.h.now c.args.v.now (only c.args.op) list i (get_or list i 0) here
+    (subst (λ object. g.O.SeqObject.stands object c.args.h.now.0 (calls c.args.h.now (filter (counted c.args.v.now c.args.op) (take i (named list)))))
+    (sym c.name_next.ensures.object) at.state) in (
+      record {
+        counting = counting g.O.SeqObject.stands g.O.SeqObject.answer c.args.h.now c.args.v.now (only c.args.op) list i (get_or list i 0) here
             counts at.counting c.unwrap-next.result next.0 next.1 c.take_in_counted.new.self.counts.items
             (c.in_ok-take_in_counted.ensures.counts ∙ next.2);
-      state = subst (λ (ops : List OpId). g.O.SeqObject.stands c.take_in_counted.new.self.object c.args.h.now.0
+        state = subst (λ (ops : List OpId). g.O.SeqObject.stands c.take_in_counted.new.self.object c.args.h.now.0
             (calls c.args.h.now (filter (counted c.args.v.now c.args.op) ops))) (sym (take_next (named list) i c.unwrap-next.result stands)) taken;
-    },
-    not_named_yet list i (length c.args.h.now.1) (get_or list i 0) here counts at.counting c.args.op (λ same.
-        both_ways c.eq.result c.if-eq.false (c.eq.ensures ∙ subst (λ (o : OpId). IsTrue (only c.args.op o)) (sym (next.0 ∙ same)) (only-itself c.args.op))) c.loop-session.invariant.1)
+      },
+      not_named_yet list i (length c.args.h.now.1) (get_or list i 0) here counts at.counting c.args.op (λ same.
+          both_ways c.eq.result c.if-eq.false (c.eq.ensures ∙ subst (λ (o : OpId). IsTrue (only c.args.op o)) (sym (next.0 ∙ same)) (only-itself c.args.op))) c.loop-session.invariant.1,
+    )

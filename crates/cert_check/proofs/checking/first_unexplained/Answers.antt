@@ -12,7 +12,7 @@ use Rattle.cert_check.proofs.checking.first_unexplained.Goals as goal
 pub returns-clause-explained : goal.returns-clause-explained
 returns-clause-explained g c = λ _ certificate is o is_op.
     let same : c.unwrap-certificate.result.now ≡ certificate =
-        same_Some _ _ (sym (ap option_copied c.unwrap-certificate.ensures) ∙ c.certificate.ensures.certificate ∙ is) in
+    same_Some _ _ (sym (ap option_copied c.unwrap-certificate.ensures) ∙ c.certificate.ensures.certificate ∙ is) in
     let there = subst (λ h. IsOp h o) (sym c.history-h.ensures) is_op in
     let inside = session-of_history c.history-h.result.now o there in
     let explained = c.loop-session.invariant o.session o.index (omega arith) there in
@@ -22,7 +22,7 @@ returns-clause-explained g c = λ _ certificate is o is_op.
 pub returns-clause-meets : goal.returns-clause-meets
 returns-clause-meets g c = λ none.
     let is : c.args.file.now.2 ≡ Some c.unwrap-certificate.result.now =
-        sym (sym (ap option_copied c.unwrap-certificate.ensures) ∙ c.certificate.ensures.certificate) in
+    sym (sym (ap option_copied c.unwrap-certificate.ensures) ∙ c.certificate.ensures.certificate) in
     let good = c.certificate.ensures.is_case_file c.unwrap-certificate.result.now is in
     subst (λ (k : Criterion). Meets g.O.SeqObject.answer c.args.file.now.0 k) good.0
     (c.explained_certificates_show_their_criterion.ensures c.args.file.now.0 c.unwrap-certificate.result.now good.1

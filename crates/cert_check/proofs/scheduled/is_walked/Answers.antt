@@ -15,10 +15,10 @@ pub returns-then-not-branch : goal.returns-then-not-branch
 returns-then-not-branch g c = (
   (λ e. absurd cc),
   λ walked.
-    let i = c.loop-session.session-index in
-    let here = slice_get-get_or c.args.schedule.now i 0 c.loop-session-test.true in
-    absurd (both_ways c.in_ok-step.field-0 c.if-not-branch.true
-        ((c.in_ok-step.ensures.exact c.args.schedule.now i c.loop-session.invariant.0 here).1 (walked.0 i))),
+      let i = c.loop-session.session-index in
+      let here = slice_get-get_or c.args.schedule.now i 0 c.loop-session-test.true in
+      absurd (both_ways c.in_ok-step.field-0 c.if-not-branch.true
+      ((c.in_ok-step.ensures.exact c.args.schedule.now i c.loop-session.invariant.0 here).1 (walked.0 i))),
 )
 
 pub loop-session-preserved : goal.loop-session-preserved
@@ -28,7 +28,7 @@ loop-session-preserved g c =
     let at = c.loop-session.invariant.0 in (
       c.in_ok-step.ensures.on c.args.schedule.now i at here c.if-not-branch.false,
       below_more (λ (j : ℕ). IsStepOk g.O.SeqObject.answer c.args.h.now c.args.v.now (kept_of c.args.kept) (named c.args.schedule.now) j) i c.loop-session.invariant.1
-      ((c.in_ok-step.ensures.exact c.args.schedule.now i at here).0 c.if-not-branch.false),
+          ((c.in_ok-step.ensures.exact c.args.schedule.now i at here).0 c.if-not-branch.false),
     )
 
 pub returns : goal.returns

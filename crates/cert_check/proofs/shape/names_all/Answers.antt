@@ -8,8 +8,8 @@ pub returns-then-not-names_sessions : goal.returns-then-not-names_sessions
 returns-then-not-names_sessions g c = (
   (λ e. absurd cc),
   λ exact.
-    let small = subst (λ (n : ℕ). All (λ s. s < n) c.args.list.now) (sym c.sessions.ensures.count) (names_within c.args.h.now c.args.list.now exact) in
-    absurd (both_ways c.names_sessions.result c.if-not-names_sessions.true (c.names_sessions.ensures.1 small)),
+      let small = subst (λ (n : ℕ). All (λ s. s < n) c.args.list.now) (sym c.sessions.ensures.count) (names_within c.args.h.now c.args.list.now exact) in
+      absurd (both_ways c.names_sessions.result c.if-not-names_sessions.true (c.names_sessions.ensures.1 small)),
 )
 
 pub returns : goal.returns

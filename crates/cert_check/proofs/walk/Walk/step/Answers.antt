@@ -20,7 +20,7 @@ returns-then-not-has_named_all-clause-exact g c = λ list i at here. (
       c.args.self.now.counts.items at.counting c.in-Some.next c.in-Some.ensures.next.0 c.in-Some.ensures.next.1
       c.name_next.new.self.counts.items c.in-Some.ensures.next.2
       (λ within. both_ways c.has_named_all.result c.if-not-has_named_all.true
-          (c.has_named_all.ensures.1 within))
+      (c.has_named_all.ensures.1 within))
       ok),
 )
 
@@ -31,17 +31,17 @@ returns-then-answered-clause-exact g c = λ list i at here. (
       c.name_next.new.self.counts.items c.in-Some.ensures.next.2
       (c.has_named_all.ensures.0 c.if-not-has_named_all.false)
       (λ kept. (c.in_ok-answered.ensures.answer (take i (named list))
-          (subst (λ object. g.O.SeqObject.stands object c.args.h.now.0 (calls c.args.h.now (take i (named list)))) (sym c.name_next.ensures.object) at.state)).0 c.if-answered.true)),
+      (subst (λ object. g.O.SeqObject.stands object c.args.h.now.0 (calls c.args.h.now (take i (named list)))) (sym c.name_next.ensures.object) at.state)).0 c.if-answered.true)),
   λ _. c.if-answered.true,
 )
 
 pub returns-then-answered-clause-on : goal.returns-then-answered-clause-on
 returns-then-answered-clause-on g c = λ list i at here _.
     step-on g.O.SeqObject.stands g.O.SeqObject.answer c.args.h.now c.args.v.now (kept_of c.args.kept) list i c.args.session here
-      c.args.self.now.counts.items at.counting c.in-Some.next c.in-Some.ensures.next.0 c.in-Some.ensures.next.1
-      c.take_in.new.self.counts.items (c.in_ok-answered.ensures.counts ∙ c.in-Some.ensures.next.2)
-      c.take_in.new.self.object (c.in_ok-answered.ensures.state (take i (named list))
-          (subst (λ object. g.O.SeqObject.stands object c.args.h.now.0 (calls c.args.h.now (take i (named list)))) (sym c.name_next.ensures.object) at.state))
+    c.args.self.now.counts.items at.counting c.in-Some.next c.in-Some.ensures.next.0 c.in-Some.ensures.next.1
+    c.take_in.new.self.counts.items (c.in_ok-answered.ensures.counts ∙ c.in-Some.ensures.next.2)
+    c.take_in.new.self.object (c.in_ok-answered.ensures.state (take i (named list))
+    (subst (λ object. g.O.SeqObject.stands object c.args.h.now.0 (calls c.args.h.now (take i (named list)))) (sym c.name_next.ensures.object) at.state))
 
 pub returns-else-answered-clause-exact : goal.returns-else-answered-clause-exact
 returns-else-answered-clause-exact g c = λ list i at here. (
@@ -53,18 +53,18 @@ returns-else-answered-clause-exact g c = λ list i at here. (
   λ ok. not_from_false c.keeps.result (false_from_ne_true c.keeps.result (λ keeps.
       both_ways c.in_ok-answered.answered c.if-answered.false
       ((c.in_ok-answered.ensures.answer (take i (named list))
-          (subst (λ object. g.O.SeqObject.stands object c.args.h.now.0 (calls c.args.h.now (take i (named list)))) (sym c.name_next.ensures.object) at.state)).1
+      (subst (λ object. g.O.SeqObject.stands object c.args.h.now.0 (calls c.args.h.now (take i (named list)))) (sym c.name_next.ensures.object) at.state)).1
       (ok.explains c.in-Some.next
-          (named_here g.O.SeqObject.stands g.O.SeqObject.answer c.args.h.now c.args.v.now (kept_of c.args.kept) list i c.args.session here
+      (named_here g.O.SeqObject.stands g.O.SeqObject.answer c.args.h.now c.args.v.now (kept_of c.args.kept) list i c.args.session here
       c.args.self.now.counts.items at.counting c.in-Some.next c.in-Some.ensures.next.0 c.in-Some.ensures.next.1
-          c.name_next.new.self.counts.items c.in-Some.ensures.next.2)
-          (sym c.keeps.ensures ∙ keeps))))),
+      c.name_next.new.self.counts.items c.in-Some.ensures.next.2)
+      (sym c.keeps.ensures ∙ keeps))))),
 )
 
 pub returns-else-answered-clause-on : goal.returns-else-answered-clause-on
 returns-else-answered-clause-on g c = λ list i at here _.
     step-on g.O.SeqObject.stands g.O.SeqObject.answer c.args.h.now c.args.v.now (kept_of c.args.kept) list i c.args.session here
-      c.args.self.now.counts.items at.counting c.in-Some.next c.in-Some.ensures.next.0 c.in-Some.ensures.next.1
-      c.take_in.new.self.counts.items (c.in_ok-answered.ensures.counts ∙ c.in-Some.ensures.next.2)
-      c.take_in.new.self.object (c.in_ok-answered.ensures.state (take i (named list))
-          (subst (λ object. g.O.SeqObject.stands object c.args.h.now.0 (calls c.args.h.now (take i (named list)))) (sym c.name_next.ensures.object) at.state))
+    c.args.self.now.counts.items at.counting c.in-Some.next c.in-Some.ensures.next.0 c.in-Some.ensures.next.1
+    c.take_in.new.self.counts.items (c.in_ok-answered.ensures.counts ∙ c.in-Some.ensures.next.2)
+    c.take_in.new.self.object (c.in_ok-answered.ensures.state (take i (named list))
+    (subst (λ object. g.O.SeqObject.stands object c.args.h.now.0 (calls c.args.h.now (take i (named list)))) (sym c.name_next.ensures.object) at.state))

@@ -1,0 +1,150 @@
+ghost use Rattle.std.specs.Prelude.{◌≡◌, ◌≢◌, ◌∷◌, ◌++◌, ◌<◌, ◌≤◌, ◌↔◌, ℕ, [], length, max, MatchOption, OnErr, OnOk, IsTrue, slice_index_or};
+ghost use Rattle.causal_order.specs.Topological.{AreSeen, AreSquare, CanGoOn, IsFullWalk, IsNext, placed};
+
+use crate::by_operation::Vectors;
+use operations::OpId;
+use std::alloc::{AllocError, Global};
+use std::marker::Model;
+
+const MOST_SESSIONS: usize = 16;
+
+/// A walk through operations of at most 16 sessions: which are placed, and in what order.
+#[derive(Drop)]
+pub struct Walk {
+    placed: [u32; MOST_SESSIONS],
+    schedule: Vec<u8>,
+}
+
+impl Model for Walk {
+    ghost use Rattle.std.specs.Prelude.{List, ℕ};
+    ghost use Rattle.causal_order.specs.Topological.{IsTally};
+
+    ghost Value = { List ℕ };
+
+    ghost view = { λ walk. walk.schedule.items };
+
+    ghost invariant = { λ walk. IsTally 16 walk.schedule.items walk.placed };
+}
+
+impl Walk {
+    /// A walk that has placed nothing.
+    pub fn new(alloc: Global) -> Walk
+        ensures { result ≡ [] }
+    {
+        Walk {
+            placed: [0; MOST_SESSIONS],
+            schedule: Vec::new(alloc),
+        }
+    }
+
+    /// For each placed operation its session, in order.
+    pub fn schedule(&self) -> &[u8]
+        ensures { result.now ≡ self.now }
+    {
+        self.schedule.as_slice()
+    }
+
+    /// Places the next operation of a session, whether it can follow or not.
+    ///
+    /// Fails for want of memory alone, and the walk is then as it was.
+    pub fn place(&mut self, session: usize) -> Result<(), AllocError>
+        requires few { session < 16 }
+        requires room { placed self.old session < 65536 }
+        ensures ok { OnOk result (self.new ≡ self.old ++ session ∷ []) }
+        ensures err { OnErr result (self.new ≡ self.old) }
+    {
+        self.schedule.push(session as u8)?;
+        self.placed[session] += 1;
+        Ok(())
+    }
+
+    /// Places operations by the topological rule: again and again the next one of the least session that can go on,
+    /// until none can.
+    ///
+    /// A session can go on where its next operation has a vector, is below the session's limit, and all that its vector
+    /// counts of other sessions is placed. Fails for want of memory alone, and what was placed until then stays placed.
+    /// O(p k + k^2) for p operations that are placed and k sessions.
+    pub fn run_to(&mut self, vectors: &Vectors, limits: &[u16]) -> Result<(), AllocError>
+        requires few { length vectors.now ≤ 16 }
+        requires square { AreSquare vectors.now }
+        requires limits { length limits.now ≡ length vectors.now }
+        ensures rule { OnOk result (IsFullWalk vectors.now limits.now self.old self.new) }
+        ensures within { (s : ℕ) → placed self.new s ≤ max (placed self.old s) (slice_index_or limits.now s 0) }
+    {
+        let mut seen = [0; MOST_SESSIONS];
+        while let Some(session) = self.next(vectors, limits, &mut seen) {
+            self.place(session)?;
+            seen[session] = 0;
+        }
+        Ok(())
+    }
+
+    /// The least session that can go on.
+    fn next(
+        &self,
+        vectors: &Vectors,
+        limits: &[u16],
+        seen: &mut [usize; MOST_SESSIONS],
+    ) -> Option<usize>
+        requires few { length vectors.now ≤ 16 }
+        requires square { AreSquare vectors.now }
+        requires limits { length limits.now ≡ length vectors.now }
+        requires seen { AreSeen vectors.now self.now seen.old }
+        ensures seen { AreSeen vectors.now self.now seen.new }
+        ensures next { MatchOption result ((s : ℕ) → ¬ CanGoOn vectors.now limits.now self.now s) (IsNext vectors.now limits.now self.now) }
+    {
+        for session in 0..vectors.sessions() {
+            if self.can_go_on(vectors, limits, session, seen) {
+                return Some(session);
+            }
+        }
+        None
+    }
+
+    /// Whether a session can go on.
+    fn can_go_on(
+        &self,
+        vectors: &Vectors,
+        limits: &[u16],
+        session: usize,
+        seen: &mut [usize; MOST_SESSIONS],
+    ) -> bool
+        requires few { length vectors.now ≤ 16 }
+        requires square { AreSquare vectors.now }
+        requires limits { length limits.now ≡ length vectors.now }
+        requires exists { session < length vectors.now }
+        requires seen { AreSeen vectors.now self.now seen.old }
+        ensures seen { AreSeen vectors.now self.now seen.new }
+        ensures can { IsTrue result ↔ CanGoOn vectors.now limits.now self.now session }
+    {
+        let index = self.placed[session];
+        if index >= limits[session] as u32 || index as usize >= vectors.operations(session) {
+            return false;
+        }
+        let op = OpId {
+            session: session as u64,
+            index: index as u64,
+        };
+        let counts = vectors.get(op);
+        let missing = self.first_missing(counts, session, seen[session]);
+        seen[session] = missing;
+        missing == counts.len()
+    }
+
+    /// The first session from `start` on, other than `own`, of which a vector counts more than is placed, or how many
+    /// sessions there are.
+    fn first_missing(&self, counts: &[u16], own: usize, start: usize) -> usize
+        requires { length counts.now ≤ 16 }
+        ensures bound { result ≤ length counts.now }
+        ensures seen { (s : ℕ) → start ≤ s → s < result → s ≢ own → slice_index_or counts.now s 0 ≤ placed self.now s }
+        ensures missing { result < length counts.now → result ≢ own }
+        ensures not_placed { result < length counts.now → placed self.now result < slice_index_or counts.now result 0 }
+    {
+        for session in start..counts.len() {
+            if session != own && self.placed[session] < counts[session] as u32 {
+                return session;
+            }
+        }
+        counts.len()
+    }
+}

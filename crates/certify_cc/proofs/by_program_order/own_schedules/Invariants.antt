@@ -1,0 +1,7 @@
+use Rattle.causal_order.specs.Gathered.{AreGatheredBefore}
+use Rattle.certify_cc.specs.ByProgramOrder.{IsOwnSchedule}
+use Rattle.certify_cc.proofs.by_program_order.own_schedules.Given as goal
+
+-- the sessions so far have their schedules
+abbrev pub invariant-loop-session : goal.invariant-loop-session
+invariant-loop-session g l = AreGatheredBefore l.h IsOwnSchedule l.session l.schedules

@@ -1,0 +1,11 @@
+use Rattle.std.proofs.Common.{◌≡◌, replicate}
+use Rattle.causal_order.specs.Gathered.{AreGatheredUpTo}
+use Rattle.certify_cc.specs.ByProgramOrder.{IsOwnSchedule}
+use Rattle.certify_cc.proofs.by_program_order.push_own_schedules.Given as goal
+
+-- the operations so far have their schedules, and the schedule is that of the last of them
+abbrev pub invariant-loop-index : goal.invariant-loop-index
+invariant-loop-index g l = record {
+  so_far : AreGatheredUpTo l.h IsOwnSchedule l.session l._index l.schedules;
+  schedule : l.schedule.items ≡ replicate l._index l.session;
+}

@@ -1,0 +1,2 @@
+pub mod ByProgramOrder
+pub mod BySources

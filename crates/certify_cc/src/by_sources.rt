@@ -1,0 +1,90 @@
+//! Certificates of memory histories by the writes that their reads read from.
+
+ghost use Rattle.std.specs.Prelude.{◌≡◌, ◌⊎◌, ◌+◌, ◌<◌, ◌≤◌, length, IfNone, IfOk, IfSome, OnOk};
+ghost use Rattle.operations.specs.History.{IsOp};
+ghost use Rattle.operations.specs.declared.op_id.OpId.{OpId as Operation};
+ghost use Rattle.causal_order.specs.Gathered.{AreGatheredBefore};
+ghost use Rattle.causal_order.specs.SourceOrder.{LacksSource, SourceOrder};
+ghost use Rattle.causal_order.specs.Vectors.{AreVectorsOf, HasOneEach, list_of};
+ghost use Rattle.causal_order.specs.Written.{AreInOrder, IsSorted, ListsWrites};
+ghost use Rattle.cert_check.specs.Certificates.{criterion_of, HasShapeOf};
+ghost use Rattle.certify_cc.specs.BySources.{IsBySources, IsScheduleFor};
+
+use crate::schedule::schedule_of;
+use causal_order::{Vectors, Write, memory_order, sorted_writes, source_of};
+use cert_check::{Certificate, Criterion, Schedules};
+use objects::Memory;
+use operations::{History, OpId};
+use std::alloc::{AllocError, Global};
+
+/// A certificate of causal consistency of a memory history: the past of an operation is what is before it in the order
+/// that program order and the sources of the reads make, and in the schedule of a read its source stands as late as this
+/// order lets it.
+///
+/// The source of a known read of a value that is not the initial one is the first write of that value. `None` where the
+/// order is cyclic, or where a read has no source. Whether the certificate explains the known returns is for the checker
+/// of certificates to say. Fails for want of memory alone. O(n p k) for n operations of k sessions and pasts of at most p
+/// operations.
+pub fn make_memory(alloc: Global, h: &History<Memory>) -> Result<Option<Certificate>, AllocError>
+    ensures criterion { IfOk result (λ made. IfSome made (λ c. criterion_of c ≡ Criterion.Cc)) }
+    ensures shape { IfOk result (λ made. IfSome made (HasShapeOf h.now)) }
+    ensures exact { IfOk result (λ made. IfSome made (IsBySources h.now)) }
+    ensures none { IfOk result (λ made. IfNone made (((a : Operation) × SourceOrder h.now a a) ⊎ LacksSource h.now)) }
+{
+    let Some(vectors) = memory_order(alloc, h)? else {
+        return Ok(None);
+    };
+    let schedules = schedules_by_sources(alloc, h, &vectors)?;
+    Ok(Some(Certificate::Cc(vectors, schedules)))
+}
+
+/// For each operation, the schedule of its past.
+fn schedules_by_sources(
+    alloc: Global,
+    h: &History<Memory>,
+    vectors: &Vectors,
+) -> Result<Schedules, AllocError>
+    requires vectors { AreVectorsOf h.now vectors.now }
+    requires sources { ¬ LacksSource h.now }
+    ensures shape { IfOk result (HasOneEach h.now) }
+    ensures exact { IfOk result (λ schedules. (o : Operation) → IsOp h.now o → IsScheduleFor h.now vectors.now o (list_of schedules o)) }
+{
+    let writes = sorted_writes(alloc, h)?;
+    let mut schedules = Schedules::new(alloc);
+    for session in 0..h.sessions() {
+        push_schedules(alloc, h, vectors, &writes, session, &mut schedules)?;
+    }
+    Ok(schedules)
+}
+
+/// Puts the schedules of a session behind those of the sessions before it.
+fn push_schedules(
+    alloc: Global,
+    h: &History<Memory>,
+    vectors: &Vectors,
+    writes: &[Write],
+    session: usize,
+    schedules: &mut Schedules,
+) -> Result<(), AllocError>
+    requires vectors { AreVectorsOf h.now vectors.now }
+    requires sources { ¬ LacksSource h.now }
+    requires writes { ListsWrites h.now writes.now }
+    requires sorted { IsSorted writes.now }
+    requires in_order { AreInOrder writes.now }
+    requires few { length h.now.1 ≤ 16 }
+    requires exists { session < length h.now.1 }
+    requires so_far { AreGatheredBefore h.now (IsScheduleFor h.now vectors.now) session schedules.old }
+    ensures { OnOk result (AreGatheredBefore h.now (IsScheduleFor h.now vectors.now) (session + 1) schedules.new) }
+{
+    schedules.push_session()?;
+    for index in 0..h.len(session as u64) {
+        let op = OpId {
+            session: session as u64,
+            index: index as u64,
+        };
+        let source = source_of(h, writes, op).flatten();
+        let walk = schedule_of(alloc, vectors, op, source)?;
+        schedules.push(session, walk.schedule())?;
+    }
+    Ok(())
+}

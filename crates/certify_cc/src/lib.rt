@@ -1,0 +1,9 @@
+//! Certificates of causal consistency.
+#![tactic(auto)]
+
+mod by_program_order;
+mod by_sources;
+mod schedule;
+
+pub use by_program_order::make;
+pub use by_sources::make_memory;
