@@ -24,6 +24,4 @@ mod refused;
 #[cfg(test)]
 mod runs;
 #[cfg(test)]
-mod small_histories;
-#[cfg(test)]
 mod texts;

@@ -2,7 +2,7 @@
 
 use causal_order::ByOperation;
 use cert_check::Certificate;
-use certify_cc::{make, make_memory};
+use certify_cc::make_memory;
 use objects::Memory;
 use operations::{AnyHistory, History, OpId, ReadError, read_history};
 use std::alloc::Global;
@@ -52,25 +52,6 @@ fn reads_follow_their_sources(rt: HostRuntime) -> Result<(), Fail> {
             "in {text}"
         );
         assert_eq!(rt; list_at(&vectors, session, index + 3), None, "in {text}");
-    }
-    Ok(())
-}
-
-#[test]
-fn program_order_alone_has_a_certificate(rt: HostRuntime) -> Result<(), Fail> {
-    let text = r#"["memory",[[["w",0,1]],[["r",0,1],["r",0,7]]]]"#;
-    let cases = [
-        (0, 0, [1, 0].as_slice(), [0].as_slice()),
-        (1, 0, [0, 1].as_slice(), [1].as_slice()),
-        (1, 1, [0, 2].as_slice(), [1, 1].as_slice()),
-    ];
-    let history = memory(rt.alloc(), text)?;
-    let Some(Certificate::Cc(vectors, schedules)) = make(rt.alloc(), &history)? else {
-        panic!(rt; "no certificate of {text}");
-    };
-    for (session, index, vector, schedule) in cases {
-        assert_eq!(rt; list_at(&vectors, session, index), Some(vector));
-        assert_eq!(rt; list_at(&schedules, session, index), Some(schedule));
     }
     Ok(())
 }

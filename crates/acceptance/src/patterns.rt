@@ -1,6 +1,6 @@
 //! What `check_pattern` says of patterns as JSON.
 
-use bad_patterns::{check_pattern, read_pattern};
+use bad_patterns::{check_pattern, is_differentiated, read_pattern};
 use cert_check::Criterion;
 use objects::Memory;
 use operations::{AnyHistory, History, read_history};
@@ -40,6 +40,7 @@ fn is_shown<P: Abort + AllocGlobal>(
     pattern: &str,
 ) -> Result<bool, Fail> {
     let history = memory_history(rt.alloc(), history)?;
+    assert!(rt; is_differentiated(rt.alloc(), &history)?);
     let value = Value::from_slice(rt.alloc(), pattern.as_bytes())?;
     let pattern = read_pattern(rt.alloc(), &value)?.ok_or("a pattern")?;
     Ok(check_pattern(rt.alloc(), &history, criterion, &pattern)?)
