@@ -1,16 +1,12 @@
 -- What the writes of a history say of its distinct values and of its reads.
-use Rattle.std.proofs.Common.{◌≡◌, ℕ, Option, get_or, Bool, true, false, not, List, ap, sym, ◌∙◌, refl}
-use Rattle.std.specs.Prelude.{◌≢◌, ◌↔◌, All, Contains, IsTrue}
-use Rattle.std.proofs.lemmas.List.Elements.{All-contains, Contains-get_or}
-use Rattle.std.proofs.lemmas.Option.{same_Some}
-use Rattle.objects.specs.declared.register.RegisterRet.{RegisterRet}
-use Rattle.objects.specs.declared.register.RegisterRet.TheVariants.{Value}
+use Rattle.std.proofs.Common.{◌≡◌, ℕ, Bool, true, false, not, List, sym, refl}
+use Rattle.std.specs.Prelude.{◌≢◌, ◌↔◌, Contains, IsTrue}
 use Rattle.operations.specs.declared.op_id.OpId.{OpId}
 use Rattle.causal_order.specs.declared.writes.Write.{Write}
-use Rattle.causal_order.specs.Memory.{MemoryCall, MemoryHistory, initial, Writes, Reads, IsDifferentiated}
+use Rattle.causal_order.specs.Memory.{MemoryHistory, initial, Reads}
 use Rattle.bad_patterns.specs.Kinds.{IsThinAirRead}
 use Rattle.causal_order.specs.MemoryLaws.{same_read}
-use Rattle.causal_order.specs.Written.{ListsWrites, AreOnce}
+use Rattle.causal_order.specs.Written.{ListsWrites}
 
 module _ (h : MemoryHistory) (writes : List Write) (lists : ListsWrites h writes) where
   -- a known read of a value that is not the initial one is out of thin air where that value is not written

@@ -1,16 +1,15 @@
 -- Each kind of bad pattern excludes the criteria that it is against.
-use Rattle.std.proofs.Common.{◌≡◌, ℕ, ◌<◌, ◌≤◌, ◌⊎◌, inl, inr, ⊎_elim, List, take, sym, ap, ◌∙◌, subst, refl, arith, lt-ltb, length, eq-or-lt_of_le}
-use Rattle.std.specs.Prelude.{◌≢◌, Some, slice_get, filter, IsTrue}
+use Rattle.std.proofs.Common.{◌≡◌, ℕ, ◌<◌, ◌⊎◌, ⊎_elim, List, take, sym, ap, ◌∙◌, refl, arith, lt-ltb, length, eq-or-lt_of_le}
+use Rattle.std.specs.Prelude.{slice_get, filter, IsTrue}
 use Rattle.std.proofs.lemmas.Option.{slice_get_within, same_Some}
 use Rattle.operations.specs.declared.op_id.OpId.{OpId}
 use Rattle.operations.specs.History.{IsOp, session}
-use Rattle.causal_order.specs.Orders.{Order, Ops, only, past, StandsAt, IsLinearization}
+use Rattle.causal_order.specs.Orders.{Order, only, past, IsLinearization}
 use Rattle.causal_order.specs.Memory.{MemoryHistory, memory_answer, initial, Writes, Reads, IsDifferentiated}
-use Rattle.causal_order.specs.Relations.{Leads, ReadsFrom, IsEdge, CO, AreRivalWrites, CF}
+use Rattle.causal_order.specs.Relations.{ReadsFrom, IsEdge, CO, CF}
 use Rattle.causal_order.specs.MemoryLaws.{same_written}
-use Rattle.cert_check.specs.declared.criterion.Criterion.{Criterion}
-use Rattle.cert_check.specs.declared.criterion.Criterion.TheVariants.{Cc, Cm, Ccv}
-use Rattle.cert_check.specs.Criteria.{every, IsCausalOrder, Explains, IsCausallyConsistent, IsCausallyConvergent, Meets}
+use Rattle.cert_check.specs.declared.criterion.Criterion.TheVariants.{Cc}
+use Rattle.cert_check.specs.Criteria.{every, IsCausalOrder, Explains, IsCausallyConsistent, IsCausallyConvergent}
 use Rattle.cert_check.specs.FilteredLaws.{StandBoth, filter_in_order}
 use Rattle.cert_check.specs.ConvergentLaws.{cut_is_linearization}
 use Rattle.bad_patterns.specs.declared.kind.Kind.{Kind}
@@ -22,7 +21,7 @@ use Rattle.bad_patterns.proofs.ReadPasts.{place, stands_before, value-cases, no_
 
 module _ (h : MemoryHistory) where
   -- under an order the past of each operation has a linearization that explains what the operation returned
-  abbrev EachIsExplained : Order → Type 0
+  abbrev pub EachIsExplained : Order → Type 0
   EachIsExplained co =
       (o : OpId) → IsOp h o → (ops : List OpId) × IsLinearization (past co o) co ops × Explains memory_answer h ops (only o)
 

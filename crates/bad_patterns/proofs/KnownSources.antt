@@ -1,20 +1,18 @@
 -- The listing of the writes that operations read from.
-use Rattle.std.specs.Prelude.{◌≡◌, ℕ, ◌+◌, ◌<◌, ◌≤◌, List, [], ◌∷◌, ◌++◌, length, Option, Some, None, MatchOption, Contains, slice_get}
-use Rattle.std.proofs.Common.{arith, get_or, sym, ap, subst, subst₂, ◌∙◌, ⊎_elim, refl, length-append}
+use Rattle.std.specs.Prelude.{◌≡◌, ℕ, ◌+◌, ◌<◌, ◌≤◌, List, [], ◌∷◌, ◌++◌, length, Option, Some, None, MatchOption, Contains}
+use Rattle.std.proofs.Common.{arith, get_or, sym, subst, subst₂, ◌∙◌, ⊎_elim, length-append}
 use Rattle.std.proofs.lemmas.Bool.{cases_lt}
-use Rattle.std.proofs.lemmas.List.{get_or_past, get_or_append_left, get_or_push}
+use Rattle.std.proofs.lemmas.List.{get_or_append_left, get_or_push}
 use Rattle.std.proofs.lemmas.Option.{same_Some, slice_get-get_or, slice_get_within}
 use Rattle.operations.specs.declared.op_id.OpId.{OpId}
 use Rattle.operations.specs.History.{session}
 use Rattle.causal_order.specs.declared.writes.Write.{Write}
-use Rattle.causal_order.specs.Memory.{MemoryHistory, initial, Writes, Reads}
-use Rattle.causal_order.specs.MemoryLaws.{same_read, write-of_history}
+use Rattle.causal_order.specs.Memory.{MemoryHistory, initial, Reads}
+use Rattle.causal_order.specs.MemoryLaws.{same_read}
 use Rattle.causal_order.specs.Orders.{op}
-use Rattle.causal_order.specs.Relations.{ReadsFrom}
-use Rattle.causal_order.specs.Sources.{Sources, AreListed, AreShort}
+use Rattle.causal_order.specs.Sources.{Sources}
 use Rattle.causal_order.specs.Written.{ListsWrites, IsLeastWrite}
-use Rattle.causal_order.specs.PushedLaws.{listed-length}
-use Rattle.bad_patterns.specs.KnownSources.{IsKnownSourceOf, ListsKnownBelow, ListsKnownSoFar, ListsKnownSources}
+use Rattle.bad_patterns.specs.KnownSources.{IsKnownSourceOf, ListsKnownBelow, ListsKnownSoFar}
 
 module _ (h : MemoryHistory) where
   module _ (r : OpId) (x v : ℕ) (reads : Reads h r x v) where
@@ -65,38 +63,3 @@ module _ (h : MemoryHistory) where
             subst₂ (λ (k : ℕ) (xs : List (Option OpId)). ListsKnownBelow h k (length (session h k)) xs) place (sym (get_or_push sources es [] s last)) below)
             (cases_lt s n);
       })
-
-  module _ (sources : Sources) (lists : ListsKnownSources h sources) where
-    known-length : (s : ℕ) → length (get_or sources s []) ≡ length (session h s)
-    known-length s = ⊎_elim
-        (λ (inside : s < length h.1). (lists.each s inside).count)
-        (λ (past : length h.1 ≤ s).
-        let here = get_or_past sources s [] (let same = lists.sessions in omega arith) in
-        let there = get_or_past h.1 s [] past in
-        ap (λ (xs : List (Option OpId)). length xs) here ∙ sym (ap (λ (xs : _). length xs) there))
-        (cases_lt s (length h.1))
-
-    -- each source is an operation that the lists have
-    pub known-listed : AreListed sources
-    known-listed o w has =
-        let below = slice_get_within (get_or sources o.session []) o.index (Some w) has in
-        let inside : o.session < length h.1 =
-        let within = listed-length sources o.session o.index below in
-        let same = lists.sessions in omega arith in
-        let from : ReadsFrom h w o = (lists.each o.session inside).each o.index (Some w) has in
-        let is_op = write-of_history h w from.0 from.1 from.2 in
-        let same = known-length w.session in
-        omega arith
-
-    -- each session is short
-    pub known-short : AreShort sources
-    known-short s = ⊎_elim
-        (λ (inside : s < length h.1).
-        let count = (lists.each s inside).count in
-        let short = (lists.each s inside).short in
-        omega arith)
-        (λ (past : length h.1 ≤ s).
-        let here = get_or_past sources s [] (let same = lists.sessions in omega arith) in
-        let none : length (get_or sources s []) ≡ 0 = ap (λ (xs : List (Option OpId)). length xs) here in
-        omega arith)
-        (cases_lt s (length h.1))

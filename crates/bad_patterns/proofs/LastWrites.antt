@@ -1,5 +1,5 @@
 -- What a memory answers to a read comes from the last write of the variable in the list of operations before it.
-use Rattle.std.proofs.Common.{◌≡◌, ℕ, zero, suc, ◌<◌, ◌≤◌, ◌⊎◌, inl, inr, ⊎_elim, true, false, cond, List, [], ◌∷◌, map, sym, ap, ◌∙◌, refl, eqb-true, eq-eqb, arith}
+use Rattle.std.proofs.Common.{◌≡◌, ℕ, zero, suc, ◌≤◌, ◌⊎◌, inl, inr, ⊎_elim, true, false, cond, List, [], ◌∷◌, map, ap, ◌∙◌, refl, eqb-true, eq-eqb, arith}
 use Rattle.std.specs.List.{cons_option}
 use Rattle.std.specs.Prelude.{Option, Some, None, option_map, filter, ◌==◌}
 use Rattle.std.proofs.lemmas.Option.{same_Some}

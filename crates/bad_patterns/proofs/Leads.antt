@@ -1,12 +1,13 @@
 -- Paths: what a transitive relation that has each step has from end to end, and which paths lead.
-use Rattle.std.proofs.Common.{◌≡◌, ℕ, zero, suc, ◌+◌, ◌-◌, ◌<◌, ◌≤◌, List, [], ◌∷◌, length, get_or, ⊎_elim, refl, arith, ap, sym, ◌∙◌, subst}
-use Rattle.std.specs.Prelude.{◌≢◌, Some, slice_get}
+use Rattle.std.proofs.Common.{◌≡◌, ℕ, zero, suc, ◌+◌, ◌-◌, ◌<◌, ◌≤◌, List, [], ◌∷◌, length, get_or, ⊎_elim, inl, inr, refl, arith, ap, sym, ◌∙◌, subst}
+use Rattle.std.specs.Prelude.{◌≢◌, slice_get}
 use Rattle.std.proofs.lemmas.Option.{same_Some, slice_get_within, slice_get-get_or}
 use Rattle.std.proofs.lemmas.Bool.{cases_lt}
 use Rattle.operations.specs.declared.op_id.OpId.{OpId}
 use Rattle.causal_order.specs.Orders.{StandsAt}
 use Rattle.causal_order.specs.Memory.{MemoryHistory}
-use Rattle.causal_order.specs.Relations.{IsPath, Leads, IsEdge, CO}
+use Rattle.causal_order.specs.Relations.{IsPath, Leads, IsEdge, CO, IsPast}
+use Rattle.causal_order.specs.RelationsLaws.{leads-leads}
 use Rattle.bad_patterns.specs.Paths.{GoesFrom, HasEdge}
 
 module _ (related wider : OpId → OpId → Type 0) (transitive : (a b c : OpId) → wider a b → wider b c → wider a c)
@@ -54,3 +55,21 @@ module _ (h : MemoryHistory) where
       let one : length path - 1 ≡ 0 = omega arith in
       absurd (apart (same_Some a b (sym goes.first ∙ ap (slice_get path) (sym one) ∙ goes.last))))
       (cases_lt 1 (length path))
+
+  -- a path from an operation to o stays in the past of o
+  pub goes-past : (path : List OpId) (o a : OpId) → GoesFrom h path a o → IsPast h o a
+  goes-past path o a goes =
+      ⊎_elim
+      (λ (edge : 1 < length path). inr (goes-leads path a o edge goes))
+      (λ (short : length path ≤ 1).
+      let one : length path - 1 ≡ 0 = omega arith in
+      inl (same_Some a o (sym goes.first ∙ ap (slice_get path) (sym one) ∙ goes.last)))
+      (cases_lt 1 (length path))
+
+  -- what is in CO before the past of o is in the past of o
+  pub past-before : (o a b : OpId) → CO h a b → IsPast h o b → IsPast h o a
+  past-before o a b before past =
+      ⊎_elim
+      (λ (same : b ≡ o). inr (subst (λ (c : OpId). CO h a c) same before))
+      (λ (above : CO h b o). inr (leads-leads (IsEdge h) a b o before above))
+      past

@@ -1,8 +1,12 @@
 pub mod Distinct
 pub mod Exclusion
+pub mod Standing
+pub mod MemoryExclusion
 pub mod First
 pub mod LastWrites
 pub mod Leads
+pub mod Derived
+pub mod DerivedEnds
 pub mod Neighbours
 pub mod ReadPasts
 pub mod Shown

@@ -3,16 +3,17 @@ use Rattle.std.proofs.Common.{◌≡◌, ℕ, ◌+◌, ◌<◌, ◌≤◌, List,
 use Rattle.std.specs.Prelude.{◌≢◌, codes, Some, option_map, slice_get}
 use Rattle.std.proofs.lemmas.List.{length-map, take_all, take_more, map_push}
 use Rattle.std.proofs.lemmas.Option.{same_Some, slice_get-map, slice_get-get_or}
-use Rattle.serde_json.specs.Data.{Data, number, string, unsigned}
+use Rattle.serde_json.specs.Data.{Data, string}
 use Rattle.serde_json.specs.Find.{as_str}
-use Rattle.operations.specs.declared.op_id.OpId.{OpId}
 use Rattle.operations.specs.Json.{list, elements, whole_number}
 use Rattle.operations.specs.JsonLaws.{map_from, whole_number-read, as_str-read, elements-list, list_from_elements}
+use Rattle.bad_patterns.specs.declared.derivation.Line.{Line}
+use Rattle.bad_patterns.specs.declared.derivation.Line.TheVariants as line
 use Rattle.bad_patterns.specs.declared.link.Link.{Link}
 use Rattle.bad_patterns.specs.declared.link.Link.TheVariants.{Co, Cf}
 use Rattle.bad_patterns.specs.declared.pattern.Pattern.{Pattern}
-use Rattle.bad_patterns.specs.declared.pattern.Pattern.TheVariants.{CyclicCO, ThinAirRead, WriteCOInitRead, WriteCORead, CyclicCF}
-use Rattle.bad_patterns.specs.PatternForm.{worded, op_form, path_form, link_form, links_form, form_of}
+use Rattle.bad_patterns.specs.declared.pattern.Pattern.TheVariants.{CyclicCO, ThinAirRead, WriteCOInitRead, WriteCORead, WriteHBInitRead, CyclicHB, CyclicCF}
+use Rattle.bad_patterns.specs.PatternForm.{worded, op_form, path_form, link_form, links_form, number_form, line_form, lines_form, form_of}
 
 module _ {V : Type 0} (view : V → Data) (d : Data) (values : List V) (has : Some (map view values) ≡ elements d) where
   is_list : d ≡ list (map view values)
@@ -74,6 +75,8 @@ pattern-parts (CyclicCO path) = (codes "CyclicCO", path_form path ∷ [], refl, 
 pattern-parts (ThinAirRead r) = (codes "ThinAirRead", op_form r ∷ [], refl, λ one two. one refl)
 pattern-parts (WriteCOInitRead path) = (codes "WriteCOInitRead", path_form path ∷ [], refl, λ one two. one refl)
 pattern-parts (WriteCORead first second) = (codes "WriteCORead", path_form first ∷ path_form second ∷ [], refl, λ one two. two refl)
+pattern-parts (WriteHBInitRead o lines) = (codes "WriteHBInitRead", op_form o ∷ lines_form lines ∷ [], refl, λ one two. two refl)
+pattern-parts (CyclicHB o lines) = (codes "CyclicHB", op_form o ∷ lines_form lines ∷ [], refl, λ one two. two refl)
 pattern-parts (CyclicCF links) = (codes "CyclicCF", links_form links ∷ [], refl, λ one two. one refl)
 
 -- every link is a list of a word and two things
@@ -81,11 +84,20 @@ link-parts : (link : Link) → (word : List ℕ) × (ds : List Data) × (link_fo
 link-parts (Co a b) = (codes "co", op_form a ∷ op_form b ∷ [], refl, refl)
 link-parts (Cf path b) = (codes "cf", path_form path ∷ op_form b ∷ [], refl, refl)
 
+-- every line is a list of a word and two things
+line-parts : (l : Line) → (word : List ℕ) × (ds : List Data) × (line_form l ≡ worded word ds) × (length ds ≡ 2)
+line-parts (line.Co first second) = (codes "co", path_form first ∷ path_form second ∷ [], refl, refl)
+line-parts (line.Tr i j) = (codes "tr", number_form i ∷ number_form j ∷ [], refl, refl)
+line-parts (line.Rf i r) = (codes "rf", number_form i ∷ op_form r ∷ [], refl, refl)
+
 pub no_pattern-unworded : (d : Data) → ((word : List ℕ) (ds : List Data) → d ≢ worded word ds) → (pattern : Pattern) → d ≢ form_of pattern
 no_pattern-unworded d none pattern same = let parts = pattern-parts pattern in none parts.0 parts.1 (same ∙ parts.2)
 
 pub no_link-unworded : (d : Data) → ((word : List ℕ) (ds : List Data) → d ≢ worded word ds) → (link : Link) → d ≢ link_form link
 no_link-unworded d none link same = let parts = link-parts link in none parts.0 parts.1 (same ∙ parts.2)
+
+pub no_line-unworded : (d : Data) → ((word : List ℕ) (ds : List Data) → d ≢ worded word ds) → (l : Line) → d ≢ line_form l
+no_line-unworded d none l same = let parts = line-parts l in none parts.0 parts.1 (same ∙ parts.2)
 
 module _ {V : Type 0} (view : V → Data) (d : Data) (word : List ℕ) (values : List V) (is : d ≡ worded word (map view values)) where
   count : (ds : List Data) (other : List ℕ) → d ≡ worded other ds → length values ≡ length ds
@@ -103,3 +115,7 @@ module _ {V : Type 0} (view : V → Data) (d : Data) (word : List ℕ) (values :
   pub no_link-sized : length values ≢ 2 → (link : Link) → d ≢ link_form link
   no_link-sized two link same =
       let parts = link-parts link in two (count parts.1 parts.0 (same ∙ parts.2) ∙ parts.3)
+
+  pub no_line-sized : length values ≢ 2 → (l : Line) → d ≢ line_form l
+  no_line-sized two l same =
+      let parts = line-parts l in two (count parts.1 parts.0 (same ∙ parts.2) ∙ parts.3)

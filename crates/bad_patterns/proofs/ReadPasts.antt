@@ -7,8 +7,7 @@ use Rattle.objects.specs.declared.register.RegisterCall.TheVariants.{Write, Read
 use Rattle.objects.specs.declared.register.RegisterRet.{RegisterRet}
 use Rattle.objects.specs.declared.register.RegisterRet.TheVariants.{Value}
 use Rattle.operations.specs.declared.op_id.OpId.{OpId}
-use Rattle.operations.specs.History.{calls}
-use Rattle.causal_order.specs.Orders.{Order, only, past, StandsAt, IsLinearization}
+use Rattle.causal_order.specs.Orders.{Order, Ops, only, past, StandsAt, IsLinearization}
 use Rattle.causal_order.specs.Memory.{MemoryCall, MemoryHistory, memory_answer, initial, Writes, Reads, IsDifferentiated}
 use Rattle.cert_check.specs.Criteria.{Explains}
 use Rattle.cert_check.specs.ConvergentLaws.{only-same}
@@ -16,7 +15,7 @@ use Rattle.bad_patterns.proofs.LastWrites.{IsUnwritten, IsLastWrite, answer-case
 
 module _ {X : Type 0} where
   -- what stands in the front part of a list stands in the list
-  take-from : (n : ℕ) (xs : List X) (k : ℕ) (a : X) → slice_get (take n xs) k ≡ Some a → (k < n) × (slice_get xs k ≡ Some a)
+  pub take-from : (n : ℕ) (xs : List X) (k : ℕ) (a : X) → slice_get (take n xs) k ≡ Some a → (k < n) × (slice_get xs k ≡ Some a)
   take-from zero xs k a at = absurd cc
   take-from (suc n) [] k a at = absurd cc
   take-from (suc n) (x ∷ xs) zero a at = (omega arith, at)
@@ -40,6 +39,40 @@ module _ (h : MemoryHistory) where
       let both = sym here ∙ ap (option_map (λ (e : MemoryCall × Option RegisterRet). e.0)) reads in
       let call : Write v ≡ Read = ap (λ (c : MemoryCall). c.call) (same_Some _ _ both) in absurd cc
 
+  -- a known read at a place of a list that explains it
+  module _ (distinct : IsDifferentiated h) (ops : List OpId) (set : Ops) (explains : Explains memory_answer h ops set)
+      (r : OpId) (kept : IsTrue (set r)) (n : ℕ) (stands : StandsAt ops n r) (x v : ℕ) (reads : Reads h r x v) where
+    -- the value that is read is initial, or that of the last write before the read
+    pub value-cases_at : (IsUnwritten h x (take n ops) × (v ≡ initial h x)) ⊎ ((w : OpId) × IsLastWrite h x (take n ops) w v)
+    value-cases_at = answer-cases h x (take n ops) v (explains n r (record { key = x; call = Read }) (Value v) stands kept reads)
+
+    -- before a read of the initial value stands no write
+    pub no_write_at : v ≡ initial h x → (w : OpId) (u : ℕ) → Writes h w x u → (j : ℕ) → j < n → ¬ StandsAt ops j w
+    no_write_at start w u wrote j below at =
+        ⊎_elim
+        (λ (none : IsUnwritten h x (take n ops) × (v ≡ initial h x)). none.0 j w u (take-stands n ops j w below at) wrote)
+        (λ (some : (w : OpId) × IsLastWrite h x (take n ops) w v). distinct.not_initial some.0 x v some.1.writes start)
+        value-cases_at
+
+    -- the write that is read is the last write of the variable before the read
+    source-last : v ≢ initial h x → (w : OpId) → Writes h w x v → IsLastWrite h x (take n ops) w v
+    source-last other w wrote =
+        ⊎_elim
+        (λ (none : IsUnwritten h x (take n ops) × (v ≡ initial h x)). absurd (other none.1))
+        (λ (some : (w : OpId) × IsLastWrite h x (take n ops) w v).
+        subst (λ (a : OpId). IsLastWrite h x (take n ops) a v) (distinct.once some.0 w x v some.1.writes wrote) some.1)
+        value-cases_at
+
+    -- where the write that is read stands
+    pub source-stands_at : v ≢ initial h x → (w : OpId) → Writes h w x v → (k : ℕ) × StandsAt ops k w
+        × ((a : OpId) (u : ℕ) (j : ℕ) → j < n → StandsAt ops j a → Writes h a x u → j ≤ k)
+    source-stands_at other w wrote =
+        let last = source-last other w wrote in (
+          last.place,
+          (take-from n ops last.place w last.stands).1,
+          λ a u j below at writes. last.last j a u (take-stands n ops j a below at) writes,
+        )
+
   module _ (distinct : IsDifferentiated h) (co : Order) (r : OpId) (ops : List OpId) (linear : IsLinearization (past co r) co ops)
       (explains : Explains memory_answer h ops (only r)) (x v : ℕ) (reads : Reads h r x v) where
     -- where the read stands
@@ -54,36 +87,18 @@ module _ (h : MemoryHistory) where
 
     -- the value that is read is initial, or that of the last write before the read
     pub value-cases : (IsUnwritten h x (take place.0 ops) × (v ≡ initial h x)) ⊎ ((w : OpId) × IsLastWrite h x (take place.0 ops) w v)
-    value-cases = answer-cases h x (take place.0 ops) v (explains place.0 r (record { key = x; call = Read }) (Value v) place.1 (itself r) reads)
+    value-cases = value-cases_at distinct ops (only r) explains r (itself r) place.0 place.1 x v reads
 
     -- before a read of the initial value there is no write
     pub no_write_before : v ≡ initial h x → (w : OpId) (u : ℕ) → Writes h w x u → ¬ IsTrue (co w r)
     no_write_before start w u wrote before =
         let there = stands_before w before in
-        ⊎_elim
-        (λ (none : IsUnwritten h x (take place.0 ops) × (v ≡ initial h x)).
-        none.0 there.0 w u (take-stands place.0 ops there.0 w there.1 there.2) wrote)
-        (λ (some : (w : OpId) × IsLastWrite h x (take place.0 ops) w v). distinct.not_initial some.0 x v some.1.writes start)
-        value-cases
-
-    -- the write that is read is the last write of the variable before the read
-    pub source-last : v ≢ initial h x → (w : OpId) → Writes h w x v → IsLastWrite h x (take place.0 ops) w v
-    source-last other w wrote =
-        ⊎_elim
-        (λ (none : IsUnwritten h x (take place.0 ops) × (v ≡ initial h x)). absurd (other none.1))
-        (λ (some : (w : OpId) × IsLastWrite h x (take place.0 ops) w v).
-        subst (λ (a : OpId). IsLastWrite h x (take place.0 ops) a v) (distinct.once some.0 w x v some.1.writes wrote) some.1)
-        value-cases
+        no_write_at distinct ops (only r) explains r (itself r) place.0 place.1 x v reads start w u wrote there.0 there.1 there.2
 
     -- where the write that is read stands
     pub source-stands : v ≢ initial h x → (w : OpId) → Writes h w x v → (k : ℕ) × StandsAt ops k w
         × ((a : OpId) (u : ℕ) (j : ℕ) → j < place.0 → StandsAt ops j a → Writes h a x u → j ≤ k)
-    source-stands other w wrote =
-        let last = source-last other w wrote in (
-          last.place,
-          (take-from place.0 ops last.place w last.stands).1,
-          λ a u j below at writes. last.last j a u (take-stands place.0 ops j a below at) writes,
-        )
+    source-stands = source-stands_at distinct ops (only r) explains r (itself r) place.0 place.1 x v reads
 
     -- the write that is read is before the read in the order
     pub source-before : v ≢ initial h x → (w : OpId) → Writes h w x v → IsTrue (co w r)

@@ -1,12 +1,12 @@
 -- What a pattern names shows its kind, and so excludes the criteria that the kind is against.
-use Rattle.std.proofs.Common.{◌≡◌, ℕ, zero, suc, ◌+◌, ◌-◌, ◌<◌, ◌⊎◌, inl, inr, List, [], ◌∷◌, length, map, get_or, sym, ap, ◌∙◌, subst, refl, arith, add-one}
-use Rattle.std.specs.Prelude.{◌≢◌, Some, slice_get, option_map, IsTrue}
-use Rattle.std.proofs.lemmas.Option.{same_Some, slice_get_within, slice_get-get_or, get_or_from_slice_get, slice_get-map}
+use Rattle.std.proofs.Common.{◌≡◌, ℕ, zero, suc, ◌+◌, ◌-◌, ◌⊎◌, inl, inr, List, ◌∷◌, length, map, sym, ap, ◌∙◌, subst, refl, arith, add-one}
+use Rattle.std.specs.Prelude.{Some, slice_get, option_map}
+use Rattle.std.proofs.lemmas.Option.{same_Some, slice_get_within, get_or_from_slice_get, slice_get-map}
 use Rattle.operations.specs.declared.op_id.OpId.{OpId}
 use Rattle.operations.specs.JsonLaws.{map_from}
 use Rattle.causal_order.specs.Orders.{StandsAt}
 use Rattle.causal_order.specs.Memory.{MemoryHistory, memory_answer}
-use Rattle.causal_order.specs.Relations.{IsPath, CO, CF}
+use Rattle.causal_order.specs.Relations.{CO, CF}
 use Rattle.cert_check.specs.declared.criterion.Criterion.{Criterion}
 use Rattle.cert_check.specs.declared.criterion.Criterion.TheVariants.{Cc, Cm, Ccv}
 use Rattle.cert_check.specs.Criteria.{Meets}
@@ -14,10 +14,12 @@ use Rattle.bad_patterns.specs.declared.kind.Kind.TheVariants as kinds
 use Rattle.bad_patterns.specs.declared.link.Link.{Link}
 use Rattle.bad_patterns.specs.declared.link.Link.TheVariants.{Co, Cf}
 use Rattle.bad_patterns.specs.declared.pattern.Pattern.{Pattern}
-use Rattle.bad_patterns.specs.declared.pattern.Pattern.TheVariants.{CyclicCO, ThinAirRead, WriteCOInitRead, WriteCORead, CyclicCF}
-use Rattle.bad_patterns.specs.Kinds.{is_against, Shows}
-use Rattle.bad_patterns.specs.Paths.{begin_of, end_of, IsLink, AreClosed, AreJoined, IsCycle}
+use Rattle.bad_patterns.specs.declared.pattern.Pattern.TheVariants.{CyclicCO, ThinAirRead, WriteCOInitRead, WriteCORead, WriteHBInitRead, CyclicHB, CyclicCF}
+use Rattle.bad_patterns.specs.Kinds.{Shows}
+use Rattle.bad_patterns.specs.Paths.{begin_of, end_of, IsLink, IsCycle}
 use Rattle.bad_patterns.specs.Patterns.{kind_of, IsShownBy, IsBadPattern, IsTrueNo}
+use Rattle.bad_patterns.proofs.Derived.{derivation-sound}
+use Rattle.bad_patterns.proofs.MemoryExclusion.{initial_read_HB-excluded, cyclic_HB-excluded}
 use Rattle.bad_patterns.proofs.Exclusion.{consistency-excluded, convergence-excluded}
 use Rattle.bad_patterns.proofs.Leads.{leads-step, goes-leads, goes-apart}
 use Rattle.bad_patterns.proofs.ReadPasts.{write-or_read}
@@ -92,6 +94,9 @@ module _ (h : MemoryHistory) where
         goes-apart h first a b rival.0 above,
         goes-apart h second b r (write-or_read h b r writes.0 writes.2 from.0 from.1 writes.4 from.3) below,
       )
+  pattern-shows (WriteHBInitRead o lines) (w, r, x, v, wrote, reads, kept, is) =
+      (o, w, r, x, v, wrote, reads, kept, derivation-sound h o lines w r is)
+  pattern-shows (CyclicHB o lines) (a, is) = (o, a, derivation-sound h o lines a a is)
   pattern-shows (CyclicCF links) cycle = cycle-shows links cycle
 
   module _ (of_cm : Meets memory_answer h Cm → Meets memory_answer h Cc) (of_ccv : Meets memory_answer h Ccv → Meets memory_answer h Cc) where
@@ -109,6 +114,13 @@ module _ (h : MemoryHistory) where
         consistency-excluded h bad.differentiated kinds.WriteCOInitRead refl (pattern-shows (WriteCOInitRead path) bad.shown) (to_consistency criterion met)
     not_met criterion (WriteCORead first second) bad met =
         consistency-excluded h bad.differentiated kinds.WriteCORead refl (pattern-shows (WriteCORead first second) bad.shown) (to_consistency criterion met)
+    not_met Cc (WriteHBInitRead o lines) bad met = let against = bad.against in absurd cc
+    not_met Cm (WriteHBInitRead o lines) bad met =
+        initial_read_HB-excluded h bad.differentiated (pattern-shows (WriteHBInitRead o lines) bad.shown) met
+    not_met Ccv (WriteHBInitRead o lines) bad met = let against = bad.against in absurd cc
+    not_met Cc (CyclicHB o lines) bad met = let against = bad.against in absurd cc
+    not_met Cm (CyclicHB o lines) bad met = cyclic_HB-excluded h bad.differentiated (pattern-shows (CyclicHB o lines) bad.shown) met
+    not_met Ccv (CyclicHB o lines) bad met = let against = bad.against in absurd cc
     not_met Cc (CyclicCF links) bad met = let against = bad.against in absurd cc
     not_met Cm (CyclicCF links) bad met = let against = bad.against in absurd cc
     not_met Ccv (CyclicCF links) bad met = convergence-excluded h bad.differentiated (pattern-shows (CyclicCF links) bad.shown) met

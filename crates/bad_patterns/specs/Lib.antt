@@ -1,5 +1,6 @@
 pub mod Kinds
 pub mod Paths
+pub mod Derivations
 pub mod Patterns
 pub mod Found
 pub mod PatternForm

@@ -6,11 +6,14 @@ use Rattle.cert_check.specs.Criteria.{Meets}
 use Rattle.bad_patterns.specs.declared.kind.Kind.{Kind}
 use Rattle.bad_patterns.specs.declared.kind.Kind.TheVariants as kinds
 use Rattle.bad_patterns.specs.declared.pattern.Pattern.{Pattern}
-use Rattle.bad_patterns.specs.declared.pattern.Pattern.TheVariants.{CyclicCO, ThinAirRead, WriteCOInitRead, WriteCORead, CyclicCF}
+use Rattle.bad_patterns.specs.declared.pattern.Pattern.TheVariants.{CyclicCO, ThinAirRead, WriteCOInitRead, WriteCORead, WriteHBInitRead, CyclicHB, CyclicCF}
+use Rattle.bad_patterns.specs.declared.derivation.Line.{Line}
 use Rattle.causal_order.specs.Memory.{MemoryHistory, memory_answer, initial, Writes, Reads, IsDifferentiated}
+use Rattle.causal_order.specs.Orders.{program_past}
 use Rattle.causal_order.specs.Relations.{ReadsFrom, AreRivalWrites}
 use Rattle.bad_patterns.specs.Kinds.{is_against, IsThinAirRead, IsPresent}
 use Rattle.bad_patterns.specs.Paths.{GoesFrom, HasEdge, IsCycle}
+use Rattle.bad_patterns.specs.Derivations.{IsDerivation}
 
 -- the kind of a pattern
 abbrev pub kind_of : Pattern → Kind
@@ -18,6 +21,8 @@ kind_of (CyclicCO path) = kinds.CyclicCO
 kind_of (ThinAirRead r) = kinds.ThinAirRead
 kind_of (WriteCOInitRead path) = kinds.WriteCOInitRead
 kind_of (WriteCORead first second) = kinds.WriteCORead
+kind_of (WriteHBInitRead o lines) = kinds.WriteHBInitRead
+kind_of (CyclicHB o lines) = kinds.CyclicHB
 kind_of (CyclicCF links) = kinds.CyclicCF
 
 module _ (h : MemoryHistory) where
@@ -35,12 +40,23 @@ module _ (h : MemoryHistory) where
   ArePathsToOverwrittenRead first second =
       (a b r : OpId) × ReadsFrom h a r × AreRivalWrites h a b × GoesFrom h first a b × GoesFrom h second b r
 
+  -- a derivation for o gives a write and a read of the initial value of its variable, which is o or before o in program order
+  abbrev pub IsDerivationOfInitialRead : OpId → List Line → Type 0
+  IsDerivationOfInitialRead o lines =
+      (w r : OpId) × (x v : ℕ) × Writes h w x v × Reads h r x (initial h x) × IsTrue (program_past o r) × IsDerivation h o lines w r
+
+  -- a derivation for o gives one operation twice
+  abbrev pub IsDerivationOfCycle : OpId → List Line → Type 0
+  IsDerivationOfCycle o lines = (a : OpId) × IsDerivation h o lines a a
+
   -- the operations of a pattern are as its kind says
   abbrev pub IsShownBy : Pattern → Type 0
   IsShownBy (CyclicCO path) = IsCyclicPath path
   IsShownBy (ThinAirRead r) = IsThinAirRead h r
   IsShownBy (WriteCOInitRead path) = IsPathToInitialRead path
   IsShownBy (WriteCORead first second) = ArePathsToOverwrittenRead first second
+  IsShownBy (WriteHBInitRead o lines) = IsDerivationOfInitialRead o lines
+  IsShownBy (CyclicHB o lines) = IsDerivationOfCycle o lines
   IsShownBy (CyclicCF links) = IsCycle h links
 
 -- a pattern against a criterion in a history of distinct values

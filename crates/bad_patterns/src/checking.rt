@@ -1,8 +1,10 @@
 ghost use Rattle.std.specs.Prelude.{◌↔◌, IfOk, IsTrue};
 ghost use Rattle.bad_patterns.specs.Patterns.{IsBadPattern, IsShownBy, IsTrueNo, kind_of};
-ghost use Rattle.causal_order.specs.Written.{IsSorted, ListsWrites};
+ghost use Rattle.causal_order.specs.Memory.{IsDifferentiated};
+ghost use Rattle.causal_order.specs.Written.{AreInOrder, IsSorted, ListsWrites};
 
 use crate::cycle::is_cycle;
+use crate::happened_before::{is_derivation_of_cycle, is_derivation_of_initial_read};
 use crate::laws::bad_patterns_exclude_criteria;
 use crate::pattern::Pattern;
 use crate::routes::{are_paths_to_overwritten_read, is_cyclic_path, is_path_to_initial_read};
@@ -18,7 +20,7 @@ use std::alloc::{AllocError, Global};
 /// It does where the history has distinct values, the pattern's kind is against the criterion, and the pattern's
 /// operations are in the history and as its kind says.
 ///
-/// Fails for want of memory alone. O(n log n) for n operations of the history and of the pattern.
+/// Fails for want of memory alone. O(n log n) for n operations of the history and operations and lines of the pattern.
 pub fn check_pattern(
     alloc: Global,
     h: &History<Memory>,
@@ -36,21 +38,36 @@ pub fn check_pattern(
     if !are_distinct(h, &writes) {
         return Ok(false);
     }
-    Ok(is_shown(h, &writes, pattern))
+    is_shown(alloc, h, &writes, pattern)
 }
 
-/// Whether the operations of a pattern are as its kind says. O(n log m) for n operations of the pattern and m writes and
-/// initial values of the history.
-pub fn is_shown(h: &History<Memory>, writes: &[Write], pattern: &Pattern) -> bool
+/// Whether the operations of a pattern are as its kind says.
+///
+/// The writes are those of the history, which has distinct values. Fails for want of memory alone. O(n log m) for n
+/// operations and lines of the pattern and m operations of the history.
+pub fn is_shown(
+    alloc: Global,
+    h: &History<Memory>,
+    writes: &[Write],
+    pattern: &Pattern,
+) -> Result<bool, AllocError>
     requires writes { ListsWrites h.now writes.now }
     requires sorted { IsSorted writes.now }
-    ensures { IsTrue result ↔ IsShownBy h.now pattern.now }
+    requires in_order { AreInOrder writes.now }
+    requires differentiated { IsDifferentiated h.now }
+    ensures { IfOk result (λ yes. IsTrue yes ↔ IsShownBy h.now pattern.now) }
 {
     match pattern {
-        Pattern::CyclicCO(path) => is_cyclic_path(h, path),
-        Pattern::ThinAirRead(read) => is_thin_air_read(h, writes, *read),
-        Pattern::WriteCOInitRead(path) => is_path_to_initial_read(h, path),
-        Pattern::WriteCORead(first, second) => are_paths_to_overwritten_read(h, first, second),
-        Pattern::CyclicCF(links) => is_cycle(h, links.links()),
+        Pattern::CyclicCO(path) => Ok(is_cyclic_path(h, path)),
+        Pattern::ThinAirRead(read) => Ok(is_thin_air_read(h, writes, *read)),
+        Pattern::WriteCOInitRead(path) => Ok(is_path_to_initial_read(h, path)),
+        Pattern::WriteCORead(first, second) => Ok(are_paths_to_overwritten_read(h, first, second)),
+        Pattern::WriteHBInitRead(op, derivation) => {
+            is_derivation_of_initial_read(alloc, h, writes, *op, derivation)
+        }
+        Pattern::CyclicHB(op, derivation) => {
+            is_derivation_of_cycle(alloc, h, writes, *op, derivation)
+        }
+        Pattern::CyclicCF(links) => Ok(is_cycle(h, links.links())),
     }
 }

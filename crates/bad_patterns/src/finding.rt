@@ -3,12 +3,13 @@ ghost use Rattle.bad_patterns.specs.Kinds.{IsThinAirRead};
 ghost use Rattle.bad_patterns.specs.Patterns.{IsBadPattern};
 ghost use Rattle.bad_patterns.specs.declared.pattern.Pattern.TheVariants.{ThinAirRead};
 ghost use Rattle.causal_order.specs.Memory.{IsDifferentiated};
+ghost use Rattle.causal_order.specs.SourceOrder.{CountsSourceOrder};
 ghost use Rattle.causal_order.specs.Orders.{op};
-ghost use Rattle.causal_order.specs.Written.{IsSorted, ListsWrites};
-ghost use Rattle.bad_patterns.specs.KnownSources.{ListsKnownSources};
+ghost use Rattle.causal_order.specs.Written.{AreInOrder, IsSorted, ListsWrites};
 ghost use Rattle.bad_patterns.specs.Found.{IsFirst, IsFirstFound, IsFirstOf};
 
 use crate::checking::is_shown;
+use crate::finding_happened_before::find_happened_before;
 use crate::kind::Kind;
 use crate::pattern::Pattern;
 use crate::search::{
@@ -16,7 +17,7 @@ use crate::search::{
     overwritten_start, sources_of,
 };
 use crate::thin_air::is_thin_air_read;
-use causal_order::{Sources, Write, are_distinct, order_of, sorted_writes};
+use causal_order::{Vectors, Write, are_distinct, memory_order, sorted_writes};
 use cert_check::Criterion;
 use objects::Memory;
 use operations::{History, OpId};
@@ -25,11 +26,35 @@ use std::alloc::{AllocError, Global};
 /// A pattern that shows that the history does not meet the criterion, where the search finds one.
 ///
 /// Kinds are tried in turn, those alone that are against the criterion: a cycle of the causal order, a read of a value that
-/// nobody wrote, a read of the initial value after a write, a read from an overwritten write, and a cycle with conflicts.
-/// A thin-air read that is found is the first one. There is none where the history does not have distinct values.
+/// nobody wrote, a read of the initial value after a write, a read from an overwritten write, a read of the initial value
+/// that a happened-before relation puts after a write, a happened-before relation with a cycle, and a cycle with
+/// conflicts. A thin-air read that is found is the first one. There is none where the history does not have distinct
+/// values.
 ///
-/// Fails for want of memory alone. O(n k (k + log n)) for n operations of k sessions.
+/// Fails for want of memory alone. O(n log n + n k) for n operations of k sessions, besides what `find_in_order` or
+/// `find_without_order` costs.
 pub fn find(
+    alloc: Global,
+    h: &History<Memory>,
+    criterion: Criterion,
+) -> Result<Option<Pattern>, AllocError>
+    ensures found { IfOk result (λ found. IfSome found (IsBadPattern h.now criterion)) }
+    ensures first { IfOk result (λ found. IfSome found (IsFirstFound h.now)) }
+    ensures none { IfOk result (λ found. IfNone found ((r : OpId) → ¬ IsBadPattern h.now criterion (ThinAirRead r))) }
+{
+    match memory_order(alloc, h)? {
+        Some(vectors) => find_in_order(alloc, h, criterion, &vectors),
+        None => find_without_order(alloc, h, criterion),
+    }
+}
+
+/// A pattern of a history that has no causal order without a cycle, or a thin-air read: what `find` answers there.
+///
+/// A cycle of the causal order is tried, and then a thin-air read, of which the first one is found. There is none where
+/// the history does not have distinct values.
+///
+/// Fails for want of memory alone. O(n k^2 + n log n) for n operations of k sessions.
+pub fn find_without_order(
     alloc: Global,
     h: &History<Memory>,
     criterion: Criterion,
@@ -44,49 +69,81 @@ pub fn find(
     }
     let sources = sources_of(alloc, h, &writes)?;
     if let Some(path) = cyclic_order(alloc, &sources)? {
-        let pattern = Pattern::CyclicCO(path);
-        if is_bad(h, &writes, criterion, &pattern) {
-            return Ok(Some(pattern));
+        let found = tested(alloc, h, &writes, criterion, Pattern::CyclicCO(path))?;
+        if found.is_some() {
+            return Ok(found);
         }
     }
     if let Some(read) = first_thin_air_read(h, &writes) {
         return Ok(Some(Pattern::ThinAirRead(read)));
     }
-    find_in_order(alloc, h, &writes, criterion, sources)
+    Ok(None)
 }
 
-/// A pattern of one of the kinds that rest on a causal order without a cycle.
-fn find_in_order(
+/// A pattern of a history whose causal order the vectors count, as `memory_order` makes them: what `find` answers there.
+///
+/// Neither a cycle of the causal order nor a thin-air read can be there. The other kinds are tried in the order that
+/// `find` names, those alone that are against the criterion. There is none where the history does not have distinct
+/// values.
+///
+/// Fails for want of memory alone. O(n k (k + log n)) for n operations of k sessions, and against causal memory for each
+/// session what its happened-before relations cost, and O(m log m + l n) for m pairs that they have more than the causal
+/// order and l lines of a derivation.
+pub fn find_in_order(
+    alloc: Global,
+    h: &History<Memory>,
+    criterion: Criterion,
+    vectors: &Vectors,
+) -> Result<Option<Pattern>, AllocError>
+    requires order { CountsSourceOrder h.now vectors.now }
+    ensures found { IfOk result (λ found. IfSome found (IsBadPattern h.now criterion)) }
+    ensures first { IfOk result (λ found. IfSome found (IsFirstFound h.now)) }
+    ensures none { IfOk result (λ found. IfNone found ((r : OpId) → ¬ IsBadPattern h.now criterion (ThinAirRead r))) }
+{
+    let writes = sorted_writes(alloc, h)?;
+    if !are_distinct(h, &writes) {
+        return Ok(None);
+    }
+    let sources = sources_of(alloc, h, &writes)?;
+    let order = CausalOrder::of(sources, vectors.copy(alloc)?);
+    let known = KnownReads::of(alloc, h, &writes, order)?;
+    if let Some(pattern) = find_overwritten(alloc, h, &writes, criterion, &known)? {
+        return Ok(Some(pattern));
+    }
+    if let Some(pattern) = find_happened_before(alloc, h, &writes, criterion, vectors, &known)? {
+        return Ok(Some(pattern));
+    }
+    find_conflicts(alloc, h, &writes, criterion, &known)
+}
+
+/// A read of the initial value after a write, or a read from an overwritten write.
+fn find_overwritten(
     alloc: Global,
     h: &History<Memory>,
     writes: &[Write],
     criterion: Criterion,
-    sources: Sources,
+    known: &KnownReads,
 ) -> Result<Option<Pattern>, AllocError>
     requires writes { ListsWrites h.now writes.now }
     requires sorted { IsSorted writes.now }
+    requires in_order { AreInOrder writes.now }
     requires differentiated { IsDifferentiated h.now }
-    requires sources { ListsKnownSources h.now sources }
     ensures found { IfOk result (λ found. IfSome found (IsBadPattern h.now criterion)) }
     ensures first { IfOk result (λ found. IfSome found (IsFirstFound h.now)) }
 {
-    let Some(vectors) = order_of(alloc, &sources)? else {
-        return Ok(None);
-    };
-    let known = KnownReads::of(alloc, h, writes, CausalOrder::of(sources, vectors))?;
-    if let Some(path) = overwritten_start(alloc, &known)? {
-        let pattern = Pattern::WriteCOInitRead(path);
-        if is_bad(h, writes, criterion, &pattern) {
-            return Ok(Some(pattern));
+    if let Some(path) = overwritten_start(alloc, known)? {
+        let found = tested(alloc, h, writes, criterion, Pattern::WriteCOInitRead(path))?;
+        if found.is_some() {
+            return Ok(found);
         }
     }
-    if let Some(paths) = overwritten_read(alloc, &known)? {
-        let pattern = Pattern::WriteCORead(paths.0, paths.1);
-        if is_bad(h, writes, criterion, &pattern) {
-            return Ok(Some(pattern));
+    match overwritten_read(alloc, known)? {
+        Some(paths) => {
+            let pattern = Pattern::WriteCORead(paths.0, paths.1);
+            tested(alloc, h, writes, criterion, pattern)
         }
+        None => Ok(None),
     }
-    find_conflicts(alloc, h, writes, criterion, &known)
 }
 
 /// A cycle of the causal order and of conflicts, where such cycles are against the criterion.
@@ -99,6 +156,7 @@ fn find_conflicts(
 ) -> Result<Option<Pattern>, AllocError>
     requires writes { ListsWrites h.now writes.now }
     requires sorted { IsSorted writes.now }
+    requires in_order { AreInOrder writes.now }
     requires differentiated { IsDifferentiated h.now }
     ensures found { IfOk result (λ found. IfSome found (IsBadPattern h.now criterion)) }
     ensures first { IfOk result (λ found. IfSome found (IsFirstFound h.now)) }
@@ -106,23 +164,33 @@ fn find_conflicts(
     if !Kind::CyclicCF.is_against(criterion) {
         return Ok(None);
     }
-    if let Some(links) = cycle_with_conflicts(alloc, known)? {
-        let pattern = Pattern::CyclicCF(links);
-        if is_bad(h, writes, criterion, &pattern) {
-            return Ok(Some(pattern));
-        }
+    match cycle_with_conflicts(alloc, known)? {
+        Some(links) => tested(alloc, h, writes, criterion, Pattern::CyclicCF(links)),
+        None => Ok(None),
     }
-    Ok(None)
 }
 
-/// Whether a pattern shows that a history of distinct values does not meet the criterion: the test of `check_pattern`.
-fn is_bad(h: &History<Memory>, writes: &[Write], criterion: Criterion, pattern: &Pattern) -> bool
+/// The pattern, where it shows that a history of distinct values does not meet the criterion: the test of `check_pattern`.
+pub fn tested(
+    alloc: Global,
+    h: &History<Memory>,
+    writes: &[Write],
+    criterion: Criterion,
+    pattern: Pattern,
+) -> Result<Option<Pattern>, AllocError>
     requires writes { ListsWrites h.now writes.now }
     requires sorted { IsSorted writes.now }
+    requires in_order { AreInOrder writes.now }
     requires differentiated { IsDifferentiated h.now }
-    ensures { IsTrue result ↔ IsBadPattern h.now criterion pattern.now }
+    requires first { IsFirstFound h.now pattern }
+    ensures found { IfOk result (λ found. IfSome found (IsBadPattern h.now criterion)) }
+    ensures first { IfOk result (λ found. IfSome found (IsFirstFound h.now)) }
 {
-    pattern.kind().is_against(criterion) && is_shown(h, writes, pattern)
+    if pattern.kind().is_against(criterion) && is_shown(alloc, h, writes, &pattern)? {
+        Ok(Some(pattern))
+    } else {
+        Ok(None)
+    }
 }
 
 /// The first thin-air read of the history. O(n log n) for n operations.

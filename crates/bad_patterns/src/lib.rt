@@ -3,21 +3,27 @@
 
 mod checking;
 mod cycle;
+mod derivation;
+mod derived_pairs;
 mod edges;
 mod finding;
+mod finding_happened_before;
+mod happened_before;
 mod kind;
 pub mod laws;
 mod link;
 mod path;
 mod pattern;
 mod reading;
+mod reading_lines;
 mod routes;
 mod search;
 mod thin_air;
 
 pub use causal_order::is_differentiated;
 pub use checking::check_pattern;
-pub use finding::find;
+pub use derivation::{Derivation, Line};
+pub use finding::{find, find_in_order, find_without_order};
 pub use kind::Kind;
 pub use link::{Link, Links};
 pub use path::Path;

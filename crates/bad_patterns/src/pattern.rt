@@ -1,6 +1,7 @@
 ghost use Rattle.std.specs.Prelude.{◌≡◌};
 ghost use Rattle.bad_patterns.specs.Patterns.{kind_of};
 
+use crate::derivation::Derivation;
 use crate::kind::Kind;
 use crate::link::Links;
 use crate::path::Path;
@@ -17,6 +18,11 @@ pub enum Pattern {
     WriteCOInitRead(Path),
     /// A path from a write to another write of its variable, and one from there to a read that reads from the first.
     WriteCORead(Path, Path),
+    /// A derivation for the operation, the last line of which gives a write and a read of the initial value of its variable,
+    /// where the read is the operation or is before it in program order.
+    WriteHBInitRead(OpId, Derivation),
+    /// A derivation for the operation, the last line of which gives one operation twice.
+    CyclicHB(OpId, Derivation),
     /// Links, each of which begins where the one before ends, and the first where the last ends.
     CyclicCF(Links),
 }
@@ -31,6 +37,8 @@ impl Pattern {
             Pattern::ThinAirRead(_) => Kind::ThinAirRead,
             Pattern::WriteCOInitRead(_) => Kind::WriteCOInitRead,
             Pattern::WriteCORead(_, _) => Kind::WriteCORead,
+            Pattern::WriteHBInitRead(_, _) => Kind::WriteHBInitRead,
+            Pattern::CyclicHB(_, _) => Kind::CyclicHB,
             Pattern::CyclicCF(_) => Kind::CyclicCF,
         }
     }

@@ -8,6 +8,7 @@ ghost use Rattle.bad_patterns.specs.PatternForm.{form_of, link_form, links_form,
 use crate::link::{Link, Links};
 use crate::path::Path;
 use crate::pattern::Pattern;
+use crate::reading_lines::read_lines;
 use operations::{OpId, elements_of};
 use serde_json::Value;
 use std::alloc::{AllocError, Global};
@@ -15,9 +16,10 @@ use std::alloc::{AllocError, Global};
 /// The pattern that a JSON value is the form of, where it is one.
 ///
 /// The form is a list of the name of the kind and what shows it: `["CyclicCO",path]`, `["ThinAirRead",op]`,
-/// `["WriteCOInitRead",path]`, `["WriteCORead",path,path]` or `["CyclicCF",links]`. An operation is `[session,index]`, a
-/// path is a list of operations, and links are a list of `["co",op,op]` and `["cf",path,op]`. A path and links may be
-/// empty, and the operations may be of no history.
+/// `["WriteCOInitRead",path]`, `["WriteCORead",path,path]`, `["WriteHBInitRead",op,lines]`, `["CyclicHB",op,lines]` or
+/// `["CyclicCF",links]`. An operation is `[session,index]`, a path is a list of operations, links are a list of
+/// `["co",op,op]` and `["cf",path,op]`, and lines are a list of `["co",path,path]`, `["tr",i,j]` and `["rf",i,op]` with line
+/// numbers i and j. A path, links and lines may be empty, and the operations may be of no history.
 ///
 /// Fails for want of memory alone. O(n) for n operations of the pattern.
 pub fn read_pattern(alloc: Global, value: &Value) -> Result<Option<Pattern>, AllocError>
@@ -39,7 +41,7 @@ fn read_worded(alloc: Global, name: &str, rest: &[Value]) -> Result<Option<Patte
             if name == "WriteCORead" {
                 read_two_paths(alloc, first, second)
             } else {
-                Ok(None)
+                read_derived(alloc, name, first, second)
             }
         }
         _ => Ok(None),
@@ -78,6 +80,28 @@ fn read_two_paths(
         return Ok(None);
     };
     Ok(Some(Pattern::WriteCORead(above, below)))
+}
+
+/// The pattern of a kind that has this name, and of the operation and the derivation that show it.
+fn read_derived(
+    alloc: Global,
+    name: &str,
+    first: &Value,
+    second: &Value,
+) -> Result<Option<Pattern>, AllocError>
+    requires derived { name.now ≢ codes "WriteCORead" }
+    ensures { IfOk result (IsRead form_of (worded name.now (view first.now ∷ view second.now ∷ []))) }
+{
+    let Some(op) = read_op(first) else {
+        return Ok(None);
+    };
+    if name == "WriteHBInitRead" {
+        Ok(read_lines(alloc, second)?.map(|lines| Pattern::WriteHBInitRead(op, lines)))
+    } else if name == "CyclicHB" {
+        Ok(read_lines(alloc, second)?.map(|lines| Pattern::CyclicHB(op, lines)))
+    } else {
+        Ok(None)
+    }
 }
 
 /// The links that a value is the form of.
@@ -132,7 +156,7 @@ fn read_worded_link(
 }
 
 /// The path that a value is the form of.
-fn read_path(alloc: Global, value: &Value) -> Result<Option<Path>, AllocError>
+pub fn read_path(alloc: Global, value: &Value) -> Result<Option<Path>, AllocError>
     ensures { IfOk result (IsRead path_form (view value.now)) }
 {
     let Some(values) = elements_of(value) else {
@@ -149,7 +173,7 @@ fn read_path(alloc: Global, value: &Value) -> Result<Option<Path>, AllocError>
 }
 
 /// The operation that a value is the form of.
-fn read_op(value: &Value) -> Option<OpId>
+pub fn read_op(value: &Value) -> Option<OpId>
     ensures { IsRead op_form (view value.now) result }
 {
     match elements_of(value)? {
@@ -162,7 +186,7 @@ fn read_op(value: &Value) -> Option<OpId>
 }
 
 /// The word that a list begins with, and what stands behind it.
-fn word_and_rest(value: &Value) -> Option<(&str, &[Value])>
+pub fn word_and_rest(value: &Value) -> Option<(&str, &[Value])>
     ensures { MatchOption result ((word : List ℕ) (ds : List Data) → view value.now ≢ worded word ds)
         (λ p. view value.now ≡ worded p.0.now (map view p.1.now)) }
 {

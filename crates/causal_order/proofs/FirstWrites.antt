@@ -13,7 +13,7 @@ use Rattle.causal_order.specs.Orders.{op, IsEarlier}
 use Rattle.causal_order.specs.OrdersLaws.{same_op}
 use Rattle.causal_order.specs.Relations.{ReadsFrom, IsEdge, CO}
 use Rattle.causal_order.specs.RelationsLaws.{leads-wider, CO-of_history}
-use Rattle.causal_order.specs.SourceOrder.{LacksSource, IsSource, IsSourceEdge, SourceOrder, IsSourceOf, ListsSourcesBelow, ListsSourcesSoFar, ListsSources}
+use Rattle.causal_order.specs.SourceOrder.{LacksSource, CountsSourceOrder, IsSource, IsSourceEdge, SourceOrder, IsSourceOf, ListsSourcesBelow, ListsSourcesSoFar, ListsSources}
 use Rattle.causal_order.specs.Sources.{Sources, HasSource, IsListed, AreListed, IsStep, Comes, IsUnfinished, AreVectorsSoFar}
 use Rattle.causal_order.specs.Vectors.{Counts, IsCounted}
 use Rattle.causal_order.specs.Written.{ListsWrites, IsLeastWrite}
@@ -221,3 +221,27 @@ module _ (h : MemoryHistory) where
       order-acyclic a comes =
           let is_op = (CO-of_history h a a (CO-from_sources a a comes)).1 in
           so_far.acyclic a (vector-there a is_op) (steps-from_order a a comes)
+
+      vector-count : (s : ℕ) → length (get_or v s []) ≡ length (session h s)
+      vector-count s =
+          let same = sources-length s in
+          let within = so_far.within s in
+          ⊎_elim
+          (λ (less : length (get_or v s []) < length (get_or sources s [])). absurd (finished s less))
+          (λ (all : length (get_or sources s []) ≤ length (get_or v s [])). omega arith)
+          (cases_lt (length (get_or v s [])) (length (get_or sources s [])))
+
+      -- the vectors are those of the order
+      pub counts-order : CountsSourceOrder h v
+      counts-order = record {
+        vectors = record {
+          one_each = record {
+            sessions = let made = so_far.sessions in let listed = lists.sessions in omega arith;
+            operations = vector-count;
+          };
+          counts = λ o is_op. let made = so_far.counts o (vector-there o is_op) in let listed = lists.sessions in omega arith;
+        };
+        sources = sources-present;
+        acyclic = order-acyclic;
+        counted = counts-exact;
+      }

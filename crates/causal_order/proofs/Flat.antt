@@ -1,9 +1,9 @@
 -- Lists that stand in one list.
-use Rattle.std.specs.Prelude.{◌≡◌, ◌≢◌, ℕ, ◌-◌, ◌<◌, ◌≤◌, List, [], ◌∷◌, ◌++◌, length}
+use Rattle.std.specs.Prelude.{◌≡◌, ◌≢◌, ℕ, ◌+◌, ◌-◌, ◌<◌, ◌≤◌, List, [], ◌∷◌, ◌++◌, length}
 use Rattle.std.specs.List.{slice_range}
-use Rattle.std.proofs.Common.{zero, suc, arith, get_or, take, drop, sym, ap, subst, ◌∙◌, refl, length-append, length-drop}
-use Rattle.std.proofs.lemmas.List.{take-append-le, drop-append-le, take_all}
-use Rattle.std.proofs.Math.Seq.{drop-append_seam}
+use Rattle.std.proofs.Common.{zero, suc, arith, get_or, set, take, drop, sym, ap, subst, ◌∙◌, refl, length-append, length-drop}
+use Rattle.std.proofs.lemmas.List.{take-append-le, drop-append-le, take_all, drop-set-lt, drop-set-add, take-set-le, length-take}
+use Rattle.std.proofs.Math.Seq.{drop-append_seam, take-set-lt}
 use Rattle.causal_order.specs.FlatRows.{cut, start_of, RisesTo}
 
 pub start-before : (from : ℕ) (ends : List ℕ) (i d : ℕ) → i < length ends → start_of from ends (suc i) ≡ get_or ends i d
@@ -85,3 +85,59 @@ module _ {A : Type 0} where
   pushed-rises xs ys zs ends after n rises items len places =
       let longer : length xs ≤ n = let whole = ap (λ (ws : List A). length ws) items in let parts = length-append xs ys in omega arith in
       subst (λ (m : ℕ). RisesTo 0 after m) len (subst (λ (es : List ℕ). RisesTo 0 es n) (sym places) (rises-push 0 ends (length xs) n rises longer))
+
+-- a part begins behind where the first one does
+pub start-from : (from : ℕ) (ends : List ℕ) (last : ℕ) → RisesTo from ends last → (i : ℕ) → from ≤ start_of from ends i
+start-from from ends last rises zero = omega arith
+start-from from [] last rises (suc i) = omega arith
+start-from from (end ∷ ends) last rises (suc i) =
+    let rest = start-from end ends last rises.1 i in
+    let first = rises.0 in
+    omega arith
+
+module _ {A : Type 0} where
+  -- an item before where the parts begin is in none of them
+  pub cut-set_before : (xs : List A) (from : ℕ) (ends : List ℕ) (last n : ℕ) (x : A) → RisesTo from ends last → n < from
+      → cut (set xs n x) from ends ≡ cut xs from ends
+  cut-set_before xs from [] last n x rises before = refl
+  cut-set_before xs from (end ∷ ends) last n x rises before =
+      let up = rises.0 in
+      let first = ap (λ (zs : List A). take (end - from) zs) (drop-set-lt from xs n x before) in
+      let rest = cut-set_before xs end ends last n x rises.1 (omega arith) in
+      λ j. first j ∷ rest j
+
+  -- an item of a part
+  range-set : (xs : List A) (from end j : ℕ) (x : A) → from + j < end → slice_range (set xs (from + j) x) from end ≡ set (slice_range xs from end) j x
+  range-set xs from end j x inside =
+      ap (λ (zs : List A). take (end - from) zs) (drop-set-add from xs j x) ∙ take-set-lt (end - from) (drop from xs) j x (omega arith)
+
+  -- an item behind a part
+  range-set_behind : (xs : List A) (from end n : ℕ) (x : A) → from ≤ end → end ≤ n → slice_range (set xs n x) from end ≡ slice_range xs from end
+  range-set_behind xs from end n x up behind =
+      let place : n ≡ from + (n - from) = omega arith in
+      ap (λ (m : ℕ). slice_range (set xs m x) from end) place
+      ∙ ap (λ (zs : List A). take (end - from) zs) (drop-set-add from xs (n - from) x)
+      ∙ take-set-le (end - from) (drop from xs) (n - from) x (omega arith)
+
+  -- what `set` leaves
+  pub cut-set : (xs : List A) (from : ℕ) (ends : List ℕ) (last i j : ℕ) (x : A) → RisesTo from ends last → i < length ends
+      → start_of from ends i + j < get_or ends i 0
+      → cut (set xs (start_of from ends i + j) x) from ends ≡ set (cut xs from ends) i (set (get_or (cut xs from ends) i []) j x)
+  cut-set xs from [] last i j x rises exists inside = absurd (omega arith)
+  cut-set xs from (end ∷ ends) last zero j x rises exists inside =
+      let first = range-set xs from end j x inside in
+      let rest = cut-set_before xs end ends last (from + j) x rises.1 inside in
+      λ k. first k ∷ rest k
+  cut-set xs from (end ∷ ends) last (suc i) j x rises exists inside =
+      let start = start-from end ends last rises.1 i in
+      let first = range-set_behind xs from end (start_of end ends i + j) x rises.0 (omega arith) in
+      let rest = cut-set xs end ends last i j x rises.1 (omega arith) inside in
+      λ k. first k ∷ rest k
+
+  -- an item of the i-th part is before where it ends
+  pub inside-part : (xs : List A) (ends : List ℕ) (i j : ℕ) → i < length ends → j < length (get_or (cut xs 0 ends) i [])
+      → start_of 0 ends i + j < get_or ends i 0
+  inside-part xs ends i j exists inside =
+      let part = ap (λ (zs : List A). length zs) (cut-get xs 0 ends i 0 exists) in
+      let size = length-take (get_or ends i 0 - start_of 0 ends i) (drop (start_of 0 ends i) xs) in
+      omega arith

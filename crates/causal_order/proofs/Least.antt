@@ -1,29 +1,23 @@
 -- The least of the writes of one value to one variable.
-use Rattle.std.proofs.Common.{◌≡◌, ℕ, ◌<◌, ◌≤◌, ⊎_elim, Bool, true, false, List, length, get_or, arith, ap, sym, refl, ◌∙◌, subst, subst₂, Ordering, Less, Equal, Greater}
+use Rattle.std.proofs.Common.{◌≡◌, ℕ, ◌<◌, ◌≤◌, ⊎_elim, Bool, true, false, List, length, get_or, arith, sym, refl, ◌∙◌, subst, subst₂, Ordering, Less, Equal, Greater}
 use Rattle.std.specs.Prelude.{Contains, Some, slice_get, IsSortedByKey}
 use Rattle.std.specs.List.Sorted.{IsPartitionPoint, IsPartitionedBy}
-use Rattle.std.specs.Ordering.{nat_cmp, ordering_then, is_lt, ordering_index}
+use Rattle.std.specs.Ordering.{nat_cmp, ordering_then, is_lt}
 use Rattle.std.specs.Cmp.{IsTotalOrder, nat_cmp_total, on_total, then_total}
 use Rattle.std.proofs.lemmas.Cmp.{tied_itself}
 use Rattle.std.proofs.lemmas.Bool.{cases_lt, cases_eq}
-use Rattle.std.proofs.lemmas.Bool.Decides.{nat_tests}
 use Rattle.std.proofs.lemmas.Option.{same_Some, slice_get-get_or, slice_get_within}
 use Rattle.std.proofs.lemmas.List.Sorted.{searchable_from_sorted, sorted_far, ranks_by}
 use Rattle.operations.specs.declared.op_id.OpId.{OpId}
 use Rattle.causal_order.specs.declared.writes.Write.{Write}
 use Rattle.causal_order.specs.Orders.{IsEarlier}
-use Rattle.causal_order.specs.Written.{by_variable, IsSorted, AreInOrder, IsLeastWrite}
+use Rattle.causal_order.specs.Written.{by_op, by_variable, IsSorted, AreInOrder, IsLeastWrite}
+use Rattle.causal_order.specs.EarlierLaws.{by_op_total, earlier-less, equal-cmp, less-index}
 use Rattle.causal_order.proofs.Sorted.{by_variable_total, same_pairs, tied}
-
-abbrev by_op : OpId → OpId → Ordering
-by_op a b = ordering_then (nat_cmp a.session b.session) (nat_cmp a.index b.index)
 
 -- the order by variable, then by value, then by operation
 abbrev pub by_write : ℕ × ℕ × OpId → ℕ × ℕ × OpId → Ordering
 by_write a b = ordering_then (ordering_then (nat_cmp a.0 b.0) (nat_cmp a.1 b.1)) (by_op a.2 b.2)
-
-by_op_total : IsTotalOrder by_op
-by_op_total = then_total (on_total (λ o. o.session) nat_cmp_total) (on_total (λ o. o.index) nat_cmp_total)
 
 by_write_total : IsTotalOrder by_write
 by_write_total = then_total (then_total (on_total (λ t. t.0) nat_cmp_total) (on_total (λ t. t.1) nat_cmp_total)) (on_total (λ t. t.2) by_op_total)
@@ -44,23 +38,8 @@ second_not_less Less q is not_less = absurd cc
 second_not_less Equal q is not_less = not_less
 second_not_less Greater q is not_less = absurd cc
 
-less-cmp : (a b : ℕ) → a < b → nat_cmp a b ≡ Less
-less-cmp a b below = grind (arith, nat_tests)
-
-equal-cmp : (a b : ℕ) → a ≡ b → nat_cmp a b ≡ Equal
-equal-cmp a b same = rw same (tied_itself nat_cmp_total b)
-
 not_earlier : (b a : OpId) → is_lt (by_op b a) ≡ false → ¬ IsEarlier b a
-not_earlier b a not_less earlier = ⊎_elim
-    (λ (below : b.session < a.session).
-    let less = less-cmp b.session a.session below in
-    let first = first_not_less (nat_cmp b.session a.session) _ not_less in
-    let is : is_lt Less ≡ false = ap is_lt (sym less) ∙ first in absurd cc)
-    (λ (below : (b.session ≡ a.session) × (b.index < a.index)).
-    let second = second_not_less (nat_cmp b.session a.session) _ (equal-cmp b.session a.session below.0) not_less in
-    let less = less-cmp b.index a.index below.1 in
-    let is : is_lt Less ≡ false = ap is_lt (sym less) ∙ second in absurd cc)
-    earlier
+not_earlier b a not_less earlier = let less = earlier-less b a earlier in let is : false ≡ true = sym not_less ∙ less in absurd cc
 
 module _ (writes : List Write) (sorted : IsSortedByKey triple_of by_write writes) where
   -- what is sorted by variable, value and operation is sorted by variable and value
@@ -85,13 +64,6 @@ module _ (writes : List Write) (key value : ℕ) where
   -- before the writes of the value to the variable
   abbrev pub is_before : Write → Bool
   is_before w = is_lt (by_variable (w.key, w.value) (key, value))
-
-  less-index : (o p : Ordering) → ordering_index o ≤ ordering_index p → is_lt p ≡ true → is_lt o ≡ true
-  less-index o Equal up_to less = absurd cc
-  less-index o Greater up_to less = absurd cc
-  less-index Less Less up_to less = refl
-  less-index Equal Less up_to less = absurd (omega arith)
-  less-index Greater Less up_to less = absurd (omega arith)
 
   pub before-partitioned : IsSorted writes → IsPartitionedBy is_before writes
   before-partitioned sorted i j d up_to below less =

@@ -4,8 +4,12 @@ pub mod Distinct
 pub mod FirstWrites
 pub mod Outcomes
 pub mod Least
+pub mod Places
 pub mod NextVector
 pub mod Cycles
 pub mod Flat
+pub mod Items
+pub mod Growing
+pub mod StrictVectors
 pub mod OwnVectors
 pub mod Walked

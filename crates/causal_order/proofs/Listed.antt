@@ -1,84 +1,54 @@
 -- Lists of writes, gathered operation by operation.
-use Rattle.std.proofs.Common.{◌≡◌, ℕ, ◌+◌, ◌<◌, ◌≤◌, ◌⊎◌, inl, inr, ⊎_elim, List, [], ◌∷◌, ◌++◌, length, get_or, arith, ap, sym, ◌∙◌, subst, eq-or-lt_of_le}
-use Rattle.std.specs.Prelude.{Option, Some, option_map, Contains, slice_get, IsPermutation}
+use Rattle.std.proofs.Common.{◌≡◌, ℕ, ◌+◌, ◌<◌, ◌≤◌, List, [], ◌∷◌, ◌++◌, length, get_or, ap, sym, ◌∙◌, subst}
+use Rattle.std.specs.Prelude.{Option, Some, option_map, slice_get, IsPermutation}
 use Rattle.std.proofs.lemmas.Option.{slice_get-get_or, same_Some}
-use Rattle.std.proofs.lemmas.List.Elements.{Contains-append_left, Contains-push, Contains-push_cases}
 use Rattle.std.proofs.lemmas.List.Sorted.{Contains-permutation, IsPermutation-sym}
 use Rattle.operations.specs.declared.op_id.OpId.{OpId}
-use Rattle.operations.specs.History.{session, entry}
+use Rattle.operations.specs.History.{IsOp, session, entry}
 use Rattle.causal_order.specs.declared.writes.Write.{Write as WriteEntry}
 use Rattle.objects.specs.declared.register.RegisterCall.TheVariants.{Write}
 use Rattle.objects.specs.declared.register.RegisterRet.{RegisterRet}
 use Rattle.causal_order.specs.Memory.{MemoryCall, MemoryHistory, Writes}
 use Rattle.causal_order.specs.MemoryLaws.{same_written, write-of_history}
-use Rattle.causal_order.specs.Orders.{op, IsEarlier}
-use Rattle.causal_order.specs.OrdersLaws.{same_op, session-of_history}
+use Rattle.causal_order.specs.Orders.{op}
+use Rattle.causal_order.specs.ListedLaws.{listed-item, listed-none, listed-session, listed-end}
 use Rattle.causal_order.specs.Written.{ListsWrites, ListsWritesBefore}
 
-earlier_cases : (a : OpId) (s i : ℕ) → IsEarlier a (op s (i + 1)) → IsEarlier a (op s i) ⊎ (a ≡ op s i)
-earlier_cases a s i earlier =
-    ⊎_elim
-    (λ (below : a.session < s). inl (inl below))
-    (λ (same : (a.session ≡ s) × (a.index < i + 1)). ⊎_elim
-    (λ (here : a.index ≡ i). inr (same_op a (op s i) same.0 here))
-    (λ (below : a.index < i). inl (inr (same.0, below)))
-    (let up_to : a.index ≤ i = let below = same.1 in omega arith in eq-or-lt_of_le up_to))
-    earlier
-
 module _ (h : MemoryHistory) where
+  -- the entry of a write
+  abbrev pub entry_of : ℕ → ℕ → ℕ → ℕ → WriteEntry
+  entry_of s i x v = record { op = op s i; key = x; value = v }
+
+  -- a write has one entry
+  one_entry : (s i x v : ℕ) → Writes h (op s i) x v → (w : WriteEntry) → Writes h w.op w.key w.value → w.op ≡ op s i → entry_of s i x v ≡ w
+  one_entry s i x v this w wrote here =
+      let same = same_written h (op s i) x v w.key w.value this (subst (λ (b : OpId). Writes h b w.key w.value) here wrote) in
+      λ j. record { op = sym here j; key = same.0 j; value = same.1 j }
+
   -- one write more
   pub ListsWritesBefore-write : (s i x v : ℕ) (writes : List WriteEntry) → Writes h (op s i) x v → ListsWritesBefore h (op s i) writes
-      → ListsWritesBefore h (op s (i + 1)) (writes ++ record { op = op s i; key = x; value = v } ∷ [])
-  ListsWritesBefore-write s i x v writes this before = record {
-    each = λ a y u earlier wrote. ⊎_elim
-        (λ (old : IsEarlier a (op s i)). Contains-append_left writes _ _ (before.each a y u old wrote))
-        (λ (here : a ≡ op s i).
-        let same = same_written h (op s i) x v y u this (subst (λ (b : OpId). Writes h b y u) here wrote) in
-        let entry : ◌≡◌ {A = WriteEntry} (record { op = op s i; key = x; value = v }) (record { op = a; key = y; value = u }) =
-        λ j. record { op = sym here j; key = same.0 j; value = same.1 j } in
-        subst (λ (w : WriteEntry). Contains (writes ++ record { op = op s i; key = x; value = v } ∷ []) w) entry
-        (Contains-push writes (record { op = op s i; key = x; value = v })))
-        (earlier_cases a s i earlier);
-    no_other = λ w inside. ⊎_elim
-        (λ (old : Contains writes w). before.no_other w old)
-        (λ (new : ◌≡◌ {A = WriteEntry} (record { op = op s i; key = x; value = v }) w).
-        subst (λ (w : WriteEntry). Writes h w.op w.key w.value) new this)
-        (Contains-push_cases writes _ w inside);
-  }
+      → ListsWritesBefore h (op s (i + 1)) (writes ++ entry_of s i x v ∷ [])
+  ListsWritesBefore-write s i x v writes this before =
+      listed-item _ _ s i (entry_of s i x v) writes this (one_entry s i x v this) before
 
   -- one operation more that is no write
   pub ListsWritesBefore-other : (s i : ℕ) (writes : List WriteEntry) → ((x v : ℕ) → Writes h (op s i) x v → ⊥) → ListsWritesBefore h (op s i) writes
       → ListsWritesBefore h (op s (i + 1)) writes
-  ListsWritesBefore-other s i writes no_write before = record {
-    each = λ a y u earlier wrote. ⊎_elim
-        (λ (old : IsEarlier a (op s i)). before.each a y u old wrote)
-        (λ (here : a ≡ op s i). absurd (no_write y u (subst (λ (b : OpId). Writes h b y u) here wrote)))
-        (earlier_cases a s i earlier);
-    no_other = before.no_other;
-  }
+  ListsWritesBefore-other s i writes no_write before =
+      listed-none _ _ s i writes (λ w wrote here. no_write w.key w.value (subst (λ (b : OpId). Writes h b w.key w.value) here wrote)) before
+
+  of_history : (w : WriteEntry) → Writes h w.op w.key w.value → IsOp h w.op
+  of_history w wrote = write-of_history h w.op w.key w.value wrote
 
   -- the end of a session
   pub ListsWritesBefore-session : (s i : ℕ) (writes : List WriteEntry) → length (session h s) ≤ i → ListsWritesBefore h (op s i) writes
       → ListsWritesBefore h (op (s + 1) 0) writes
-  ListsWritesBefore-session s i writes ended before = record {
-    each = λ a y u earlier wrote. before.each a y u
-        (⊎_elim
-        (λ (below : a.session < s + 1). ⊎_elim
-        (λ (same : a.session ≡ s). inr (
-          same,
-          let is_op = subst (λ (t : ℕ). a.index < length (session h t)) same (write-of_history h a y u wrote) in omega arith,
-        ))
-        (λ (earlier_session : a.session < s). inl earlier_session)
-        (let up_to : a.session ≤ s = omega arith in eq-or-lt_of_le up_to))
-        (λ (none : (a.session ≡ s + 1) × (a.index < 0)). let below = none.1 in absurd (omega arith))
-        earlier) wrote;
-    no_other = before.no_other;
-  }
+  ListsWritesBefore-session s i writes ended before = listed-session _ _ h of_history s i writes ended before
 
   -- the end of the last session
   pub ListsWrites-end : (s : ℕ) (writes : List WriteEntry) → length h.1 ≤ s → ListsWritesBefore h (op s 0) writes → ListsWrites h writes
   ListsWrites-end s writes ended before = record {
-    each = λ a y u wrote. before.each a y u (inl (let below = session-of_history h a (write-of_history h a y u wrote) in omega arith)) wrote;
+    each = λ a y u wrote. listed-end _ _ h of_history s writes ended before (record { op = a; key = y; value = u }) wrote;
     no_other = before.no_other;
   }
 

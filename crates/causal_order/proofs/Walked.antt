@@ -1,7 +1,7 @@
 -- Walks by the topological rule.
 use Rattle.std.specs.Prelude.{◌≡◌, ◌≢◌, ◌==◌, ℕ, ◌+◌, ◌-◌, ◌<◌, ◌≤◌, List, [], ◌∷◌, ◌++◌, length, take, Some, slice_get, max, cond}
 use Rattle.std.proofs.Common.{arith, get_or, sym, ap, subst, ◌∙◌, inl, inr, ⊎_elim, ◌⊎◌, refl, zero, suc, set}
-use Rattle.std.proofs.lemmas.Bool.{cases_eq, cases_lt, eq-eqb, ne_eqb}
+use Rattle.std.proofs.lemmas.Bool.{cases_eq, cases_lt, ne_eqb}
 use Rattle.std.proofs.lemmas.List.{get_or_past, get_or-set_same, get_or-set_other, set_past, length-take, length_push, take-append-le, take_at, take_all, length-set, get_or_append_left, get_or_push}
 use Rattle.std.proofs.lemmas.List.Sums.{sum_by_push}
 use Rattle.std.proofs.lemmas.Option.{slice_get_within, get_or_from_slice_get, slice_get-get_or}
@@ -9,16 +9,12 @@ use Rattle.causal_order.specs.Orders.{op}
 use Rattle.causal_order.specs.Vectors.{Counts, count, list_of}
 use Rattle.causal_order.specs.Sources.{IsListed}
 use Rattle.causal_order.specs.Topological.{placed, next_of, CanGoOn, IsNext, IsWalk, AreSeen, IsTally}
+use Rattle.causal_order.specs.TopologicalLaws.{placed-same}
 
 -- how many operations the limits of the first n sessions leave behind a schedule
 abbrev pub room : ℕ → List ℕ → List ℕ → ℕ
 room zero limits schedule = 0
 room (suc n) limits schedule = room n limits schedule + (get_or limits n 0 - placed schedule n)
-
--- one operation more of its session is placed
-pub placed-same : (schedule : List ℕ) (s : ℕ) → placed (schedule ++ s ∷ []) s ≡ placed schedule s + 1
-placed-same schedule s =
-    sum_by_push (λ t. cond (t == s) 1 0) schedule s ∙ ap (λ b. placed schedule s + cond b 1 0) (eq-eqb s s refl)
 
 -- and none of another session
 pub placed-other : (schedule : List ℕ) (s t : ℕ) → t ≢ s → placed (schedule ++ s ∷ []) t ≡ placed schedule t

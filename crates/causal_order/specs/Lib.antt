@@ -4,7 +4,10 @@ pub mod Memory
 pub mod MemoryLaws
 pub mod Relations
 pub mod RelationsLaws
+pub mod Listed
 pub mod Written
+pub mod EarlierLaws
+pub mod ListedLaws
 pub mod Vectors
 pub mod VectorsLaws
 pub mod Sources
@@ -13,5 +16,11 @@ pub mod FlatRows
 pub mod Gathered
 pub mod ProgramOrder
 pub mod Topological
+pub mod TopologicalLaws
 pub mod PushedLaws
 pub mod GatheredLaws
+pub mod GrowingOrders
+pub mod GrowingOrdersLaws
+pub mod HappenedBefores
+pub mod SourcedLaws
+pub mod RepeatsLaws

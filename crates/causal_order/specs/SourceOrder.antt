@@ -1,11 +1,12 @@
 -- The order that a memory history has by the first write of each value that was read, and when it has none.
-use Rattle.std.specs.Prelude.{◌≡◌, ◌≢◌, ◌⊎◌, ℕ, ◌≤◌, ◌<◌, List, [], length, Option, MatchOption, Some, slice_get, slice_index_or}
+use Rattle.std.specs.Prelude.{◌≡◌, ◌≢◌, ◌⊎◌, ◌↔◌, ℕ, ◌≤◌, ◌<◌, List, [], length, Option, MatchOption, Some, slice_get, slice_index_or}
 use Rattle.operations.specs.declared.op_id.OpId.{OpId}
 use Rattle.operations.specs.History.{IsOp, Precedes, session}
 use Rattle.causal_order.specs.Memory.{MemoryHistory, initial, Writes, Reads}
 use Rattle.causal_order.specs.Orders.{op, IsEarlier}
 use Rattle.causal_order.specs.Relations.{Leads, ReadsFrom, CO}
 use Rattle.causal_order.specs.Sources.{Sources}
+use Rattle.causal_order.specs.Vectors.{Counts, AreVectorsOf, IsCounted}
 
 module _ (h : MemoryHistory) where
   -- CO is cyclic
@@ -46,3 +47,11 @@ module _ (h : MemoryHistory) where
   -- the sources of all operations
   abbrev pub ListsSources : Sources → Type 0
   ListsSources sources = ListsSourcesSoFar (length h.1) sources
+
+  -- each known read of a value that is not the initial one has a source, the order is no cycle, and vectors count, for
+  -- each operation, what is before it in the order and the operation itself
+  pub record CountsSourceOrder (v : Counts) : Type 0 where
+    pub vectors : AreVectorsOf h v
+    pub sources : ¬ LacksSource
+    pub acyclic : (a : OpId) → ¬ SourceOrder a a
+    pub counted : (o a : OpId) → IsOp h o → IsCounted v o a ↔ ((a ≡ o) ⊎ SourceOrder a o)

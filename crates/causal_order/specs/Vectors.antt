@@ -1,6 +1,6 @@
 -- Vectors of counts: for each operation, how many operations of each session are in its past, itself among them (vector
 -- clocks: Fidge, "Timestamps in message-passing systems that preserve the partial ordering", 1988).
-use Rattle.std.specs.Prelude.{◌≡◌, ◌≢◌, ℕ, ◌+◌, ◌<◌, ◌≤◌, List, [], length, slice_index_or}
+use Rattle.std.specs.Prelude.{◌≡◌, ◌≢◌, ℕ, ◌+◌, ◌<◌, ◌≤◌, List, [], length, slice_index_or, slice_set}
 use Rattle.operations.specs.declared.op_id.OpId.{OpId}
 use Rattle.operations.specs.History.{Record, IsOp, session}
 use Rattle.causal_order.specs.Orders.{op}
@@ -12,6 +12,11 @@ ByOperation A = List (List (List A))
 -- the list of an operation
 abbrev pub list_of : {A : Type 0} → ByOperation A → OpId → List A
 list_of lists o = slice_index_or (slice_index_or lists o.session []) o.index []
+
+-- the lists, with x at a place of the list of o
+abbrev pub with_item : {A : Type 0} → ByOperation A → OpId → ℕ → A → ByOperation A
+with_item lists o place x =
+    slice_set lists o.session (slice_set (slice_index_or lists o.session []) o.index (slice_set (list_of lists o) place x))
 
 -- vectors: each list has one count for each session
 abbrev pub Counts : Type 0

@@ -1,9 +1,10 @@
 -- Lists of the writes of a memory history.
-use Rattle.std.specs.Prelude.{◌≡◌, ℕ, ◌<◌, List, Some, slice_get, Contains, IsSortedByKey}
+use Rattle.std.specs.Prelude.{◌≡◌, ℕ, ◌<◌, ◌≤◌, List, Some, slice_get, Contains, IsSortedByKey}
 use Rattle.std.specs.Ordering.{nat_cmp, ordering_then}
 use Rattle.std.specs.declared.cmp.Ordering.{Ordering}
 use Rattle.operations.specs.declared.op_id.OpId.{OpId}
-use Rattle.causal_order.specs.Orders.{IsEarlier}
+use Rattle.causal_order.specs.Listed.{ListsBefore}
+use Rattle.causal_order.specs.Orders.{op, IsEarlier}
 use Rattle.causal_order.specs.declared.writes.Write.{Write}
 use Rattle.causal_order.specs.Memory.{MemoryHistory, Writes}
 
@@ -13,9 +14,8 @@ pub record ListsWrites (h : MemoryHistory) (writes : List Write) : Type 0 where
   pub no_other : (w : Write) → Contains writes w → Writes h w.op w.key w.value
 
 -- a list names the writes of h that are earlier than an operation, and nothing but writes
-pub record ListsWritesBefore (h : MemoryHistory) (o : OpId) (writes : List Write) : Type 0 where
-  pub each : (a : OpId) (x v : ℕ) → IsEarlier a o → Writes h a x v → Contains writes (record { op = a; key = x; value = v })
-  pub no_other : (w : Write) → Contains writes w → Writes h w.op w.key w.value
+abbrev pub ListsWritesBefore : MemoryHistory → OpId → List Write → Type 0
+ListsWritesBefore h = ListsBefore (λ w. w.op) (λ w. Writes h w.op w.key w.value)
 
 -- the order by variable, then by value
 abbrev pub by_variable : ℕ × ℕ → ℕ × ℕ → Ordering
@@ -42,3 +42,20 @@ IsOne a b = a.key ≡ b.key → a.value ≡ b.value → a.op ≡ b.op
 -- no two operations among the writes write one value to one variable
 abbrev pub AreOnce : List Write → Type 0
 AreOnce writes = (a b : Write) → Contains writes a → Contains writes b → IsOne a b
+
+-- the order of operations, by session, then by index
+abbrev pub by_op : OpId → OpId → Ordering
+by_op a b = ordering_then (nat_cmp a.session b.session) (nat_cmp a.index b.index)
+
+-- the order by variable, then by operation
+abbrev pub by_place : ℕ × OpId → ℕ × OpId → Ordering
+by_place a b = ordering_then (nat_cmp a.0 b.0) (by_op a.1 b.1)
+
+-- the writes rise by variable and operation
+abbrev pub AreByVariable : List Write → Type 0
+AreByVariable writes = IsSortedByKey (λ w. (w.key, w.op)) by_place writes
+
+-- one of the writes writes the variable x, and is an operation of the session s from i on and before n
+abbrev pub IsBelowWrite : List Write → ℕ → ℕ → ℕ → ℕ → Type 0
+IsBelowWrite writes x s n i =
+    (j u : ℕ) × (i ≤ j) × (j < n) × Contains writes (record { op = op s j; key = x; value = u })

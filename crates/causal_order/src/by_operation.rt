@@ -1,6 +1,6 @@
-ghost use Rattle.std.specs.Prelude.{◌≡◌, ◌∷◌, ◌++◌, ◌<◌, ◌↔◌, List, [], length, slice_set, IsTrue, OnOk, OnErr, slice_index_or};
+ghost use Rattle.std.specs.Prelude.{◌≡◌, ◌∷◌, ◌++◌, ◌<◌, ◌↔◌, List, [], length, slice_set, IfOk, IsTrue, OnOk, OnErr, slice_index_or};
 ghost use Rattle.causal_order.specs.Sources.{IsListed};
-ghost use Rattle.causal_order.specs.Vectors.{list_of};
+ghost use Rattle.causal_order.specs.Vectors.{list_of, with_item};
 
 use crate::rows::Rows;
 use operations::OpId;
@@ -88,5 +88,26 @@ impl<T: Copy> ByOperation<T> {
         ensures err { OnErr result (self.new ≡ self.old) }
     {
         self.sessions[session].push(list)
+    }
+
+    /// Puts an item at a place of the list of an operation. O(1).
+    pub fn set(&mut self, op: OpId, place: usize, item: T)
+        requires listed { IsListed self.old op }
+        requires inside { place < length (list_of self.old op) }
+        ensures { self.new ≡ with_item self.old op place item }
+    {
+        self.sessions[op.session as usize].set(op.index as usize, place, item);
+    }
+    /// A copy of all lists.
+    ///
+    /// Fails for want of memory alone. O(m) for m items and operations.
+    pub fn copy(&self, alloc: Global) -> Result<ByOperation<T>, AllocError>
+        ensures { IfOk result (λ copy. copy ≡ self.now) }
+    {
+        let mut sessions = Vec::new(alloc);
+        for rows in &self.sessions {
+            sessions.push(rows.copy(alloc)?)?;
+        }
+        Ok(ByOperation { sessions, alloc })
     }
 }

@@ -3,18 +3,25 @@
 
 mod by_operation;
 mod differentiation;
+mod growing_order;
+mod happened_before;
+mod last_writes;
 mod order;
 mod placing;
 mod program_vectors;
 mod reads;
 mod reads_from;
 mod rows;
+mod strict;
 mod topological;
 mod vectors;
 mod writes;
 
 pub use by_operation::{ByOperation, Vectors};
 pub use differentiation::{are_distinct, is_differentiated};
+pub use growing_order::{Cause, Raise};
+pub use happened_before::{HappenedBefore, Saturation};
+pub use last_writes::{end_of_writes, writes_by_variable};
 pub use order::memory_order;
 pub use placing::{Sources, order_of};
 pub use program_vectors::program_order;

@@ -2,9 +2,9 @@ ghost use Rattle.std.specs.Prelude.{◌≡◌, ◌⊎◌, ◌↔◌, IfOk, IfNon
 ghost use Rattle.operations.specs.declared.op_id.OpId.{OpId as Operation};
 ghost use Rattle.operations.specs.History.{IsOp};
 ghost use Rattle.causal_order.specs.Memory.{IsDifferentiated};
-ghost use Rattle.causal_order.specs.SourceOrder.{IsCyclic, LacksSource, SourceOrder};
+ghost use Rattle.causal_order.specs.SourceOrder.{CountsSourceOrder, IsCyclic, LacksSource, SourceOrder};
 ghost use Rattle.causal_order.specs.Relations.{IsPast};
-ghost use Rattle.causal_order.specs.Vectors.{AreVectorsOf, IsCounted};
+ghost use Rattle.causal_order.specs.Vectors.{IsCounted};
 
 use crate::by_operation::Vectors;
 use crate::placing::order_of;
@@ -19,14 +19,11 @@ use std::alloc::{AllocError, Global};
 /// `None` where that order is cyclic, or where a known read returned a value that is not the initial one and that nobody
 /// writes. Fails for want of memory alone. O(n (log n + k)) for n operations of k sessions.
 pub fn memory_order(alloc: Global, h: &History<Memory>) -> Result<Option<Vectors>, AllocError>
-    ensures shape { IfOk result (λ order. IfSome order (AreVectorsOf h.now)) }
+    ensures order { IfOk result (λ order. IfSome order (CountsSourceOrder h.now)) }
+    ensures none { IfOk result (λ order. IfNone order (((a : Operation) × SourceOrder h.now a a) ⊎ LacksSource h.now)) }
     ensures exact { IsDifferentiated h.now → IfOk result (λ order. IfSome order (λ v. (o a : Operation) → IsOp h.now o → IsCounted v o a ↔ IsPast h.now o a)) }
     ensures acyclic { IsDifferentiated h.now → IfOk result (λ order. IfSome order (λ _. ¬ IsCyclic h.now)) }
-    ensures sources { IfOk result (λ order. IfSome order (λ _. ¬ LacksSource h.now)) }
-    ensures none { IsDifferentiated h.now → IfOk result (λ order. IfNone order (IsCyclic h.now ⊎ LacksSource h.now)) }
-    ensures exact_by_sources { IfOk result (λ order. IfSome order (λ v. (o a : Operation) → IsOp h.now o → IsCounted v o a ↔ ((a ≡ o) ⊎ SourceOrder h.now a o))) }
-    ensures acyclic_by_sources { IfOk result (λ order. IfSome order (λ _. (a : Operation) → ¬ SourceOrder h.now a a)) }
-    ensures none_by_sources { IfOk result (λ order. IfNone order (((a : Operation) × SourceOrder h.now a a) ⊎ LacksSource h.now)) }
+    ensures none_exact { IsDifferentiated h.now → IfOk result (λ order. IfNone order (IsCyclic h.now ⊎ LacksSource h.now)) }
 {
     let Some(sources) = sources_of(alloc, h)? else {
         return Ok(None);

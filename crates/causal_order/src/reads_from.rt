@@ -1,5 +1,6 @@
 ghost use Rattle.std.specs.Prelude.{◌<◌, length, IfOk, IfNone, IfSome, MatchOption};
 ghost use Rattle.operations.specs.History.{session as operations_of};
+ghost use Rattle.causal_order.specs.HappenedBefores.{AreSourcesIn};
 ghost use Rattle.causal_order.specs.SourceOrder.{IsSourceOf, LacksSource, ListsSources, ListsSourcesBelow};
 ghost use Rattle.causal_order.specs.Written.{AreInOrder, IsSorted, ListsWrites};
 
@@ -55,6 +56,29 @@ fn session_sources(
         sources.push(source)?;
     }
     Ok(Some(sources))
+}
+
+/// The source of each operation of a session, where it has one.
+pub(crate) fn known_sources(
+    alloc: Global,
+    h: &History<Memory>,
+    writes: &[Write],
+    session: usize,
+) -> Result<Vec<Option<OpId>>, AllocError>
+    requires writes { ListsWrites h.now writes.now }
+    requires sorted { IsSorted writes.now }
+    requires in_order { AreInOrder writes.now }
+    ensures { IfOk result (λ sources. AreSourcesIn h.now (length (operations_of h.now session)) sources.items) }
+{
+    let mut sources = Vec::new(alloc);
+    for index in 0..h.len(session as u64) {
+        let op = OpId {
+            session: session as u64,
+            index: index as u64,
+        };
+        sources.push(source_of(h, writes, op).flatten())?;
+    }
+    Ok(sources)
 }
 
 /// The source of an operation, `Some(None)` where it has none, or `None` where it is a known read of a value that nobody

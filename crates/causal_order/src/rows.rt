@@ -1,4 +1,4 @@
-ghost use Rattle.std.specs.Prelude.{◌≡◌, ◌∷◌, ◌++◌, ◌<◌, ◌≤◌, List, [], length, OnOk, OnErr, slice_index, slice_index_or};
+ghost use Rattle.std.specs.Prelude.{◌≡◌, ◌∷◌, ◌++◌, ◌<◌, ◌≤◌, List, [], length, IfOk, OnOk, OnErr, slice_index, slice_index_or, slice_set};
 ghost use Rattle.causal_order.specs.FlatRows.{cut, start_of, RisesTo};
 
 use std::alloc::{AllocError, Global};
@@ -81,5 +81,25 @@ impl<T: Copy> Rows<T> {
         self.items.extend_from_slice(row)?;
         self.ends.push(self.items.len())?;
         Ok(())
+    }
+
+    /// Puts an item at the place `j` of the list numbered `i`. O(1).
+    pub fn set(&mut self, i: usize, j: usize, item: T)
+        requires exists { i < length self.old }
+        requires inside { j < length (slice_index_or self.old i []) }
+        ensures { self.new ≡ slice_set self.old i (slice_set (slice_index_or self.old i []) j item) }
+    {
+        let range = range_of(self.items.len(), &self.ends, i);
+        self.items[range.0 + j] = item;
+    }
+    /// A copy of all lists.
+    ///
+    /// Fails for want of memory alone. O(m) for m items and lists.
+    pub fn copy(&self, alloc: Global) -> Result<Rows<T>, AllocError>
+        ensures { IfOk result (λ copy. copy ≡ self.now) }
+    {
+        let items = Vec::from_slice(alloc, &self.items)?;
+        let ends = Vec::from_slice(alloc, &self.ends)?;
+        Ok(Rows { items, ends })
     }
 }

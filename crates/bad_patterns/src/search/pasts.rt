@@ -1,3 +1,4 @@
+use crate::derived_pairs::Pair;
 use crate::search::counts::count_of;
 use causal_order::{Sources, Vectors};
 use operations::OpId;
@@ -44,6 +45,11 @@ impl CausalOrder {
     /// Whether an operation is in the past of another, or is that one.
     pub fn has_in_past(&self, op: OpId, earlier: OpId) -> bool {
         earlier.index < self.count(op, earlier.session)
+    }
+
+    /// Whether the first of two operations comes before the second.
+    pub fn has_before(&self, pair: Pair) -> bool {
+        pair.0 != pair.1 && self.has_in_past(pair.1, pair.0)
     }
 
     /// The first operation of the session of `op`, up to `op`, that has `earlier` in its past.

@@ -56,9 +56,15 @@ impl KnownReads {
 
     /// The last write of the variable of a read in a session, among those in the past of the read. O(log n) for n writes.
     pub fn last_write(&self, read: &KnownRead, session: u64) -> Option<OpId> {
+        self.last_write_among(read, session, self.order.count(read.op, session))
+    }
+
+    /// The last write of the variable of a read among the first operations of a session, of which there are so many.
+    /// O(log n) for n writes.
+    pub fn last_write_among(&self, read: &KnownRead, session: u64, count: u64) -> Option<OpId> {
         let end = OpId {
             session,
-            index: self.order.count(read.op, session),
+            index: count,
         };
         self.writes.last_before(read.key, end)
     }

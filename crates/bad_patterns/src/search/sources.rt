@@ -51,7 +51,7 @@ fn session_sources(
 }
 
 /// The source of an operation.
-fn source_of(h: &History<Memory>, writes: &[Write], op: OpId) -> Option<OpId>
+pub fn source_of(h: &History<Memory>, writes: &[Write], op: OpId) -> Option<OpId>
     requires writes { ListsWrites h.now writes.now }
     requires sorted { IsSorted writes.now }
     requires in_order { AreInOrder writes.now }

@@ -1,7 +1,7 @@
 use Rattle.std.proofs.Common.{inl}
 use Rattle.operations.specs.declared.op_id.OpId.{OpId}
 use Rattle.causal_order.specs.Sources.{Comes}
-use Rattle.causal_order.proofs.FirstWrites.{sources-exist, sources-present, counts-exact, counts-past, order-acyclic, order-from_steps, CO-from_sources, CO-by_sources}
+use Rattle.causal_order.proofs.FirstWrites.{sources-exist, counts-order, counts-past, order-acyclic, order-from_steps, CO-from_sources, CO-by_sources}
 use Rattle.causal_order.proofs.Outcomes.{some-weaker, none-weaker}
 use Rattle.causal_order.proofs.order.memory_order.Goals as goal
 
@@ -22,33 +22,22 @@ returns-clause-acyclic c = λ distinct.
     (λ v so_far finished cyclic. order-acyclic c.args.h.now c.in-Some.sources lists v so_far finished cyclic.0 (CO-by_sources c.args.h.now distinct _ _ cyclic.1))
     c.order_of.ensures.exact c.order_of.ensures.finished
 
-pub returns-clause-sources : goal.returns-clause-sources
-returns-clause-sources c =
-    let lists = rw c.in-Some.is at c.in_ok-sources.ensures.listed in
-    some-weaker c.order_of.result _ _ _ (λ v so_far finished. sources-present c.args.h.now c.in-Some.sources lists) c.order_of.ensures.exact c.order_of.ensures.finished
-
-pub returns-clause-none : goal.returns-clause-none
-returns-clause-none c = λ distinct.
+pub returns-clause-none_exact : goal.returns-clause-none_exact
+returns-clause-none_exact c = λ distinct.
     let lists = rw c.in-Some.is at c.in_ok-sources.ensures.listed in
     none-weaker c.order_of.result _ _
     (λ (cycle : (a : OpId) × Comes c.in-Some.sources a a).
     inl (cycle.0, CO-from_sources c.args.h.now _ _ (order-from_steps c.args.h.now c.in-Some.sources lists _ _ cycle.1)))
     c.order_of.ensures.cyclic
 
-pub returns-clause-exact_by_sources : goal.returns-clause-exact_by_sources
-returns-clause-exact_by_sources c =
+pub returns-clause-order : goal.returns-clause-order
+returns-clause-order c =
     let lists = rw c.in-Some.is at c.in_ok-sources.ensures.listed in
     some-weaker c.order_of.result _ _ _
-    (λ v so_far finished. counts-exact c.args.h.now c.in-Some.sources lists v so_far finished) c.order_of.ensures.exact c.order_of.ensures.finished
+    (λ v so_far finished. counts-order c.args.h.now c.in-Some.sources lists v so_far finished) c.order_of.ensures.exact c.order_of.ensures.finished
 
-pub returns-clause-acyclic_by_sources : goal.returns-clause-acyclic_by_sources
-returns-clause-acyclic_by_sources c =
-    let lists = rw c.in-Some.is at c.in_ok-sources.ensures.listed in
-    some-weaker c.order_of.result _ _ _
-    (λ v so_far finished. order-acyclic c.args.h.now c.in-Some.sources lists v so_far finished) c.order_of.ensures.exact c.order_of.ensures.finished
-
-pub returns-clause-none_by_sources : goal.returns-clause-none_by_sources
-returns-clause-none_by_sources c =
+pub returns-clause-none : goal.returns-clause-none
+returns-clause-none c =
     let lists = rw c.in-Some.is at c.in_ok-sources.ensures.listed in
     none-weaker c.order_of.result _ _
     (λ (cycle : (a : OpId) × Comes c.in-Some.sources a a). inl (cycle.0, order-from_steps c.args.h.now c.in-Some.sources lists _ _ cycle.1))

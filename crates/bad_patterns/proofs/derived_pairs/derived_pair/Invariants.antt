@@ -1,0 +1,6 @@
+use Rattle.bad_patterns.specs.Derivations.{GivePairs}
+use Rattle.bad_patterns.proofs.derived_pairs.derived_pair.Given as goal
+
+-- the lines so far give these pairs
+abbrev pub invariant-loop-line : goal.invariant-loop-line
+invariant-loop-line l = GivePairs l.h l.op l.lines l.line-index l.pairs.items

@@ -1,0 +1,147 @@
+//! What a derivation gives.
+
+ghost use Rattle.std.specs.Prelude.{◌≡◌, IfOk, MatchOption, slice_get};
+ghost use Rattle.operations.specs.declared.op_id.OpId.{OpId};
+ghost use Rattle.causal_order.specs.Memory.{IsDifferentiated};
+ghost use Rattle.causal_order.specs.Orders.{program_past};
+ghost use Rattle.causal_order.specs.Written.{AreInOrder, IsSorted, ListsWrites};
+ghost use Rattle.bad_patterns.specs.Derivations.{Gives, GivesCausalPair, GivesJoinedPair, GivesRivalPair, IsDerivation};
+
+use crate::derivation::Line;
+use crate::edges::are_rival_writes;
+use crate::path::Path;
+use crate::routes::ends_of;
+use crate::search::source_of;
+use causal_order::Write;
+use objects::Memory;
+use operations::{History, OpId};
+use std::alloc::{AllocError, Global};
+
+/// How many lines a derivation may have.
+pub const MOST_LINES: usize = 100_000;
+
+/// Two operations, the one that happened before first.
+pub type Pair = (OpId, OpId);
+
+/// The pair that the last line gives, where the lines are a derivation for the operation.
+///
+/// The writes are those of the history. Fails for want of memory alone. O(n log m) for n operations and lines of the
+/// derivation and m operations of the history.
+pub fn derived_pair(
+    alloc: Global,
+    h: &History<Memory>,
+    writes: &[Write],
+    op: OpId,
+    lines: &[Line],
+) -> Result<Option<Pair>, AllocError>
+    requires writes { ListsWrites h.now writes.now }
+    requires sorted { IsSorted writes.now }
+    requires in_order { AreInOrder writes.now }
+    requires differentiated { IsDifferentiated h.now }
+    ensures { IfOk result (λ found. MatchOption found ((a b : OpId) → ¬ IsDerivation h.now op lines.now a b)
+        (λ pair. IsDerivation h.now op lines.now pair.0 pair.1)) }
+{
+    if lines.len() > MOST_LINES {
+        return Ok(None);
+    }
+    let mut pairs = Vec::new(alloc);
+    for line in lines {
+        let Some(pair) = given_pair(h, writes, op, &pairs, line) else {
+            return Ok(None);
+        };
+        pairs.push(pair)?;
+    }
+    Ok(pairs.last().copied())
+}
+
+/// The pair that a line gives, where the lines before it give these pairs.
+fn given_pair(
+    h: &History<Memory>,
+    writes: &[Write],
+    op: OpId,
+    pairs: &[Pair],
+    line: &Line,
+) -> Option<Pair>
+    requires writes { ListsWrites h.now writes.now }
+    requires sorted { IsSorted writes.now }
+    requires in_order { AreInOrder writes.now }
+    requires differentiated { IsDifferentiated h.now }
+    ensures { MatchOption result ((a b : OpId) → ¬ Gives h.now op pairs.now line.now a b)
+        (λ pair. Gives h.now op pairs.now line.now pair.0 pair.1) }
+{
+    match line {
+        Line::Co(first, second) => causal_pair(h, op, first, second),
+        Line::Tr(i, j) => joined_pair(pairs, *i, *j),
+        Line::Rf(i, read) => rival_pair(h, writes, op, pairs, *i, *read),
+    }
+}
+
+/// The ends of a path with an edge, where another path goes from where it ends to the operation.
+fn causal_pair(h: &History<Memory>, op: OpId, first: &Path, second: &Path) -> Option<Pair>
+    ensures { MatchOption result ((a b : OpId) → ¬ GivesCausalPair h.now op first.now second.now a b)
+        (λ pair. GivesCausalPair h.now op first.now second.now pair.0 pair.1) }
+{
+    let (Some(above), Some(below)) = (ends_of(h, first), ends_of(h, second)) else {
+        return None;
+    };
+    if first.ops().len() > 1 && above.1 == below.0 && below.1 == op {
+        Some(above)
+    } else {
+        None
+    }
+}
+
+/// The pair of two pairs, where the first ends where the second begins.
+fn joined_pair(pairs: &[Pair], i: u64, j: u64) -> Option<Pair>
+    ensures { MatchOption result ((a b : OpId) → ¬ GivesJoinedPair pairs.now i j a b)
+        (λ pair. GivesJoinedPair pairs.now i j pair.0 pair.1) }
+{
+    let (Some(first), Some(second)) = (pair_at(pairs, i), pair_at(pairs, j)) else {
+        return None;
+    };
+    if first.1 == second.0 {
+        Some((first.0, second.1))
+    } else {
+        None
+    }
+}
+
+/// A write that happened before a read of another write of its variable, and that write.
+fn rival_pair(
+    h: &History<Memory>,
+    writes: &[Write],
+    op: OpId,
+    pairs: &[Pair],
+    i: u64,
+    read: OpId,
+) -> Option<Pair>
+    requires writes { ListsWrites h.now writes.now }
+    requires sorted { IsSorted writes.now }
+    requires in_order { AreInOrder writes.now }
+    requires differentiated { IsDifferentiated h.now }
+    ensures { MatchOption result ((a b : OpId) → ¬ GivesRivalPair h.now op pairs.now i read a b)
+        (λ pair. GivesRivalPair h.now op pairs.now i read pair.0 pair.1) }
+{
+    let (Some(pair), Some(source)) = (pair_at(pairs, i), source_of(h, writes, read)) else {
+        return None;
+    };
+    if pair.1 == read && is_in_program_past(op, read) && are_rival_writes(h, pair.0, source) {
+        Some((pair.0, source))
+    } else {
+        None
+    }
+}
+
+/// The pair of a number, where there is one.
+fn pair_at(pairs: &[Pair], i: u64) -> Option<Pair>
+    ensures { result ≡ slice_get pairs.now i }
+{
+    pairs.get(i as usize).copied()
+}
+
+/// Whether the second is the first operation, or before it in program order.
+pub fn is_in_program_past(op: OpId, earlier: OpId) -> bool
+    ensures { result ≡ program_past op earlier }
+{
+    earlier.session == op.session && earlier.index <= op.index
+}

@@ -1,0 +1,106 @@
+//! The search for patterns that happened-before relations show.
+
+ghost use Rattle.std.specs.Prelude.{IfOk, IfSome};
+ghost use Rattle.bad_patterns.specs.Found.{IsFirstFound};
+ghost use Rattle.bad_patterns.specs.Patterns.{IsBadPattern};
+ghost use Rattle.causal_order.specs.Memory.{IsDifferentiated};
+ghost use Rattle.causal_order.specs.SourceOrder.{CountsSourceOrder};
+ghost use Rattle.causal_order.specs.Written.{AreInOrder, IsSorted, ListsWrites};
+
+use crate::finding::tested;
+use crate::kind::Kind;
+use crate::pattern::Pattern;
+use crate::search::{KnownReads, Relation, cycle_in, derivation_of, overwritten_start_in};
+use causal_order::{Vectors, Write};
+use cert_check::Criterion;
+use objects::Memory;
+use operations::History;
+use std::alloc::{AllocError, Global};
+
+/// A pattern of one of the kinds that rest on happened-before relations, where those are against the criterion.
+///
+/// For each session the relation of its last operation is searched: it has what those of the operations before it have. A
+/// session is left out where that relation has more than 100,000 pairs that the causal order doesn't have. A cycle is
+/// answered where no session has a read of the initial value after a write.
+pub fn find_happened_before(
+    alloc: Global,
+    h: &History<Memory>,
+    writes: &[Write],
+    criterion: Criterion,
+    vectors: &Vectors,
+    known: &KnownReads,
+) -> Result<Option<Pattern>, AllocError>
+    requires writes { ListsWrites h.now writes.now }
+    requires sorted { IsSorted writes.now }
+    requires in_order { AreInOrder writes.now }
+    requires differentiated { IsDifferentiated h.now }
+    requires order { CountsSourceOrder h.now vectors.now }
+    ensures found { IfOk result (λ found. IfSome found (IsBadPattern h.now criterion)) }
+    ensures first { IfOk result (λ found. IfSome found (IsFirstFound h.now)) }
+{
+    let mut cyclic = None;
+    if !Kind::CyclicHB.is_against(criterion) {
+        return Ok(cyclic);
+    }
+    for session in 0..h.sessions() {
+        let Some(relation) = Relation::of_last(alloc, h, vectors, session)? else {
+            continue;
+        };
+        let start = find_start(alloc, h, writes, criterion, known, &relation)?;
+        if start.is_some() {
+            return Ok(start);
+        }
+        if cyclic.is_none() {
+            cyclic = find_cycle(alloc, h, writes, criterion, known, &relation)?;
+        }
+    }
+    Ok(cyclic)
+}
+
+/// A read of the initial value that a relation puts after a write.
+fn find_start(
+    alloc: Global,
+    h: &History<Memory>,
+    writes: &[Write],
+    criterion: Criterion,
+    known: &KnownReads,
+    relation: &Relation,
+) -> Result<Option<Pattern>, AllocError>
+    requires writes { ListsWrites h.now writes.now }
+    requires sorted { IsSorted writes.now }
+    requires in_order { AreInOrder writes.now }
+    requires differentiated { IsDifferentiated h.now }
+    ensures found { IfOk result (λ found. IfSome found (IsBadPattern h.now criterion)) }
+    ensures first { IfOk result (λ found. IfSome found (IsFirstFound h.now)) }
+{
+    let Some(pair) = overwritten_start_in(known, relation) else {
+        return Ok(None);
+    };
+    let derivation = derivation_of(alloc, known.order(), relation, pair)?;
+    let pattern = Pattern::WriteHBInitRead(relation.op(), derivation);
+    tested(alloc, h, writes, criterion, pattern)
+}
+
+/// An operation that a relation puts before itself.
+fn find_cycle(
+    alloc: Global,
+    h: &History<Memory>,
+    writes: &[Write],
+    criterion: Criterion,
+    known: &KnownReads,
+    relation: &Relation,
+) -> Result<Option<Pattern>, AllocError>
+    requires writes { ListsWrites h.now writes.now }
+    requires sorted { IsSorted writes.now }
+    requires in_order { AreInOrder writes.now }
+    requires differentiated { IsDifferentiated h.now }
+    ensures found { IfOk result (λ found. IfSome found (IsBadPattern h.now criterion)) }
+    ensures first { IfOk result (λ found. IfSome found (IsFirstFound h.now)) }
+{
+    let Some(pair) = cycle_in(relation) else {
+        return Ok(None);
+    };
+    let derivation = derivation_of(alloc, known.order(), relation, pair)?;
+    let pattern = Pattern::CyclicHB(relation.op(), derivation);
+    tested(alloc, h, writes, criterion, pattern)
+}

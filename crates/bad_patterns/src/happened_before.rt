@@ -1,0 +1,59 @@
+//! What the derivation of a pattern shows.
+
+ghost use Rattle.std.specs.Prelude.{◌↔◌, IfOk, IsTrue};
+ghost use Rattle.causal_order.specs.Memory.{IsDifferentiated};
+ghost use Rattle.causal_order.specs.Written.{AreInOrder, IsSorted, ListsWrites};
+ghost use Rattle.bad_patterns.specs.Patterns.{IsDerivationOfCycle, IsDerivationOfInitialRead};
+
+use crate::derivation::Derivation;
+use crate::derived_pairs::{derived_pair, is_in_program_past};
+use crate::edges::reads_initial;
+use causal_order::Write;
+use objects::Memory;
+use operations::{History, OpId};
+use std::alloc::{AllocError, Global};
+
+/// Whether a derivation for the operation gives one operation twice.
+///
+/// Fails for want of memory alone.
+pub fn is_derivation_of_cycle(
+    alloc: Global,
+    h: &History<Memory>,
+    writes: &[Write],
+    op: OpId,
+    derivation: &Derivation,
+) -> Result<bool, AllocError>
+    requires writes { ListsWrites h.now writes.now }
+    requires sorted { IsSorted writes.now }
+    requires in_order { AreInOrder writes.now }
+    requires differentiated { IsDifferentiated h.now }
+    ensures { IfOk result (λ yes. IsTrue yes ↔ IsDerivationOfCycle h.now op derivation.now) }
+{
+    let Some(pair) = derived_pair(alloc, h, writes, op, derivation.lines())? else {
+        return Ok(false);
+    };
+    Ok(pair.0 == pair.1)
+}
+
+/// Whether a derivation for the operation gives a write and a read of the initial value of its variable, which is the
+/// operation or before it in program order.
+///
+/// Fails for want of memory alone.
+pub fn is_derivation_of_initial_read(
+    alloc: Global,
+    h: &History<Memory>,
+    writes: &[Write],
+    op: OpId,
+    derivation: &Derivation,
+) -> Result<bool, AllocError>
+    requires writes { ListsWrites h.now writes.now }
+    requires sorted { IsSorted writes.now }
+    requires in_order { AreInOrder writes.now }
+    requires differentiated { IsDifferentiated h.now }
+    ensures { IfOk result (λ yes. IsTrue yes ↔ IsDerivationOfInitialRead h.now op derivation.now) }
+{
+    let Some(pair) = derived_pair(alloc, h, writes, op, derivation.lines())? else {
+        return Ok(false);
+    };
+    Ok(is_in_program_past(op, pair.1) && reads_initial(h, pair.0, pair.1))
+}

@@ -1,0 +1,107 @@
+//! Reading the lines of a derivation from a JSON value.
+
+ghost use Rattle.std.specs.Prelude.{◌≡◌, ◌∷◌, [], codes, IfOk};
+ghost use Rattle.serde_json.specs.View.{view};
+ghost use Rattle.bad_patterns.specs.PatternForm.{line_form, lines_form, number_form, worded, IsRead};
+
+use crate::derivation::{Derivation, Line};
+use crate::reading::{read_op, read_path, word_and_rest};
+use operations::elements_of;
+use serde_json::Value;
+use std::alloc::{AllocError, Global};
+
+/// The derivation that a value is the form of: a list of `["co",path,path]`, `["tr",i,j]` and `["rf",i,op]`.
+///
+/// A line may refer to any line. Fails for want of memory alone.
+pub fn read_lines(alloc: Global, value: &Value) -> Result<Option<Derivation>, AllocError>
+    ensures { IfOk result (IsRead lines_form (view value.now)) }
+{
+    let Some(values) = elements_of(value) else {
+        return Ok(None);
+    };
+    let mut lines = Vec::new(alloc);
+    for value in values {
+        let Some(line) = read_line(alloc, value)? else {
+            return Ok(None);
+        };
+        lines.push(line)?;
+    }
+    Ok(Some(Derivation::of(lines)))
+}
+
+/// The line that a value is the form of.
+fn read_line(alloc: Global, value: &Value) -> Result<Option<Line>, AllocError>
+    ensures { IfOk result (IsRead line_form (view value.now)) }
+{
+    let Some((word, rest)) = word_and_rest(value) else {
+        return Ok(None);
+    };
+    match rest {
+        [first, second] => read_worded_line(alloc, word, first, second),
+        _ => Ok(None),
+    }
+}
+
+/// The line of this word and of what stands behind it.
+fn read_worded_line(
+    alloc: Global,
+    word: &str,
+    first: &Value,
+    second: &Value,
+) -> Result<Option<Line>, AllocError>
+    ensures { IfOk result (IsRead line_form (worded word.now (view first.now ∷ view second.now ∷ []))) }
+{
+    if word == "co" {
+        read_causal_line(alloc, first, second)
+    } else if word == "tr" {
+        Ok(read_joining_line(first, second))
+    } else if word == "rf" {
+        Ok(read_rival_line(first, second))
+    } else {
+        Ok(None)
+    }
+}
+
+/// The line that two paths make.
+fn read_causal_line(
+    alloc: Global,
+    first: &Value,
+    second: &Value,
+) -> Result<Option<Line>, AllocError>
+    ensures { IfOk result (IsRead line_form (worded (codes "co") (view first.now ∷ view second.now ∷ []))) }
+{
+    let Some(above) = read_path(alloc, first)? else {
+        return Ok(None);
+    };
+    let Some(below) = read_path(alloc, second)? else {
+        return Ok(None);
+    };
+    Ok(Some(Line::Co(above, below)))
+}
+
+/// The line that the numbers of two lines make.
+fn read_joining_line(first: &Value, second: &Value) -> Option<Line>
+    ensures { IsRead line_form (worded (codes "tr") (view first.now ∷ view second.now ∷ [])) result }
+{
+    let (Some(i), Some(j)) = (read_number(first), read_number(second)) else {
+        return None;
+    };
+    Some(Line::Tr(i, j))
+}
+
+/// The line that the number of a line and a read make.
+fn read_rival_line(first: &Value, second: &Value) -> Option<Line>
+    ensures { IsRead line_form (worded (codes "rf") (view first.now ∷ view second.now ∷ [])) result }
+{
+    let (Some(i), Some(read)) = (read_number(first), read_op(second)) else {
+        return None;
+    };
+    Some(Line::Rf(i, read))
+}
+
+/// The number of a line that a value is the form of.
+fn read_number(value: &Value) -> Option<u64>
+    ensures { IsRead number_form (view value.now) result }
+{
+    value.as_u64()
+}

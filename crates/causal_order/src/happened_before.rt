@@ -1,0 +1,209 @@
+//! What happened before the operations of a session.
+
+ghost use Rattle.std.specs.Prelude.{◌≡◌, ◌+◌, ◌<◌, length, IfOk, IfSome, OnOk};
+ghost use Rattle.operations.specs.History.{IsOp, session as operations_of};
+ghost use Rattle.causal_order.specs.GrowingOrders.{AreHeldVectors, IsRaisedIn};
+ghost use Rattle.causal_order.specs.HappenedBefores.{AreStrictOf, HasGrown, IsHappenedBefore, TakesNext, raises_of, session_of, taken_of, vectors_of};
+
+use crate::by_operation::Vectors;
+use crate::growing_order::{GrowingOrder, Raise, Raised};
+use crate::last_writes::{end_of_writes, sort_by_variable};
+use crate::reads_from::known_sources;
+use crate::writes::{Write, sorted_writes};
+use objects::Memory;
+use operations::{History, OpId};
+use std::alloc::{AllocError, Global};
+
+/// What is known of the happened-before relation of an operation.
+#[derive(Clone, Copy, Debug, PartialEq, Eq)]
+pub enum Saturation {
+    /// The vectors are those of the relation, and no operation is before itself.
+    Saturated,
+    /// Some operation is before itself.
+    Cyclic,
+    /// The relation has more than 100,000 pairs that the causal order doesn't have, and isn't made.
+    GivenUp,
+}
+
+/// The happened-before relation of one operation of a session after another.
+///
+/// That of an operation o is on what the causal order puts before o, and o. It is the least transitive one that has the
+/// causal order there, and in which, for each known read that is o or before o in its session, what is before the read
+/// and writes its variable is before the source of the read, the source itself excepted. It is kept as vectors: for each
+/// operation how many operations of each session are before it, where an operation counts itself only if it is before
+/// itself. So the vector of an operation counts at least its own index of its own session.
+#[derive(Drop)]
+pub struct HappenedBefore {
+    session: usize,
+    taken: usize,
+    order: GrowingOrder,
+    /// The writes of the history, by variable and operation.
+    writes: Vec<Write>,
+    /// For each operation of the session its source.
+    sources: Vec<Option<OpId>>,
+}
+
+impl HappenedBefore {
+    /// The relation for the operations of a session, of which none is taken in yet, from the vectors of the causal
+    /// order.
+    ///
+    /// Fails for want of memory alone. O(n (log n + k)) for n operations of k sessions.
+    pub fn of(
+        alloc: Global,
+        h: &History<Memory>,
+        vectors: &Vectors,
+        session: usize,
+    ) -> Result<HappenedBefore, AllocError>
+        requires vectors { AreHeldVectors h.now vectors.now }
+        requires exists { session < length h.now.1 }
+        ensures happened { IfOk result (IsHappenedBefore h.now) }
+        ensures session { IfOk result (λ happened. session_of happened ≡ session) }
+        ensures taken { IfOk result (λ happened. taken_of happened ≡ 0) }
+        ensures strict { IfOk result (λ happened. AreStrictOf h.now vectors.now (vectors_of happened)) }
+    {
+        let mut writes = sorted_writes(alloc, h)?;
+        let sources = known_sources(alloc, h, &writes, session)?;
+        sort_by_variable(&mut writes);
+        let order = GrowingOrder::of(alloc, h, vectors)?;
+        Ok(HappenedBefore {
+            session,
+            taken: 0,
+            order,
+            writes,
+            sources,
+        })
+    }
+
+    /// Goes on to the happened-before relation of the session's next operation.
+    ///
+    /// Once an operation's is cyclic or given up, those of the later ones are so too. Fails for want of memory alone, and
+    /// the vectors are then those of no relation. O(q k^2 + m k log p) for q operations and m pairs that the relation
+    /// has more than before, and k sessions of at most p operations.
+    pub fn take_next(&mut self, h: &History<Memory>) -> Result<Saturation, AllocError>
+        requires happened { IsHappenedBefore h.now self.old }
+        requires next { taken_of self.old < length (operations_of h.now (session_of self.old)) }
+        ensures { OnOk result (TakesNext h.now self.old self.new) }
+    {
+        let index = self.taken;
+        let op = OpId {
+            session: self.session as u64,
+            index: index as u64,
+        };
+        self.order.take_past(h, op)?;
+        self.taken += 1;
+        self.follow_read_of_all(h, index)?;
+        self.saturate(h)?;
+        Ok(self.saturation())
+    }
+
+    /// For each operation, how many operations of each session are before it. O(1).
+    pub fn vectors(&self) -> &Vectors
+        ensures { result.now ≡ vectors_of self.now }
+    {
+        &self.order.counts
+    }
+
+    /// What was raised in the vectors, in turn.
+    ///
+    /// Each raise puts operations before one that no vector before counted before it, and names the cause, which rests on
+    /// the causal order and on raises before.
+    pub fn raises(&self) -> &[Raise]
+        ensures { result.now ≡ raises_of self.now }
+    {
+        self.order.raises.as_slice()
+    }
+
+    /// What the last operation that was taken in came to.
+    fn saturation(&self) -> Saturation {
+        if self.order.is_given_up() {
+            Saturation::GivenUp
+        } else if self.order.is_cyclic {
+            Saturation::Cyclic
+        } else {
+            Saturation::Saturated
+        }
+    }
+
+    /// Follows what was raised until nothing is left, or the order is given up.
+    fn saturate(&mut self, h: &History<Memory>) -> Result<(), AllocError>
+        requires { IsHappenedBefore h.now self.old }
+        ensures { OnOk result (HasGrown h.now self.old self.new) }
+    {
+        while let Some(raised) = self.order.next_raised(h) {
+            self.order.follow(h, raised)?;
+            self.follow_reads(h, raised)?;
+        }
+        Ok(())
+    }
+
+    /// Puts the writes before the sources that what was raised demands.
+    fn follow_reads(&mut self, h: &History<Memory>, raised: Raised) -> Result<(), AllocError>
+        requires happened { IsHappenedBefore h.now self.old }
+        requires raised { IsRaisedIn h.now raised }
+        ensures { OnOk result (HasGrown h.now self.old self.new) }
+    {
+        if raised.op.session != self.session as u64 {
+            return Ok(());
+        }
+        for index in raised.op.index as usize..raised.end.min(self.taken) {
+            self.follow_read(h, index, raised.session)?;
+        }
+        Ok(())
+    }
+
+    /// Puts the writes of each session that are before a read of this session before its source.
+    fn follow_read_of_all(&mut self, h: &History<Memory>, index: usize) -> Result<(), AllocError>
+        requires happened { IsHappenedBefore h.now self.old }
+        requires index { index < length (operations_of h.now (session_of self.old)) }
+        ensures { OnOk result (HasGrown h.now self.old self.new) }
+    {
+        for session in 0..h.sessions() {
+            self.follow_read(h, index, session)?;
+        }
+        Ok(())
+    }
+
+    /// Puts the last write of a session that is before a read of this session, and writes its variable, before its
+    /// source. O(log n + k) for n operations of k sessions, besides what it raises.
+    fn follow_read(
+        &mut self,
+        h: &History<Memory>,
+        index: usize,
+        session: usize,
+    ) -> Result<(), AllocError>
+        requires happened { IsHappenedBefore h.now self.old }
+        requires index { index < length (operations_of h.now (session_of self.old)) }
+        requires exists { session < length h.now.1 }
+        ensures { OnOk result (HasGrown h.now self.old self.new) }
+    {
+        let Some(source) = self.sources[index] else {
+            return Ok(());
+        };
+        let read = OpId {
+            session: self.session as u64,
+            index: index as u64,
+        };
+        match self.last_write(h, read, session) {
+            Some(write) if write != source => self.order.add_rival(h, source, write, read),
+            _ => Ok(()),
+        }
+    }
+
+    /// The last operation of a session that is before a read and writes its variable.
+    fn last_write(&self, h: &History<Memory>, read: OpId, session: usize) -> Option<OpId>
+        requires happened { IsHappenedBefore h.now self.now }
+        requires is_op { IsOp h.now read }
+        requires exists { session < length h.now.1 }
+        ensures { IfSome result (IsOp h.now) }
+    {
+        let count = self.order.count(h, read, session);
+        let end = end_of_writes(&self.writes, h.call(read).key, session as u64, count);
+        if end == 0 {
+            return None;
+        }
+        Some(OpId {
+            session: session as u64,
+            index: end as u64 - 1,
+        })
+    }
+}

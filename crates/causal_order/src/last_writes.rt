@@ -1,0 +1,51 @@
+//! The last writes of a variable.
+
+ghost use Rattle.std.specs.Prelude.{◌<◌, ◌↔◌, ℕ, IfOk, IsPermutation};
+ghost use Rattle.causal_order.specs.Written.{AreByVariable, IsBelowWrite, ListsWrites};
+
+use crate::writes::{Write, sorted_writes};
+use objects::Memory;
+use operations::{History, OpId};
+use std::alloc::{AllocError, Global};
+
+/// The writes of a history, by variable and operation. O(n log n) for n operations.
+pub fn writes_by_variable(alloc: Global, h: &History<Memory>) -> Result<Vec<Write>, AllocError>
+    ensures writes { IfOk result (λ writes. ListsWrites h.now writes.items) }
+    ensures sorted { IfOk result (λ writes. AreByVariable writes.items) }
+{
+    let mut writes = sorted_writes(alloc, h)?;
+    sort_by_variable(&mut writes);
+    Ok(writes)
+}
+
+/// Sorts writes by variable and operation.
+pub(crate) fn sort_by_variable(writes: &mut Vec<Write>)
+    ensures same { IsPermutation writes.old.items writes.new.items }
+    ensures sorted { AreByVariable writes.new.items }
+{
+    writes.sort_unstable_by_key(|write| (write.key, write.op));
+}
+
+/// How many operations of a session come up to the last write of a variable among the first `count` of them: 0 where none
+/// of these writes it.
+///
+/// The writes are those of a history, by variable and operation. O(log n) for n writes.
+pub fn end_of_writes(writes: &[Write], key: u32, session: u64, count: u16) -> u16
+    requires { AreByVariable writes.now }
+    ensures { (i : ℕ) → (i < result) ↔ IsBelowWrite writes.now key session count i }
+{
+    let end = OpId {
+        session,
+        index: count as u64,
+    };
+    let at = writes.partition_point(|write| (write.key, write.op) < (key, end));
+    if at == 0 {
+        return 0;
+    }
+    let last = &writes[at - 1];
+    if last.key == key && last.op.session == session {
+        last.op.index as u16 + 1
+    } else {
+        0
+    }
+}
