@@ -1,13 +1,13 @@
 -- A walk over the one list up to an operation: what it takes in, and that it comes to the operation.
-use Rattle.std.proofs.Common.{◌≡◌, ◌≢◌, ℕ, ◌+◌, ◌<◌, ◌≤◌, Bool, false, List, [], ◌∷◌, ◌++◌, length, take, drop, get_or, cond, refl, sym, ap, ◌∙◌, subst, arith, ⊎_elim, lt-ltb, take_all, append-nil}
+use Rattle.std.proofs.Common.{◌≡◌, ◌≢◌, ℕ, ◌+◌, ◌<◌, ◌≤◌, Bool, false, List, [], ◌∷◌, ◌++◌, length, take, drop, get_or, refl, sym, ap, ◌∙◌, subst, arith, ⊎_elim, lt-ltb, take_all, append-nil}
 use Rattle.std.specs.Prelude.{IsTrue, Some, filter, slice_get}
 use Rattle.std.proofs.lemmas.Bool.{cases_eq, cases_lt, cond-true, cond-false}
 use Rattle.std.proofs.lemmas.List.{take-append-drop, drop_more, take_at}
 use Rattle.std.proofs.lemmas.List.Elements.{filter-append}
-use Rattle.std.proofs.lemmas.Option.{slice_get_within, get_or_from_slice_get, slice_get-get_or}
+use Rattle.std.proofs.lemmas.Option.{slice_get_within, get_or_from_slice_get}
 use Rattle.operations.specs.declared.op_id.OpId.{OpId}
 use Rattle.operations.specs.History.{Record, IsOp, calls, entry, session}
-use Rattle.causal_order.specs.Orders.{op, only, StandsAt}
+use Rattle.causal_order.specs.Orders.{op, StandsAt}
 use Rattle.causal_order.specs.OrdersLaws.{same_op}
 use Rattle.causal_order.specs.Vectors.{Counts, count, IsCounted, IsVectorOk}
 use Rattle.cert_check.specs.Certificates.{counted, IsArbitratedPiece}

@@ -12,3 +12,4 @@ pub mod CutSteps
 pub mod ListForms
 pub mod ListReading
 pub mod CertificateForms
+pub mod InTurn

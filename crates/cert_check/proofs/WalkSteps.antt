@@ -1,13 +1,13 @@
 -- One step of a walk over a list of session numbers: what the running counts say of the operation that is named next.
-use Rattle.std.proofs.Common.{◌≡◌, ◌≢◌, ℕ, ◌+◌, ◌<◌, ◌≤◌, List, [], ◌∷◌, ◌++◌, length, take, get_or, set, refl, sym, ap, ◌∙◌, subst, arith, ⊎_elim, get_or-set_same, get_or-set_other}
-use Rattle.std.specs.Prelude.{Option, Some, IsTrue, slice_get, option_map, ◌↔◌}
+use Rattle.std.proofs.Common.{◌≡◌, ◌≢◌, ℕ, ◌+◌, ◌<◌, ◌≤◌, List, [], ◌∷◌, ◌++◌, length, take, get_or, set, sym, ap, ◌∙◌, subst, arith, ⊎_elim, get_or-set_same, get_or-set_other}
+use Rattle.std.specs.Prelude.{Option, Some, IsTrue, slice_get, option_map}
 use Rattle.std.specs.List.{filter_map, cons_option}
 use Rattle.std.proofs.lemmas.Bool.{cases_eq, cases_lt}
 use Rattle.std.proofs.lemmas.List.{length-set}
 use Rattle.std.proofs.lemmas.List.Elements.{filter_map-append}
 use Rattle.std.proofs.lemmas.Option.{same_Some}
 use Rattle.operations.specs.declared.op_id.OpId.{OpId}
-use Rattle.operations.specs.History.{Record, IsOp, calls, entry, session}
+use Rattle.operations.specs.History.{Record, IsOp, calls, entry}
 use Rattle.causal_order.specs.Orders.{Ops, op, StandsAt}
 use Rattle.causal_order.specs.OrdersLaws.{same_op, session-of_history}
 use Rattle.causal_order.specs.Vectors.{Counts, count, IsCounted}

@@ -1,10 +1,10 @@
 -- Certificates: for each operation of a history a vector of its past, and schedules or one list that explain the known
 -- returns, as a criterion demands (this project's profile).
-use Rattle.std.specs.Prelude.{◌≡◌, ◌≢◌, ℕ, ◌<◌, Bool, List, Option, Some, filter, length, nat_lt}
+use Rattle.std.specs.Prelude.{◌≡◌, ◌≢◌, ℕ, List, Option, Some, filter, length, nat_lt}
 use Rattle.operations.specs.declared.op_id.OpId.{OpId}
 use Rattle.operations.specs.History.{Record, IsOp, session}
 use Rattle.causal_order.specs.Orders.{Ops, IsEarlier, StandsAt, only, program_past}
-use Rattle.causal_order.specs.Vectors.{Counts, ByOperation, list_of, count, HasOneEach, AreVectorsOf, IsCounted, IsVectorOk}
+use Rattle.causal_order.specs.Vectors.{Counts, list_of, count, HasOneEach, AreVectorsOf, IsCounted, IsVectorOk}
 use Rattle.cert_check.specs.declared.criterion.Criterion.{Criterion}
 use Rattle.cert_check.specs.declared.criterion.Criterion.TheVariants as criteria
 use Rattle.cert_check.specs.declared.certificate.Certificate.{Certificate}
@@ -17,6 +17,12 @@ abbrev pub criterion_of : Certificate → Criterion
 criterion_of (Cc vectors schedules) = criteria.Cc
 criterion_of (Cm vectors schedules) = criteria.Cm
 criterion_of (Ccv vectors arbitration) = criteria.Ccv
+
+-- the vectors of a certificate
+abbrev pub vectors_of : Certificate → Counts
+vectors_of (Cc vectors schedules) = vectors
+vectors_of (Cm vectors schedules) = vectors
+vectors_of (Ccv vectors arbitration) = vectors
 
 -- what the vector of o counts
 abbrev pub counted : Counts → OpId → Ops

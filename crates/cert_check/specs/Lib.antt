@@ -1,6 +1,7 @@
 pub mod Criteria
 pub mod Schedules
 pub mod Certificates
+pub mod ByProgramOrder
 pub mod DeskErrors
 pub mod CertificatesLaws
 pub mod Walks

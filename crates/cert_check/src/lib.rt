@@ -4,6 +4,7 @@
 
 mod arbitrated;
 mod arbitration;
+mod by_program_order;
 mod case_file;
 mod cert_error;
 mod certificate;
@@ -13,6 +14,7 @@ mod desk_error;
 mod kept;
 pub mod laws;
 mod number;
+mod program_schedules;
 mod reading;
 mod reading_lists;
 mod scheduled;
@@ -20,6 +22,7 @@ mod shape;
 mod walk;
 
 pub use arbitration::Arbitration;
+pub use by_program_order::make_by_program_order;
 pub use case_file::CaseFile;
 pub use cert_error::CertError;
 pub use certificate::{Certificate, Schedules};
@@ -27,4 +30,4 @@ pub use checking::{Outcome, check_piece, first_unexplained};
 pub use criterion::Criterion;
 pub use desk_error::DeskError;
 pub use reading::read_certificate;
-pub use shape::shape_ok;
+pub use shape::{names_all, shape_ok};

@@ -78,7 +78,9 @@ fn have_length(v: &Vectors, session: usize, len: usize) -> bool
 }
 
 /// Whether each session occurs in the list as often as it has operations, and no other number occurs.
-fn names_all<O: SeqObject>(h: &History<O>, list: &[u8]) -> bool
+///
+/// Takes no memory. O(n k) for a list of n numbers and k sessions.
+pub fn names_all<O: SeqObject>(h: &History<O>, list: &[u8]) -> bool
     ensures { IsTrue result ↔ ((s : ℕ) → times s list.now ≡ length (session h.now s)) }
 {
     if !names_sessions(list, h.sessions()) {

@@ -1,10 +1,10 @@
 -- The certificate of causal consistency of a memory history by the sources of its reads (this project's profile).
-use Rattle.std.specs.Prelude.{◌≡◌, ◌⊎◌, ◌↔◌, ℕ, ◌<◌, ◌≤◌, List, [], ◌∷◌, ◌++◌, length, min, Option, MatchOption, slice_index_or}
+use Rattle.std.specs.Prelude.{◌≡◌, ℕ, ◌<◌, ◌≤◌, List, [], ◌∷◌, ◌++◌, length, min, Option, MatchOption, slice_index_or}
 use Rattle.operations.specs.declared.op_id.OpId.{OpId}
 use Rattle.operations.specs.History.{IsOp}
 use Rattle.causal_order.specs.Orders.{op}
 use Rattle.causal_order.specs.Memory.{MemoryHistory}
-use Rattle.causal_order.specs.SourceOrder.{IsSourceOf, SourceOrder}
+use Rattle.causal_order.specs.SourceOrder.{CountsSourceOrder, IsSourceOf}
 use Rattle.causal_order.specs.Topological.{IsFullWalk}
 use Rattle.causal_order.specs.Vectors.{Counts, list_of, count, IsCounted}
 use Rattle.cert_check.specs.declared.certificate.Certificate.{Certificate}
@@ -36,11 +36,9 @@ module _ (h : MemoryHistory) where
     pub is_source : IsSourceOf h o source
     pub walk : MatchOption source (IsFullWalk v (list_of v o) [] schedule) (λ w. IsBySource v o w schedule)
 
-  -- the vectors count what is before an operation in the order of program order and sources, which is no cycle, and the
-  -- schedules are by sources
+  -- the vectors are those of the order of program order and sources, and the schedules are by sources
   pub record AreBySources (v : Counts) (schedules : List (List (List ℕ))) : Type 0 where
-    pub counted : (o a : OpId) → IsOp h o → IsCounted v o a ↔ ((a ≡ o) ⊎ SourceOrder h a o)
-    pub acyclic : (a : OpId) → ¬ SourceOrder h a a
+    pub order : CountsSourceOrder h v
     pub each : (o : OpId) → IsOp h o → IsScheduleFor v o (list_of schedules o)
 
 -- such a certificate

@@ -1,2 +1,1 @@
-pub mod ByProgramOrder
 pub mod BySources

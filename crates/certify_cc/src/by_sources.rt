@@ -4,8 +4,8 @@ ghost use Rattle.std.specs.Prelude.{◌≡◌, ◌⊎◌, ◌+◌, ◌<◌, ◌�
 ghost use Rattle.operations.specs.History.{IsOp};
 ghost use Rattle.operations.specs.declared.op_id.OpId.{OpId as Operation};
 ghost use Rattle.causal_order.specs.Gathered.{AreGatheredBefore};
-ghost use Rattle.causal_order.specs.SourceOrder.{LacksSource, SourceOrder};
-ghost use Rattle.causal_order.specs.Vectors.{AreVectorsOf, HasOneEach, list_of};
+ghost use Rattle.causal_order.specs.SourceOrder.{CountsSourceOrder, LacksSource, SourceOrder};
+ghost use Rattle.causal_order.specs.Vectors.{HasOneEach, list_of};
 ghost use Rattle.causal_order.specs.Written.{AreInOrder, IsSorted, ListsWrites};
 ghost use Rattle.cert_check.specs.Certificates.{criterion_of, HasShapeOf};
 ghost use Rattle.certify_cc.specs.BySources.{IsBySources, IsScheduleFor};
@@ -34,8 +34,24 @@ pub fn make_memory(alloc: Global, h: &History<Memory>) -> Result<Option<Certific
     let Some(vectors) = memory_order(alloc, h)? else {
         return Ok(None);
     };
+    Ok(Some(make_by_order(alloc, h, vectors)?))
+}
+
+/// The certificate that `make_memory` makes, for a caller that has the vectors of the order already.
+///
+/// Fails for want of memory alone. O(n p k) for n operations of k sessions and pasts of at most p operations.
+pub fn make_by_order(
+    alloc: Global,
+    h: &History<Memory>,
+    vectors: Vectors,
+) -> Result<Certificate, AllocError>
+    requires order { CountsSourceOrder h.now vectors }
+    ensures criterion { IfOk result (λ c. criterion_of c ≡ Criterion.Cc) }
+    ensures shape { IfOk result (HasShapeOf h.now) }
+    ensures exact { IfOk result (IsBySources h.now) }
+{
     let schedules = schedules_by_sources(alloc, h, &vectors)?;
-    Ok(Some(Certificate::Cc(vectors, schedules)))
+    Ok(Certificate::Cc(vectors, schedules))
 }
 
 /// For each operation, the schedule of its past.
@@ -44,8 +60,7 @@ fn schedules_by_sources(
     h: &History<Memory>,
     vectors: &Vectors,
 ) -> Result<Schedules, AllocError>
-    requires vectors { AreVectorsOf h.now vectors.now }
-    requires sources { ¬ LacksSource h.now }
+    requires order { CountsSourceOrder h.now vectors.now }
     ensures shape { IfOk result (HasOneEach h.now) }
     ensures exact { IfOk result (λ schedules. (o : Operation) → IsOp h.now o → IsScheduleFor h.now vectors.now o (list_of schedules o)) }
 {
@@ -66,8 +81,7 @@ fn push_schedules(
     session: usize,
     schedules: &mut Schedules,
 ) -> Result<(), AllocError>
-    requires vectors { AreVectorsOf h.now vectors.now }
-    requires sources { ¬ LacksSource h.now }
+    requires order { CountsSourceOrder h.now vectors.now }
     requires writes { ListsWrites h.now writes.now }
     requires sorted { IsSorted writes.now }
     requires in_order { AreInOrder writes.now }

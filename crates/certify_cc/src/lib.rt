@@ -6,4 +6,4 @@ mod by_sources;
 mod schedule;
 
 pub use by_program_order::make;
-pub use by_sources::make_memory;
+pub use by_sources::{make_by_order, make_memory};

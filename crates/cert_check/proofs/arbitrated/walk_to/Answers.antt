@@ -1,4 +1,4 @@
-use Rattle.std.proofs.Common.{◌≡◌, ℕ, List, [], ◌∷◌, ◌++◌, length, get_or, take, sym, subst, ◌∙◌, ap}
+use Rattle.std.proofs.Common.{◌≡◌, List, length, get_or, take, sym, subst, ◌∙◌}
 use Rattle.std.specs.Prelude.{IsTrue, filter}
 use Rattle.std.proofs.lemmas.Bool.{some_since, both_ways}
 use Rattle.std.proofs.lemmas.Option.{MatchOption-at_some, slice_get-get_or}
@@ -7,7 +7,6 @@ use Rattle.operations.specs.History.{calls}
 use Rattle.causal_order.specs.Orders.{StandsAt, only}
 use Rattle.cert_check.specs.Certificates.{counted}
 use Rattle.cert_check.specs.Schedules.{named}
-use Rattle.cert_check.specs.Walks.{IsWalkAt}
 use Rattle.cert_check.specs.ConvergentLaws.{only-same}
 use Rattle.cert_check.proofs.CutSteps.{next_is_op, not_named_yet}
 use Rattle.cert_check.proofs.Named.{take_next}

@@ -1,5 +1,4 @@
-use Rattle.std.proofs.Common.{rules, sym, ap, subst, arith, ◌≡◌, Bool, length, ◌∙◌}
-use Rattle.std.proofs.lemmas.Bool.{both_ways}
+use Rattle.std.proofs.Common.{sym, subst, arith, ◌≡◌, length}
 use Rattle.cert_check.specs.CertificatesLaws.{HaveLength}
 use Rattle.cert_check.proofs.Shapes.{vectors_have_length}
 use Rattle.cert_check.proofs.shape.are_vectors_of.Goals as goal

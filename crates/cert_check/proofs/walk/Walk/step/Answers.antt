@@ -1,4 +1,4 @@
-use Rattle.std.proofs.Common.{◌∷◌, ◌++◌, [], sym, subst, take, ◌∙◌}
+use Rattle.std.proofs.Common.{sym, subst, take, ◌∙◌}
 use Rattle.std.proofs.lemmas.Bool.{both_ways, not_from_false, not-true, false_from_ne_true}
 use Rattle.operations.specs.History.{calls}
 use Rattle.cert_check.specs.Schedules.{named}

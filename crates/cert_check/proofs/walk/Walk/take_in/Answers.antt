@@ -1,4 +1,4 @@
-use Rattle.std.proofs.Common.{sym, subst, List}
+use Rattle.std.proofs.Common.{sym, subst}
 use Rattle.operations.specs.History.{calls}
 use Rattle.cert_check.proofs.WalkSteps.{calls_push}
 use Rattle.cert_check.proofs.walk.Walk.take_in.Goals as goal

@@ -1,6 +1,6 @@
 use Rattle.causal_order.specs.Gathered.{AreGatheredBefore}
-use Rattle.certify_cc.specs.ByProgramOrder.{IsOwnSchedule}
-use Rattle.certify_cc.proofs.by_program_order.own_schedules.Given as goal
+use Rattle.cert_check.specs.ByProgramOrder.{IsOwnSchedule}
+use Rattle.cert_check.proofs.program_schedules.own_schedules.Given as goal
 
 -- the sessions so far have their schedules
 abbrev pub invariant-loop-session : goal.invariant-loop-session

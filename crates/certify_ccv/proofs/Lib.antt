@@ -1,0 +1,4 @@
+pub mod SourcedReads
+pub mod Raised
+pub mod ByRule
+pub mod Cyclic

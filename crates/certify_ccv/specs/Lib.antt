@@ -1,0 +1,2 @@
+pub mod ByConflicts
+pub mod Rows

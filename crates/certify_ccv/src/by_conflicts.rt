@@ -1,0 +1,84 @@
+//! Certificates of memory histories by the writes that their reads read from, and the conflicts of the other writes with
+//! these.
+
+ghost use Rattle.std.specs.Prelude.{◌≡◌, ◌⊎◌, ℕ, List, length, IfNone, IfOk, IfSome};
+ghost use Rattle.operations.specs.declared.op_id.OpId.{OpId as Operation};
+ghost use Rattle.operations.specs.History.{session};
+ghost use Rattle.causal_order.specs.Relations.{Leads};
+ghost use Rattle.causal_order.specs.SourceOrder.{CountsSourceOrder, LacksSource};
+ghost use Rattle.causal_order.specs.Vectors.{AreVectorsOf};
+ghost use Rattle.cert_check.specs.Certificates.{criterion_of, HasShapeOf};
+ghost use Rattle.cert_check.specs.Schedules.{times};
+ghost use Rattle.certify_ccv.specs.ByConflicts.{ComesFirst, IsByConflicts};
+ghost use Rattle.certify_ccv.specs.Rows.{IsWalkOver};
+
+use crate::limits::limits_of;
+use crate::rows::rows_of;
+use causal_order::{Vectors, Walk, memory_order};
+use cert_check::{Arbitration, Certificate, Criterion, names_all};
+use objects::Memory;
+use operations::History;
+use std::alloc::{AllocError, Global};
+
+/// A certificate of causal convergence of a memory history: the past of an operation is what is before it in the order
+/// that program order and the sources of the reads make, and the one list goes by the topological rule, where also a
+/// write that is before a read comes before the read's source, if that is another write of its variable.
+///
+/// The source of a known read of a value that is not the initial one is the first write of that value. `None` where a
+/// read has no source, or where that order and these conflicts are cyclic. Whether the certificate explains the known
+/// returns is for the checker of certificates to say. Fails for want of memory alone. O(n k log n) for n operations of k
+/// sessions.
+pub fn make_memory(alloc: Global, h: &History<Memory>) -> Result<Option<Certificate>, AllocError>
+    ensures criterion { IfOk result (λ made. IfSome made (λ c. criterion_of c ≡ Criterion.Ccv)) }
+    ensures shape { IfOk result (λ made. IfSome made (HasShapeOf h.now)) }
+    ensures exact { IfOk result (λ made. IfSome made (IsByConflicts h.now)) }
+    ensures none { IfOk result (λ made. IfNone made (LacksSource h.now ⊎ ((a : Operation) × Leads (ComesFirst h.now) a a))) }
+{
+    let Some(vectors) = memory_order(alloc, h)? else {
+        return Ok(None);
+    };
+    make_by_order(alloc, h, vectors)
+}
+
+/// The certificate that `make_memory` makes, for a caller that has the vectors of the order already.
+///
+/// `None` where the order and the conflicts are cyclic. Fails for want of memory alone. O(n k log n) for n operations of k
+/// sessions.
+pub fn make_by_order(
+    alloc: Global,
+    h: &History<Memory>,
+    vectors: Vectors,
+) -> Result<Option<Certificate>, AllocError>
+    requires order { CountsSourceOrder h.now vectors }
+    ensures criterion { IfOk result (λ made. IfSome made (λ c. criterion_of c ≡ Criterion.Ccv)) }
+    ensures shape { IfOk result (λ made. IfSome made (HasShapeOf h.now)) }
+    ensures exact { IfOk result (λ made. IfSome made (IsByConflicts h.now)) }
+    ensures none { IfOk result (λ made. IfNone made ((a : Operation) × Leads (ComesFirst h.now) a a)) }
+{
+    let rows = rows_of(alloc, h, &vectors)?;
+    let Some(arbitration) = arbitration_of(alloc, h, &rows)? else {
+        return Ok(None);
+    };
+    Ok(Some(Certificate::Ccv(vectors, arbitration)))
+}
+
+/// A list of all operations by the topological rule, or `None` where some can't be placed.
+fn arbitration_of(
+    alloc: Global,
+    h: &History<Memory>,
+    rows: &Vectors,
+) -> Result<Option<Arbitration>, AllocError>
+    requires rows { AreVectorsOf h.now rows.now }
+    ensures whole { IfOk result (λ made. IfSome made (λ list. (s : ℕ) → times s list ≡ length (session h.now s))) }
+    ensures exact { IfOk result (λ made. IfSome made (IsWalkOver rows.now)) }
+    ensures none { IfOk result (λ made. IfNone made ((list : List ℕ) × IsWalkOver rows.now list × ¬ ((s : ℕ) → times s list ≡ length (session h.now s)))) }
+{
+    let limits = limits_of(alloc, h, rows)?;
+    let mut walk = Walk::new(alloc);
+    walk.run_to(rows, &limits)?;
+    if !names_all(h, walk.schedule()) {
+        return Ok(None);
+    }
+    let list = Vec::from_slice(alloc, walk.schedule())?;
+    Ok(Some(Arbitration::of(list)))
+}

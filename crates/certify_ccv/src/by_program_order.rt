@@ -1,0 +1,24 @@
+//! Certificates by program order alone.
+
+ghost use Rattle.std.specs.Prelude.{◌≡◌, IfOk, IfSome, IsSome};
+ghost use Rattle.cert_check.specs.ByProgramOrder.{IsByProgramOrder};
+ghost use Rattle.cert_check.specs.Certificates.{criterion_of, HasShapeOf};
+
+use cert_check::{Certificate, Criterion, make_by_program_order};
+use object_trait::SeqObject;
+use operations::History;
+use std::alloc::{AllocError, Global};
+
+/// The certificate of causal convergence by program order alone: the past of an operation is what stands before it in its
+/// session, and the one list has the sessions one after another.
+///
+/// There always is one. Whether it explains the known returns is for the checker of certificates to say. Fails for want of
+/// memory alone. O(n k) for n operations of k sessions.
+pub fn make<O: SeqObject>(alloc: Global, h: &History<O>) -> Result<Option<Certificate>, AllocError>
+    ensures made { IfOk result (λ made. IsSome made) }
+    ensures criterion { IfOk result (λ made. IfSome made (λ c. criterion_of c ≡ Criterion.Ccv)) }
+    ensures shape { IfOk result (λ made. IfSome made (HasShapeOf h.now)) }
+    ensures exact { IfOk result (λ made. IfSome made (IsByProgramOrder h.now)) }
+{
+    Ok(Some(make_by_program_order(alloc, h, Criterion::Ccv)?))
+}

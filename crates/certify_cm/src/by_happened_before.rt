@@ -1,0 +1,107 @@
+//! Certificates of memory histories by their happened-before relations.
+
+ghost use Rattle.std.specs.Prelude.{◌≡◌, ◌+◌, ◌<◌, ◌≤◌, length, IfOk, IfSome, IsTrue, OnOk};
+ghost use Rattle.causal_order.specs.Gathered.{AreGatheredBefore};
+ghost use Rattle.causal_order.specs.GrowingOrders.{AreHeldVectors};
+ghost use Rattle.causal_order.specs.SourceOrder.{CountsSourceOrder};
+ghost use Rattle.causal_order.specs.Vectors.{HasOneEach};
+ghost use Rattle.cert_check.specs.Certificates.{criterion_of, HasShapeOf, vectors_of};
+ghost use Rattle.certify_cm.specs.ByHappenedBefore.{IsByTurns};
+
+use crate::schedule::schedule_of;
+use causal_order::{HappenedBefore, Saturation, Vectors, memory_order};
+use cert_check::{Certificate, Criterion, Schedules};
+use objects::Memory;
+use operations::{History, OpId};
+use std::alloc::{AllocError, Global};
+
+/// A certificate of causal memory of a memory history: the past of an operation is what is before it in the order that
+/// program order and the sources of the reads make, and its schedule goes by the happened-before relation of the
+/// operation.
+///
+/// The schedule takes the operations of its session in turn, up to it. Before each comes what the relation puts before it
+/// and isn't placed yet, by the topological rule. `None` where the order is cyclic, where a read has no source, or where
+/// the relation of some operation is cyclic or has more than 100,000 pairs that the order doesn't have. Whether the
+/// certificate explains the known returns is for the checker of certificates to say. Fails for want of memory alone.
+/// O(n p k + n k (k^2 + log n) + m k^2 log p) for n operations of k sessions, pasts of at most p operations and m pairs
+/// more in each relation.
+pub fn make_memory(alloc: Global, h: &History<Memory>) -> Result<Option<Certificate>, AllocError>
+    ensures criterion { IfOk result (λ made. IfSome made (λ c. criterion_of c ≡ Criterion.Cm)) }
+    ensures shape { IfOk result (λ made. IfSome made (HasShapeOf h.now)) }
+    ensures vectors { IfOk result (λ made. IfSome made (λ c. CountsSourceOrder h.now (vectors_of c))) }
+{
+    let Some(vectors) = memory_order(alloc, h)? else {
+        return Ok(None);
+    };
+    make_by_order(alloc, h, vectors)
+}
+
+/// The certificate that `make_memory` makes, for a caller that has the vectors of the order already.
+///
+/// `None` where the happened-before relation of some operation is cyclic or has more than 100,000 pairs that the order
+/// doesn't have. Fails for want of memory alone. O(n p k + n k (k^2 + log n) + m k^2 log p) for n operations of k
+/// sessions, pasts of at most p operations and m pairs more in each relation.
+pub fn make_by_order(
+    alloc: Global,
+    h: &History<Memory>,
+    vectors: Vectors,
+) -> Result<Option<Certificate>, AllocError>
+    requires order { CountsSourceOrder h.now vectors }
+    ensures criterion { IfOk result (λ made. IfSome made (λ c. criterion_of c ≡ Criterion.Cm)) }
+    ensures shape { IfOk result (λ made. IfSome made (HasShapeOf h.now)) }
+    ensures vectors { IfOk result (λ made. IfSome made (λ c. vectors_of c ≡ vectors)) }
+{
+    let Some(schedules) = schedules_by_happened_before(alloc, h, &vectors)? else {
+        return Ok(None);
+    };
+    Ok(Some(Certificate::Cm(vectors, schedules)))
+}
+
+/// For each operation, the schedule of its past, or `None` where a happened-before relation is cyclic or given up.
+fn schedules_by_happened_before(
+    alloc: Global,
+    h: &History<Memory>,
+    vectors: &Vectors,
+) -> Result<Option<Schedules>, AllocError>
+    requires vectors { AreHeldVectors h.now vectors.now }
+    ensures shape { IfOk result (λ made. IfSome made (HasOneEach h.now)) }
+{
+    let mut schedules = Schedules::new(alloc);
+    for session in 0..h.sessions() {
+        if !push_schedules(alloc, h, vectors, session, &mut schedules)? {
+            return Ok(None);
+        }
+    }
+    Ok(Some(schedules))
+}
+
+/// Puts the schedules of a session behind those of the sessions before it. Whether none of the session's happened-before
+/// relations is cyclic or given up.
+fn push_schedules(
+    alloc: Global,
+    h: &History<Memory>,
+    vectors: &Vectors,
+    session: usize,
+    schedules: &mut Schedules,
+) -> Result<bool, AllocError>
+    requires vectors { AreHeldVectors h.now vectors.now }
+    requires few { length h.now.1 ≤ 16 }
+    requires exists { session < length h.now.1 }
+    requires so_far { AreGatheredBefore h.now IsByTurns session schedules.old }
+    ensures { IfOk result (λ all. IsTrue all → AreGatheredBefore h.now IsByTurns (session + 1) schedules.new) }
+{
+    let mut happened = HappenedBefore::of(alloc, h, vectors, session)?;
+    schedules.push_session()?;
+    for index in 0..h.len(session as u64) {
+        if happened.take_next(h)? != Saturation::Saturated {
+            return Ok(false);
+        }
+        let op = OpId {
+            session: session as u64,
+            index: index as u64,
+        };
+        let walk = schedule_of(alloc, h, happened.vectors(), op)?;
+        schedules.push(session, walk.schedule())?;
+    }
+    Ok(true)
+}
