@@ -1,18 +1,11 @@
 //! What the search for patterns finds in small histories.
 
-use bad_patterns::{Kind, Pattern, check_pattern, find};
+use crate::histories::{BACK_AND_FORTH, DIVERGING, STALE_START, memory};
+use bad_patterns::{Derivation, Kind, Line, Pattern, check_pattern, find};
 use cert_check::Criterion;
-use objects::Memory;
-use operations::{AnyHistory, History, OpId, ReadError, read_history};
-use std::alloc::Global;
+use operations::OpId;
+use std::process::Abort;
 use std::test::Fail;
-
-fn memory(alloc: Global, text: &str) -> Result<History<Memory>, ReadError> {
-    match read_history(alloc, text.as_bytes())? {
-        AnyHistory::Memory(history) => Ok(history),
-        _ => Err(ReadError::UnknownObject),
-    }
-}
 
 #[test]
 fn pattern_of_each_kind_is_found(rt: HostRuntime) -> Result<(), Fail> {
@@ -107,5 +100,73 @@ fn path_goes_over_the_source_of_each_read(rt: HostRuntime) -> Result<(), Fail> {
         [op(0, 0), op(0, 1), op(1, 0), op(1, 1)].as_slice()
     );
     assert_eq!(rt; second.ops(), [op(1, 1), op(2, 0), op(2, 1)].as_slice());
+    Ok(())
+}
+
+/// Whether a line of a derivation refers to the line of a number.
+fn refers_to(line: &Line, number: u64) -> bool {
+    match line {
+        Line::Co(_, _) => false,
+        Line::Tr(first, second) => *first == number || *second == number,
+        Line::Rf(before, _) => *before == number,
+    }
+}
+
+/// Whether each line of a derivation but the last is one that another line refers to.
+fn has_no_idle_line(derivation: &Derivation) -> bool {
+    let lines = derivation.lines();
+    for behind in 1..lines.len() {
+        let number = behind as u64 - 1;
+        if !lines.iter().any(|line| refers_to(line, number)) {
+            return false;
+        }
+    }
+    true
+}
+
+/// The derivation of a pattern that has one.
+fn derivation_of(pattern: &Pattern) -> Option<&Derivation> {
+    match pattern {
+        Pattern::WriteHBInitRead(_, derivation) | Pattern::CyclicHB(_, derivation) => {
+            Some(derivation)
+        }
+        _ => None,
+    }
+}
+
+/// Expects that a pattern of happened-before is found, against causal memory alone.
+fn expect_derived<P: Abort + AllocGlobal>(rt: &P, text: &str, kind: Kind) -> Result<(), Fail> {
+    let history = memory(rt.alloc(), text)?;
+    assert!(rt;
+        find(rt.alloc(), &history, Criterion::Cc)?.is_none(),
+        "in {text}"
+    );
+    let pattern = find(rt.alloc(), &history, Criterion::Cm)?.ok_or("a pattern")?;
+    assert_eq!(rt; pattern.kind(), kind, "in {text}");
+    assert!(rt;
+        check_pattern(rt.alloc(), &history, Criterion::Cm, &pattern)?,
+        "in {text}"
+    );
+    let derivation = derivation_of(&pattern).ok_or("a derivation")?;
+    assert!(rt; has_no_idle_line(derivation), "in {text}");
+    Ok(())
+}
+
+/// Four sessions over three variables, where what one of them read puts two writes before each other.
+const ENTANGLED: &str =
+    r#"["memory",[[["w",2,4],["w",0,2],["r",0,3],["w",1,4],["w",1,6],["w",1,7],["w",2,7],["r",1,3]],[["w",2,2],["w",1,1],["w",1,5],["w",0,3],["w",1,8],["w",1,9],["r",2,3],["w",1,11]],[["w",0,1],["w",2,3],["w",2,5],["w",1,3],["r",2,2],["r",2,5],["w",2,8],["w",0,4]],[["w",2,1],["w",1,2],["w",2,6],["w",2,9],["r",1,6],["w",1,10],["w",1,12],["w",1,13]]]]"#;
+
+/// Four sessions over three variables, where what one of them read puts a write before its read of the start.
+const START_LONG_GONE: &str =
+    r#"["memory",[[["w",1,1],["r",0,0],["w",1,2],["w",0,1],["w",2,1],["w",2,3],["w",2,6],["w",2,8]],[["w",2,2],["r",1,0],["r",2,11],["r",2,2],["w",2,7],["r",0,0],["w",0,4],["w",2,10]],[["w",2,4],["r",2,4],["w",2,9],["r",0,0],["w",1,4],["w",2,11],["w",0,6],["r",2,11]],[["r",2,0],["w",0,2],["r",2,2],["r",0,2],["w",2,5],["w",0,3],["w",1,3],["w",0,5]]]]"#;
+
+#[test]
+fn happened_before_is_searched_against_causal_memory_alone(rt: HostRuntime) -> Result<(), Fail> {
+    expect_derived(&rt, BACK_AND_FORTH, Kind::CyclicHB)?;
+    expect_derived(&rt, ENTANGLED, Kind::CyclicHB)?;
+    expect_derived(&rt, STALE_START, Kind::WriteHBInitRead)?;
+    expect_derived(&rt, START_LONG_GONE, Kind::WriteHBInitRead)?;
+    let diverging = memory(rt.alloc(), DIVERGING)?;
+    assert!(rt; find(rt.alloc(), &diverging, Criterion::Cm)?.is_none());
     Ok(())
 }

@@ -14,9 +14,13 @@ mod failures;
 #[cfg(test)]
 mod found_patterns;
 #[cfg(test)]
+mod histories;
+#[cfg(test)]
 mod judged;
 #[cfg(test)]
 mod made_certificates;
+#[cfg(test)]
+mod many_pairs;
 #[cfg(test)]
 mod patterns;
 #[cfg(test)]

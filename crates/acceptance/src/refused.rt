@@ -149,7 +149,12 @@ fn tables_under_the_other_names(rt: HostRuntime) -> Result<(), Fail> {
 #[test]
 fn as_many_sessions_and_operations_as_may_be(rt: HostRuntime) -> Result<(), Fail> {
     let full = writes(rt.alloc(), 16, 256)?;
-    expect_answer(&rt, Order::Judge, full.as_str(), "cc yes\n");
+    expect_answer(
+        &rt,
+        Order::Judge,
+        full.as_str(),
+        "cc yes\ncm yes\nccv yes\n",
+    );
     expect_refusal(&rt, writes(rt.alloc(), 17, 1)?.as_bytes(), "refused 6")?;
     expect_refusal(&rt, writes(rt.alloc(), 1, 257)?.as_bytes(), "refused 7")?;
     Ok(())

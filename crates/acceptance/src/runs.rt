@@ -10,7 +10,7 @@ const HISTORY: &[u8] = b"[\"memory\",[[[\"r\",0,7]]]]";
 
 const LONGER_HISTORY: &[u8] = b"[\"memory\",[[[\"w\",0,1]],[[\"r\",0,1]]]]";
 
-const ANSWER: &[u8] = b"cc no ThinAirRead\n";
+const ANSWER: &[u8] = b"cc no ThinAirRead\ncm no ThinAirRead\nccv no ThinAirRead\n";
 
 /// Runs `judge` over a device, which ends with a read fault and writes nothing.
 fn expect_read_fault<P: Abort + AllocGlobal>(rt: &P, device: &mut Device<'_>) -> Result<(), Fail> {

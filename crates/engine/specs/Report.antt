@@ -1,5 +1,5 @@
--- What a line of a report says, and when it is true.
-use Rattle.std.specs.Prelude.{◌≡◌, ⊤, ℕ, List, ◌++◌, codes, decimal, Some, None}
+-- What the lines of a report say, and when they are true.
+use Rattle.std.specs.Prelude.{⊤, ℕ, List, ◌++◌, codes, decimal, Some, None}
 use Rattle.cert_check.specs.declared.criterion.Criterion.{Criterion}
 use Rattle.cert_check.specs.declared.criterion.Criterion.TheVariants.{Cc, Cm, Ccv}
 use Rattle.operations.specs.declared.any_history.AnyHistory.{AnyHistory}
@@ -18,6 +18,7 @@ use Rattle.bad_patterns.specs.Kinds.{IsPresent}
 use Rattle.bad_patterns.specs.Patterns.{IsTrueNo}
 use Rattle.engine.specs.declared.report.Answer.{Answer}
 use Rattle.engine.specs.declared.report.Answer.TheVariants.{Yes, No, Unknown}
+use Rattle.engine.specs.declared.report.Report.{Report}
 
 -- a fact about what an object answers and a history of it
 abbrev pub Fact : Type 1
@@ -66,6 +67,12 @@ OnlyWithoutThinAir history Yes = ⊤
 OnlyWithoutThinAir history (No kind) = ⊤
 OnlyWithoutThinAir history (Unknown place) = HasNoThinAir history
 
+-- the answer of a report for a criterion
+abbrev pub answer_for : Report → Criterion → Answer
+answer_for report Cc = report.cc
+answer_for report Cm = report.cm
+answer_for report Ccv = report.ccv
+
 abbrev pub name_of : Criterion → List ℕ
 name_of Cc = codes "cc"
 name_of Cm = codes "cm"
@@ -87,3 +94,7 @@ line_for criterion Yes = name_of criterion ++ codes " yes\n"
 line_for criterion (Unknown None) = name_of criterion ++ codes " unknown\n"
 line_for criterion (Unknown (Some o)) =
     name_of criterion ++ (codes " unknown " ++ (decimal o.session ++ (codes "." ++ (decimal o.index ++ codes "\n"))))
+
+-- the lines of a report, one after the other
+abbrev pub text_for : Report → List ℕ
+text_for report = line_for Cc report.cc ++ (line_for Cm report.cm ++ line_for Ccv report.ccv)

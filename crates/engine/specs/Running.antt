@@ -6,21 +6,22 @@ use Rattle.engine.specs.declared.failure.RunError.{RunError}
 use Rattle.engine.specs.declared.failure.RunError.TheVariants.{History, BadCertificate, ShapeMismatch, TooLong, Memory}
 use Rattle.operations.specs.declared.any_history.AnyHistory.{AnyHistory}
 use Rattle.operations.specs.AnyForm.{form_of, IsJson, IsRefusedFor}
-use Rattle.cert_check.specs.declared.criterion.Criterion.TheVariants.{Cc}
-use Rattle.engine.specs.declared.report.Answer.{Answer}
+use Rattle.cert_check.specs.declared.criterion.Criterion.{Criterion}
+use Rattle.engine.specs.declared.report.Report.{Report}
 use Rattle.engine.specs.declared.command_line.Order.TheVariants.{Judge, Check}
-use Rattle.engine.specs.Report.{IsTrueOf, OnlyWithoutThinAir, line_for}
+use Rattle.engine.specs.Report.{IsTrueOf, OnlyWithoutThinAir, answer_for, text_for}
 use Rattle.engine.specs.Checking.{IsCheckReport, IsPairError, HasOtherShape}
 use Rattle.engine.specs.declared.input.TheConstants.{MOST_INPUT_BYTES}
 
--- the text answers the input as the order asks: it is the line of an answer that is true of the history in the input
+-- the text answers the input as the order asks: it has the three lines of a report, each of which is true of the history
+-- in the input
 pub record IsReport (input text : List ℕ) : Type 0 where
   pub history : AnyHistory
-  pub answer : Answer
+  pub report : Report
   pub read : IsJson input (form_of history)
-  pub true_of : IsTrueOf history Cc answer
-  pub unknown : OnlyWithoutThinAir history answer
-  pub line : text ≡ line_for Cc answer
+  pub true_of : (criterion : Criterion) → IsTrueOf history criterion (answer_for report criterion)
+  pub unknown : (criterion : Criterion) → OnlyWithoutThinAir history (answer_for report criterion)
+  pub lines : text ≡ text_for report
 
 abbrev pub IsAnswer : Order → List ℕ → List ℕ → Type 0
 IsAnswer Judge input text = IsReport input text

@@ -35,8 +35,8 @@ pub fn check(alloc: Global, input: &[u8]) -> Result<String, RunError>
 ///
 /// `Yes` where every piece explains its operation, and then the history meets the certificate's criterion; else `Unknown`
 /// with the first operation whose piece doesn't. `ShapeMismatch` where the certificate does not have the shape of the
-/// history, and `Memory` where an allocation was refused. O(n p k) for n operations with pasts of p operations in k
-/// sessions.
+/// history, and `Memory` where an allocation was refused. O(n k (p + k)) for n operations with pasts of p operations in k
+/// sessions, or O(n (n + k^2)) where the certificate has one list.
 pub fn answer_of_certificate(
     alloc: Global,
     history: AnyHistory,

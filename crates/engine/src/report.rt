@@ -1,7 +1,7 @@
-//! What is said of a history, and the line that says it.
+//! What is said of a history, and the lines that say it.
 
 ghost use Rattle.std.specs.Prelude.{◌≡◌, IfOk, string_bytes};
-ghost use Rattle.engine.specs.Report.{line_for, name_of, kind_name};
+ghost use Rattle.engine.specs.Report.{kind_name, line_for, name_of, text_for};
 
 use bad_patterns::Kind;
 use cert_check::Criterion;
@@ -17,6 +17,42 @@ pub enum Answer {
     No(Kind),
     /// Nothing is known; the first operation that is not explained, where one was looked for.
     Unknown(Option<OpId>),
+}
+
+/// What is known of a history, for each criterion.
+#[derive(Clone, Copy, Debug, PartialEq, Eq)]
+pub struct Report {
+    /// For causal consistency.
+    pub cc: Answer,
+    /// For causal memory.
+    pub cm: Answer,
+    /// For causal convergence.
+    pub ccv: Answer,
+}
+
+impl Report {
+    ghost use Rattle.engine.specs.Report.{answer_for};
+
+    /// The answer for a criterion.
+    pub fn answer(&self, criterion: Criterion) -> Answer
+        ensures { result ≡ answer_for self.now criterion }
+    {
+        match criterion {
+            Criterion::Cc => self.cc,
+            Criterion::Cm => self.cm,
+            Criterion::Ccv => self.ccv,
+        }
+    }
+}
+
+/// The text of a report: its lines for causal consistency, causal memory and causal convergence, one after the other.
+pub fn report_text(alloc: Global, report: &Report) -> Result<String, AllocError>
+    ensures { IfOk result (λ text. string_bytes text ≡ text_for report.now) }
+{
+    let cc = report_line(alloc, Criterion::Cc, report.cc)?;
+    let cm = report_line(alloc, Criterion::Cm, report.cm)?;
+    let ccv = report_line(alloc, Criterion::Ccv, report.ccv)?;
+    format!(in alloc; "{cc}{cm}{ccv}")
 }
 
 /// The line of a report: the criterion, a space, the answer and a line feed.

@@ -7,10 +7,9 @@ use crate::checking::check;
 use crate::command_line::Order;
 use crate::failure::RunError;
 use crate::input::read_input;
-use crate::judging::answer_of;
+use crate::judging::report_on;
 use crate::output::write_answer;
-use crate::report::report_line;
-use cert_check::Criterion;
+use crate::report::report_text;
 use operations::read_history;
 use std::alloc::Global;
 use std::io::{Read, Write};
@@ -19,7 +18,7 @@ use std::io::{Read, Write};
 ///
 /// Nothing is written before the answer is made: after every error but a write fault the writer is as it was. How much
 /// was written before a write fault is not said, nor how much was read before an error. O(n log n) for an input of n
-/// bytes.
+/// bytes, and what [`report_on`] or [`answer_of_certificate`](crate::answer_of_certificate) takes for its history.
 pub fn run<P: AllocGlobal, R: Read, W: Write>(
     rt: &P,
     reader: &mut R,
@@ -55,6 +54,6 @@ fn judge(alloc: Global, input: &[u8]) -> Result<String, RunError>
     ensures error { IfErr result (IsAnswerError Order.Judge input.now) }
 {
     let history = read_history(alloc, input)?;
-    let answer = answer_of(alloc, history, Criterion::Cc)?;
-    Ok(report_line(alloc, Criterion::Cc, answer)?)
+    let report = report_on(alloc, history)?;
+    Ok(report_text(alloc, &report)?)
 }

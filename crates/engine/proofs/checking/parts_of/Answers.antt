@@ -1,6 +1,4 @@
 use Rattle.serde_json.specs.View.{view}
-use Rattle.std.proofs.Common.{ap, ◌∙◌, sym}
-use Rattle.std.specs.Prelude.{option_map, map}
 use Rattle.engine.proofs.Pairs.{pair_of-two}
 use Rattle.engine.proofs.checking.parts_of.Goals as goal
 

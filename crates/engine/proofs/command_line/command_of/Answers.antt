@@ -1,4 +1,4 @@
-use Rattle.std.proofs.Common.{ap, sym, ◌∙◌, ◌≡◌, map, Some, None, Option, codes, refl}
+use Rattle.std.proofs.Common.{ap, sym, ◌∙◌, ◌≡◌, map, Some, None, Option, refl}
 use Rattle.std.specs.Prelude.{option_map, slice_get}
 use Rattle.std.proofs.lemmas.Option.{same_Some}
 use Rattle.engine.specs.declared.command_line.Order.TheVariants.{Judge, Check}

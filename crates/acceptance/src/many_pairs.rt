@@ -1,0 +1,88 @@
+//! What `judge` says where the happened-before relation of an operation has about 100,000 pairs that the causal order
+//! doesn't have.
+
+use crate::asking::expect_answer;
+use engine::Order;
+use std::alloc::{AllocError, Global};
+use std::process::Abort;
+use std::test::Fail;
+
+/// Puts two sessions into a text. The first has so many idle reads, a write of a variable and a mark; the second has
+/// another write of the variable, so many idle reads and a mark.
+fn push_rivals(
+    text: &mut String,
+    alloc: Global,
+    key: usize,
+    idle_before: usize,
+    idle_after: usize,
+) -> Result<(), AllocError> {
+    text.push_str("[")?;
+    push_idle_reads(text, idle_before)?;
+    let ended = format!(in alloc; "[\"w\",{key},1],[\"w\",1{key},1]],[[\"w\",{key},2],")?;
+    text.push_str(ended.as_str())?;
+    push_idle_reads(text, idle_after)?;
+    let ended = format!(in alloc; "[\"w\",2{key},1]],")?;
+    text.push_str(ended.as_str())
+}
+
+/// Puts reads of a variable that nobody writes into a text.
+fn push_idle_reads(text: &mut String, count: usize) -> Result<(), AllocError> {
+    for _read in 0..count {
+        text.push_str(r#"["r",9,0],"#)?;
+    }
+    Ok(())
+}
+
+/// A history whose last session sees, of each pair of sessions, the write of the second as the later one. So in its
+/// happened-before relation all up to the first write is before all of the second: 250 * 250 + 250 * 149 + 2 + `more`
+/// pairs, and four more where the session has a cycle of its own.
+fn history_of(alloc: Global, more: usize, cycle: bool) -> Result<String, AllocError> {
+    let mut text = String::from_str(alloc, r#"["memory",["#)?;
+    push_rivals(&mut text, alloc, 1, 249, 248)?;
+    push_rivals(&mut text, alloc, 2, 249, 147)?;
+    push_rivals(&mut text, alloc, 3, 0, more)?;
+    if cycle {
+        text.push_str(r#"[["w",8,1]],[["w",8,2],["r",8,1],["r",8,2],"#)?;
+    } else {
+        text.push_str("[")?;
+    }
+    text.push_str(r#"["r",11,1],["r",12,1],["r",13,1],["r",21,1],["r",22,1],["r",23,1],"#)?;
+    text.push_str(r#"["r",1,2],["r",2,2],["r",3,2]]]]"#)?;
+    Ok(text)
+}
+
+/// Judges such a history, and expects these answers for causal memory and causal convergence.
+fn expect_answers<P: Abort + AllocGlobal>(
+    rt: &P,
+    more: usize,
+    cycle: bool,
+    cm: &str,
+    ccv: &str,
+) -> Result<(), Fail> {
+    let text = history_of(rt.alloc(), more, cycle)?;
+    let report = format!(in rt.alloc(); "cc yes\ncm {cm}\nccv {ccv}\n")?;
+    expect_answer(rt, Order::Judge, text.as_str(), report.as_str());
+    Ok(())
+}
+
+#[test]
+fn up_to_100000_pairs_a_relation_is_made(rt: HostRuntime) -> Result<(), Fail> {
+    for more in [0, 247, 248] {
+        expect_answers(&rt, more, false, "yes", "yes")?;
+    }
+    for more in [0, 243, 244] {
+        expect_answers(&rt, more, true, "no CyclicHB", "no CyclicCF")?;
+    }
+    Ok(())
+}
+
+#[test]
+fn above_100000_pairs_a_relation_is_given_up(rt: HostRuntime) -> Result<(), Fail> {
+    for more in [249, 250] {
+        expect_answers(&rt, more, false, "unknown", "yes")?;
+    }
+    for more in [245, 246] {
+        expect_answers(&rt, more, true, "unknown", "no CyclicCF")?;
+    }
+    Ok(())
+}
