@@ -141,6 +141,11 @@ fn expect_derived<P: Abort + AllocGlobal>(rt: &P, text: &str, kind: Kind) -> Res
         find(rt.alloc(), &history, Criterion::Cc)?.is_none(),
         "in {text}"
     );
+    let conflict = find(rt.alloc(), &history, Criterion::Ccv)?.map(|found| found.kind());
+    assert!(rt;
+        conflict.is_none() || conflict == Some(Kind::CyclicCF),
+        "in {text}"
+    );
     let pattern = find(rt.alloc(), &history, Criterion::Cm)?.ok_or("a pattern")?;
     assert_eq!(rt; pattern.kind(), kind, "in {text}");
     assert!(rt;
@@ -152,20 +157,20 @@ fn expect_derived<P: Abort + AllocGlobal>(rt: &P, text: &str, kind: Kind) -> Res
     Ok(())
 }
 
-/// Four sessions over three variables, where what one of them read puts two writes before each other.
-const ENTANGLED: &str =
-    r#"["memory",[[["w",2,4],["w",0,2],["r",0,3],["w",1,4],["w",1,6],["w",1,7],["w",2,7],["r",1,3]],[["w",2,2],["w",1,1],["w",1,5],["w",0,3],["w",1,8],["w",1,9],["r",2,3],["w",1,11]],[["w",0,1],["w",2,3],["w",2,5],["w",1,3],["r",2,2],["r",2,5],["w",2,8],["w",0,4]],[["w",2,1],["w",1,2],["w",2,6],["w",2,9],["r",1,6],["w",1,10],["w",1,12],["w",1,13]]]]"#;
+/// Four sessions over four variables, in which writes come before each other by way of many reads.
+const LONG_CYCLE: &str =
+    r#"["memory",[[["w",0,1],["w",1,2],["r",1,1],["w",3,6],["w",1,5],["w",3,7],["r",0,1],["r",0,2],["r",1,3],["r",0,1]],[["w",3,2],["r",3,2],["w",2,3],["r",2,1],["w",3,5],["w",3,8],["w",3,9],["w",2,6],["w",2,8],["r",2,5]],[["w",3,1],["w",1,1],["w",2,1],["w",3,3],["w",3,4],["w",1,4],["r",1,4],["w",2,4],["w",0,2],["r",0,2]],[["w",2,2],["r",3,2],["r",0,1],["w",1,3],["w",0,3],["w",2,5],["r",0,3],["r",1,4],["w",2,7],["w",1,6]]]]"#;
 
-/// Four sessions over three variables, where what one of them read puts a write before its read of the start.
-const START_LONG_GONE: &str =
-    r#"["memory",[[["w",1,1],["r",0,0],["w",1,2],["w",0,1],["w",2,1],["w",2,3],["w",2,6],["w",2,8]],[["w",2,2],["r",1,0],["r",2,11],["r",2,2],["w",2,7],["r",0,0],["w",0,4],["w",2,10]],[["w",2,4],["r",2,4],["w",2,9],["r",0,0],["w",1,4],["w",2,11],["w",0,6],["r",2,11]],[["r",2,0],["w",0,2],["r",2,2],["r",0,2],["w",2,5],["w",0,3],["w",1,3],["w",0,5]]]]"#;
+/// Five sessions over four variables, in which a write comes before a read of the start by way of many reads.
+const LONG_WAY_TO_THE_START: &str =
+    r#"["memory",[[["w",1,1],["r",3,0],["r",3,0],["r",2,2],["w",1,3],["w",1,4],["w",0,4],["r",3,4],["w",3,6],["r",1,2]],[["r",1,0],["w",0,1],["r",1,1],["w",2,2],["r",1,1],["w",1,2],["w",2,3],["r",3,1],["w",0,5],["w",0,6]],[["r",2,0],["r",0,1],["r",1,2],["w",0,3],["w",3,3],["w",2,4],["w",3,5],["r",2,3],["r",1,3],["r",3,4]],[["r",3,0],["r",1,1],["w",3,1],["w",2,1],["w",0,2],["w",3,2],["r",0,2],["w",1,5],["r",0,1],["r",0,3]],[["r",1,0],["r",0,0],["r",0,1],["r",3,0],["r",2,0],["r",1,1],["w",3,4],["r",0,1],["r",2,4],["r",3,4]]]]"#;
 
 #[test]
 fn happened_before_is_searched_against_causal_memory_alone(rt: HostRuntime) -> Result<(), Fail> {
     expect_derived(&rt, BACK_AND_FORTH, Kind::CyclicHB)?;
-    expect_derived(&rt, ENTANGLED, Kind::CyclicHB)?;
+    expect_derived(&rt, LONG_CYCLE, Kind::CyclicHB)?;
     expect_derived(&rt, STALE_START, Kind::WriteHBInitRead)?;
-    expect_derived(&rt, START_LONG_GONE, Kind::WriteHBInitRead)?;
+    expect_derived(&rt, LONG_WAY_TO_THE_START, Kind::WriteHBInitRead)?;
     let diverging = memory(rt.alloc(), DIVERGING)?;
     assert!(rt; find(rt.alloc(), &diverging, Criterion::Cm)?.is_none());
     Ok(())

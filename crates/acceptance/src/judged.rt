@@ -65,6 +65,14 @@ fn criteria_that_differ(rt: HostRuntime) -> Result<(), Fail> {
         "yes",
         "no CyclicHB",
         "no CyclicCF",
+    )?;
+    // A session before the one that reads the start has a cycle.
+    expect_report(
+        &rt,
+        r#"["memory",[[["w",10,1]],[["w",10,2],["r",10,1],["r",10,2]],[["w",2,1],["w",0,1],["w",1,1]],[["w",0,2],["r",2,0],["r",1,1],["r",0,2]]]]"#,
+        "yes",
+        "no WriteHBInitRead",
+        "no CyclicCF",
     )
 }
 
@@ -106,6 +114,7 @@ fn without_distinct_values_there_is_no_no(rt: HostRuntime) -> Result<(), Fail> {
         r#"["memory",[[["w",0,0],["r",0,7]]]]"#,
         r#"["memory",[[["r",0,7]],[["w",1,4]],[["w",1,4]]]]"#,
         r#"["memory",[[["w",0,5]],[["r",0,7]]],[[0,5]]]"#,
+        r#"["memory",[[["r",0,1],["w",0,1]],[["w",0,1]]]]"#,
     ];
     expect_each(&rt, &texts, "unknown")
 }

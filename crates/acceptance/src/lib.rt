@@ -1,4 +1,4 @@
-//! Tests that cross the crates: whole runs over readers and writers in memory.
+//! Tests that cross the crates: whole runs over readers and writers in memory, patterns and certificates.
 #![tactic(auto)]
 
 #[cfg(test)]

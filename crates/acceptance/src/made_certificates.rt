@@ -91,6 +91,12 @@ fn operations_take_turns_with_what_happened_before(rt: HostRuntime) -> Result<()
     expect_schedule(&rt, &stale, op(1, 1), &[0, 2], &[1, 1]);
     expect_schedule(&rt, &stale, op(1, 2), &[3, 3], &[1, 1, 0, 0, 0, 1]);
     expect_schedule(&rt, &stale, op(1, 3), &[3, 4], &[0, 0, 1, 1, 0, 1, 1]);
+
+    // Another write of the same value is one that comes before the source.
+    let written_twice = r#"["memory",[[["w",0,1]],[["w",0,1],["r",0,1]]]]"#;
+    let made_of_twice = made(rt.alloc(), written_twice, Maker::Memory)?;
+    let twice = schedules_of(made_of_twice).ok_or("schedules")?;
+    expect_schedule(&rt, &twice, op(1, 1), &[1, 2], &[1, 0, 1]);
     Ok(())
 }
 

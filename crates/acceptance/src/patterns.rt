@@ -15,7 +15,7 @@ const OVERWRITTEN: &str =
 const READ_AHEAD: &str = r#"["memory",[[["r",0,1],["w",0,1]]]]"#;
 
 /// A variable that is read as it was at the start, after it was written.
-const FORGOTTEN: &str = r#"["memory",[[["w",0,0],["r",0,5]]],[[0,5]]]"#;
+const START_AFTER_A_WRITE: &str = r#"["memory",[[["w",0,0],["r",0,5]]],[[0,5]]]"#;
 
 /// A derivation by which a write is before a read of the start that is in its past.
 const BEFORE_THE_START: &str =
@@ -50,7 +50,11 @@ fn paths_to_a_read_of_an_overwritten_value(rt: HostRuntime) -> Result<(), Fail> 
     let patterns = [
         r#"["WriteCORead",[[0,0],[1,1]],[[1,1],[2,0],[2,1]]]"#,
         r#"["WriteCORead",[[9,0],[0,1],[1,0],[1,1]],[[1,1],[2,0],[2,1]]]"#,
+        r#"["WriteCORead",[[0,0],[9,0],[1,0],[1,1]],[[1,1],[2,0],[2,1]]]"#,
+        r#"["WriteCORead",[[0,0],[0,1],[9,0],[1,1]],[[1,1],[2,0],[2,1]]]"#,
         r#"["WriteCORead",[[0,0],[0,1],[1,0],[9,0]],[[1,1],[2,0],[2,1]]]"#,
+        r#"["WriteCORead",[[0,0],[0,1],[1,0],[1,1]],[[9,0],[2,0],[2,1]]]"#,
+        r#"["WriteCORead",[[0,0],[0,1],[1,0],[1,1]],[[1,1],[9,0],[2,1]]]"#,
         r#"["WriteCORead",[[0,0],[0,1],[1,0],[1,1]],[[1,1],[2,0],[9,0]]]"#,
     ];
     for pattern in patterns {
@@ -82,7 +86,7 @@ fn cycle_of_conflicts_is_against_convergence_alone(rt: HostRuntime) -> Result<()
 #[test]
 fn read_of_the_initial_value_after_a_write(rt: HostRuntime) -> Result<(), Fail> {
     let pattern = r#"["WriteCOInitRead",[[0,0],[0,1]]]"#;
-    assert!(rt; is_shown(&rt, FORGOTTEN, Criterion::Cc, pattern)?);
+    assert!(rt; is_shown(&rt, START_AFTER_A_WRITE, Criterion::Cc, pattern)?);
     assert!(rt; !is_shown(&rt, READ_AHEAD, Criterion::Cc, pattern)?);
     Ok(())
 }

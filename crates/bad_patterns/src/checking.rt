@@ -20,7 +20,8 @@ use std::alloc::{AllocError, Global};
 /// It does where the history has distinct values, the pattern's kind is against the criterion, and the pattern's
 /// operations are in the history and as its kind says.
 ///
-/// Fails for want of memory alone. O(n log n) for n operations of the history and operations and lines of the pattern.
+/// Fails for want of memory alone. O(n log n) for n operations of the history, operations and lines of the pattern, and
+/// entries of the start.
 pub fn check_pattern(
     alloc: Global,
     h: &History<Memory>,

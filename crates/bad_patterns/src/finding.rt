@@ -28,8 +28,10 @@ use std::alloc::{AllocError, Global};
 /// Kinds are tried in turn, those alone that are against the criterion: a cycle of the causal order, a read of a value that
 /// nobody wrote, a read of the initial value after a write, a read from an overwritten write, a read of the initial value
 /// that a happened-before relation puts after a write, a happened-before relation with a cycle, and a cycle with
-/// conflicts. A thin-air read that is found is the first one. There is none where the history does not have distinct
-/// values.
+/// conflicts. A thin-air read that is found is the first one. For the kinds of happened-before the relation of each
+/// session's last operation is searched: one with more than 100,000 pairs that the causal order doesn't have is left out,
+/// and so is a pattern whose derivation would have more than 100,000 lines. There is none where the history does not have
+/// distinct values.
 ///
 /// Fails for want of memory alone. O(n log n + n k) for n operations of k sessions, besides what `find_in_order` or
 /// `find_without_order` costs.

@@ -1,4 +1,4 @@
-//! The patterns in a memory history that no causally consistent memory can show.
+//! Bad patterns: what in a memory history shows that it does not meet a criterion.
 #![tactic(auto)]
 
 mod checking;

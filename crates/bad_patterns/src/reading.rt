@@ -21,7 +21,7 @@ use std::alloc::{AllocError, Global};
 /// `["co",op,op]` and `["cf",path,op]`, and lines are a list of `["co",path,path]`, `["tr",i,j]` and `["rf",i,op]` with line
 /// numbers i and j. A path, links and lines may be empty, and the operations may be of no history.
 ///
-/// Fails for want of memory alone. O(n) for n operations of the pattern.
+/// Fails for want of memory alone. O(n) for n operations, links and lines of the pattern.
 pub fn read_pattern(alloc: Global, value: &Value) -> Result<Option<Pattern>, AllocError>
     ensures { IfOk result (IsRead form_of (view value.now)) }
 {

@@ -14,7 +14,8 @@ pub struct ByOperation<T> {
     alloc: Global,
 }
 
-/// For each operation, how many operations of each session are in its past, itself among them.
+/// For each operation a count of each session: how many of its operations are in the past of the operation, itself among
+/// them, where nothing else is said.
 pub type Vectors = ByOperation<u16>;
 
 impl<T> Model for ByOperation<T> {
@@ -98,6 +99,7 @@ impl<T: Copy> ByOperation<T> {
     {
         self.sessions[op.session as usize].set(op.index as usize, place, item);
     }
+
     /// A copy of all lists.
     ///
     /// Fails for want of memory alone. O(m) for m items and operations.

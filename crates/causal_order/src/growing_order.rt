@@ -15,7 +15,7 @@ use std::alloc::{AllocError, Global};
 /// How many pairs an order may have that it didn't begin with.
 pub(crate) const MOST_ADDED: u32 = 100_000;
 
-/// Counts that were raised: those of one session, in the vectors of neighbours of another.
+/// Counts that were raised: those of one session, in the vectors of neighbours in a session.
 #[derive(Clone, Copy, Debug)]
 pub(crate) struct Raised {
     /// The first of the neighbours.

@@ -76,7 +76,7 @@ impl HappenedBefore {
 
     /// Goes on to the happened-before relation of the session's next operation.
     ///
-    /// Once an operation's is cyclic or given up, those of the later ones are so too. Fails for want of memory alone, and
+    /// After a cyclic one those of the later operations are cyclic or given up, and after one that is given up all are. Fails for want of memory alone, and
     /// the vectors are then those of no relation. O(q k^2 + m k log p) for q operations and m pairs that the relation
     /// has more than before, and k sessions of at most p operations.
     pub fn take_next(&mut self, h: &History<Memory>) -> Result<Saturation, AllocError>
@@ -97,6 +97,9 @@ impl HappenedBefore {
     }
 
     /// For each operation, how many operations of each session are before it. O(1).
+    ///
+    /// For an operation that is neither the last one taken in nor before it in the causal order, these are what the causal
+    /// order puts before it.
     pub fn vectors(&self) -> &Vectors
         ensures { result.now ≡ vectors_of self.now }
     {
@@ -105,8 +108,8 @@ impl HappenedBefore {
 
     /// What was raised in the vectors, in turn.
     ///
-    /// Each raise puts operations before one that no vector before counted before it, and names the cause, which rests on
-    /// the causal order and on raises before.
+    /// Each raise puts operations before an operation whose vector did not count them until then, and names the cause,
+    /// which rests on the causal order and on earlier raises. O(1).
     pub fn raises(&self) -> &[Raise]
         ensures { result.now ≡ raises_of self.now }
     {

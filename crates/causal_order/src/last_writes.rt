@@ -8,7 +8,9 @@ use objects::Memory;
 use operations::{History, OpId};
 use std::alloc::{AllocError, Global};
 
-/// The writes of a history, by variable and operation. O(n log n) for n operations.
+/// The writes of a history, by variable and operation.
+///
+/// Fails for want of memory alone. O(n log n) for n operations.
 pub fn writes_by_variable(alloc: Global, h: &History<Memory>) -> Result<Vec<Write>, AllocError>
     ensures writes { IfOk result (λ writes. ListsWrites h.now writes.items) }
     ensures sorted { IfOk result (λ writes. AreByVariable writes.items) }

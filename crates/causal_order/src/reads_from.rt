@@ -82,7 +82,7 @@ pub(crate) fn known_sources(
 }
 
 /// The source of an operation, `Some(None)` where it has none, or `None` where it is a known read of a value that nobody
-/// writes.
+/// writes. O(log n) for n writes, besides the look-up of the initial value.
 pub fn source_of(h: &History<Memory>, writes: &[Write], op: OpId) -> Option<Option<OpId>>
     requires writes { ListsWrites h.now writes.now }
     requires sorted { IsSorted writes.now }

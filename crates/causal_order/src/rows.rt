@@ -92,6 +92,7 @@ impl<T: Copy> Rows<T> {
         let range = range_of(self.items.len(), &self.ends, i);
         self.items[range.0 + j] = item;
     }
+
     /// A copy of all lists.
     ///
     /// Fails for want of memory alone. O(m) for m items and lists.

@@ -14,7 +14,9 @@ pub struct Write {
     pub value: u64,
 }
 
-/// The writes of a history, by variable, value and operation. O(n log n) for n operations.
+/// The writes of a history, by variable, value and operation.
+///
+/// Fails for want of memory alone. O(n log n) for n operations.
 pub fn sorted_writes(alloc: Global, h: &History<Memory>) -> Result<Vec<Write>, AllocError>
     ensures writes { IfOk result (λ writes. ListsWrites h.now writes.items) }
     ensures sorted { IfOk result (λ writes. IsSorted writes.items) }

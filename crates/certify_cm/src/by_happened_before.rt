@@ -19,7 +19,8 @@ use std::alloc::{AllocError, Global};
 /// program order and the sources of the reads make, and its schedule goes by the happened-before relation of the
 /// operation.
 ///
-/// The schedule takes the operations of its session in turn, up to it. Before each comes what the relation puts before it
+/// The source of a known read of a value that is not the initial one is the first write of that value. The schedule takes
+/// the operations of its session in turn, up to it. Before each comes what the relation puts before it
 /// and isn't placed yet, by the topological rule. `None` where the order is cyclic, where a read has no source, or where
 /// the relation of some operation is cyclic or has more than 100,000 pairs that the order doesn't have. Whether the
 /// certificate explains the known returns is for the checker of certificates to say. Fails for want of memory alone.

@@ -13,8 +13,7 @@ use Rattle.engine.specs.Report.{IsTrueOf, OnlyWithoutThinAir, answer_for, text_f
 use Rattle.engine.specs.Checking.{IsCheckReport, IsPairError, HasOtherShape}
 use Rattle.engine.specs.declared.input.TheConstants.{MOST_INPUT_BYTES}
 
--- the text answers the input as the order asks: it has the three lines of a report, each of which is true of the history
--- in the input
+-- the text is a report on the history in the input: its three lines, each of which is true of that history
 pub record IsReport (input text : List ℕ) : Type 0 where
   pub history : AnyHistory
   pub report : Report
@@ -23,6 +22,7 @@ pub record IsReport (input text : List ℕ) : Type 0 where
   pub unknown : (criterion : Criterion) → OnlyWithoutThinAir history (answer_for report criterion)
   pub lines : text ≡ text_for report
 
+-- the text answers the input as the order asks
 abbrev pub IsAnswer : Order → List ℕ → List ℕ → Type 0
 IsAnswer Judge input text = IsReport input text
 IsAnswer Check input text = IsCheckReport input text

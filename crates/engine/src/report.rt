@@ -46,6 +46,8 @@ impl Report {
 }
 
 /// The text of a report: its lines for causal consistency, causal memory and causal convergence, one after the other.
+///
+/// Fails for want of memory alone. O(1).
 pub fn report_text(alloc: Global, report: &Report) -> Result<String, AllocError>
     ensures { IfOk result (λ text. string_bytes text ≡ text_for report.now) }
 {
@@ -56,6 +58,8 @@ pub fn report_text(alloc: Global, report: &Report) -> Result<String, AllocError>
 }
 
 /// The line of a report: the criterion, a space, the answer and a line feed.
+///
+/// Fails for want of memory alone. O(1).
 pub fn report_line(
     alloc: Global,
     criterion: Criterion,

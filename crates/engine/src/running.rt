@@ -38,6 +38,9 @@ pub fn run<P: AllocGlobal, R: Read, W: Write>(
 }
 
 /// The whole answer to an input, as the order asks.
+///
+/// Refuses what is no input of the order, and fails for want of memory. Its cost is that of reading the input, and what
+/// [`report_on`] or [`answer_of_certificate`](crate::answer_of_certificate) takes for its history.
 pub fn answer_to(alloc: Global, input: &[u8], order: &Order) -> Result<String, RunError>
     ensures answer { IfOk result (λ text. IsAnswer order.now input.now (string_bytes text)) }
     ensures error { IfErr result (IsAnswerError order.now input.now) }
