@@ -1,10 +1,10 @@
 -- What the pair that a derivation gives says of its pattern.
 use Rattle.std.proofs.Common.{◌≡◌, ℕ, Bool, false, List, sym, subst, ◌∙◌}
 use Rattle.std.specs.Prelude.{◌↔◌, IsTrue}
-use Rattle.operations.specs.declared.op_id.OpId.{OpId}
+use Rattle.history.specs.declared.op_id.OpId.{OpId}
 use Rattle.causal_order.specs.Memory.{MemoryHistory, initial, Writes, Reads, IsDifferentiated}
 use Rattle.causal_order.specs.Orders.{only, program_past}
-use Rattle.cert_check.specs.ConvergentLaws.{only-same}
+use Rattle.cert_check.proofs.ConvergentLaws.{only-same}
 use Rattle.bad_patterns.specs.declared.derivation.Line.{Line}
 use Rattle.bad_patterns.specs.Derivations.{Pair, IsDerivation}
 use Rattle.bad_patterns.specs.Patterns.{IsDerivationOfCycle, IsDerivationOfInitialRead}

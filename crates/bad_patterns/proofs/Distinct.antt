@@ -1,11 +1,11 @@
 -- What the writes of a history say of its distinct values and of its reads.
 use Rattle.std.proofs.Common.{◌≡◌, ℕ, Bool, true, false, not, List, sym, refl}
 use Rattle.std.specs.Prelude.{◌≢◌, ◌↔◌, Contains, IsTrue}
-use Rattle.operations.specs.declared.op_id.OpId.{OpId}
+use Rattle.history.specs.declared.op_id.OpId.{OpId}
 use Rattle.causal_order.specs.declared.writes.Write.{Write}
 use Rattle.causal_order.specs.Memory.{MemoryHistory, initial, Reads}
 use Rattle.bad_patterns.specs.Kinds.{IsThinAirRead}
-use Rattle.causal_order.specs.MemoryLaws.{same_read}
+use Rattle.causal_order.proofs.MemoryLaws.{same_read}
 use Rattle.causal_order.specs.Written.{ListsWrites}
 
 module _ (h : MemoryHistory) (writes : List Write) (lists : ListsWrites h writes) where

@@ -2,16 +2,16 @@
 use Rattle.std.proofs.Common.{◌≡◌, ℕ, ◌<◌, ◌⊎◌, ⊎_elim, List, take, sym, ap, ◌∙◌, refl, arith, lt-ltb, length, eq-or-lt_of_le}
 use Rattle.std.specs.Prelude.{slice_get, filter, IsTrue}
 use Rattle.std.proofs.lemmas.Option.{slice_get_within, same_Some}
-use Rattle.operations.specs.declared.op_id.OpId.{OpId}
-use Rattle.operations.specs.History.{IsOp, session}
+use Rattle.history.specs.declared.op_id.OpId.{OpId}
+use Rattle.history.specs.History.{IsOp, session}
 use Rattle.causal_order.specs.Orders.{Order, only, past, IsLinearization}
 use Rattle.causal_order.specs.Memory.{MemoryHistory, memory_answer, initial, Writes, Reads, IsDifferentiated}
 use Rattle.causal_order.specs.Relations.{ReadsFrom, IsEdge, CO, CF}
-use Rattle.causal_order.specs.MemoryLaws.{same_written}
+use Rattle.causal_order.proofs.MemoryLaws.{same_written}
 use Rattle.cert_check.specs.declared.criterion.Criterion.TheVariants.{Cc}
 use Rattle.cert_check.specs.Criteria.{every, IsCausalOrder, Explains, IsCausallyConsistent, IsCausallyConvergent}
-use Rattle.cert_check.specs.FilteredLaws.{StandBoth, filter_in_order}
-use Rattle.cert_check.specs.ConvergentLaws.{cut_is_linearization}
+use Rattle.cert_check.proofs.FilteredLaws.{StandBoth, filter_in_order}
+use Rattle.cert_check.proofs.ConvergentLaws.{cut_is_linearization}
 use Rattle.bad_patterns.specs.declared.kind.Kind.{Kind}
 use Rattle.bad_patterns.specs.declared.kind.Kind.TheVariants.{CyclicCO, ThinAirRead, WriteCOInitRead, WriteCORead, WriteHBInitRead, CyclicHB, CyclicCF}
 use Rattle.bad_patterns.specs.Kinds.{is_against, Shows}

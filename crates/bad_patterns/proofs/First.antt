@@ -1,17 +1,17 @@
 -- Which operation is the first thin-air read.
 use Rattle.std.proofs.Common.{◌≡◌, ℕ, ◌+◌, ◌<◌, ◌≤◌, ⊎_elim, length, arith, subst, ◌∙◌, eq-or-lt_of_le, Option, Some, None, Result, Ok, Err, IfOk, IfNone}
 use Rattle.std.proofs.lemmas.Option.{slice_get_within}
-use Rattle.operations.specs.declared.op_id.OpId.{OpId}
+use Rattle.history.specs.declared.op_id.OpId.{OpId}
 use Rattle.cert_check.specs.declared.criterion.Criterion.{Criterion}
 use Rattle.bad_patterns.specs.declared.pattern.Pattern.{Pattern}
 use Rattle.bad_patterns.specs.declared.pattern.Pattern.TheVariants.{ThinAirRead}
 use Rattle.bad_patterns.specs.Patterns.{IsBadPattern}
-use Rattle.operations.specs.History.{IsOp, session}
+use Rattle.history.specs.History.{IsOp, session}
 use Rattle.causal_order.specs.Memory.{MemoryHistory}
 use Rattle.bad_patterns.specs.Kinds.{IsThinAirRead}
 use Rattle.causal_order.specs.Orders.{op}
 use Rattle.bad_patterns.specs.Found.{IsFirst, IsFirstOf}
-use Rattle.causal_order.specs.OrdersLaws.{session-of_history}
+use Rattle.causal_order.proofs.OrdersLaws.{session-of_history}
 
 module _ (h : MemoryHistory) where
   pub thin_air-of_history : (r : OpId) → IsThinAirRead h r → IsOp h r

@@ -4,11 +4,11 @@ use Rattle.std.proofs.Common.{arith, get_or, sym, subst, subst₂, ◌∙◌, �
 use Rattle.std.proofs.lemmas.Bool.{cases_lt}
 use Rattle.std.proofs.lemmas.List.{get_or_append_left, get_or_push}
 use Rattle.std.proofs.lemmas.Option.{same_Some, slice_get-get_or, slice_get_within}
-use Rattle.operations.specs.declared.op_id.OpId.{OpId}
-use Rattle.operations.specs.History.{session}
+use Rattle.history.specs.declared.op_id.OpId.{OpId}
+use Rattle.history.specs.History.{session}
 use Rattle.causal_order.specs.declared.writes.Write.{Write}
 use Rattle.causal_order.specs.Memory.{MemoryHistory, initial, Reads}
-use Rattle.causal_order.specs.MemoryLaws.{same_read}
+use Rattle.causal_order.proofs.MemoryLaws.{same_read}
 use Rattle.causal_order.specs.Orders.{op}
 use Rattle.causal_order.specs.Sources.{Sources}
 use Rattle.causal_order.specs.Written.{ListsWrites, IsLeastWrite}

@@ -9,8 +9,8 @@ use Rattle.objects.specs.declared.register.RegisterRet.{RegisterRet}
 use Rattle.objects.specs.declared.register.RegisterRet.TheVariants.{Value}
 use Rattle.objects.specs.Register.{last_written}
 use Rattle.objects.specs.Keyed.{calls_at}
-use Rattle.operations.specs.declared.op_id.OpId.{OpId}
-use Rattle.operations.specs.History.{entry, calls}
+use Rattle.history.specs.declared.op_id.OpId.{OpId}
+use Rattle.history.specs.History.{entry, calls}
 use Rattle.causal_order.specs.Orders.{StandsAt}
 use Rattle.causal_order.specs.Memory.{MemoryCall, MemoryHistory, memory_answer, initial, Writes}
 

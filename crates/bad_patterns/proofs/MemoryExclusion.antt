@@ -3,16 +3,16 @@ use Rattle.std.proofs.Common.{◌≡◌, ℕ, ◌<◌, ◌≤◌, ⊎_elim, fals
 use Rattle.std.specs.Prelude.{◌==◌, nat_le, slice_get, IsTrue}
 use Rattle.std.proofs.lemmas.Bool.{and_from, or_left, or_right, cases_lt}
 use Rattle.std.proofs.lemmas.Option.{same_Some}
-use Rattle.operations.specs.declared.op_id.OpId.{OpId}
-use Rattle.operations.specs.History.{IsOp, session}
+use Rattle.history.specs.declared.op_id.OpId.{OpId}
+use Rattle.history.specs.History.{IsOp, session}
 use Rattle.causal_order.specs.Orders.{Order, only, past, program_past, StandsAt, IsLinearization}
 use Rattle.causal_order.specs.Memory.{MemoryHistory, memory_answer, initial, Writes, IsDifferentiated}
-use Rattle.causal_order.specs.MemoryLaws.{same_written}
+use Rattle.causal_order.proofs.MemoryLaws.{same_written}
 use Rattle.causal_order.specs.Relations.{ReadsFrom, CO, AreRivalWrites, IsPast, IsClosed, HB}
-use Rattle.causal_order.specs.RelationsLaws.{CO-of_history}
+use Rattle.causal_order.proofs.RelationsLaws.{CO-of_history}
 use Rattle.cert_check.specs.Criteria.{IsCausalOrder, Explains, IsCausalMemory}
-use Rattle.cert_check.specs.ConvergentLaws.{only-same}
-use Rattle.cert_check.specs.FilteredLaws.{StandBoth}
+use Rattle.cert_check.proofs.ConvergentLaws.{only-same}
+use Rattle.cert_check.proofs.FilteredLaws.{StandBoth}
 use Rattle.bad_patterns.specs.declared.kind.Kind.TheVariants.{WriteHBInitRead, CyclicHB}
 use Rattle.bad_patterns.specs.Kinds.{Shows}
 use Rattle.bad_patterns.proofs.Exclusion.{EachIsExplained, contains_CO}

@@ -6,11 +6,11 @@ use Rattle.std.proofs.lemmas.Bool.{and_from, or_left, or_right, or_cases}
 use Rattle.objects.specs.declared.register.RegisterCall.TheVariants.{Write, Read}
 use Rattle.objects.specs.declared.register.RegisterRet.{RegisterRet}
 use Rattle.objects.specs.declared.register.RegisterRet.TheVariants.{Value}
-use Rattle.operations.specs.declared.op_id.OpId.{OpId}
+use Rattle.history.specs.declared.op_id.OpId.{OpId}
 use Rattle.causal_order.specs.Orders.{Order, Ops, only, past, StandsAt, IsLinearization}
 use Rattle.causal_order.specs.Memory.{MemoryCall, MemoryHistory, memory_answer, initial, Writes, Reads, IsDifferentiated}
 use Rattle.cert_check.specs.Criteria.{Explains}
-use Rattle.cert_check.specs.ConvergentLaws.{only-same}
+use Rattle.cert_check.proofs.ConvergentLaws.{only-same}
 use Rattle.bad_patterns.proofs.LastWrites.{IsUnwritten, IsLastWrite, answer-cases}
 
 module _ {X : Type 0} where

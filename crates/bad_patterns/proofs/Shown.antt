@@ -2,7 +2,7 @@
 use Rattle.std.proofs.Common.{◌≡◌, ℕ, zero, suc, ◌+◌, ◌-◌, ◌⊎◌, inl, inr, List, ◌∷◌, length, map, sym, ap, ◌∙◌, subst, refl, arith, add-one}
 use Rattle.std.specs.Prelude.{Some, slice_get, option_map}
 use Rattle.std.proofs.lemmas.Option.{same_Some, slice_get_within, get_or_from_slice_get, slice_get-map}
-use Rattle.operations.specs.declared.op_id.OpId.{OpId}
+use Rattle.history.specs.declared.op_id.OpId.{OpId}
 use Rattle.operations.specs.JsonLaws.{map_from}
 use Rattle.causal_order.specs.Orders.{StandsAt}
 use Rattle.causal_order.specs.Memory.{MemoryHistory, memory_answer}

@@ -2,10 +2,10 @@
 use Rattle.std.proofs.Common.{◌≡◌, ℕ, zero, suc, ◌<◌, ⊎_elim, false, List, [], ◌∷◌, sym, subst, arith}
 use Rattle.std.specs.Prelude.{Bool, ◌&&◌, ◌||◌, Some, IsTrue}
 use Rattle.std.proofs.lemmas.Bool.{and_from, and_parts, or_left, or_right, or_cases}
-use Rattle.operations.specs.declared.op_id.OpId.{OpId}
+use Rattle.history.specs.declared.op_id.OpId.{OpId}
 use Rattle.causal_order.specs.Orders.{Order, only, StandsAt}
-use Rattle.cert_check.specs.ConvergentLaws.{only-same}
-use Rattle.cert_check.specs.FilteredLaws.{StandBoth}
+use Rattle.cert_check.proofs.ConvergentLaws.{only-same}
+use Rattle.cert_check.proofs.FilteredLaws.{StandBoth}
 use Rattle.bad_patterns.proofs.ReadPasts.{itself}
 
 -- an operation stands in a list

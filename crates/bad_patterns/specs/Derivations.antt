@@ -1,6 +1,6 @@
 -- Derivations: lists of lines, each of which gives a pair of operations in the happened-before relation of an operation.
 use Rattle.std.specs.Prelude.{◌≡◌, ℕ, ◌-◌, ◌<◌, ◌≤◌, List, length, take, Some, slice_get, IsTrue}
-use Rattle.operations.specs.declared.op_id.OpId.{OpId}
+use Rattle.history.specs.declared.op_id.OpId.{OpId}
 use Rattle.bad_patterns.specs.declared.derivation.Line.{Line}
 use Rattle.bad_patterns.specs.declared.derivation.Line.TheVariants.{Co, Tr, Rf}
 use Rattle.causal_order.specs.Memory.{MemoryHistory}

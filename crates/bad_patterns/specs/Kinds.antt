@@ -1,7 +1,7 @@
 -- The bad patterns of Bouajjani, Enea, Guerraoui and Hamza ("On Verifying Causal Consistency", POPL 2017, the table of bad
 -- patterns), where the value 0 of the paper is the initial value of a variable.
 use Rattle.std.specs.Prelude.{◌≢◌, ◌⊎◌, ℕ, Bool, true, false, IsTrue}
-use Rattle.operations.specs.declared.op_id.OpId.{OpId}
+use Rattle.history.specs.declared.op_id.OpId.{OpId}
 use Rattle.cert_check.specs.declared.criterion.Criterion.{Criterion}
 use Rattle.cert_check.specs.declared.criterion.Criterion.TheVariants.{Cc, Cm, Ccv}
 use Rattle.causal_order.specs.Orders.{program_past}

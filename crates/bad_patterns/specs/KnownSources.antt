@@ -1,7 +1,7 @@
 -- The writes that the operations of a memory history read from, listed by operation.
 use Rattle.std.specs.Prelude.{◌≡◌, ℕ, ◌<◌, ◌≤◌, List, [], length, Option, MatchOption, Some, slice_get, slice_index_or}
-use Rattle.operations.specs.declared.op_id.OpId.{OpId}
-use Rattle.operations.specs.History.{session}
+use Rattle.history.specs.declared.op_id.OpId.{OpId}
+use Rattle.history.specs.History.{session}
 use Rattle.causal_order.specs.Memory.{MemoryHistory}
 use Rattle.causal_order.specs.Orders.{op}
 use Rattle.causal_order.specs.Relations.{ReadsFrom}

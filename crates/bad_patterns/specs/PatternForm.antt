@@ -1,7 +1,7 @@
 -- The JSON form of a pattern: a list of the name of its kind and what shows it.
 use Rattle.std.specs.Prelude.{◌≡◌, ◌≢◌, ℕ, List, [], ◌∷◌, map, codes, Option, MatchOption}
 use Rattle.serde_json.specs.Data.{Data, number, string, unsigned}
-use Rattle.operations.specs.declared.op_id.OpId.{OpId}
+use Rattle.history.specs.declared.op_id.OpId.{OpId}
 use Rattle.operations.specs.Json.{list}
 use Rattle.bad_patterns.specs.declared.derivation.Line.{Line}
 use Rattle.bad_patterns.specs.declared.derivation.Line.TheVariants as line

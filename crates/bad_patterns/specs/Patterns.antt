@@ -1,6 +1,6 @@
 -- What shows a bad pattern in a history, and what follows.
 use Rattle.std.specs.Prelude.{ℕ, List, IsTrue}
-use Rattle.operations.specs.declared.op_id.OpId.{OpId}
+use Rattle.history.specs.declared.op_id.OpId.{OpId}
 use Rattle.cert_check.specs.declared.criterion.Criterion.{Criterion}
 use Rattle.cert_check.specs.Criteria.{Meets}
 use Rattle.bad_patterns.specs.declared.kind.Kind.{Kind}

@@ -11,8 +11,8 @@ use crate::routes::{are_paths_to_overwritten_read, is_cyclic_path, is_path_to_in
 use crate::thin_air::is_thin_air_read;
 use causal_order::{Write, are_distinct, sorted_writes};
 use cert_check::Criterion;
+use history::History;
 use objects::Memory;
-use operations::History;
 use std::alloc::{AllocError, Global};
 
 /// Whether the pattern shows that the history does not meet the criterion.

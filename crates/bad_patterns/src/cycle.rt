@@ -7,8 +7,8 @@ use crate::edges::{are_rival_writes, is_edge, reads_from};
 use crate::link::Link;
 use crate::path::Path;
 use crate::routes::ends_of;
+use history::{History, OpId};
 use objects::Memory;
-use operations::{History, OpId};
 
 /// Whether these links, of which there is at least one, are a cycle of the history.
 ///

@@ -1,7 +1,7 @@
 ghost use Rattle.std.specs.Prelude.{◌≡◌};
 
 use crate::path::Path;
-use operations::OpId;
+use history::OpId;
 use std::marker::Model;
 
 /// One line of a derivation for an operation. It gives a pair of operations, of which the first happened before the

@@ -1,7 +1,7 @@
 //! What a derivation gives.
 
 ghost use Rattle.std.specs.Prelude.{◌≡◌, IfOk, MatchOption, slice_get};
-ghost use Rattle.operations.specs.declared.op_id.OpId.{OpId};
+ghost use Rattle.history.specs.declared.op_id.OpId.{OpId};
 ghost use Rattle.causal_order.specs.Memory.{IsDifferentiated};
 ghost use Rattle.causal_order.specs.Orders.{program_past};
 ghost use Rattle.causal_order.specs.Written.{AreInOrder, IsSorted, ListsWrites};
@@ -13,8 +13,8 @@ use crate::path::Path;
 use crate::routes::ends_of;
 use crate::search::source_of;
 use causal_order::Write;
+use history::{History, OpId};
 use objects::Memory;
-use operations::{History, OpId};
 use std::alloc::{AllocError, Global};
 
 /// How many lines a derivation may have.

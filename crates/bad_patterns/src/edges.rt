@@ -1,13 +1,13 @@
 //! What two operations of a history are to each other.
 
 ghost use Rattle.std.specs.Prelude.{◌≡◌, ◌↔◌, ℕ, IsTrue, MatchOption};
-ghost use Rattle.operations.specs.History.{IsOp, Precedes};
+ghost use Rattle.history.specs.History.{IsOp, Precedes};
 ghost use Rattle.causal_order.specs.Memory.{initial, Reads, Writes};
 ghost use Rattle.causal_order.specs.Relations.{AreRivalWrites, IsEdge, ReadsFrom};
 
 use causal_order::{initial_value, known_read};
+use history::{History, OpId};
 use objects::{Memory, RegisterCall};
-use operations::{History, OpId};
 
 /// The variable and the value of a write, whether its return is known or not.
 pub fn written(h: &History<Memory>, op: OpId) -> Option<(u32, u64)>

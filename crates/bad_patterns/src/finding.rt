@@ -19,8 +19,8 @@ use crate::search::{
 use crate::thin_air::is_thin_air_read;
 use causal_order::{Vectors, Write, are_distinct, memory_order, sorted_writes};
 use cert_check::Criterion;
+use history::{History, OpId};
 use objects::Memory;
-use operations::{History, OpId};
 use std::alloc::{AllocError, Global};
 
 /// A pattern that shows that the history does not meet the criterion, where the search finds one.

@@ -13,8 +13,8 @@ use crate::pattern::Pattern;
 use crate::search::{KnownReads, Relation, cycle_in, derivation_of, overwritten_start_in};
 use causal_order::{Vectors, Write};
 use cert_check::Criterion;
+use history::History;
 use objects::Memory;
-use operations::History;
 use std::alloc::{AllocError, Global};
 
 /// A pattern of one of the kinds that rest on happened-before relations, where those are against the criterion.

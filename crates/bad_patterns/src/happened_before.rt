@@ -9,8 +9,8 @@ use crate::derivation::Derivation;
 use crate::derived_pairs::{derived_pair, is_in_program_past};
 use crate::edges::reads_initial;
 use causal_order::Write;
+use history::{History, OpId};
 use objects::Memory;
-use operations::{History, OpId};
 use std::alloc::{AllocError, Global};
 
 /// Whether a derivation for the operation gives one operation twice.

@@ -2,7 +2,7 @@ ghost use Rattle.std.specs.Prelude.{◌≡◌};
 ghost use Rattle.bad_patterns.specs.Paths.{begin_of, end_of};
 
 use crate::path::Path;
-use operations::OpId;
+use history::OpId;
 use std::marker::Model;
 
 /// One step of a cycle of the causal order and the conflicts of writes.

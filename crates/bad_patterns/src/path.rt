@@ -1,6 +1,6 @@
 ghost use Rattle.std.specs.Prelude.{◌≡◌};
 
-use operations::OpId;
+use history::OpId;
 use std::marker::Model;
 
 /// Operations, one after the other, of which each is to be joined to the next by an edge of the causal order: the two
@@ -14,7 +14,7 @@ pub struct Path {
 
 impl Model for Path {
     ghost use Rattle.std.specs.Prelude.{List};
-    ghost use Rattle.operations.specs.declared.op_id.OpId.{OpId};
+    ghost use Rattle.history.specs.declared.op_id.OpId.{OpId};
 
     ghost Value = { List OpId };
 

@@ -5,7 +5,7 @@ use crate::derivation::Derivation;
 use crate::kind::Kind;
 use crate::link::Links;
 use crate::path::Path;
-use operations::OpId;
+use history::OpId;
 
 /// A bad pattern, with the operations that show it.
 #[derive(Debug, Drop)]

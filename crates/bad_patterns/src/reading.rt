@@ -9,7 +9,8 @@ use crate::link::{Link, Links};
 use crate::path::Path;
 use crate::pattern::Pattern;
 use crate::reading_lines::read_lines;
-use operations::{OpId, elements_of};
+use history::OpId;
+use operations::elements_of;
 use serde_json::Value;
 use std::alloc::{AllocError, Global};
 

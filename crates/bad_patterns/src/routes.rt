@@ -1,15 +1,15 @@
 //! Where the paths of a pattern go.
 
 ghost use Rattle.std.specs.Prelude.{◌↔◌, IsTrue, MatchOption};
-ghost use Rattle.operations.specs.declared.op_id.OpId.{OpId};
+ghost use Rattle.history.specs.declared.op_id.OpId.{OpId};
 ghost use Rattle.causal_order.specs.Relations.{IsEdge, IsPath};
 ghost use Rattle.bad_patterns.specs.Paths.{GoesFrom};
 ghost use Rattle.bad_patterns.specs.Patterns.{ArePathsToOverwrittenRead, IsCyclicPath, IsPathToInitialRead};
 
 use crate::edges::{are_rival_writes, is_edge, reads_from, reads_initial};
 use crate::path::Path;
+use history::{History, OpId};
 use objects::Memory;
-use operations::{History, OpId};
 
 /// Whether each of the operations is joined to the next by an edge of the causal order.
 fn is_path(h: &History<Memory>, ops: &[OpId]) -> bool

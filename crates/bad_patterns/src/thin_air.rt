@@ -3,8 +3,8 @@ ghost use Rattle.bad_patterns.specs.Kinds.{IsThinAirRead};
 ghost use Rattle.causal_order.specs.Written.{IsSorted, ListsWrites};
 
 use causal_order::{Write, initial_value, is_written, known_read};
+use history::{History, OpId};
 use objects::Memory;
-use operations::{History, OpId};
 
 /// Whether the operation is a known read of a value that is not the initial one and that nobody wrote.
 ///

@@ -3,13 +3,13 @@ use Rattle.std.specs.Prelude.{◌≡◌, ◌≢◌, ℕ, ◌<◌, ◌≤◌, [],
 use Rattle.std.proofs.Common.{zero, suc, arith, get_or, sym, subst, ◌∙◌, inl, inr, ⊎_elim, refl}
 use Rattle.std.proofs.lemmas.Bool.{cases_eq, cases_lt}
 use Rattle.std.proofs.lemmas.Option.{same_Some, slice_get-get_or}
-use Rattle.operations.specs.declared.op_id.OpId.{OpId}
-use Rattle.causal_order.specs.OrdersLaws.{same_op}
-use Rattle.causal_order.specs.RelationsLaws.{leads-edge, leads-first, leads-leads}
+use Rattle.history.specs.declared.op_id.OpId.{OpId}
+use Rattle.causal_order.proofs.OrdersLaws.{same_op}
+use Rattle.causal_order.proofs.RelationsLaws.{leads-edge, leads-first, leads-leads}
 use Rattle.causal_order.specs.Sources.{Sources, IsListed, AreListed, IsStep, Comes, IsUnfinished, next, IsReady}
 use Rattle.causal_order.specs.Vectors.{Counts}
-use Rattle.causal_order.specs.PushedLaws.{listed-length}
-use Rattle.causal_order.specs.RepeatsLaws.{repeats}
+use Rattle.causal_order.proofs.PushedLaws.{listed-length}
+use Rattle.causal_order.proofs.RepeatsLaws.{repeats}
 
 -- the session of a source, or the one that is given
 abbrev session_or : ℕ → Option (Option OpId) → ℕ

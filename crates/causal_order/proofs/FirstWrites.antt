@@ -4,20 +4,20 @@ use Rattle.std.proofs.Common.{arith, get_or, sym, ap, subst, subst₂, ◌∙◌
 use Rattle.std.proofs.lemmas.Bool.{cases_lt, cases_order}
 use Rattle.std.proofs.lemmas.List.{get_or_past, get_or_append_left, get_or_push}
 use Rattle.std.proofs.lemmas.Option.{same_Some, slice_get-get_or, slice_get_within}
-use Rattle.operations.specs.declared.op_id.OpId.{OpId}
-use Rattle.operations.specs.History.{IsOp, Precedes, session}
+use Rattle.history.specs.declared.op_id.OpId.{OpId}
+use Rattle.history.specs.History.{IsOp, Precedes, session}
 use Rattle.causal_order.specs.declared.writes.Write.{Write}
 use Rattle.causal_order.specs.Memory.{MemoryHistory, initial, Writes, Reads, IsDifferentiated}
-use Rattle.causal_order.specs.MemoryLaws.{same_read, write-of_history, read-of_history}
+use Rattle.causal_order.proofs.MemoryLaws.{same_read, write-of_history, read-of_history}
 use Rattle.causal_order.specs.Orders.{op, IsEarlier}
-use Rattle.causal_order.specs.OrdersLaws.{same_op}
+use Rattle.causal_order.proofs.OrdersLaws.{same_op}
 use Rattle.causal_order.specs.Relations.{ReadsFrom, IsEdge, CO}
-use Rattle.causal_order.specs.RelationsLaws.{leads-wider, CO-of_history}
+use Rattle.causal_order.proofs.RelationsLaws.{leads-wider, CO-of_history}
 use Rattle.causal_order.specs.SourceOrder.{LacksSource, CountsSourceOrder, IsSource, IsSourceEdge, SourceOrder, IsSourceOf, ListsSourcesBelow, ListsSourcesSoFar, ListsSources}
 use Rattle.causal_order.specs.Sources.{Sources, HasSource, IsListed, AreListed, IsStep, Comes, IsUnfinished, AreVectorsSoFar}
 use Rattle.causal_order.specs.Vectors.{Counts, IsCounted}
 use Rattle.causal_order.specs.Written.{ListsWrites, IsLeastWrite}
-use Rattle.causal_order.specs.PushedLaws.{listed-length}
+use Rattle.causal_order.proofs.PushedLaws.{listed-length}
 
 module _ (h : MemoryHistory) where
   module _ (writes : List Write) (lists : ListsWrites h writes) (r : OpId) (x v : ℕ) (reads : Reads h r x v) where

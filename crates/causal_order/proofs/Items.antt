@@ -3,12 +3,12 @@ use Rattle.std.specs.Prelude.{◌≡◌, ◌≢◌, ◌⊎◌, ℕ, ◌<◌, ◌
 use Rattle.std.proofs.Common.{arith, get_or, set, sym, ap, subst, ◌∙◌, inl, inr, ⊎_elim}
 use Rattle.std.proofs.lemmas.Bool.{cases_eq}
 use Rattle.std.proofs.lemmas.List.{get_or-set_same, get_or-set_other, length-set}
-use Rattle.operations.specs.declared.op_id.OpId.{OpId}
-use Rattle.operations.specs.History.{IsOp, session}
+use Rattle.history.specs.declared.op_id.OpId.{OpId}
+use Rattle.history.specs.History.{IsOp, session}
 use Rattle.causal_order.specs.GrowingOrders.{AreHeldVectors}
 use Rattle.causal_order.specs.Memory.{MemoryHistory}
-use Rattle.causal_order.specs.OrdersLaws.{same_op}
-use Rattle.causal_order.specs.PushedLaws.{listed-length}
+use Rattle.causal_order.proofs.OrdersLaws.{same_op}
+use Rattle.causal_order.proofs.PushedLaws.{listed-length}
 use Rattle.causal_order.specs.Sources.{IsListed}
 use Rattle.causal_order.specs.Vectors.{Counts, count, list_of, with_item}
 

@@ -8,11 +8,11 @@ use Rattle.std.proofs.lemmas.Cmp.{tied_itself}
 use Rattle.std.proofs.lemmas.Bool.{cases_lt, cases_eq}
 use Rattle.std.proofs.lemmas.Option.{same_Some, slice_get-get_or, slice_get_within}
 use Rattle.std.proofs.lemmas.List.Sorted.{searchable_from_sorted, sorted_far, ranks_by}
-use Rattle.operations.specs.declared.op_id.OpId.{OpId}
+use Rattle.history.specs.declared.op_id.OpId.{OpId}
 use Rattle.causal_order.specs.declared.writes.Write.{Write}
 use Rattle.causal_order.specs.Orders.{IsEarlier}
 use Rattle.causal_order.specs.Written.{by_op, by_variable, IsSorted, AreInOrder, IsLeastWrite}
-use Rattle.causal_order.specs.EarlierLaws.{by_op_total, earlier-less, equal-cmp, less-index}
+use Rattle.causal_order.proofs.EarlierLaws.{by_op_total, earlier-less, equal-cmp, less-index}
 use Rattle.causal_order.proofs.Sorted.{by_variable_total, same_pairs, tied}
 
 -- the order by variable, then by value, then by operation

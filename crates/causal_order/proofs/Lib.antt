@@ -13,3 +13,15 @@ pub mod Growing
 pub mod StrictVectors
 pub mod OwnVectors
 pub mod Walked
+pub mod EarlierLaws
+pub mod GatheredLaws
+pub mod GrowingOrdersLaws
+pub mod ListedLaws
+pub mod MemoryLaws
+pub mod OrdersLaws
+pub mod PushedLaws
+pub mod RelationsLaws
+pub mod RepeatsLaws
+pub mod SourcedLaws
+pub mod TopologicalLaws
+pub mod VectorsLaws

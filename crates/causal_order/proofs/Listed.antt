@@ -3,15 +3,15 @@ use Rattle.std.proofs.Common.{◌≡◌, ℕ, ◌+◌, ◌<◌, ◌≤◌, List,
 use Rattle.std.specs.Prelude.{Option, Some, option_map, slice_get, IsPermutation}
 use Rattle.std.proofs.lemmas.Option.{slice_get-get_or, same_Some}
 use Rattle.std.proofs.lemmas.List.Sorted.{Contains-permutation, IsPermutation-sym}
-use Rattle.operations.specs.declared.op_id.OpId.{OpId}
-use Rattle.operations.specs.History.{IsOp, session, entry}
+use Rattle.history.specs.declared.op_id.OpId.{OpId}
+use Rattle.history.specs.History.{IsOp, session, entry}
 use Rattle.causal_order.specs.declared.writes.Write.{Write as WriteEntry}
 use Rattle.objects.specs.declared.register.RegisterCall.TheVariants.{Write}
 use Rattle.objects.specs.declared.register.RegisterRet.{RegisterRet}
 use Rattle.causal_order.specs.Memory.{MemoryCall, MemoryHistory, Writes}
-use Rattle.causal_order.specs.MemoryLaws.{same_written, write-of_history}
+use Rattle.causal_order.proofs.MemoryLaws.{same_written, write-of_history}
 use Rattle.causal_order.specs.Orders.{op}
-use Rattle.causal_order.specs.ListedLaws.{listed-item, listed-none, listed-session, listed-end}
+use Rattle.causal_order.proofs.ListedLaws.{listed-item, listed-none, listed-session, listed-end}
 use Rattle.causal_order.specs.Written.{ListsWrites, ListsWritesBefore}
 
 module _ (h : MemoryHistory) where

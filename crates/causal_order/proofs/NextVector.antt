@@ -4,14 +4,14 @@ use Rattle.std.proofs.Common.{arith, get_or, set, replicate, sym, ap, subst, sub
 use Rattle.std.proofs.lemmas.Bool.{cases_eq, cases_lt}
 use Rattle.std.proofs.lemmas.List.{get_or_past, get_or-replicate, get_or-set_other, length-set, length-replicate}
 use Rattle.std.proofs.lemmas.Option.{same_Some, slice_get-get_or}
-use Rattle.operations.specs.declared.op_id.OpId.{OpId}
-use Rattle.operations.specs.History.{Precedes}
+use Rattle.history.specs.declared.op_id.OpId.{OpId}
+use Rattle.history.specs.History.{Precedes}
 use Rattle.causal_order.specs.Orders.{op}
-use Rattle.causal_order.specs.OrdersLaws.{same_op}
-use Rattle.causal_order.specs.RelationsLaws.{leads-edge, from-edge, last-edge, leads-back, IsFrom}
+use Rattle.causal_order.proofs.OrdersLaws.{same_op}
+use Rattle.causal_order.proofs.RelationsLaws.{leads-edge, from-edge, last-edge, leads-back, IsFrom}
 use Rattle.causal_order.specs.Sources.{Sources, HasSource, IsListed, IsStep, Comes, next, IsReady, AreVectorsSoFar}
 use Rattle.causal_order.specs.Vectors.{Counts, list_of, count, IsCounted}
-use Rattle.causal_order.specs.PushedLaws.{pushed, listed-length, pushed-other, pushed-length, pushed-old, pushed-cases, pushed-value_old, pushed-value_next}
+use Rattle.causal_order.proofs.PushedLaws.{pushed, listed-length, pushed-other, pushed-length, pushed-old, pushed-cases, pushed-value_old, pushed-value_next}
 
 -- what has no vector counts nothing
 counted-listed : (v : Counts) (o a : OpId) → IsCounted v o a → IsListed v o

@@ -7,11 +7,11 @@ use Rattle.std.specs.Cmp.{IsTotalOrder, nat_cmp_total, on_total, then_total}
 use Rattle.std.proofs.lemmas.Bool.{cases_lt}
 use Rattle.std.proofs.lemmas.Option.{same_Some, slice_get-get_or}
 use Rattle.std.proofs.lemmas.List.Sorted.{searchable_from_sorted, sorted_far, ranks_by}
-use Rattle.operations.specs.declared.op_id.OpId.{OpId}
+use Rattle.history.specs.declared.op_id.OpId.{OpId}
 use Rattle.causal_order.specs.declared.writes.Write.{Write}
 use Rattle.causal_order.specs.Orders.{op, IsEarlier}
 use Rattle.causal_order.specs.Written.{by_op, by_place, AreByVariable, IsBelowWrite}
-use Rattle.causal_order.specs.EarlierLaws.{by_op_total, less-cmp, equal-cmp, cmp-less, cmp-equal, then-left, then-right, then-cases, earlier-less, less-earlier, less-index}
+use Rattle.causal_order.proofs.EarlierLaws.{by_op_total, less-cmp, equal-cmp, cmp-less, cmp-equal, then-left, then-right, then-cases, earlier-less, less-earlier, less-index}
 
 pub by_place_total : IsTotalOrder by_place
 by_place_total = then_total (on_total (λ t. t.0) nat_cmp_total) (on_total (λ t. t.1) by_op_total)

@@ -3,10 +3,10 @@ use Rattle.std.specs.Prelude.{◌≡◌, ◌≢◌, ℕ, ◌<◌, ◌≤◌, Lis
 use Rattle.std.proofs.Common.{arith, get_or, set, sym, ap, subst, ◌∙◌, ⊎_elim}
 use Rattle.std.proofs.lemmas.Bool.{cases_eq, cases_lt}
 use Rattle.std.proofs.lemmas.List.{get_or-set_same, get_or-set_other, get_or_past, length-set}
-use Rattle.operations.specs.declared.op_id.OpId.{OpId}
-use Rattle.operations.specs.History.{session}
+use Rattle.history.specs.declared.op_id.OpId.{OpId}
+use Rattle.history.specs.History.{session}
 use Rattle.causal_order.specs.Gathered.{AreGatheredBefore}
-use Rattle.causal_order.specs.GatheredLaws.{gathered-shape, gathered-each}
+use Rattle.causal_order.proofs.GatheredLaws.{gathered-shape, gathered-each}
 use Rattle.causal_order.specs.GrowingOrders.{AreHeldVectors}
 use Rattle.causal_order.specs.HappenedBefores.{IsStrict, AreStrictOf}
 use Rattle.causal_order.specs.Memory.{MemoryHistory}

@@ -9,7 +9,7 @@ use Rattle.causal_order.specs.Orders.{op}
 use Rattle.causal_order.specs.Vectors.{Counts, count, list_of}
 use Rattle.causal_order.specs.Sources.{IsListed}
 use Rattle.causal_order.specs.Topological.{placed, next_of, CanGoOn, IsNext, IsWalk, AreSeen, IsTally}
-use Rattle.causal_order.specs.TopologicalLaws.{placed-same}
+use Rattle.causal_order.proofs.TopologicalLaws.{placed-same}
 
 -- how many operations the limits of the first n sessions leave behind a schedule
 abbrev pub room : ℕ → List ℕ → List ℕ → ℕ

@@ -1,7 +1,7 @@
 -- Orders of the operations of a history as vectors, while they grow.
 use Rattle.std.specs.Prelude.{◌≡◌, ℕ, ◌+◌, ◌*◌, ◌-◌, ◌<◌, ◌≤◌, length, All, slice_index}
-use Rattle.operations.specs.declared.op_id.OpId.{OpId}
-use Rattle.operations.specs.History.{IsOp, session}
+use Rattle.history.specs.declared.op_id.OpId.{OpId}
+use Rattle.history.specs.History.{IsOp, session}
 use Rattle.causal_order.specs.declared.growing_order.Raised.{Raised}
 use Rattle.causal_order.specs.declared.growing_order.GrowingOrder.{GrowingOrder}
 use Rattle.causal_order.specs.Memory.{MemoryHistory}

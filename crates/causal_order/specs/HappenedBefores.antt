@@ -1,7 +1,7 @@
 -- The happened-before relations of the operations of a session, as vectors.
 use Rattle.std.specs.Prelude.{◌≡◌, ◌≢◌, ℕ, ◌+◌, ◌<◌, ◌≤◌, List, length, All, IfSome, Option, slice_index_or}
-use Rattle.operations.specs.declared.op_id.OpId.{OpId}
-use Rattle.operations.specs.History.{IsOp, session}
+use Rattle.history.specs.declared.op_id.OpId.{OpId}
+use Rattle.history.specs.History.{IsOp, session}
 use Rattle.causal_order.specs.declared.growing_order.Raise.{Raise}
 use Rattle.causal_order.specs.declared.happened_before.HappenedBefore.{HappenedBefore}
 use Rattle.causal_order.specs.GrowingOrders.{IsGrowing, Grows}

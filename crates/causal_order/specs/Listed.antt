@@ -1,6 +1,6 @@
 -- Lists of items that belong to operations, gathered operation by operation.
 use Rattle.std.specs.Prelude.{List, Contains}
-use Rattle.operations.specs.declared.op_id.OpId.{OpId}
+use Rattle.history.specs.declared.op_id.OpId.{OpId}
 use Rattle.causal_order.specs.Orders.{IsEarlier}
 
 module _ {X : Type 0} (op_of : X → OpId) (belongs : X → Type 0) where

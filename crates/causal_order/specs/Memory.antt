@@ -8,8 +8,8 @@ use Rattle.objects.specs.declared.register.RegisterRet.TheVariants.{Value}
 use Rattle.objects.specs.Table.{start_at}
 use Rattle.objects.specs.Register.{answer as register_answer}
 use Rattle.objects.specs.Keyed.{answer as keyed_answer}
-use Rattle.operations.specs.declared.op_id.OpId.{OpId}
-use Rattle.operations.specs.History.{Record, entry}
+use Rattle.history.specs.declared.op_id.OpId.{OpId}
+use Rattle.history.specs.History.{Record, entry}
 
 -- a call of a memory: a write of a value to a variable, or a read of it
 abbrev pub MemoryCall : Type 0

@@ -1,7 +1,7 @@
 -- Sets, orders and lists of operations, as Bouajjani, Enea, Guerraoui and Hamza use them ("On Verifying Causal
 -- Consistency", POPL 2017, sections 2 and 3).
 use Rattle.std.specs.Prelude.{◌≡◌, ◌⊎◌, ℕ, ◌<◌, ◌==◌, ◌&&◌, ◌||◌, Bool, IsTrue, List, Some, slice_get, nat_le}
-use Rattle.operations.specs.declared.op_id.OpId.{OpId}
+use Rattle.history.specs.declared.op_id.OpId.{OpId}
 
 -- the operation with this index of this session
 abbrev pub op : ℕ → ℕ → OpId

@@ -1,6 +1,6 @@
 -- The vectors of program order alone.
 use Rattle.std.specs.Prelude.{◌≡◌, ◌≢◌, ℕ, ◌+◌, List, length, slice_index_or}
-use Rattle.operations.specs.declared.op_id.OpId.{OpId}
+use Rattle.history.specs.declared.op_id.OpId.{OpId}
 
 -- one count for each of the sessions: o and what is before it in its session, and nothing of another session
 pub record IsOwnVector (sessions : ℕ) (o : OpId) (counts : List ℕ) : Type 0 where

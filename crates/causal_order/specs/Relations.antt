@@ -1,8 +1,8 @@
 -- The relations of Bouajjani, Enea, Guerraoui and Hamza on the operations of a memory history ("On Verifying Causal
 -- Consistency", POPL 2017, the section on bad patterns).
 use Rattle.std.specs.Prelude.{◌≡◌, ◌≢◌, ◌⊎◌, ℕ, ◌+◌, IsTrue, List}
-use Rattle.operations.specs.declared.op_id.OpId.{OpId}
-use Rattle.operations.specs.History.{IsOp, Precedes}
+use Rattle.history.specs.declared.op_id.OpId.{OpId}
+use Rattle.history.specs.History.{IsOp, Precedes}
 use Rattle.causal_order.specs.Orders.{Order, StandsAt, program_past}
 use Rattle.causal_order.specs.Memory.{MemoryHistory, initial, Writes, Reads}
 

@@ -1,7 +1,7 @@
 -- The order that a memory history has by the first write of each value that was read, and when it has none.
 use Rattle.std.specs.Prelude.{◌≡◌, ◌≢◌, ◌⊎◌, ◌↔◌, ℕ, ◌≤◌, ◌<◌, List, [], length, Option, MatchOption, Some, slice_get, slice_index_or}
-use Rattle.operations.specs.declared.op_id.OpId.{OpId}
-use Rattle.operations.specs.History.{IsOp, Precedes, session}
+use Rattle.history.specs.declared.op_id.OpId.{OpId}
+use Rattle.history.specs.History.{IsOp, Precedes, session}
 use Rattle.causal_order.specs.Memory.{MemoryHistory, initial, Writes, Reads}
 use Rattle.causal_order.specs.Orders.{op, IsEarlier}
 use Rattle.causal_order.specs.Relations.{Leads, ReadsFrom, CO}

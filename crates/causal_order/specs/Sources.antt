@@ -1,7 +1,7 @@
 -- Lists of the sources of operations, and the order that sources and program order make.
 use Rattle.std.specs.Prelude.{◌≡◌, ◌⊎◌, ◌↔◌, ℕ, ◌<◌, ◌≤◌, List, [], length, Option, Some, slice_get, slice_index_or}
-use Rattle.operations.specs.declared.op_id.OpId.{OpId}
-use Rattle.operations.specs.History.{Precedes}
+use Rattle.history.specs.declared.op_id.OpId.{OpId}
+use Rattle.history.specs.History.{Precedes}
 use Rattle.causal_order.specs.Orders.{op}
 use Rattle.causal_order.specs.Relations.{Leads}
 use Rattle.causal_order.specs.Vectors.{Counts, list_of, IsCounted}

@@ -2,7 +2,7 @@
 -- "Topological sorting of large networks", 1962).
 use Rattle.std.specs.Prelude.{◌≡◌, ◌≢◌, ℕ, ◌<◌, ◌≤◌, ◌==◌, List, Some, length, take, slice_get, slice_index_or}
 use Rattle.std.specs.List.{count_by}
-use Rattle.operations.specs.declared.op_id.OpId.{OpId}
+use Rattle.history.specs.declared.op_id.OpId.{OpId}
 use Rattle.causal_order.specs.Orders.{op}
 use Rattle.causal_order.specs.Vectors.{Counts, count, list_of}
 use Rattle.causal_order.specs.Sources.{IsListed}

@@ -1,8 +1,8 @@
 -- Vectors of counts: for each operation, how many operations of each session are in its past, itself among them (vector
 -- clocks: Fidge, "Timestamps in message-passing systems that preserve the partial ordering", 1988).
 use Rattle.std.specs.Prelude.{◌≡◌, ◌≢◌, ℕ, ◌+◌, ◌<◌, ◌≤◌, List, [], length, slice_index_or, slice_set}
-use Rattle.operations.specs.declared.op_id.OpId.{OpId}
-use Rattle.operations.specs.History.{Record, IsOp, session}
+use Rattle.history.specs.declared.op_id.OpId.{OpId}
+use Rattle.history.specs.History.{Record, IsOp, session}
 use Rattle.causal_order.specs.Orders.{op}
 
 -- for each session, for each of its operations, one list
@@ -58,3 +58,20 @@ module _ {S C R : Type 0} where
     pub predecessor : (i : ℕ) → o.index ≡ i + 1 → IsWithin v o (op o.session i)
     pub others : (s i : ℕ) → IsLastOf v o s i → IsWithin v o (op s i)
     pub uncounted : (s i : ℕ) → IsLastOf v o s i → ¬ IsCounted v (op s i) o
+
+-- there is a list for the operation o
+pub record HasListOf {A : Type 0} (lists : ByOperation A) (o : OpId) : Type 0 where
+  pub session : o.session < length lists
+  pub index : o.index < length (slice_index_or lists o.session [])
+
+-- the vector of o counts only operations that have vectors
+abbrev pub CountsHeld : Counts → OpId → Type 0
+CountsHeld v o = (s : ℕ) → count v o s ≤ length (slice_index_or v s [])
+
+-- the vector of o counts all that the operation before it in program order counts
+abbrev pub IsPastPredecessor : Counts → OpId → Type 0
+IsPastPredecessor v o = (i : ℕ) → o.index ≡ i + 1 → IsWithin v o (op o.session i)
+
+-- the vector of o counts all that the last operation that it counts of the session s counts, which doesn't count o
+abbrev pub IsPastLastOf : Counts → OpId → ℕ → Type 0
+IsPastLastOf v o s = (i : ℕ) → count v o s ≡ i + 1 → IsWithin v o (op s i) × ¬ IsCounted v (op s i) o

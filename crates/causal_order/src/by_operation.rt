@@ -3,7 +3,7 @@ ghost use Rattle.causal_order.specs.Sources.{IsListed};
 ghost use Rattle.causal_order.specs.Vectors.{list_of, with_item};
 
 use crate::rows::Rows;
-use operations::OpId;
+use history::OpId;
 use std::alloc::{AllocError, Global};
 use std::marker::Model;
 

@@ -4,8 +4,8 @@ ghost use Rattle.causal_order.specs.Written.{AreOnce, IsSorted, ListsWrites};
 
 use crate::reads::initial_value;
 use crate::writes::{Write, sorted_writes};
+use history::History;
 use objects::Memory;
-use operations::History;
 use std::alloc::{AllocError, Global};
 
 /// Whether the history has distinct values: no variable is written twice with one value, and no write writes its

@@ -1,15 +1,15 @@
 //! Orders of operations that contain program order, while they grow until they are transitive.
 
 ghost use Rattle.std.specs.Prelude.{◌≡◌, ◌<◌, ◌≤◌, ◌↔◌, length, IfOk, IfSome, IsSome, IsTrue, OnOk, slice_index};
-ghost use Rattle.operations.specs.History.{IsOp, session as operations_of};
+ghost use Rattle.history.specs.History.{IsOp, session as operations_of};
 ghost use Rattle.causal_order.specs.GrowingOrders.{AreHeldVectors, Grows, IsGrowing, IsRaisedIn, left_of};
 ghost use Rattle.causal_order.specs.HappenedBefores.{AreStrictOf};
 ghost use Rattle.causal_order.specs.Vectors.{count};
 
 use crate::by_operation::Vectors;
 use crate::strict::strict_vectors;
+use history::{History, OpId};
 use objects::Memory;
-use operations::{History, OpId};
 use std::alloc::{AllocError, Global};
 
 /// How many pairs an order may have that it didn't begin with.

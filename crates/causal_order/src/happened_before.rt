@@ -1,7 +1,7 @@
 //! What happened before the operations of a session.
 
 ghost use Rattle.std.specs.Prelude.{◌≡◌, ◌+◌, ◌<◌, length, IfOk, IfSome, OnOk};
-ghost use Rattle.operations.specs.History.{IsOp, session as operations_of};
+ghost use Rattle.history.specs.History.{IsOp, session as operations_of};
 ghost use Rattle.causal_order.specs.GrowingOrders.{AreHeldVectors, IsRaisedIn};
 ghost use Rattle.causal_order.specs.HappenedBefores.{AreStrictOf, HasGrown, IsHappenedBefore, TakesNext, raises_of, session_of, taken_of, vectors_of};
 
@@ -10,8 +10,8 @@ use crate::growing_order::{GrowingOrder, Raise, Raised};
 use crate::last_writes::{end_of_writes, sort_by_variable};
 use crate::reads_from::known_sources;
 use crate::writes::{Write, sorted_writes};
+use history::{History, OpId};
 use objects::Memory;
-use operations::{History, OpId};
 use std::alloc::{AllocError, Global};
 
 /// What is known of the happened-before relation of an operation.

@@ -4,8 +4,8 @@ ghost use Rattle.std.specs.Prelude.{◌<◌, ◌↔◌, ℕ, IfOk, IsPermutation
 ghost use Rattle.causal_order.specs.Written.{AreByVariable, IsBelowWrite, ListsWrites};
 
 use crate::writes::{Write, sorted_writes};
+use history::{History, OpId};
 use objects::Memory;
-use operations::{History, OpId};
 use std::alloc::{AllocError, Global};
 
 /// The writes of a history, by variable and operation.

@@ -1,6 +1,6 @@
 ghost use Rattle.std.specs.Prelude.{◌≡◌, ◌⊎◌, ◌↔◌, IfOk, IfNone, IfSome};
-ghost use Rattle.operations.specs.declared.op_id.OpId.{OpId as Operation};
-ghost use Rattle.operations.specs.History.{IsOp};
+ghost use Rattle.history.specs.declared.op_id.OpId.{OpId as Operation};
+ghost use Rattle.history.specs.History.{IsOp};
 ghost use Rattle.causal_order.specs.Memory.{IsDifferentiated};
 ghost use Rattle.causal_order.specs.SourceOrder.{CountsSourceOrder, IsCyclic, LacksSource, SourceOrder};
 ghost use Rattle.causal_order.specs.Relations.{IsPast};
@@ -9,8 +9,8 @@ ghost use Rattle.causal_order.specs.Vectors.{IsCounted};
 use crate::by_operation::Vectors;
 use crate::placing::order_of;
 use crate::reads_from::sources_of;
+use history::History;
 use objects::Memory;
-use operations::History;
 use std::alloc::{AllocError, Global};
 
 /// Vectors of the causal order of a memory history: program order, and from the first write of a value that is not the

@@ -1,11 +1,11 @@
 ghost use Rattle.std.specs.Prelude.{◌≡◌, ◌∷◌, ◌++◌, ◌<◌, ◌≢◌, ◌+◌, ◌-◌, ℕ, List, [], length, max, option_map, unwrap_or, slice_set, slice_index, slice_index_or, IfOk, IfNone, IfSome, MatchOption, OnOk, Some, IsTrue, ◌↔◌};
-ghost use Rattle.operations.specs.declared.op_id.OpId.{OpId as Operation};
+ghost use Rattle.history.specs.declared.op_id.OpId.{OpId as Operation};
 ghost use Rattle.causal_order.specs.Sources.{AreListed, AreShort, AreVectorsSoFar, Comes, IsListed, IsReady, IsUnfinished};
 ghost use Rattle.causal_order.specs.Vectors.{count, list_of};
 
 use crate::by_operation::Vectors;
 use crate::rows::Rows;
-use operations::OpId;
+use history::OpId;
 use std::alloc::{AllocError, Global};
 
 /// For each session, for each of its operations, its source: the operation that it waits for besides the one before it.

@@ -1,13 +1,13 @@
 ghost use Rattle.std.specs.Prelude.{◌+◌, ◌<◌, length, IfOk, OnOk};
-ghost use Rattle.operations.specs.History.{IsOp};
-ghost use Rattle.operations.specs.declared.op_id.OpId.{OpId as Operation};
+ghost use Rattle.history.specs.History.{IsOp};
+ghost use Rattle.history.specs.declared.op_id.OpId.{OpId as Operation};
 ghost use Rattle.causal_order.specs.Gathered.{AreGatheredBefore};
 ghost use Rattle.causal_order.specs.ProgramOrder.{IsOwnVector};
 ghost use Rattle.causal_order.specs.Vectors.{AreVectorsOf, list_of};
 
 use crate::by_operation::Vectors;
+use history::History;
 use object_trait::SeqObject;
-use operations::History;
 use std::alloc::{AllocError, Global};
 
 /// The vectors of program order alone: each counts the operations of its own session, and none of another session.

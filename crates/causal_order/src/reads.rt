@@ -1,8 +1,8 @@
 ghost use Rattle.std.specs.Prelude.{◌≡◌, ℕ, MatchOption};
 ghost use Rattle.causal_order.specs.Memory.{initial, Reads};
 
+use history::{History, OpId};
 use objects::{Memory, RegisterCall, RegisterRet};
-use operations::{History, OpId};
 
 /// The initial value of a variable. O(log n) for a table of n entries.
 pub fn initial_value(h: &History<Memory>, key: u32) -> u64

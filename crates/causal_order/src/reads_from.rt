@@ -1,5 +1,5 @@
 ghost use Rattle.std.specs.Prelude.{◌<◌, length, IfOk, IfNone, IfSome, MatchOption};
-ghost use Rattle.operations.specs.History.{session as operations_of};
+ghost use Rattle.history.specs.History.{session as operations_of};
 ghost use Rattle.causal_order.specs.HappenedBefores.{AreSourcesIn};
 ghost use Rattle.causal_order.specs.SourceOrder.{IsSourceOf, LacksSource, ListsSources, ListsSourcesBelow};
 ghost use Rattle.causal_order.specs.Written.{AreInOrder, IsSorted, ListsWrites};
@@ -8,8 +8,8 @@ use crate::placing::Sources;
 use crate::reads::{initial_value, known_read};
 use crate::rows::Rows;
 use crate::writes::{Write, least_write, sorted_writes};
+use history::{History, OpId};
 use objects::Memory;
-use operations::{History, OpId};
 use std::alloc::{AllocError, Global};
 
 /// The source of each operation, or `None` where a known read returned a value that nobody writes.

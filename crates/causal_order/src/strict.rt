@@ -1,14 +1,14 @@
 //! Vectors that don't count their own operation.
 
 ghost use Rattle.std.specs.Prelude.{◌+◌, ◌<◌, ◌≤◌, ℕ, length, IfOk, OnOk};
-ghost use Rattle.operations.specs.History.{session as operations_of};
+ghost use Rattle.history.specs.History.{session as operations_of};
 ghost use Rattle.causal_order.specs.Gathered.{AreGatheredBefore};
 ghost use Rattle.causal_order.specs.GrowingOrders.{AreHeldVectors};
 ghost use Rattle.causal_order.specs.HappenedBefores.{AreStrictOf, IsStrict};
 
 use crate::by_operation::Vectors;
+use history::{History, OpId};
 use objects::Memory;
-use operations::{History, OpId};
 use std::alloc::{AllocError, Global};
 
 /// The vectors, each without its own operation: of its own session it counts the operations before it.

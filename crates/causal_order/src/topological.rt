@@ -2,7 +2,7 @@ ghost use Rattle.std.specs.Prelude.{◌≡◌, ◌≢◌, ◌∷◌, ◌++◌, �
 ghost use Rattle.causal_order.specs.Topological.{AreSeen, AreSquare, CanGoOn, IsFullWalk, IsNext, placed};
 
 use crate::by_operation::Vectors;
-use operations::OpId;
+use history::OpId;
 use std::alloc::{AllocError, Global};
 use std::marker::Model;
 

@@ -1,11 +1,11 @@
 ghost use Rattle.std.specs.Prelude.{◌≡◌, ◌≢◌, ℕ, ◌+◌, ◌≤◌, ◌↔◌, IsTrue, slice_index_or, length};
-ghost use Rattle.operations.specs.History.{IsOp, session};
+ghost use Rattle.history.specs.History.{IsOp, session};
 ghost use Rattle.causal_order.specs.Vectors.{count, AreVectorsOf, IsVectorOk};
-ghost use Rattle.causal_order.specs.VectorsLaws.{CountsHeld, HasListOf, IsPastLastOf, IsPastPredecessor};
+ghost use Rattle.causal_order.specs.Vectors.{CountsHeld, HasListOf, IsPastLastOf, IsPastPredecessor};
 
 use crate::by_operation::Vectors;
+use history::{History, OpId};
 use object_trait::SeqObject;
-use operations::{History, OpId};
 
 /// Whether the vector of an operation counts a past: the operation itself as the last of its session, only operations
 /// that are there, and with its predecessor in program order and the last counted operation of each other session all

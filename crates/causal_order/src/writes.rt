@@ -2,8 +2,8 @@ ghost use Rattle.std.specs.Prelude.{◌≡◌, ◌+◌, ◌<◌, ◌↔◌, leng
 ghost use Rattle.causal_order.specs.Orders.{op};
 ghost use Rattle.causal_order.specs.Written.{AreInOrder, IsLeastWrite, IsSorted, ListsWrites, ListsWritesBefore};
 
+use history::{History, OpId};
 use objects::{Memory, RegisterCall};
-use operations::{History, OpId};
 use std::alloc::{AllocError, Global};
 
 /// An operation that writes a value to a variable.

@@ -1,8 +1,8 @@
 -- A history that meets a criterion has a certificate of it.
 use Rattle.std.proofs.Common.{ℕ, ◌<◌, ◌≤◌, ⊎_elim, List, [], length, filter, arith, refl, sym, subst}
 use Rattle.std.proofs.lemmas.Bool.{cases_lt}
-use Rattle.operations.specs.declared.op_id.OpId.{OpId}
-use Rattle.operations.specs.History.{Record, IsOp, session}
+use Rattle.history.specs.declared.op_id.OpId.{OpId}
+use Rattle.history.specs.History.{Record, IsOp, session}
 use Rattle.causal_order.specs.Orders.{Ops, Order, only, program_past, past, IsLinearization}
 use Rattle.causal_order.specs.Vectors.{list_of}
 use Rattle.cert_check.specs.declared.criterion.Criterion.{Criterion}

@@ -5,13 +5,13 @@ use Rattle.std.specs.List.{range_with_len}
 use Rattle.std.proofs.lemmas.Bool.{cases_eq, cases_lt, cases_Bool, or_cases, or_right}
 use Rattle.std.proofs.lemmas.List.{get_or_past}
 use Rattle.std.proofs.lemmas.List.FromFn.{length-map-range_with_len, get_or-map-range_with_len}
-use Rattle.operations.specs.declared.op_id.OpId.{OpId}
-use Rattle.operations.specs.History.{Record, IsOp, session}
+use Rattle.history.specs.declared.op_id.OpId.{OpId}
+use Rattle.history.specs.History.{Record, IsOp, session}
 use Rattle.causal_order.specs.Orders.{op, Order, only, past}
-use Rattle.causal_order.specs.OrdersLaws.{session-of_history}
+use Rattle.causal_order.proofs.OrdersLaws.{session-of_history}
 use Rattle.causal_order.specs.Vectors.{ByOperation, Counts, list_of, count, IsCounted, HasOneEach, AreVectorsOf}
 use Rattle.cert_check.specs.Criteria.{IsCausalOrder}
-use Rattle.cert_check.specs.ConvergentLaws.{only-same}
+use Rattle.cert_check.proofs.ConvergentLaws.{only-same}
 
 -- how far a test is passed below n, where it is passed before each number at which it is passed
 reach : (ℕ → Bool) → ℕ → ℕ

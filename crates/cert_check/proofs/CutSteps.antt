@@ -5,16 +5,16 @@ use Rattle.std.proofs.lemmas.Bool.{cases_eq, cases_lt, cond-true, cond-false}
 use Rattle.std.proofs.lemmas.List.{take-append-drop, drop_more, take_at}
 use Rattle.std.proofs.lemmas.List.Elements.{filter-append}
 use Rattle.std.proofs.lemmas.Option.{slice_get_within, get_or_from_slice_get}
-use Rattle.operations.specs.declared.op_id.OpId.{OpId}
-use Rattle.operations.specs.History.{Record, IsOp, calls, entry, session}
+use Rattle.history.specs.declared.op_id.OpId.{OpId}
+use Rattle.history.specs.History.{Record, IsOp, calls, entry, session}
 use Rattle.causal_order.specs.Orders.{op, StandsAt}
-use Rattle.causal_order.specs.OrdersLaws.{same_op}
+use Rattle.causal_order.proofs.OrdersLaws.{same_op}
 use Rattle.causal_order.specs.Vectors.{Counts, count, IsCounted, IsVectorOk}
 use Rattle.cert_check.specs.Certificates.{counted, IsArbitratedPiece}
 use Rattle.cert_check.specs.Schedules.{times, named, StandsBefore}
 use Rattle.cert_check.specs.Walks.{AreCountsAt, IsAnsweredAfter}
-use Rattle.cert_check.specs.ConvergentLaws.{only-same}
-use Rattle.cert_check.specs.FilteredLaws.{filter_in_order}
+use Rattle.cert_check.proofs.ConvergentLaws.{only-same}
+use Rattle.cert_check.proofs.FilteredLaws.{filter_in_order}
 use Rattle.cert_check.proofs.Named.{times-next, times-same, times-other, times-take-le, named_once}
 use Rattle.cert_check.proofs.Pasts.{only-itself}
 use Rattle.cert_check.proofs.WalkSteps.{after_from_within, within_from_after}

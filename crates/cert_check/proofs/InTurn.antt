@@ -5,7 +5,7 @@ use Rattle.std.proofs.lemmas.Bool.{cases_eq, cases_lt, ne_eqb}
 use Rattle.std.proofs.lemmas.List.{get_or_past}
 use Rattle.std.proofs.lemmas.List.Sums.{sum_by-append}
 use Rattle.std.proofs.lemmas.List.Folds.{sum_by-replicate}
-use Rattle.operations.specs.History.{Record, session}
+use Rattle.history.specs.History.{Record, session}
 use Rattle.cert_check.specs.Schedules.{times}
 use Rattle.cert_check.specs.ByProgramOrder.{in_turn}
 

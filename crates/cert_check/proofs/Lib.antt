@@ -13,3 +13,5 @@ pub mod ListForms
 pub mod ListReading
 pub mod CertificateForms
 pub mod InTurn
+pub mod ConvergentLaws
+pub mod FilteredLaws

@@ -6,7 +6,7 @@ use Rattle.std.proofs.Math.Seq.{get_or-append_seam, set-append_seam}
 use Rattle.serde_json.specs.Data.{Data}
 use Rattle.operations.specs.Json.{elements}
 use Rattle.operations.specs.JsonLaws.{map_from}
-use Rattle.operations.specs.ListLaws.{rest_from, then_more}
+use Rattle.operations.proofs.ListLaws.{rest_from, then_more}
 use Rattle.cert_check.specs.declared.cert_error.CertError.{CertError}
 use Rattle.cert_check.specs.declared.cert_error.CertError.TheVariants.{Memory, BadCertificate}
 use Rattle.cert_check.specs.CertificateReading.{all_at, list_at, IsRefusedAs}

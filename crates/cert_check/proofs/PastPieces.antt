@@ -3,14 +3,14 @@ use Rattle.std.proofs.Common.{◌≡◌, ◌≢◌, ℕ, ◌+◌, ◌<◌, ◌�
 use Rattle.std.specs.Prelude.{IsTrue}
 use Rattle.std.specs.Cmp.{both_ways}
 use Rattle.std.proofs.lemmas.Bool.{cases_lt, or_cases, or_left, or_right}
-use Rattle.operations.specs.declared.op_id.OpId.{OpId}
-use Rattle.operations.specs.History.{Record, IsOp, session}
+use Rattle.history.specs.declared.op_id.OpId.{OpId}
+use Rattle.history.specs.History.{Record, IsOp, session}
 use Rattle.causal_order.specs.Orders.{op, Ops, Order, only, past, IsLinearization}
 use Rattle.causal_order.specs.Vectors.{Counts, count, IsCounted, IsWithin, IsVectorOk}
 use Rattle.cert_check.specs.Criteria.{every, IsCausalOrder, Explains}
 use Rattle.cert_check.specs.Schedules.{times, named, IsSchedule}
 use Rattle.cert_check.specs.Certificates.{counted, IsArbitratedPiece}
-use Rattle.cert_check.specs.ConvergentLaws.{only-same}
+use Rattle.cert_check.proofs.ConvergentLaws.{only-same}
 use Rattle.cert_check.proofs.Counting.{past-of_history, past-closed}
 use Rattle.cert_check.proofs.Named.{named_each, named_within}
 use Rattle.cert_check.proofs.Pasts.{only-itself, every-op, op-every}

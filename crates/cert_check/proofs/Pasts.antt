@@ -3,14 +3,14 @@ use Rattle.std.proofs.Common.{◌≡◌, ℕ, zero, suc, ◌+◌, ◌-◌, ◌<�
 use Rattle.std.specs.Prelude.{IsTrue}
 use Rattle.std.specs.Cmp.{both_ways}
 use Rattle.std.proofs.lemmas.Bool.{and_parts, and_from, or_cases, or_left, or_right, cases_Bool, cases_eq, false_from_ne_true, not_from_true, not_from_false, true≢false}
-use Rattle.operations.specs.declared.op_id.OpId.{OpId}
-use Rattle.operations.specs.History.{Record, IsOp, session}
+use Rattle.history.specs.declared.op_id.OpId.{OpId}
+use Rattle.history.specs.History.{Record, IsOp, session}
 use Rattle.causal_order.specs.Orders.{op, Order, only, past}
-use Rattle.causal_order.specs.OrdersLaws.{same_op}
+use Rattle.causal_order.proofs.OrdersLaws.{same_op}
 use Rattle.causal_order.specs.Vectors.{Counts, count, IsCounted, IsWithin, IsVectorOk}
 use Rattle.cert_check.specs.Criteria.{every, IsCausalOrder}
 use Rattle.cert_check.specs.Certificates.{counted}
-use Rattle.cert_check.specs.ConvergentLaws.{only-same}
+use Rattle.cert_check.proofs.ConvergentLaws.{only-same}
 
 -- an operation is itself, and no other
 pub only-itself : (o : OpId) → IsTrue (only o o)

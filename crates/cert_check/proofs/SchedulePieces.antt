@@ -2,8 +2,8 @@
 use Rattle.std.proofs.Common.{◌≡◌, ℕ, ◌<◌, ◌≤◌, List, length, get_or, ap, ◌∙◌, arith, ⊎_elim, take_all}
 use Rattle.std.proofs.lemmas.Bool.{cases_lt}
 use Rattle.std.proofs.lemmas.Option.{slice_get_within}
-use Rattle.operations.specs.declared.op_id.OpId.{OpId}
-use Rattle.operations.specs.History.{Record}
+use Rattle.history.specs.declared.op_id.OpId.{OpId}
+use Rattle.history.specs.History.{Record}
 use Rattle.causal_order.specs.Orders.{Ops, StandsAt}
 use Rattle.causal_order.specs.Vectors.{Counts, count, IsVectorOk}
 use Rattle.cert_check.specs.Certificates.{IsScheduledPiece}

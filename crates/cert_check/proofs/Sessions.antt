@@ -4,10 +4,10 @@ use Rattle.std.specs.Prelude.{Some, option_map, slice_get}
 use Rattle.std.proofs.lemmas.Bool.{cases_eq, cases_lt}
 use Rattle.std.proofs.lemmas.List.{length-map}
 use Rattle.std.proofs.lemmas.Option.{same_Some, slice_get-map, slice_get-get_or, get_or_from_slice_get}
-use Rattle.operations.specs.declared.op_id.OpId.{OpId}
-use Rattle.operations.specs.History.{Precedes}
+use Rattle.history.specs.declared.op_id.OpId.{OpId}
+use Rattle.history.specs.History.{Precedes}
 use Rattle.causal_order.specs.Orders.{op, StandsAt}
-use Rattle.causal_order.specs.OrdersLaws.{same_op}
+use Rattle.causal_order.proofs.OrdersLaws.{same_op}
 use Rattle.cert_check.specs.Schedules.{times, named, StandsBefore}
 use Rattle.cert_check.proofs.Named.{times-same, times-other, times-next, length-named, named_at}
 

@@ -4,11 +4,11 @@ use Rattle.std.specs.Prelude.{All, Some, slice_get}
 use Rattle.std.proofs.lemmas.Bool.{cases_lt}
 use Rattle.std.proofs.lemmas.List.{get_or_past}
 use Rattle.std.proofs.lemmas.Option.{slice_get-get_or, slice_get_within, get_or_from_slice_get}
-use Rattle.operations.specs.History.{Record, session}
+use Rattle.history.specs.History.{Record, session}
 use Rattle.causal_order.specs.Orders.{op}
-use Rattle.causal_order.specs.OrdersLaws.{session-of_history}
+use Rattle.causal_order.proofs.OrdersLaws.{session-of_history}
 use Rattle.causal_order.specs.Vectors.{Counts, AreVectorsOf}
-use Rattle.cert_check.specs.CertificatesLaws.{HaveLength}
+use Rattle.cert_check.specs.Certificates.{HaveLength}
 use Rattle.cert_check.specs.Schedules.{times}
 use Rattle.cert_check.proofs.Named.{times-next, times-same, times-take-le, named_each, named_is}
 

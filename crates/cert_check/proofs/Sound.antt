@@ -1,8 +1,8 @@
 -- A certificate of which every piece explains its operation shows that its criterion is met.
 use Rattle.std.proofs.Common.{◌≡◌, ◌≢◌, ℕ, List, length, arith, sym, subst}
 use Rattle.std.specs.Prelude.{filter}
-use Rattle.operations.specs.declared.op_id.OpId.{OpId}
-use Rattle.operations.specs.History.{Record, IsOp, session}
+use Rattle.history.specs.declared.op_id.OpId.{OpId}
+use Rattle.history.specs.History.{Record, IsOp, session}
 use Rattle.causal_order.specs.Orders.{Ops, only, program_past, past, StandsAt, IsLinearization}
 use Rattle.causal_order.specs.Vectors.{Counts, ByOperation, list_of, IsCounted, IsVectorOk}
 use Rattle.cert_check.specs.declared.certificate.Certificate.{Certificate}

@@ -6,10 +6,10 @@ use Rattle.std.proofs.lemmas.Bool.{cases_eq, cases_lt}
 use Rattle.std.proofs.lemmas.List.{length-set}
 use Rattle.std.proofs.lemmas.List.Elements.{filter_map-append}
 use Rattle.std.proofs.lemmas.Option.{same_Some}
-use Rattle.operations.specs.declared.op_id.OpId.{OpId}
-use Rattle.operations.specs.History.{Record, IsOp, calls, entry}
+use Rattle.history.specs.declared.op_id.OpId.{OpId}
+use Rattle.history.specs.History.{Record, IsOp, calls, entry}
 use Rattle.causal_order.specs.Orders.{Ops, op, StandsAt}
-use Rattle.causal_order.specs.OrdersLaws.{same_op, session-of_history}
+use Rattle.causal_order.proofs.OrdersLaws.{same_op, session-of_history}
 use Rattle.causal_order.specs.Vectors.{Counts, count, IsCounted}
 use Rattle.cert_check.specs.Schedules.{times, named, StandsBefore}
 use Rattle.cert_check.specs.Walks.{AreCountsAt, IsAnsweredAfter, IsStepOk, IsWalkAt}

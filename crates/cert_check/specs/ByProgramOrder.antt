@@ -1,8 +1,8 @@
 -- Certificates by program order alone (this project's profile).
 use Rattle.std.specs.Prelude.{◌≡◌, ℕ, ◌+◌, ◌++◌, List, [], length, replicate}
 use Rattle.std.proofs.Common.{zero, suc}
-use Rattle.operations.specs.declared.op_id.OpId.{OpId}
-use Rattle.operations.specs.History.{Record, IsOp, session}
+use Rattle.history.specs.declared.op_id.OpId.{OpId}
+use Rattle.history.specs.History.{Record, IsOp, session}
 use Rattle.causal_order.specs.ProgramOrder.{IsOwnVector}
 use Rattle.causal_order.specs.Vectors.{ByOperation, Counts, list_of}
 use Rattle.cert_check.specs.declared.certificate.Certificate.{Certificate}

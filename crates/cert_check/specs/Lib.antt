@@ -3,9 +3,6 @@ pub mod Schedules
 pub mod Certificates
 pub mod ByProgramOrder
 pub mod DeskErrors
-pub mod CertificatesLaws
 pub mod Walks
 pub mod CertificateForm
 pub mod CertificateReading
-pub mod FilteredLaws
-pub mod ConvergentLaws

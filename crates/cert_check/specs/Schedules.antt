@@ -1,8 +1,8 @@
 -- Schedules: lists of session numbers, each of which names the next operation of its session (this project's profile).
 use Rattle.std.specs.Prelude.{◌≡◌, ◌≢◌, ℕ, ◌<◌, ◌==◌, ◌++◌, List, [], ◌∷◌}
 use Rattle.std.specs.List.{count_by}
-use Rattle.operations.specs.declared.op_id.OpId.{OpId}
-use Rattle.operations.specs.History.{Record, IsOp}
+use Rattle.history.specs.declared.op_id.OpId.{OpId}
+use Rattle.history.specs.History.{Record, IsOp}
 use Rattle.causal_order.specs.Orders.{op, StandsAt}
 use Rattle.causal_order.specs.Vectors.{Counts, count, IsCounted}
 

@@ -1,7 +1,7 @@
 -- Walks over a list of session numbers, which the functions of the checker speak of among themselves.
 use Rattle.std.specs.Prelude.{◌≡◌, ◌≢◌, ℕ, IsTrue, List, Some, length, slice_index_or, take}
-use Rattle.operations.specs.declared.op_id.OpId.{OpId}
-use Rattle.operations.specs.History.{Record, IsOp, calls, entry}
+use Rattle.history.specs.declared.op_id.OpId.{OpId}
+use Rattle.history.specs.History.{Record, IsOp, calls, entry}
 use Rattle.causal_order.specs.Orders.{Ops, StandsAt, only, program_past}
 use Rattle.causal_order.specs.Vectors.{Counts, IsCounted}
 use Rattle.cert_check.specs.declared.kept.Kept.{Kept}

@@ -1,5 +1,5 @@
 ghost use Rattle.std.specs.Prelude.{◌≡◌, ◌+◌, ◌↔◌, ℕ, filter, length, IfOk, IsTrue, take};
-ghost use Rattle.operations.specs.History.{session, IsOp};
+ghost use Rattle.history.specs.History.{session, IsOp};
 ghost use Rattle.causal_order.specs.Orders.{StandsAt};
 ghost use Rattle.causal_order.specs.Vectors.{AreVectorsOf};
 ghost use Rattle.cert_check.specs.Certificates.{counted, IsArbitratedPiece};
@@ -8,8 +8,8 @@ ghost use Rattle.cert_check.specs.Walks.{IsWalkAt};
 
 use crate::walk::Walk;
 use causal_order::{Vectors, vector_ok};
+use history::{History, OpId};
 use object_trait::SeqObject;
-use operations::{History, OpId};
 use std::alloc::{AllocError, Global};
 
 /// Whether the vector of an operation and the one list explain its known return.

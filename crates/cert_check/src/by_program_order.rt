@@ -9,8 +9,8 @@ use crate::certificate::Certificate;
 use crate::criterion::Criterion;
 use crate::program_schedules::own_schedules;
 use causal_order::program_order;
+use history::History;
 use object_trait::SeqObject;
-use operations::History;
 use std::alloc::{AllocError, Global};
 
 /// The certificate of a criterion by program order alone: the past of an operation is what stands before it in its

@@ -6,8 +6,8 @@ use crate::certificate::Certificate;
 use crate::criterion::Criterion;
 use crate::desk_error::DeskError;
 use crate::shape::shape_ok;
+use history::History;
 use object_trait::SeqObject;
-use operations::History;
 use std::marker::Model;
 
 /// A history, the criterion by which it is to be judged and, where there is one, a certificate of it.

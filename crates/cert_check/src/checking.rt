@@ -1,5 +1,5 @@
 ghost use Rattle.std.specs.Prelude.{◌≡◌, ◌↔◌, ◌<◌, ℕ, IfOk, IfSome, IsNone, IsSome, IsTrue, MatchOption, Some};
-ghost use Rattle.operations.specs.History.{IsOp};
+ghost use Rattle.history.specs.History.{IsOp};
 ghost use Rattle.causal_order.specs.Orders.{op};
 ghost use Rattle.cert_check.specs.Criteria.{Meets};
 ghost use Rattle.cert_check.specs.declared.certificate.Certificate.{Certificate};
@@ -11,8 +11,8 @@ use crate::certificate::Certificate;
 use crate::kept::Kept;
 use crate::laws::explained_certificates_show_their_criterion;
 use crate::scheduled::is_scheduled_piece;
+use history::{History, OpId};
 use object_trait::SeqObject;
-use operations::{History, OpId};
 use std::alloc::{AllocError, Global};
 
 /// What the check of one piece of a certificate comes to.

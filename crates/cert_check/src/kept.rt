@@ -1,7 +1,7 @@
 ghost use Rattle.std.specs.Prelude.{◌≡◌};
 ghost use Rattle.cert_check.specs.Walks.{kept_of};
 
-use operations::OpId;
+use history::OpId;
 
 /// The operations whose known returns are kept, where those of all others are hidden.
 #[derive(Clone, Copy)]

@@ -1,7 +1,7 @@
 //! What holds of the criteria for every object. The functions do nothing: what they ensure is the law.
 
 ghost use Rattle.std.specs.Prelude.{◌↔◌};
-ghost use Rattle.operations.specs.History.{Record};
+ghost use Rattle.history.specs.History.{Record};
 ghost use Rattle.cert_check.specs.Certificates.{criterion_of, Certifies, HasShapeOf, IsExplainedThroughout};
 ghost use Rattle.cert_check.specs.Criteria.{Meets};
 

@@ -4,8 +4,8 @@ ghost use Rattle.causal_order.specs.Vectors.{HasOneEach};
 ghost use Rattle.cert_check.specs.ByProgramOrder.{AreOwnSchedules, IsOwnSchedule};
 
 use crate::certificate::Schedules;
+use history::History;
 use object_trait::SeqObject;
-use operations::History;
 use std::alloc::{AllocError, Global};
 
 /// For each operation, the schedule of what stands before it in its session and of itself.

@@ -1,5 +1,5 @@
 ghost use Rattle.std.specs.Prelude.{◌≡◌, ◌↔◌, ℕ, IfOk, IsTrue};
-ghost use Rattle.operations.specs.History.{IsOp};
+ghost use Rattle.history.specs.History.{IsOp};
 ghost use Rattle.causal_order.specs.Vectors.{count, AreVectorsOf};
 ghost use Rattle.cert_check.specs.Certificates.{IsScheduledPiece};
 ghost use Rattle.cert_check.specs.Schedules.{named, times};
@@ -8,8 +8,8 @@ ghost use Rattle.cert_check.specs.Walks.{kept_of, AreStepsOk};
 use crate::kept::Kept;
 use crate::walk::Walk;
 use causal_order::{Vectors, vector_ok};
+use history::{History, OpId};
 use object_trait::SeqObject;
-use operations::{History, OpId};
 use std::alloc::{AllocError, Global};
 
 /// Whether the vector and the schedule of an operation explain the known returns that are kept.

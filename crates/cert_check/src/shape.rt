@@ -1,14 +1,14 @@
 ghost use Rattle.std.specs.Prelude.{◌≡◌, ◌<◌, ℕ, ◌↔◌, All, IsTrue, length, slice_index_or, []};
-ghost use Rattle.operations.specs.History.{session};
+ghost use Rattle.history.specs.History.{session};
 ghost use Rattle.causal_order.specs.Vectors.{AreVectorsOf, HasOneEach};
 ghost use Rattle.cert_check.specs.Certificates.{HasShapeOf};
-ghost use Rattle.cert_check.specs.CertificatesLaws.{HaveLength};
+ghost use Rattle.cert_check.specs.Certificates.{HaveLength};
 ghost use Rattle.cert_check.specs.Schedules.{times};
 
 use crate::certificate::Certificate;
 use causal_order::{ByOperation, Vectors};
+use history::{History, OpId};
 use object_trait::SeqObject;
-use operations::{History, OpId};
 
 /// Whether a certificate has the shape of a history: a vector for each operation with one count for each session, and
 /// for each a schedule, or one list in which each session occurs as often as it has operations.

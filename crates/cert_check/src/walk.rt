@@ -1,17 +1,17 @@
 ghost use Rattle.std.specs.Prelude.{◌≡◌, ◌+◌, ◌≤◌, ◌↔◌, ℕ, List, [], ◌∷◌, ◌++◌, filter, length, IfOk, IsTrue, MatchOption, slice_get, slice_index_or, slice_set, take, Some};
-ghost use Rattle.operations.specs.declared.op_id.OpId.{OpId};
-ghost use Rattle.operations.specs.History.{IsOp, calls};
+ghost use Rattle.history.specs.declared.op_id.OpId.{OpId};
+ghost use Rattle.history.specs.History.{IsOp, calls};
 ghost use Rattle.causal_order.specs.Orders.{op};
 ghost use Rattle.causal_order.specs.Vectors.{count, AreVectorsOf};
-ghost use Rattle.causal_order.specs.VectorsLaws.{HasListOf};
+ghost use Rattle.causal_order.specs.Vectors.{HasListOf};
 ghost use Rattle.cert_check.specs.Certificates.{counted};
 ghost use Rattle.cert_check.specs.Schedules.{named};
 ghost use Rattle.cert_check.specs.Walks.{kept_of, IsAnsweredAfter, IsStepOk, IsWalkAt};
 
 use crate::kept::Kept;
 use causal_order::{Vectors, count_of, is_at_most};
+use history::{History, OpId};
 use object_trait::SeqObject;
-use operations::{History, OpId};
 use std::alloc::{AllocError, Global};
 
 /// How far a walk over a list of session numbers has come.

@@ -1,7 +1,7 @@
 -- The certificate of causal consistency of a memory history by the sources of its reads (this project's profile).
 use Rattle.std.specs.Prelude.{◌≡◌, ℕ, ◌<◌, ◌≤◌, List, [], ◌∷◌, ◌++◌, length, min, Option, MatchOption, slice_index_or}
-use Rattle.operations.specs.declared.op_id.OpId.{OpId}
-use Rattle.operations.specs.History.{IsOp}
+use Rattle.history.specs.declared.op_id.OpId.{OpId}
+use Rattle.history.specs.History.{IsOp}
 use Rattle.causal_order.specs.Orders.{op}
 use Rattle.causal_order.specs.Memory.{MemoryHistory}
 use Rattle.causal_order.specs.SourceOrder.{CountsSourceOrder, IsSourceOf}

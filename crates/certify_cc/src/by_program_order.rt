@@ -5,8 +5,8 @@ ghost use Rattle.cert_check.specs.ByProgramOrder.{IsByProgramOrder};
 ghost use Rattle.cert_check.specs.Certificates.{criterion_of, HasShapeOf};
 
 use cert_check::{Certificate, Criterion, make_by_program_order};
+use history::History;
 use object_trait::SeqObject;
-use operations::History;
 use std::alloc::{AllocError, Global};
 
 /// The certificate of causal consistency by program order alone: the past of an operation is what stands before it in its

@@ -1,8 +1,8 @@
 //! Certificates of memory histories by the writes that their reads read from.
 
 ghost use Rattle.std.specs.Prelude.{◌≡◌, ◌⊎◌, ◌+◌, ◌<◌, ◌≤◌, length, IfNone, IfOk, IfSome, OnOk};
-ghost use Rattle.operations.specs.History.{IsOp};
-ghost use Rattle.operations.specs.declared.op_id.OpId.{OpId as Operation};
+ghost use Rattle.history.specs.History.{IsOp};
+ghost use Rattle.history.specs.declared.op_id.OpId.{OpId as Operation};
 ghost use Rattle.causal_order.specs.Gathered.{AreGatheredBefore};
 ghost use Rattle.causal_order.specs.SourceOrder.{CountsSourceOrder, LacksSource, SourceOrder};
 ghost use Rattle.causal_order.specs.Vectors.{HasOneEach, list_of};
@@ -13,8 +13,8 @@ ghost use Rattle.certify_cc.specs.BySources.{IsBySources, IsScheduleFor};
 use crate::schedule::schedule_of;
 use causal_order::{Vectors, Write, memory_order, sorted_writes, source_of};
 use cert_check::{Certificate, Criterion, Schedules};
+use history::{History, OpId};
 use objects::Memory;
-use operations::{History, OpId};
 use std::alloc::{AllocError, Global};
 
 /// A certificate of causal consistency of a memory history: the past of an operation is what is before it in the order

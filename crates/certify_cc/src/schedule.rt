@@ -1,14 +1,14 @@
 //! Schedules of the past of an operation.
 
 ghost use Rattle.std.specs.Prelude.{◌≡◌, ◌<◌, ◌≤◌, ℕ, [], length, IfOk, MatchOption, Some, slice_index_or};
-ghost use Rattle.operations.specs.declared.op_id.OpId.{OpId as Operation};
+ghost use Rattle.history.specs.declared.op_id.OpId.{OpId as Operation};
 ghost use Rattle.causal_order.specs.Sources.{IsListed};
 ghost use Rattle.causal_order.specs.Topological.{AreSquare, IsFullWalk};
 ghost use Rattle.causal_order.specs.Vectors.{list_of};
 ghost use Rattle.certify_cc.specs.BySources.{AreApart, IsApart, IsBySource};
 
 use causal_order::{Vectors, Walk};
-use operations::OpId;
+use history::OpId;
 use std::alloc::{AllocError, Global};
 
 /// A walk through the past of an operation by the topological rule. Where the operation has a source, what isn't after

@@ -7,12 +7,12 @@ use Rattle.std.proofs.lemmas.List.Sums.{sum_by-take-le}
 use Rattle.std.proofs.lemmas.Option.{same_Some}
 use Rattle.objects.specs.declared.register.RegisterCall.TheVariants.{Write, Read}
 use Rattle.objects.specs.declared.register.RegisterRet.{RegisterRet}
-use Rattle.operations.specs.declared.op_id.OpId.{OpId}
-use Rattle.operations.specs.History.{IsOp, entry, session}
+use Rattle.history.specs.declared.op_id.OpId.{OpId}
+use Rattle.history.specs.History.{IsOp, entry, session}
 use Rattle.causal_order.specs.Memory.{MemoryCall, MemoryHistory, Writes, Reads}
-use Rattle.causal_order.specs.MemoryLaws.{entry-call}
+use Rattle.causal_order.proofs.MemoryLaws.{entry-call}
 use Rattle.causal_order.specs.Orders.{op}
-use Rattle.causal_order.specs.OrdersLaws.{same_op, session-of_history}
+use Rattle.causal_order.proofs.OrdersLaws.{same_op, session-of_history}
 use Rattle.causal_order.specs.SourceOrder.{CountsSourceOrder, SourceOrder}
 use Rattle.causal_order.specs.Topological.{placed, next_of, CanGoOn}
 use Rattle.causal_order.specs.Vectors.{Counts, count, list_of, IsCounted, AreVectorsOf}

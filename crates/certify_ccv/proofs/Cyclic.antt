@@ -2,16 +2,16 @@
 use Rattle.std.proofs.Common.{◌≡◌, ◌≢◌, ◌⊎◌, ℕ, ◌+◌, ◌<◌, ◌≤◌, inl, inr, ⊎_elim, List, length, get_or, arith, ap, sym, refl, subst, zero, suc}
 use Rattle.std.proofs.lemmas.Bool.{cases_lt, cases_eq}
 use Rattle.std.proofs.lemmas.List.{get_or_past}
-use Rattle.operations.specs.declared.op_id.OpId.{OpId}
-use Rattle.operations.specs.History.{IsOp, session}
-use Rattle.causal_order.specs.GrowingOrdersLaws.{SourceOrder-of_history}
+use Rattle.history.specs.declared.op_id.OpId.{OpId}
+use Rattle.history.specs.History.{IsOp, session}
+use Rattle.causal_order.proofs.GrowingOrdersLaws.{SourceOrder-of_history}
 use Rattle.causal_order.specs.Memory.{MemoryHistory}
-use Rattle.causal_order.specs.MemoryLaws.{write-of_history}
+use Rattle.causal_order.proofs.MemoryLaws.{write-of_history}
 use Rattle.causal_order.specs.Orders.{op}
-use Rattle.causal_order.specs.OrdersLaws.{session-of_history}
+use Rattle.causal_order.proofs.OrdersLaws.{session-of_history}
 use Rattle.causal_order.specs.Relations.{Leads}
-use Rattle.causal_order.specs.RelationsLaws.{leads-edge, leads-first, leads-leads}
-use Rattle.causal_order.specs.RepeatsLaws.{repeats}
+use Rattle.causal_order.proofs.RelationsLaws.{leads-edge, leads-first, leads-leads}
+use Rattle.causal_order.proofs.RepeatsLaws.{repeats}
 use Rattle.causal_order.specs.SourceOrder.{CountsSourceOrder, IsSourceEdge, SourceOrder}
 use Rattle.causal_order.specs.Topological.{placed, next_of}
 use Rattle.causal_order.specs.Vectors.{Counts, count, list_of, AreVectorsOf}

@@ -7,15 +7,15 @@ use Rattle.std.proofs.lemmas.Bool.{cases_lt, cases_eq, and_parts, and_from}
 use Rattle.std.proofs.lemmas.List.{get_or-set_same}
 use Rattle.std.proofs.lemmas.List.Sorted.{searchable_from_sorted, sorted_far, ranks_by}
 use Rattle.std.proofs.lemmas.Option.{same_Some, slice_get-get_or, slice_get_within, get_or_from_slice_get}
-use Rattle.operations.specs.declared.op_id.OpId.{OpId}
-use Rattle.operations.specs.History.{entry}
+use Rattle.history.specs.declared.op_id.OpId.{OpId}
+use Rattle.history.specs.History.{entry}
 use Rattle.causal_order.specs.declared.writes.Write.{Write as WriteEntry}
 use Rattle.causal_order.specs.Memory.{MemoryCall, MemoryHistory, Writes}
 use Rattle.causal_order.specs.Orders.{op, IsEarlier}
-use Rattle.causal_order.specs.OrdersLaws.{same_op}
+use Rattle.causal_order.proofs.OrdersLaws.{same_op}
 use Rattle.causal_order.specs.SourceOrder.{IsSource}
 use Rattle.causal_order.specs.Vectors.{Counts, count}
-use Rattle.causal_order.specs.EarlierLaws.{by_op_total, by_op-itself, earlier-less, less-index, neither_earlier}
+use Rattle.causal_order.proofs.EarlierLaws.{by_op_total, by_op-itself, earlier-less, less-index, neither_earlier}
 use Rattle.causal_order.specs.Written.{by_op, IsBelowWrite, ListsWrites}
 use Rattle.certify_ccv.specs.declared.sourced_reads.SourcedRead.{SourcedRead}
 use Rattle.certify_ccv.specs.Rows.{AreBySource, IsCountedRival, IsRow, ListsReads}

@@ -2,13 +2,13 @@
 use Rattle.std.proofs.Common.{◌≡◌, ℕ, ◌+◌, ◌≤◌, List, ◌∷◌, [], ◌++◌, length, refl, sym, subst}
 use Rattle.std.specs.Prelude.{Option, Some, None, IsPermutation}
 use Rattle.std.proofs.lemmas.List.Sorted.{Contains-permutation, IsPermutation-sym}
-use Rattle.operations.specs.declared.op_id.OpId.{OpId}
-use Rattle.operations.specs.History.{IsOp, session}
+use Rattle.history.specs.declared.op_id.OpId.{OpId}
+use Rattle.history.specs.History.{IsOp, session}
 use Rattle.causal_order.specs.Memory.{MemoryHistory}
-use Rattle.causal_order.specs.MemoryLaws.{read-of_history}
+use Rattle.causal_order.proofs.MemoryLaws.{read-of_history}
 use Rattle.causal_order.specs.Orders.{op}
-use Rattle.causal_order.specs.EarlierLaws.{neither_earlier}
-use Rattle.causal_order.specs.ListedLaws.{listed-item, listed-none, listed-session, listed-end}
+use Rattle.causal_order.proofs.EarlierLaws.{neither_earlier}
+use Rattle.causal_order.proofs.ListedLaws.{listed-item, listed-none, listed-session, listed-end}
 use Rattle.causal_order.specs.SourceOrder.{IsSource, IsSourceOf}
 use Rattle.certify_ccv.specs.declared.sourced_reads.SourcedRead.{SourcedRead}
 use Rattle.certify_ccv.specs.Rows.{ListsReads, ListsReadsBefore}

@@ -1,7 +1,7 @@
 -- The certificate of causal convergence of a memory history by the conflicts of its writes (this project's profile).
 use Rattle.std.specs.Prelude.{◌≡◌, ◌⊎◌, ℕ, ◌<◌, List, Some, slice_get, take}
-use Rattle.operations.specs.declared.op_id.OpId.{OpId}
-use Rattle.operations.specs.History.{IsOp}
+use Rattle.history.specs.declared.op_id.OpId.{OpId}
+use Rattle.history.specs.History.{IsOp}
 use Rattle.causal_order.specs.Memory.{MemoryHistory}
 use Rattle.causal_order.specs.Relations.{AreRivalWrites}
 use Rattle.causal_order.specs.SourceOrder.{CountsSourceOrder, IsSource, SourceOrder}

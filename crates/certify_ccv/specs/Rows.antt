@@ -1,6 +1,6 @@
 -- Rows of what has to stand before an operation, and what they are made from.
 use Rattle.std.specs.Prelude.{◌≡◌, ◌⊎◌, ◌↔◌, ℕ, ◌+◌, ◌<◌, ◌≤◌, List, [], length, slice_index_or, Contains, IsSortedByKey}
-use Rattle.operations.specs.declared.op_id.OpId.{OpId}
+use Rattle.history.specs.declared.op_id.OpId.{OpId}
 use Rattle.causal_order.specs.Listed.{ListsBefore}
 use Rattle.causal_order.specs.Memory.{MemoryHistory, Writes}
 use Rattle.causal_order.specs.Orders.{op}

@@ -2,8 +2,8 @@
 //! these.
 
 ghost use Rattle.std.specs.Prelude.{◌≡◌, ◌⊎◌, ℕ, List, length, IfNone, IfOk, IfSome};
-ghost use Rattle.operations.specs.declared.op_id.OpId.{OpId as Operation};
-ghost use Rattle.operations.specs.History.{session};
+ghost use Rattle.history.specs.declared.op_id.OpId.{OpId as Operation};
+ghost use Rattle.history.specs.History.{session};
 ghost use Rattle.causal_order.specs.Relations.{Leads};
 ghost use Rattle.causal_order.specs.SourceOrder.{CountsSourceOrder, LacksSource};
 ghost use Rattle.causal_order.specs.Vectors.{AreVectorsOf};
@@ -16,8 +16,8 @@ use crate::limits::limits_of;
 use crate::rows::rows_of;
 use causal_order::{Vectors, Walk, memory_order};
 use cert_check::{Arbitration, Certificate, Criterion, names_all};
+use history::History;
 use objects::Memory;
-use operations::History;
 use std::alloc::{AllocError, Global};
 
 /// A certificate of causal convergence of a memory history: the past of an operation is what is before it in the order

@@ -5,8 +5,8 @@ ghost use Rattle.causal_order.specs.Vectors.{AreVectorsOf};
 ghost use Rattle.certify_ccv.specs.Rows.{AreLimits, IsLimit};
 
 use causal_order::Vectors;
+use history::{History, OpId};
 use objects::Memory;
-use operations::{History, OpId};
 use std::alloc::{AllocError, Global};
 
 /// For each session, how many of its operations come before the first for which a later one of the session has to stand

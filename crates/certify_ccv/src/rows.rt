@@ -1,8 +1,8 @@
 //! What has to stand before each operation.
 
 ghost use Rattle.std.specs.Prelude.{◌≡◌, ◌⊎◌, ◌↔◌, ◌+◌, ◌<◌, ◌≤◌, ℕ, length, slice_index_or, IfOk, OnOk};
-ghost use Rattle.operations.specs.declared.op_id.OpId.{OpId as Operation};
-ghost use Rattle.operations.specs.History.{IsOp};
+ghost use Rattle.history.specs.declared.op_id.OpId.{OpId as Operation};
+ghost use Rattle.history.specs.History.{IsOp};
 ghost use Rattle.causal_order.specs.Gathered.{AreGatheredBefore};
 ghost use Rattle.causal_order.specs.Orders.{op as operation};
 ghost use Rattle.causal_order.specs.SourceOrder.{CountsSourceOrder};
@@ -12,8 +12,8 @@ ghost use Rattle.certify_ccv.specs.Rows.{AreBySource, IsCountedRival, IsRow, Lis
 
 use crate::sourced_reads::{SourcedRead, sourced_reads};
 use causal_order::{Vectors, Write, end_of_writes, writes_by_variable};
+use history::{History, OpId};
 use objects::Memory;
-use operations::{History, OpId};
 use std::alloc::{AllocError, Global};
 
 /// For each operation, how many operations of each session come up to the last that has to stand before it.

@@ -7,8 +7,8 @@ ghost use Rattle.causal_order.specs.Written.{AreInOrder, IsSorted, ListsWrites};
 ghost use Rattle.certify_ccv.specs.Rows.{AreBySource, ListsReads, ListsReadsBefore};
 
 use causal_order::{Write, sorted_writes, source_of};
+use history::{History, OpId};
 use objects::Memory;
-use operations::{History, OpId};
 use std::alloc::{AllocError, Global};
 
 /// A read and its source.

@@ -1,6 +1,6 @@
 -- The schedules of a certificate of causal memory by happened-before relations (this project's profile).
 use Rattle.std.specs.Prelude.{ℕ, ◌+◌, List}
-use Rattle.operations.specs.declared.op_id.OpId.{OpId}
+use Rattle.history.specs.declared.op_id.OpId.{OpId}
 use Rattle.causal_order.specs.Vectors.{Counts}
 use Rattle.certify_cm.specs.Turns.{AreTurns}
 

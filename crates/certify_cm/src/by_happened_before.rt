@@ -11,8 +11,8 @@ ghost use Rattle.certify_cm.specs.ByHappenedBefore.{IsByTurns};
 use crate::schedule::schedule_of;
 use causal_order::{HappenedBefore, Saturation, Vectors, memory_order};
 use cert_check::{Certificate, Criterion, Schedules};
+use history::{History, OpId};
 use objects::Memory;
-use operations::{History, OpId};
 use std::alloc::{AllocError, Global};
 
 /// A certificate of causal memory of a memory history: the past of an operation is what is before it in the order that

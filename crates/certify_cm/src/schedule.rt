@@ -1,13 +1,13 @@
 //! Schedules of the past of an operation by its happened-before relation.
 
 ghost use Rattle.std.specs.Prelude.{◌≡◌, ◌+◌, ◌<◌, ◌≤◌, length, IfOk};
-ghost use Rattle.operations.specs.History.{IsOp, session};
+ghost use Rattle.history.specs.History.{IsOp, session};
 ghost use Rattle.causal_order.specs.GrowingOrders.{AreHeldVectors};
 ghost use Rattle.certify_cm.specs.Turns.{AreTurns};
 
 use causal_order::{Vectors, Walk};
+use history::{History, OpId};
 use objects::Memory;
-use operations::{History, OpId};
 use std::alloc::{AllocError, Global};
 
 /// A walk through what is before an operation, by vectors of what is before each, and through the operation: each of its

@@ -1,6 +1,6 @@
 -- What founded answers say.
 use Rattle.std.proofs.Common.{◌≡◌, refl, subst, List}
-use Rattle.operations.specs.History.{Record}
+use Rattle.history.specs.History.{Record}
 use Rattle.operations.specs.declared.any_history.AnyHistory.{AnyHistory}
 use Rattle.cert_check.specs.declared.certificate.Certificate.{Certificate}
 use Rattle.cert_check.specs.declared.criterion.Criterion.{Criterion}

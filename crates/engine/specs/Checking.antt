@@ -4,7 +4,7 @@ use Rattle.serde_json.specs.Data.{Data}
 use Rattle.operations.specs.declared.read_error.ReadError.{ReadError}
 use Rattle.operations.specs.declared.read_error.ReadError.TheVariants as errors
 use Rattle.operations.specs.declared.any_history.AnyHistory.{AnyHistory}
-use Rattle.operations.specs.History.{Record}
+use Rattle.history.specs.History.{Record}
 use Rattle.operations.specs.Json.{elements, list}
 use Rattle.operations.specs.AnyForm.{first_refusal, form_of, IsJson}
 use Rattle.cert_check.specs.declared.certificate.Certificate.{Certificate}

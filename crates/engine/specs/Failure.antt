@@ -2,7 +2,7 @@
 use Rattle.std.specs.Prelude.{ℕ, List, ◌++◌, codes, decimal, Result, Ok, Err}
 use Rattle.engine.specs.declared.failure.RunError.{RunError}
 use Rattle.engine.specs.declared.failure.RunError.TheVariants.{History, BadCertificate, ShapeMismatch, TooLong, Memory, ReadFault, WriteFault}
-use Rattle.operations.specs.declared.op_id.OpId.{OpId}
+use Rattle.history.specs.declared.op_id.OpId.{OpId}
 use Rattle.operations.specs.declared.read_error.ReadError.{ReadError}
 use Rattle.operations.specs.declared.read_error.ReadError.TheVariants.{BadOp, ReturnAfterUnknown, Memory as NoMemory}
 use Rattle.operations.specs.Refusals.{number_of}

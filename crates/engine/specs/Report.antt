@@ -11,7 +11,7 @@ use Rattle.objects.specs.Counter.{answer as counter_answer}
 use Rattle.objects.specs.AddRemoveSet.{answer as set_answer}
 use Rattle.objects.specs.Queue.{answer as queue_answer}
 use Rattle.objects.specs.Keyed.{answer as keyed_answer}
-use Rattle.operations.specs.History.{Record}
+use Rattle.history.specs.History.{Record}
 use Rattle.causal_order.specs.Memory.{memory_answer}
 use Rattle.cert_check.specs.Criteria.{Meets}
 use Rattle.bad_patterns.specs.Kinds.{IsPresent}

@@ -6,7 +6,7 @@ ghost use Rattle.bad_patterns.specs.Patterns.{IsBadPattern, IsTrueNo};
 ghost use Rattle.causal_order.specs.SourceOrder.{CountsSourceOrder};
 ghost use Rattle.cert_check.specs.Certificates.{HasShapeOf, criterion_of};
 ghost use Rattle.cert_check.specs.Criteria.{Meets};
-ghost use Rattle.operations.specs.declared.op_id.OpId.{OpId};
+ghost use Rattle.history.specs.declared.op_id.OpId.{OpId};
 ghost use Rattle.engine.specs.Report.{IsFounded, IsTrueOf, OnlyWithoutThinAir, answer_for};
 
 use crate::checking::answer_of_pieces;

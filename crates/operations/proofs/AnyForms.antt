@@ -18,7 +18,7 @@ use Rattle.operations.specs.CallLaws.{no_start_again, no_start_has_no_float}
 use Rattle.operations.specs.CounterForm as counter
 use Rattle.operations.specs.CounterFormLaws as counter_laws
 use Rattle.operations.specs.Form.{Fits, EachCall, session_form, HaveNoFloats}
-use Rattle.operations.specs.History.{Record, IsHistory}
+use Rattle.history.specs.History.{Record, IsHistory}
 use Rattle.operations.specs.Json.{unknown}
 use Rattle.operations.specs.KeyedFormLaws.{keyed_again, keyed_has_no_float}
 use Rattle.operations.specs.ObjectNames.{text_of}

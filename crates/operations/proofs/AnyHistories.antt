@@ -20,7 +20,7 @@ use Rattle.operations.specs.AnyForm.{IsAnyHistory, form_of}
 use Rattle.operations.specs.CallLaws.{by_word}
 use Rattle.operations.specs.CounterForm as counter
 use Rattle.operations.specs.Form.{session_form}
-use Rattle.operations.specs.History.{Record}
+use Rattle.history.specs.History.{Record}
 use Rattle.operations.specs.Json.{list, elements}
 use Rattle.operations.specs.ObjectNames.{text_of, name_at, keyed_name_at}
 use Rattle.operations.specs.QueueForm as queue

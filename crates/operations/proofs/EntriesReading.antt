@@ -2,7 +2,7 @@
 use Rattle.std.proofs.Common.{◌≡◌, ℕ, ◌+◌, List, [], ◌∷◌, ◌++◌, drop, true, false, Option, Some, None, ap, ◌∙◌}
 use Rattle.std.specs.Prelude.{slice_get, option_map}
 use Rattle.serde_json.specs.Data.{Data}
-use Rattle.operations.specs.ListLaws.{rest_from, then_more}
+use Rattle.operations.proofs.ListLaws.{rest_from, then_more}
 use Rattle.operations.specs.Spelling.{is_above, entry_at, entries_at}
 
 module _ {S : Type 0} (start_at : Data → Option S) where

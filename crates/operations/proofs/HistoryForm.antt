@@ -4,8 +4,8 @@ use Rattle.std.specs.Prelude.{slice_get, slice_index_or, option_map}
 use Rattle.std.proofs.lemmas.Bool.{le-ltb, cases_Bool}
 use Rattle.std.proofs.lemmas.List.{length-map}
 use Rattle.serde_json.specs.Data.{Data}
-use Rattle.operations.specs.declared.op_id.OpId.{OpId}
-use Rattle.operations.specs.History.{IsSession}
+use Rattle.history.specs.declared.op_id.OpId.{OpId}
+use Rattle.history.specs.History.{IsSession}
 use Rattle.operations.specs.Json.{list, elements}
 use Rattle.operations.specs.Form.{Fits, AreSessions, EachCall, ReadAs, session_at, session_form}
 use Rattle.operations.specs.Reading.{is_unknown_return, entry_refusal, operation_refusal, operations_refusal, session_refusal, sessions_refusal}

@@ -8,7 +8,7 @@ use Rattle.serde_json.specs.Data.{Data}
 use Rattle.operations.specs.declared.read_error.ReadError.{ReadError}
 use Rattle.operations.specs.declared.read_error.ReadError.TheVariants.{NotJson, BadShape, UnknownObject, BadOp, ReturnAfterUnknown, TooManySessions, TooManyOps, Memory, BadInitial}
 use Rattle.operations.specs.Refusals.{IsFirst}
-use Rattle.operations.specs.History.{IsSession}
+use Rattle.history.specs.History.{IsSession}
 use Rattle.operations.specs.Json.{elements}
 use Rattle.operations.specs.Form.{AreSessions, ReadAs, session_at}
 use Rattle.operations.specs.Reading.{first_among, operations_refusal, session_refusal, sessions_refusal}

@@ -8,3 +8,4 @@ pub mod HistoryReading
 pub mod JsonLists
 pub mod PartsForm
 pub mod SessionReading
+pub mod ListLaws

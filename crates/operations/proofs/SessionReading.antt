@@ -6,7 +6,7 @@ use Rattle.std.proofs.lemmas.List.{take_more, length-map, map_push, take_all}
 use Rattle.std.proofs.lemmas.List.Folds.{list_any-append}
 use Rattle.std.proofs.lemmas.Option.{slice_get_within, get_or_from_slice_get}
 use Rattle.serde_json.specs.Data.{Data}
-use Rattle.operations.specs.declared.op_id.OpId.{OpId}
+use Rattle.history.specs.declared.op_id.OpId.{OpId}
 use Rattle.operations.specs.declared.read_error.ReadError.{ReadError}
 use Rattle.operations.specs.declared.read_error.ReadError.TheVariants.{ReturnAfterUnknown}
 use Rattle.operations.specs.Form.{IsReadFrom}

@@ -17,7 +17,7 @@ use Rattle.operations.specs.declared.read_error.ReadError.{ReadError}
 use Rattle.operations.specs.declared.read_error.ReadError.TheVariants as errors
 use Rattle.operations.specs.CounterForm as counter
 use Rattle.operations.specs.Form.{EachCall, history_form}
-use Rattle.operations.specs.History.{Record, IsHistory}
+use Rattle.history.specs.History.{Record, IsHistory}
 use Rattle.operations.specs.ObjectNames.{text_of, name_at}
 use Rattle.operations.specs.QueueForm as queue
 use Rattle.operations.specs.Reading.{parts_of, named_refusal}

@@ -4,7 +4,7 @@ use Rattle.serde_json.specs.Data.{Data, string}
 use Rattle.serde_json.specs.View.{items_of}
 use Rattle.serde_json.specs.Written.{items_have_float}
 use Rattle.operations.specs.Json.{list, elements}
-use Rattle.operations.specs.History.{Record, IsSession}
+use Rattle.history.specs.History.{Record, IsSession}
 
 -- no number of these is a float
 abbrev pub HaveNoFloats : List Data → Type 0

@@ -3,9 +3,7 @@ pub mod CallLaws
 pub mod CounterForm
 pub mod CounterFormLaws
 pub mod Form
-pub mod History
 pub mod Json
-pub mod ListLaws
 pub mod JsonLaws
 pub mod KeyedFormLaws
 pub mod ObjectNames

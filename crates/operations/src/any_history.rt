@@ -1,5 +1,5 @@
-use crate::history::History;
 use crate::plain_history::PlainHistory;
+use history::History;
 use objects::{AddRemoveSet, Counter, Counters, Memory, Queue, Queues, Register, Sets};
 
 /// A history of one of the objects that have a name.

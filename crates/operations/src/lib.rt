@@ -3,14 +3,12 @@
 
 mod any_history;
 mod counters;
-mod history;
 mod json;
 mod keyed_form;
 mod keys;
 pub mod laws;
 mod named;
 mod object_name;
-mod op_id;
 mod parts;
 mod plain_form;
 mod plain_history;
@@ -26,10 +24,9 @@ mod words;
 mod writing;
 
 pub use any_history::AnyHistory;
-pub use history::History;
+pub use history::{History, OpId};
 pub use json::elements_of;
 pub use named::Named;
-pub use op_id::OpId;
 pub use plain_history::PlainHistory;
 pub use read_error::ReadError;
 pub use reader::{history_of, read_history, value_of, write_history};

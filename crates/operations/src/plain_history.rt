@@ -1,7 +1,7 @@
 ghost use Rattle.std.specs.Prelude.{◌≡◌};
-ghost use Rattle.operations.specs.History.{IsHistory};
+ghost use Rattle.history.specs.History.{IsHistory};
 
-use crate::history::History;
+use history::History;
 use object_trait::SeqObject;
 use std::marker::Model;
 

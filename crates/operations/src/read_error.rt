@@ -1,7 +1,7 @@
 ghost use Rattle.std.specs.Prelude.{◌≡◌};
 ghost use Rattle.operations.specs.Refusals.{number_of};
 
-use crate::op_id::OpId;
+use history::OpId;
 use std::alloc::{AllocError, AllocFailed};
 use thiserror::Error;
 

@@ -4,15 +4,14 @@ ghost use Rattle.std.specs.Prelude.{◌≡◌, ◌<◌, ◌≤◌, ◌^◌, ℕ,
 ghost use Rattle.serde_json.specs.View.{view};
 ghost use Rattle.operations.specs.Form.{IsReadFrom, AreSessions, EachCall, ReadAs, session_at, session_form};
 ghost use Rattle.operations.specs.Reading.{first_among, operation_refusal, operations_refusal, sessions_refusal, named_refusal};
-ghost use Rattle.operations.specs.History.{IsHistory, IsSession, Record};
+ghost use Rattle.history.specs.History.{IsHistory, IsSession, Record};
 ghost use Rattle.operations.specs.Json.{elements};
 ghost use Rattle.operations.specs.Refusals.{IsFirst};
 
-use crate::history::History;
 use crate::json::elements_of;
 use crate::named::Named;
-use crate::op_id::OpId;
 use crate::read_error::ReadError;
+use history::{History, OpId};
 use serde_json::Value;
 use std::alloc::Global;
 

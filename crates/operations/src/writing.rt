@@ -3,11 +3,11 @@
 ghost use Rattle.std.specs.Prelude.{◌≡◌, ◌<◌, length, map, IfOk};
 ghost use Rattle.serde_json.specs.View.{view};
 ghost use Rattle.operations.specs.Form.{history_form, session_form};
-ghost use Rattle.operations.specs.History.{session};
+ghost use Rattle.history.specs.History.{session};
 ghost use Rattle.operations.specs.Json.{list};
 
-use crate::history::History;
 use crate::named::Named;
+use history::History;
 use serde_json::Value;
 use std::alloc::{AllocError, Global};
 

@@ -2,7 +2,7 @@
 
 use crate::search::routes_back::push_other;
 use crate::search::waits::{Waits, awaited};
-use operations::OpId;
+use history::OpId;
 use std::alloc::{AllocError, Global};
 
 /// The next operations of sessions, each of which waits for an operation of the session of the one behind it, up to the

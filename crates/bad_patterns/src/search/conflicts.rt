@@ -3,7 +3,7 @@ use crate::search::cycles::cycle_of;
 use crate::search::pasts::CausalOrder;
 use crate::search::reads::{KnownRead, KnownReads};
 use crate::search::routes_back::path_between;
-use operations::OpId;
+use history::OpId;
 use std::alloc::{AllocError, Global};
 
 /// A write in the past of a read that reads from another write of its variable, the rival.

@@ -2,7 +2,7 @@ ghost use Rattle.std.specs.Prelude.{◌≡◌};
 ghost use Rattle.causal_order.specs.Vectors.{count};
 
 use causal_order::ByOperation;
-use operations::OpId;
+use history::OpId;
 
 /// The count of a session in the list of an operation: 0 where there is none.
 pub fn count_of(lists: &ByOperation<u16>, op: OpId, session: u64) -> u64

@@ -3,7 +3,7 @@ use crate::search::chains::{closed_route, waiting_chain};
 use crate::search::conflicts::Conflict;
 use crate::search::waits::{Waits, awaited, waits_of};
 use causal_order::Sources;
-use operations::OpId;
+use history::OpId;
 use std::alloc::{AllocError, Global};
 
 /// How many operations a history has at most.

@@ -1,7 +1,7 @@
 use crate::derived_pairs::Pair;
 use crate::search::reads::{KnownRead, KnownReads};
 use crate::search::relations::Relation;
-use operations::OpId;
+use history::OpId;
 
 /// A write, and a read of the initial value of its variable that the relation puts after it: the first such read of the
 /// session.

@@ -1,7 +1,7 @@
 use crate::derived_pairs::Pair;
 use crate::search::counts::count_of;
 use causal_order::{Sources, Vectors};
-use operations::OpId;
+use history::OpId;
 
 /// The causal order of a history, where it has no cycle, as a search asks for it.
 #[derive(Drop)]

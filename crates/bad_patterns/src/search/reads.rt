@@ -3,8 +3,8 @@ use crate::search::pasts::CausalOrder;
 use crate::search::routes_back::path_between;
 use crate::search::writes_of::WritesByVariable;
 use causal_order::{Write, known_read};
+use history::{History, OpId};
 use objects::Memory;
-use operations::{History, OpId};
 use std::alloc::{AllocError, Global};
 
 /// A read whose return is known.

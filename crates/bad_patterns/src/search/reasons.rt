@@ -1,7 +1,7 @@
 use crate::derived_pairs::Pair;
 use crate::search::relations::Relation;
 use causal_order::{Cause, Raise};
-use operations::OpId;
+use history::OpId;
 use std::alloc::{AllocError, Global};
 
 /// The last operation that a raise counts. It is before the operation of the raise.

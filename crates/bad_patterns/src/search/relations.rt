@@ -3,8 +3,8 @@ ghost use Rattle.causal_order.specs.SourceOrder.{CountsSourceOrder};
 
 use crate::search::counts::count_of;
 use causal_order::{HappenedBefore, Raise, Saturation, Vectors};
+use history::{History, OpId};
 use objects::Memory;
-use operations::{History, OpId};
 use std::alloc::{AllocError, Global};
 
 /// The happened-before relation of the last operation of a session, and how it was made.

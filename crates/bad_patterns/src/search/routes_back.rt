@@ -1,6 +1,6 @@
 use crate::path::Path;
 use crate::search::pasts::CausalOrder;
-use operations::OpId;
+use history::OpId;
 use std::alloc::{AllocError, Global};
 
 /// A path from an operation to another that has it in its past.

@@ -1,11 +1,11 @@
 ghost use Rattle.std.specs.Prelude.{◌<◌, length, IfOk};
-ghost use Rattle.operations.specs.History.{session as operations_of};
+ghost use Rattle.history.specs.History.{session as operations_of};
 ghost use Rattle.causal_order.specs.Written.{AreInOrder, IsSorted, ListsWrites};
 ghost use Rattle.bad_patterns.specs.KnownSources.{IsKnownSourceOf, ListsKnownBelow, ListsKnownSources};
 
 use causal_order::{Rows, Sources, Write, initial_value, known_read, least_write};
+use history::{History, OpId};
 use objects::Memory;
-use operations::{History, OpId};
 use std::alloc::{AllocError, Global};
 
 /// The source of each operation of a history, whose writes these are.

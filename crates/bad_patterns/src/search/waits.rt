@@ -3,7 +3,7 @@ ghost use Rattle.std.specs.Prelude.{◌≡◌, ◌<◌, length, OnOk};
 use crate::search::conflicts::{Conflict, conflicts_with};
 use crate::search::counts::count_of;
 use causal_order::{ByOperation, Sources};
-use operations::OpId;
+use history::OpId;
 use std::alloc::{AllocError, Global};
 
 /// For each operation, how many operations of each session have to come before it.

@@ -1,5 +1,5 @@
 use causal_order::Write;
-use operations::OpId;
+use history::OpId;
 use std::alloc::{AllocError, Global};
 
 /// The writes of a history, by variable and operation.

@@ -1,7 +1,7 @@
 use Rattle.std.proofs.Common.{◌≡◌, ◌+◌, ◌-◌, ◌≤◌, length, List, sym, ◌∙◌, arith, subst}
 use Rattle.std.specs.Prelude.{Some, slice_get}
 use Rattle.std.proofs.lemmas.Option.{slice_get-get_or}
-use Rattle.operations.specs.declared.op_id.OpId.{OpId}
+use Rattle.history.specs.declared.op_id.OpId.{OpId}
 use Rattle.bad_patterns.specs.Derivations.{Pair, Gives, GivePairs}
 use Rattle.bad_patterns.proofs.Derived.{no_derivation, derivation-last, pairs-more}
 use Rattle.bad_patterns.proofs.derived_pairs.derived_pair.Goals as goal

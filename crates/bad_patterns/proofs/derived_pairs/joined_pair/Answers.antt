@@ -1,5 +1,5 @@
 use Rattle.std.proofs.Common.{sym, ◌∙◌}
-use Rattle.cert_check.specs.ConvergentLaws.{only-same}
+use Rattle.cert_check.proofs.ConvergentLaws.{only-same}
 use Rattle.bad_patterns.proofs.Derived.{joined, joined-ends, only-apart}
 use Rattle.bad_patterns.proofs.derived_pairs.joined_pair.Goals as goal
 

@@ -1,5 +1,5 @@
 use Rattle.std.proofs.Common.{◌≡◌, Option, Some, None, true, false, sym, ◌∙◌}
-use Rattle.cert_check.specs.ConvergentLaws.{only-same}
+use Rattle.cert_check.proofs.ConvergentLaws.{only-same}
 use Rattle.bad_patterns.specs.Derivations.{Pair}
 use Rattle.bad_patterns.proofs.Derived.{ends-with, rival-parts, only-apart}
 use Rattle.bad_patterns.proofs.derived_pairs.rival_pair.Goals as goal

@@ -1,5 +1,5 @@
 use Rattle.std.proofs.Common.{arith, below_more, ◌≤◌, length}
-use Rattle.operations.specs.History.{session}
+use Rattle.history.specs.History.{session}
 use Rattle.bad_patterns.proofs.First.{no_thin_air_of}
 use Rattle.bad_patterns.proofs.finding.first_thin_air_read_of.Goals as goal
 

@@ -1,5 +1,5 @@
 use Rattle.std.proofs.Common.{inl}
-use Rattle.operations.specs.declared.op_id.OpId.{OpId}
+use Rattle.history.specs.declared.op_id.OpId.{OpId}
 use Rattle.causal_order.specs.Sources.{Comes}
 use Rattle.causal_order.proofs.FirstWrites.{sources-exist, counts-order, counts-past, order-acyclic, order-from_steps, CO-from_sources, CO-by_sources}
 use Rattle.causal_order.proofs.Outcomes.{some-weaker, none-weaker}

@@ -2,7 +2,7 @@ use Rattle.std.proofs.Common.{◌≡◌, ◌-◌, ℕ, arith, sym, length, get_o
 use Rattle.std.proofs.lemmas.List.{length-replicate}
 use Rattle.causal_order.specs.Orders.{op}
 use Rattle.causal_order.specs.Vectors.{count}
-use Rattle.causal_order.specs.PushedLaws.{listed-length}
+use Rattle.causal_order.proofs.PushedLaws.{listed-length}
 use Rattle.causal_order.proofs.NextVector.{first-raised, first-zeros, both-raised, one-raised}
 use Rattle.causal_order.proofs.placing.vector_of.Goals as goal
 use Rattle.causal_order.proofs.placing.vector_of.Goals.{then-op-gt0, else-op-gt0, in-Some, in_default}

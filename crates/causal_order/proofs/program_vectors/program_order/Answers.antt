@@ -1,6 +1,6 @@
 use Rattle.std.proofs.Common.{◌≡◌, length, arith}
 use Rattle.causal_order.specs.ProgramOrder.{IsOwnVector}
-use Rattle.causal_order.specs.GatheredLaws.{gathered-shape, gathered-each}
+use Rattle.causal_order.proofs.GatheredLaws.{gathered-shape, gathered-each}
 use Rattle.causal_order.proofs.program_vectors.program_order.Goals as goal
 
 pub returns-clause-shape : goal.returns-clause-shape

@@ -2,7 +2,7 @@ use Rattle.std.proofs.Common.{ℕ, List, length, get_or, sym, ap, subst, arith, 
 use Rattle.std.proofs.lemmas.List.{length-replicate}
 use Rattle.causal_order.specs.Orders.{op}
 use Rattle.causal_order.specs.ProgramOrder.{IsOwnVector}
-use Rattle.causal_order.specs.GatheredLaws.{gathered-session, gathered-push, gathered-end}
+use Rattle.causal_order.proofs.GatheredLaws.{gathered-session, gathered-push, gathered-end}
 use Rattle.causal_order.proofs.OwnVectors.{zeros-at, own-next}
 use Rattle.causal_order.proofs.program_vectors.push_own_vectors.Goals as goal
 

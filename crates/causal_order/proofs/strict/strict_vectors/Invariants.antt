@@ -1,5 +1,5 @@
 use Rattle.std.proofs.Common.{◌<◌, ◌≤◌, ℕ, length}
-use Rattle.operations.specs.History.{session}
+use Rattle.history.specs.History.{session}
 use Rattle.causal_order.specs.Gathered.{AreGatheredBefore}
 use Rattle.causal_order.specs.HappenedBefores.{IsStrict}
 use Rattle.causal_order.proofs.strict.strict_vectors.Given as goal

@@ -1,5 +1,5 @@
 use Rattle.std.proofs.Common.{ℕ, ◌<◌, ◌≢◌}
-use Rattle.causal_order.specs.VectorsLaws.{IsPastLastOf}
+use Rattle.causal_order.specs.Vectors.{IsPastLastOf}
 use Rattle.causal_order.proofs.vectors.counts_with_others.Given as goal
 
 -- the sessions so far pass the test

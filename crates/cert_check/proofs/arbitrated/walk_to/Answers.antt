@@ -2,12 +2,12 @@ use Rattle.std.proofs.Common.{◌≡◌, List, length, get_or, take, sym, subst,
 use Rattle.std.specs.Prelude.{IsTrue, filter}
 use Rattle.std.proofs.lemmas.Bool.{some_since, both_ways}
 use Rattle.std.proofs.lemmas.Option.{MatchOption-at_some, slice_get-get_or}
-use Rattle.operations.specs.declared.op_id.OpId.{OpId}
-use Rattle.operations.specs.History.{calls}
+use Rattle.history.specs.declared.op_id.OpId.{OpId}
+use Rattle.history.specs.History.{calls}
 use Rattle.causal_order.specs.Orders.{StandsAt, only}
 use Rattle.cert_check.specs.Certificates.{counted}
 use Rattle.cert_check.specs.Schedules.{named}
-use Rattle.cert_check.specs.ConvergentLaws.{only-same}
+use Rattle.cert_check.proofs.ConvergentLaws.{only-same}
 use Rattle.cert_check.proofs.CutSteps.{next_is_op, not_named_yet}
 use Rattle.cert_check.proofs.Named.{take_next}
 use Rattle.cert_check.proofs.Pasts.{only-itself}

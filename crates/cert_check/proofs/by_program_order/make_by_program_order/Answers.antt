@@ -1,6 +1,6 @@
 use Rattle.std.proofs.Common.{ℕ, List, length, sym, subst, ◌∙◌}
 use Rattle.std.specs.Prelude.{◌≡◌}
-use Rattle.operations.specs.History.{session}
+use Rattle.history.specs.History.{session}
 use Rattle.cert_check.specs.Schedules.{times}
 use Rattle.cert_check.proofs.InTurn.{in_turn-all}
 use Rattle.cert_check.proofs.by_program_order.make_by_program_order.Goals as goal

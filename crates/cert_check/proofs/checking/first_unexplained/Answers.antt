@@ -3,8 +3,8 @@ use Rattle.std.specs.Prelude.{option_copied, Some}
 use Rattle.cert_check.specs.declared.criterion.Criterion.{Criterion}
 use Rattle.cert_check.specs.Criteria.{Meets}
 use Rattle.std.proofs.lemmas.Option.{same_Some}
-use Rattle.operations.specs.History.{IsOp}
-use Rattle.causal_order.specs.OrdersLaws.{session-of_history}
+use Rattle.history.specs.History.{IsOp}
+use Rattle.causal_order.proofs.OrdersLaws.{session-of_history}
 use Rattle.cert_check.specs.Certificates.{IsExplainedPiece}
 use Rattle.cert_check.specs.declared.certificate.Certificate.{Certificate}
 use Rattle.cert_check.proofs.checking.first_unexplained.Goals as goal

@@ -1,5 +1,5 @@
 use Rattle.std.proofs.Common.{ℕ, ◌<◌}
-use Rattle.operations.specs.History.{IsOp}
+use Rattle.history.specs.History.{IsOp}
 use Rattle.causal_order.specs.Orders.{op}
 use Rattle.cert_check.specs.Certificates.{IsExplainedPiece}
 use Rattle.cert_check.proofs.checking.first_unexplained.Given as goal

@@ -1,6 +1,6 @@
 use Rattle.std.proofs.Common.{map, sym, ◌∙◌}
 use Rattle.serde_json.specs.View.{view}
-use Rattle.operations.specs.ListLaws.{slice_get-mapped}
+use Rattle.operations.proofs.ListLaws.{slice_get-mapped}
 use Rattle.cert_check.proofs.ListReading.{no_element, reads_more, list_of_none}
 use Rattle.cert_check.proofs.reading_lists.read_numbers.Goals as goal
 

@@ -1,5 +1,5 @@
 use Rattle.std.proofs.Common.{sym, subst, arith, ◌≡◌, length}
-use Rattle.cert_check.specs.CertificatesLaws.{HaveLength}
+use Rattle.cert_check.specs.Certificates.{HaveLength}
 use Rattle.cert_check.proofs.Shapes.{vectors_have_length}
 use Rattle.cert_check.proofs.shape.are_vectors_of.Goals as goal
 

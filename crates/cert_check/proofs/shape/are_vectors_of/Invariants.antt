@@ -1,5 +1,5 @@
 use Rattle.std.proofs.Common.{ℕ, ◌<◌, length}
-use Rattle.cert_check.specs.CertificatesLaws.{HaveLength}
+use Rattle.cert_check.specs.Certificates.{HaveLength}
 use Rattle.cert_check.proofs.shape.are_vectors_of.Given as goal
 
 -- the vectors of the sessions so far have one count for each session

@@ -1,5 +1,5 @@
 use Rattle.std.proofs.Common.{◌≡◌, ℕ, ◌<◌, [], length, get_or}
-use Rattle.operations.specs.History.{session}
+use Rattle.history.specs.History.{session}
 use Rattle.cert_check.proofs.shape.has_one_each.Given as goal
 
 -- the sessions so far have one list for each operation

@@ -1,5 +1,5 @@
 use Rattle.std.proofs.Common.{◌≡◌, ℕ, ◌<◌, length}
-use Rattle.operations.specs.History.{session}
+use Rattle.history.specs.History.{session}
 use Rattle.cert_check.specs.Schedules.{times}
 use Rattle.cert_check.proofs.shape.names_all.Given as goal
 

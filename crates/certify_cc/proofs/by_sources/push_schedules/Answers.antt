@@ -1,8 +1,8 @@
 use Rattle.std.proofs.Common.{List, ℕ, sym, subst, arith}
 use Rattle.causal_order.specs.Orders.{op}
-use Rattle.causal_order.specs.GatheredLaws.{gathered-push}
+use Rattle.causal_order.proofs.GatheredLaws.{gathered-push}
 use Rattle.certify_cc.specs.BySources.{IsScheduleFor}
-use Rattle.causal_order.specs.SourcedLaws.{found-source, listed-source}
+use Rattle.causal_order.proofs.SourcedLaws.{found-source, listed-source}
 use Rattle.certify_cc.proofs.by_sources.push_schedules.Goals as goal
 
 pub schedule_of-requires-clause-few : goal.schedule_of-requires-clause-few

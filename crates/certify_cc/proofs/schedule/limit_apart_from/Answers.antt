@@ -1,6 +1,6 @@
 use Rattle.std.proofs.Common.{List, ℕ, length, ap, arith}
 use Rattle.causal_order.specs.Orders.{op}
-use Rattle.causal_order.specs.PushedLaws.{listed-length}
+use Rattle.causal_order.proofs.PushedLaws.{listed-length}
 use Rattle.certify_cc.proofs.schedule.limit_apart_from.Goals as goal
 
 pub offset_bounds-get-write : goal.offset_bounds-get-write

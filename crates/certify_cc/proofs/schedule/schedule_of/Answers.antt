@@ -1,6 +1,6 @@
 use Rattle.std.proofs.Common.{◌<◌, ◌≡◌, List, ℕ, get_or, ap, subst, sym, arith}
 use Rattle.causal_order.specs.Topological.{placed}
-use Rattle.causal_order.specs.PushedLaws.{listed-length}
+use Rattle.causal_order.proofs.PushedLaws.{listed-length}
 use Rattle.certify_cc.proofs.schedule.schedule_of.Goals as goal
 
 pub place-requires-clause-few : goal.place-requires-clause-few

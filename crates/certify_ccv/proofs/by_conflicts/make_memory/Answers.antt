@@ -1,5 +1,5 @@
 use Rattle.std.proofs.Common.{inl, inr, ⊎_elim}
-use Rattle.operations.specs.declared.op_id.OpId.{OpId}
+use Rattle.history.specs.declared.op_id.OpId.{OpId}
 use Rattle.causal_order.specs.SourceOrder.{LacksSource, SourceOrder}
 use Rattle.certify_ccv.proofs.Cyclic.{order-cycle}
 use Rattle.certify_ccv.proofs.by_conflicts.make_memory.Goals as goal

@@ -1,7 +1,7 @@
 use Rattle.std.proofs.Common.{◌≡◌, ◌⊎◌, ◌↔◌, ◌<◌, ◌≤◌, ℕ, List, length, get_or, ap, ◌∙◌, sym, subst, arith}
 use Rattle.causal_order.specs.Orders.{op}
 use Rattle.causal_order.specs.Vectors.{list_of}
-use Rattle.causal_order.specs.GatheredLaws.{gathered-session, gathered-push}
+use Rattle.causal_order.proofs.GatheredLaws.{gathered-session, gathered-push}
 use Rattle.certify_ccv.specs.Rows.{IsRow, IsCountedRival}
 use Rattle.certify_ccv.proofs.Raised.{row-raised}
 use Rattle.certify_ccv.proofs.rows.push_rows.Goals as goal

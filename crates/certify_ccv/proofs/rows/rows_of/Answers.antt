@@ -1,5 +1,5 @@
 use Rattle.std.proofs.Common.{◌≡◌, length, arith}
-use Rattle.causal_order.specs.GatheredLaws.{gathered-shape, gathered-each}
+use Rattle.causal_order.proofs.GatheredLaws.{gathered-shape, gathered-each}
 use Rattle.certify_ccv.specs.Rows.{IsRow}
 use Rattle.certify_ccv.proofs.rows.rows_of.Goals as goal
 

@@ -1,6 +1,6 @@
 use Rattle.std.proofs.Common.{arith}
 use Rattle.causal_order.specs.Orders.{op}
-use Rattle.causal_order.specs.SourcedLaws.{found-source}
+use Rattle.causal_order.proofs.SourcedLaws.{found-source}
 use Rattle.certify_ccv.proofs.SourcedReads.{source-some, source-none, ListsReadsBefore-read, ListsReadsBefore-other, ListsReadsBefore-session}
 use Rattle.certify_ccv.proofs.sourced_reads.push_sourced_reads.Goals as goal
 use Rattle.certify_ccv.proofs.sourced_reads.push_sourced_reads.Goals.{in-Some+in_ok-push, in_default}

@@ -1,4 +1,4 @@
-use Rattle.causal_order.specs.GrowingOrdersLaws.{held-by_sources}
+use Rattle.causal_order.proofs.GrowingOrdersLaws.{held-by_sources}
 use Rattle.certify_cm.proofs.by_happened_before.make_by_order.Goals as goal
 
 pub schedules_by_happened_before-requires : goal.schedules_by_happened_before-requires

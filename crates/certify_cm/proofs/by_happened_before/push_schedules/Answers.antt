@@ -1,6 +1,6 @@
 use Rattle.std.proofs.Common.{List, ℕ, ◌+◌, sym, subst, arith}
 use Rattle.causal_order.specs.Orders.{op}
-use Rattle.causal_order.specs.GatheredLaws.{gathered-session, gathered-push}
+use Rattle.causal_order.proofs.GatheredLaws.{gathered-session, gathered-push}
 use Rattle.certify_cm.specs.ByHappenedBefore.{IsByTurns}
 use Rattle.certify_cm.specs.Turns.{AreTurns}
 use Rattle.certify_cm.proofs.by_happened_before.push_schedules.Goals as goal

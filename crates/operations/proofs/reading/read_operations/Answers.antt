@@ -2,9 +2,9 @@ use Rattle.std.proofs.Common.{◌≡◌, ℕ, length, subst, true, false, not, �
 use Rattle.std.proofs.lemmas.List.{length-map}
 use Rattle.std.specs.Prelude.{is_some}
 use Rattle.serde_json.specs.View.{view}
-use Rattle.operations.specs.declared.op_id.OpId.{OpId}
+use Rattle.history.specs.declared.op_id.OpId.{OpId}
 use Rattle.operations.specs.declared.read_error.ReadError.TheVariants.{BadOp, ReturnAfterUnknown}
-use Rattle.operations.specs.ListLaws.{slice_get-mapped}
+use Rattle.operations.proofs.ListLaws.{slice_get-mapped}
 use Rattle.operations.proofs.SessionReading.{IsReadUpTo, or_true, or_false, reads_on, refused_here, is_read, known_return, known_return-refusal, unknown_return, unknown_return-refusal}
 use Rattle.operations.proofs.reading.read_operations.Goals as goal
 use Rattle.operations.proofs.reading.read_operations.Goals.{then-is_none, else-is_none+else-unknown_seen}

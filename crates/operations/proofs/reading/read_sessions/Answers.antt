@@ -4,7 +4,7 @@ use Rattle.std.proofs.lemmas.Result.{err_from_is_err_and}
 use Rattle.serde_json.specs.View.{view}
 use Rattle.operations.specs.Json.{elements}
 use Rattle.operations.specs.Reading.{operations_refusal, sessions_refusal, first_among, session_refusal}
-use Rattle.operations.specs.ListLaws.{slice_get-mapped}
+use Rattle.operations.proofs.ListLaws.{slice_get-mapped}
 use Rattle.operations.proofs.HistoryReading.{reads_on, refused_there, few_sessions, IsFirst-moves}
 use Rattle.operations.proofs.reading.read_sessions.Goals as goal
 

@@ -1,5 +1,5 @@
 use Rattle.std.proofs.Common.{◌<◌, ◌≤◌, length}
-use Rattle.operations.specs.History.{session}
+use Rattle.history.specs.History.{session}
 use Rattle.causal_order.specs.GrowingOrders.{Grows, left_of}
 use Rattle.causal_order.proofs.growing_order.GrowingOrder.raise_up_to.Given as goal
 

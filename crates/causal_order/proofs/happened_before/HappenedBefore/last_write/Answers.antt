@@ -1,8 +1,8 @@
 use Rattle.std.proofs.Common.{ℕ, List, arith, subst, sym, ◌-◌, ◌<◌, length}
-use Rattle.operations.specs.History.{IsOp, session as operations_of}
+use Rattle.history.specs.History.{IsOp, session as operations_of}
 use Rattle.causal_order.specs.declared.writes.Write.{Write}
 use Rattle.causal_order.specs.Memory.{MemoryHistory}
-use Rattle.causal_order.specs.MemoryLaws.{write-of_history}
+use Rattle.causal_order.proofs.MemoryLaws.{write-of_history}
 use Rattle.causal_order.specs.Orders.{op}
 use Rattle.causal_order.specs.Written.{IsBelowWrite, ListsWrites}
 use Rattle.causal_order.proofs.happened_before.HappenedBefore.last_write.Goals as goal

@@ -1,5 +1,5 @@
 use Rattle.std.proofs.Common.{sym, subst}
-use Rattle.operations.specs.History.{calls}
+use Rattle.history.specs.History.{calls}
 use Rattle.cert_check.proofs.WalkSteps.{calls_push}
 use Rattle.cert_check.proofs.walk.Walk.take_in.Goals as goal
 

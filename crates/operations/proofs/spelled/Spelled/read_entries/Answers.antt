@@ -1,6 +1,6 @@
 use Rattle.std.proofs.Common.{map, sym, ◌∙◌}
 use Rattle.serde_json.specs.View.{view}
-use Rattle.operations.specs.ListLaws.{slice_get-mapped}
+use Rattle.operations.proofs.ListLaws.{slice_get-mapped}
 use Rattle.operations.proofs.EntriesReading.{no_entry, not_above, reads_on}
 use Rattle.operations.proofs.spelled.Spelled.read_entries.Goals as goal
 

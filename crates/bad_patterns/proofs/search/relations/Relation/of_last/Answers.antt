@@ -1,4 +1,4 @@
-use Rattle.causal_order.specs.GrowingOrdersLaws.{held-by_sources}
+use Rattle.causal_order.proofs.GrowingOrdersLaws.{held-by_sources}
 use Rattle.bad_patterns.proofs.search.relations.Relation.of_last.Goals as goal
 
 pub of-requires-clause-vectors : goal.of-requires-clause-vectors

@@ -5,9 +5,9 @@ use Rattle.std.proofs.lemmas.Bool.{cases_eq, cases_lt}
 use Rattle.std.proofs.lemmas.List.{get_or-set_same, get_or-set_other, get_or_past, get_or_append_left, get_or-append-add}
 use Rattle.std.proofs.lemmas.List.Sums.{sum_by-set, sum_by-cons}
 use Rattle.std.specs.List.{sum_by}
-use Rattle.operations.specs.declared.op_id.OpId.{OpId}
+use Rattle.history.specs.declared.op_id.OpId.{OpId}
 use Rattle.causal_order.specs.Orders.{op}
-use Rattle.causal_order.specs.OrdersLaws.{same_op}
+use Rattle.causal_order.proofs.OrdersLaws.{same_op}
 use Rattle.causal_order.specs.Sources.{IsListed}
 
 -- the lists, with x behind those of the session s

@@ -2,10 +2,10 @@
 use Rattle.std.specs.Prelude.{◌≡◌, Option, Some, None, MatchOption}
 use Rattle.std.specs.Option.{option_flatten}
 use Rattle.std.proofs.Common.{arith, sym, subst}
-use Rattle.operations.specs.declared.op_id.OpId.{OpId}
-use Rattle.operations.specs.History.{Record, IsOp}
+use Rattle.history.specs.declared.op_id.OpId.{OpId}
+use Rattle.history.specs.History.{Record, IsOp}
 use Rattle.causal_order.specs.Memory.{MemoryHistory}
-use Rattle.causal_order.specs.MemoryLaws.{write-of_history}
+use Rattle.causal_order.proofs.MemoryLaws.{write-of_history}
 use Rattle.causal_order.specs.SourceOrder.{IsSourceOf, LacksSource}
 use Rattle.causal_order.specs.Sources.{IsListed}
 use Rattle.causal_order.specs.Topological.{AreSquare}

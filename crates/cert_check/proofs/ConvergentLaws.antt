@@ -3,11 +3,11 @@ use Rattle.std.proofs.Common.{◌≡◌, ℕ, ◌<◌, ◌≤◌, List, ⊎_elim
 use Rattle.std.specs.Prelude.{IsTrue, filter, slice_get, ◌==◌}
 use Rattle.std.proofs.lemmas.Bool.{and_parts, or_cases}
 use Rattle.std.proofs.lemmas.Option.{same_Some}
-use Rattle.operations.specs.declared.op_id.OpId.{OpId}
-use Rattle.operations.specs.History.{Record, IsOp, session}
+use Rattle.history.specs.declared.op_id.OpId.{OpId}
+use Rattle.history.specs.History.{Record, IsOp, session}
 use Rattle.causal_order.specs.Orders.{Order, only, past, StandsAt, IsLinearization}
 use Rattle.cert_check.specs.Criteria.{every, IsCausalOrder}
-use Rattle.cert_check.specs.FilteredLaws.{filter_keeps, filter_from, filter_in_order}
+use Rattle.cert_check.proofs.FilteredLaws.{filter_keeps, filter_from, filter_in_order}
 
 pub only-same : (o a : OpId) → IsTrue (only o a) → a ≡ o
 only-same o a t =

@@ -2,11 +2,11 @@
 use Rattle.std.specs.Prelude.{◌≡◌, ◌⊎◌, ℕ, ◌+◌, ◌<◌, List, [], ◌∷◌, length}
 use Rattle.std.proofs.Common.{zero, suc, refl, sym, ◌∙◌, subst, subst₂, arith, get_or, inl, inr, ⊎_elim}
 use Rattle.std.proofs.lemmas.Option.{same_Some, slice_get_within, slice_get-get_or}
-use Rattle.operations.specs.declared.op_id.OpId.{OpId}
-use Rattle.operations.specs.History.{IsOp, Precedes, session}
+use Rattle.history.specs.declared.op_id.OpId.{OpId}
+use Rattle.history.specs.History.{IsOp, Precedes, session}
 use Rattle.causal_order.specs.Orders.{StandsAt}
 use Rattle.causal_order.specs.Memory.{MemoryHistory}
-use Rattle.causal_order.specs.MemoryLaws.{write-of_history, read-of_history}
+use Rattle.causal_order.proofs.MemoryLaws.{write-of_history, read-of_history}
 use Rattle.causal_order.specs.Relations.{IsPath, Leads, ReadsFrom, IsEdge, CO}
 
 module _ (related : OpId → OpId → Type 0) where

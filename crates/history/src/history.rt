@@ -1,5 +1,5 @@
 ghost use Rattle.std.specs.Prelude.{◌≡◌, ◌<◌, ◌≤◌, ◌↔◌, ℕ, length, option_map, IfOk, IsTrue, Some, map, slice_index_or};
-ghost use Rattle.operations.specs.History.{IsHistory, IsSession, IsOp, entry, session};
+ghost use Rattle.history.specs.History.{IsHistory, IsSession, IsOp, entry, session};
 
 use crate::op_id::OpId;
 use object_trait::SeqObject;
@@ -18,7 +18,7 @@ pub struct History<O: SeqObject> {
 
 impl<O: SeqObject> Model for History<O> {
     ghost use Rattle.std.specs.Prelude.{List, Option, map};
-    ghost use Rattle.operations.specs.History.{IsHistory};
+    ghost use Rattle.history.specs.History.{IsHistory};
 
     ghost Value = { O.Start × List (List (O.Call × Option O.Ret)) };
 

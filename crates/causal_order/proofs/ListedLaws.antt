@@ -2,12 +2,12 @@
 use Rattle.std.specs.Prelude.{◌≡◌, ℕ, ◌+◌, ◌<◌, ◌≤◌, List, [], ◌∷◌, ◌++◌, Contains, length}
 use Rattle.std.proofs.Common.{inl, inr, ⊎_elim, arith, subst, eq-or-lt_of_le}
 use Rattle.std.proofs.lemmas.List.Elements.{Contains-append_left, Contains-push, Contains-push_cases}
-use Rattle.operations.specs.declared.op_id.OpId.{OpId}
-use Rattle.operations.specs.History.{Record, IsOp, session}
-use Rattle.causal_order.specs.EarlierLaws.{earlier_cases}
+use Rattle.history.specs.declared.op_id.OpId.{OpId}
+use Rattle.history.specs.History.{Record, IsOp, session}
+use Rattle.causal_order.proofs.EarlierLaws.{earlier_cases}
 use Rattle.causal_order.specs.Listed.{ListsBefore}
 use Rattle.causal_order.specs.Orders.{op, IsEarlier}
-use Rattle.causal_order.specs.OrdersLaws.{session-of_history}
+use Rattle.causal_order.proofs.OrdersLaws.{session-of_history}
 
 module _ {X : Type 0} (op_of : X → OpId) (belongs : X → Type 0) where
   -- one item more, the only one of its operation

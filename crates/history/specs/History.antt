@@ -1,7 +1,7 @@
 -- Histories, as Bouajjani, Enea, Guerraoui and Hamza define them ("On Verifying Causal Consistency", POPL 2017, section 2).
 use Rattle.std.specs.Prelude.{◌≡◌, ℕ, ◌<◌, ◌≤◌, Bool, true, List, [], length, Option, Some, None, option_map, slice_get, slice_index_or}
 use Rattle.std.specs.List.{filter_map}
-use Rattle.operations.specs.declared.op_id.OpId.{OpId}
+use Rattle.history.specs.declared.op_id.OpId.{OpId}
 
 -- a history: its start, and for each session its calls, each with its known return or none
 abbrev pub Record : Type 0 → Type 0 → Type 0 → Type 0

@@ -2,8 +2,8 @@
 use Rattle.std.specs.Prelude.{◌≡◌, ◌<◌, ◌≤◌, List, [], Option, length}
 use Rattle.std.proofs.Common.{subst, arith, lt_of_not-le}
 use Rattle.std.proofs.lemmas.List.{get_or_past}
-use Rattle.operations.specs.declared.op_id.OpId.{OpId}
-use Rattle.operations.specs.History.{Record, IsOp}
+use Rattle.history.specs.declared.op_id.OpId.{OpId}
+use Rattle.history.specs.History.{Record, IsOp}
 
 -- two numbers make an operation
 pub same_op : (a b : OpId) → a.session ≡ b.session → a.index ≡ b.index → a ≡ b

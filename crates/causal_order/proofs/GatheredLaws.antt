@@ -3,13 +3,13 @@ use Rattle.std.specs.Prelude.{◌≡◌, ◌≢◌, ℕ, ◌+◌, ◌<◌, ◌�
 use Rattle.std.proofs.Common.{arith, get_or, sym, ap, subst, ◌∙◌, ⊎_elim, refl}
 use Rattle.std.proofs.lemmas.Bool.{cases_eq, cases_lt}
 use Rattle.std.proofs.lemmas.List.{get_or_append_left, get_or_past, length_push, get_or_push, length-set}
-use Rattle.operations.specs.declared.op_id.OpId.{OpId}
-use Rattle.operations.specs.History.{Record, IsOp, session}
+use Rattle.history.specs.declared.op_id.OpId.{OpId}
+use Rattle.history.specs.History.{Record, IsOp, session}
 use Rattle.causal_order.specs.Orders.{op}
 use Rattle.causal_order.specs.Sources.{IsListed}
 use Rattle.causal_order.specs.Vectors.{ByOperation, list_of, HasOneEach}
 use Rattle.causal_order.specs.Gathered.{AreGatheredBefore, AreGatheredUpTo}
-use Rattle.causal_order.specs.PushedLaws.{pushed, listed-length, pushed-other, pushed-length, pushed-cases, pushed-value_old, pushed-value_next}
+use Rattle.causal_order.proofs.PushedLaws.{pushed, listed-length, pushed-other, pushed-length, pushed-cases, pushed-value_old, pushed-value_next}
 
 module _ {S C R A : Type 0} (h : Record S C R) (holds : OpId → List A → Type 0) where
   -- no list at all

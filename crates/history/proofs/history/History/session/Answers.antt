@@ -1,7 +1,7 @@
 use Rattle.std.proofs.Common.{◌≡◌, arith, subst, List, Option, sym}
 use Rattle.std.proofs.lemmas.Grind.{common_steps}
-use Rattle.operations.specs.History.{session, IsSession}
-use Rattle.operations.proofs.history.History.session.Goals as goal
+use Rattle.history.specs.History.{session, IsSession}
+use Rattle.history.proofs.history.History.session.Goals as goal
 
 pub returns-clause-is_session : goal.returns-clause-is_session
 returns-clause-is_session g c =

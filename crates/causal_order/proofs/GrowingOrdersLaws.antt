@@ -1,13 +1,13 @@
 -- What follows for vectors that count the causal order.
 use Rattle.std.specs.Prelude.{◌≡◌, ◌+◌, ◌<◌, ◌≤◌, length}
 use Rattle.std.proofs.Common.{arith, sym, subst, ⊎_elim, lt_of_not-le}
-use Rattle.operations.specs.declared.op_id.OpId.{OpId}
-use Rattle.operations.specs.History.{IsOp, Precedes, session}
+use Rattle.history.specs.declared.op_id.OpId.{OpId}
+use Rattle.history.specs.History.{IsOp, Precedes, session}
 use Rattle.causal_order.specs.GrowingOrders.{AreHeldVectors}
 use Rattle.causal_order.specs.Memory.{MemoryHistory}
-use Rattle.causal_order.specs.MemoryLaws.{write-of_history}
+use Rattle.causal_order.proofs.MemoryLaws.{write-of_history}
 use Rattle.causal_order.specs.Orders.{op}
-use Rattle.causal_order.specs.RelationsLaws.{leads-within}
+use Rattle.causal_order.proofs.RelationsLaws.{leads-within}
 use Rattle.causal_order.specs.SourceOrder.{CountsSourceOrder, IsSource, IsSourceEdge, SourceOrder}
 use Rattle.causal_order.specs.Vectors.{Counts, count}
 
