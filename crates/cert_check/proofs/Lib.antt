@@ -12,6 +12,5 @@ pub mod CutSteps
 pub mod ListForms
 pub mod ListReading
 pub mod CertificateForms
-pub mod InTurn
 pub mod ConvergentLaws
 pub mod FilteredLaws

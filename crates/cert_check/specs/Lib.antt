@@ -1,7 +1,6 @@
 pub mod Criteria
 pub mod Schedules
 pub mod Certificates
-pub mod ByProgramOrder
 pub mod DeskErrors
 pub mod Walks
 pub mod CertificateForm

@@ -4,7 +4,6 @@
 
 mod arbitrated;
 mod arbitration;
-mod by_program_order;
 mod case_file;
 mod cert_error;
 mod certificate;
@@ -14,7 +13,6 @@ mod desk_error;
 mod kept;
 pub mod laws;
 mod number;
-mod program_schedules;
 mod reading;
 mod reading_lists;
 mod scheduled;
@@ -22,7 +20,6 @@ mod shape;
 mod walk;
 
 pub use arbitration::Arbitration;
-pub use by_program_order::make_by_program_order;
 pub use case_file::CaseFile;
 pub use cert_error::CertError;
 pub use certificate::{Certificate, Schedules};

@@ -1,10 +1,11 @@
 //! Certificates by program order alone.
 
 ghost use Rattle.std.specs.Prelude.{◌≡◌, IfOk, IfSome, IsSome};
-ghost use Rattle.cert_check.specs.ByProgramOrder.{IsByProgramOrder};
+ghost use Rattle.certify.specs.ByProgramOrder.{IsByProgramOrder};
 ghost use Rattle.cert_check.specs.Certificates.{criterion_of, HasShapeOf};
 
-use cert_check::{Certificate, Criterion, make_by_program_order};
+use cert_check::{Certificate, Criterion};
+use certify::make_by_program_order;
 use history::History;
 use object_trait::SeqObject;
 use std::alloc::{AllocError, Global};

@@ -2,8 +2,8 @@ use Rattle.std.proofs.Common.{ℕ, List, length, sym, subst, ◌∙◌}
 use Rattle.std.specs.Prelude.{◌≡◌}
 use Rattle.history.specs.History.{session}
 use Rattle.cert_check.specs.Schedules.{times}
-use Rattle.cert_check.proofs.InTurn.{in_turn-all}
-use Rattle.cert_check.proofs.by_program_order.make_by_program_order.Goals as goal
+use Rattle.certify.proofs.InTurn.{in_turn-all}
+use Rattle.certify.proofs.by_program_order.make_by_program_order.Goals as goal
 
 pub returns-in_ok-list-in-Ccv-clause-shape : goal.returns-in_ok-list-in-Ccv-clause-shape
 returns-in_ok-list-in-Ccv-clause-shape g c = (

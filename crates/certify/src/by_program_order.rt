@@ -1,14 +1,12 @@
 //! Certificates by program order alone.
 
 ghost use Rattle.std.specs.Prelude.{◌≡◌, ◌++◌, length, replicate, IfOk, OnOk};
-ghost use Rattle.cert_check.specs.ByProgramOrder.{in_turn, IsByProgramOrder};
+ghost use Rattle.certify.specs.ByProgramOrder.{in_turn, IsByProgramOrder};
 ghost use Rattle.cert_check.specs.Certificates.{criterion_of, HasShapeOf};
 
-use crate::arbitration::Arbitration;
-use crate::certificate::Certificate;
-use crate::criterion::Criterion;
 use crate::program_schedules::own_schedules;
 use causal_order::program_order;
+use cert_check::{Arbitration, Certificate, Criterion};
 use history::History;
 use object_trait::SeqObject;
 use std::alloc::{AllocError, Global};

@@ -1,6 +1,6 @@
 use Rattle.causal_order.specs.Gathered.{AreGatheredBefore}
-use Rattle.cert_check.specs.ByProgramOrder.{IsOwnSchedule}
-use Rattle.cert_check.proofs.program_schedules.own_schedules.Given as goal
+use Rattle.certify.specs.ByProgramOrder.{IsOwnSchedule}
+use Rattle.certify.proofs.program_schedules.own_schedules.Given as goal
 
 -- the sessions so far have their schedules
 abbrev pub invariant-loop-session : goal.invariant-loop-session

@@ -7,7 +7,7 @@ use Rattle.std.proofs.lemmas.List.Sums.{sum_by-append}
 use Rattle.std.proofs.lemmas.List.Folds.{sum_by-replicate}
 use Rattle.history.specs.History.{Record, session}
 use Rattle.cert_check.specs.Schedules.{times}
-use Rattle.cert_check.specs.ByProgramOrder.{in_turn}
+use Rattle.certify.specs.ByProgramOrder.{in_turn}
 
 times-same : (n s : ℕ) → times s (replicate n s) ≡ n
 times-same n s =

@@ -1,9 +1,9 @@
 ghost use Rattle.std.specs.Prelude.{◌+◌, ◌<◌, ◌≤◌, length, IfOk, OnOk};
 ghost use Rattle.causal_order.specs.Gathered.{AreGatheredBefore};
 ghost use Rattle.causal_order.specs.Vectors.{HasOneEach};
-ghost use Rattle.cert_check.specs.ByProgramOrder.{AreOwnSchedules, IsOwnSchedule};
+ghost use Rattle.certify.specs.ByProgramOrder.{AreOwnSchedules, IsOwnSchedule};
 
-use crate::certificate::Schedules;
+use cert_check::Schedules;
 use history::History;
 use object_trait::SeqObject;
 use std::alloc::{AllocError, Global};

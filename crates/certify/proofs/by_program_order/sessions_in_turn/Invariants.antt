@@ -1,6 +1,6 @@
 use Rattle.std.proofs.Common.{◌≡◌}
-use Rattle.cert_check.specs.ByProgramOrder.{in_turn}
-use Rattle.cert_check.proofs.by_program_order.sessions_in_turn.Given as goal
+use Rattle.certify.specs.ByProgramOrder.{in_turn}
+use Rattle.certify.proofs.by_program_order.sessions_in_turn.Given as goal
 
 -- the sessions so far have had their turn
 abbrev pub invariant-loop-session : goal.invariant-loop-session

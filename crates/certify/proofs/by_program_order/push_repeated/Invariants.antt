@@ -1,5 +1,5 @@
 use Rattle.std.proofs.Common.{◌≡◌, ◌++◌, replicate}
-use Rattle.cert_check.proofs.by_program_order.push_repeated.Given as goal
+use Rattle.certify.proofs.by_program_order.push_repeated.Given as goal
 
 -- the number has been put so many times behind the others
 abbrev pub invariant-loop-index : goal.invariant-loop-index

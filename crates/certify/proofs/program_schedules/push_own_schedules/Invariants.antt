@@ -1,7 +1,7 @@
 use Rattle.std.proofs.Common.{◌≡◌, replicate}
 use Rattle.causal_order.specs.Gathered.{AreGatheredUpTo}
-use Rattle.cert_check.specs.ByProgramOrder.{IsOwnSchedule}
-use Rattle.cert_check.proofs.program_schedules.push_own_schedules.Given as goal
+use Rattle.certify.specs.ByProgramOrder.{IsOwnSchedule}
+use Rattle.certify.proofs.program_schedules.push_own_schedules.Given as goal
 
 -- the operations so far have their schedules, and the schedule is that of the last of them
 abbrev pub invariant-loop-index : goal.invariant-loop-index
