@@ -23,6 +23,10 @@ program_past-from : (o a : OpId) → a.session ≡ o.session → a.index ≤ o.i
 program_past-from o a same up_to =
     and_from (eqb a.session o.session) (leb a.index o.index) (eq-eqb a.session o.session same) (le-leb a.index o.index up_to)
 
+-- whether the vector of o counts an operation
+abbrev pub in_past : Counts → OpId → OpId → Bool
+in_past v o a = ltb a.index (count v o a.session)
+
 -- what is before an operation that is before o is before o
 pub program_past-earlier : (o p a : OpId) → IsTrue (program_past o p) → IsTrue (program_past p a) → IsTrue (program_past o a)
 program_past-earlier o p a before earlier =
@@ -120,17 +124,13 @@ module _ (h : MemoryHistory) where
   HB-of_history o a b happened = HBWithin-of_history o a b (HB-within o a b happened)
 
   module _ (v : Counts) (counts : CountsSourceOrder h v) (distinct : IsDifferentiated h) (o : OpId) (is_op : IsOp h o) where
-    -- whether the vector of o counts an operation
-    abbrev in_past : OpId → Bool
-    in_past a = ltb a.index (count v o a.session)
-
-    in_past-from : (a : OpId) → IsPast h o a → IsTrue (in_past a)
+    pub in_past-from : (a : OpId) → IsPast h o a → IsTrue (in_past v o a)
     in_past-from a past = lt-ltb a.index (count v o a.session) ((counts.counted o a is_op).1 (⊎_elim
         (λ (same : a ≡ o). inl same)
         (λ (before : CO h a o). inr (CO-by_sources h distinct a o before))
         past))
 
-    in_past-true : (a : OpId) → IsTrue (in_past a) → IsPast h o a
+    pub in_past-true : (a : OpId) → IsTrue (in_past v o a) → IsPast h o a
     in_past-true a counted = ⊎_elim
         (λ (same : a ≡ o). inl same)
         (λ (before : SourceOrder h a o). inr (CO-from_sources h a o before))
@@ -138,18 +138,18 @@ module _ (h : MemoryHistory) where
 
     -- an order without the pairs that are not in the past of o
     abbrev confined : Order → Order
-    confined order a b = in_past a && (in_past b && order a b)
+    confined order a b = in_past v o a && (in_past v o b && order a b)
 
     confined-parts : (order : Order) (a b : OpId) → IsTrue (confined order a b) → IsPast h o a × IsPast h o b × IsTrue (order a b)
     confined-parts order a b related =
-        let first = and_parts (in_past a) (in_past b && order a b) related in
-        let second = and_parts (in_past b) (order a b) first.1 in
+        let first = and_parts (in_past v o a) (in_past v o b && order a b) related in
+        let second = and_parts (in_past v o b) (order a b) first.1 in
         (in_past-true a first.0, in_past-true b second.0, second.1)
 
     confined-from : (order : Order) (a b : OpId) → IsPast h o a → IsPast h o b → IsTrue (order a b) → IsTrue (confined order a b)
     confined-from order a b in_a in_b related =
-        and_from (in_past a) (in_past b && order a b) (in_past-from a in_a)
-        (and_from (in_past b) (order a b) (in_past-from b in_b) related)
+        and_from (in_past v o a) (in_past v o b && order a b) (in_past-from a in_a)
+        (and_from (in_past v o b) (order a b) (in_past-from b in_b) related)
 
     confined-closed : (order : Order) → IsClosed h o order → IsClosedWithin h o (confined order)
     confined-closed order closed = record {
