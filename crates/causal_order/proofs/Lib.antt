@@ -16,6 +16,8 @@ pub mod Walked
 pub mod EarlierLaws
 pub mod GatheredLaws
 pub mod GrowingOrdersLaws
+pub mod HappenedBeforeLaws
+pub mod HappenedBeforeVectors
 pub mod ListedLaws
 pub mod MemoryLaws
 pub mod OrdersLaws

@@ -1,5 +1,4 @@
 -- What follows for the vectors of a history.
-use Rattle.std.specs.Prelude.{◌≡◌, ◌<◌, [], length, slice_index_or}
 use Rattle.std.proofs.Common.{arith}
 use Rattle.history.specs.declared.op_id.OpId.{OpId}
 use Rattle.history.specs.History.{Record, IsOp}

@@ -1,4 +1,6 @@
--- Orders of the operations of a history as vectors, while they grow.
+-- The state in which vectors grow. What stands here says of it only that it speaks of the history and that no count falls;
+-- nothing says that the vectors are those of an order. Nobody has to believe these definitions to trust an answer: but for
+-- AreHeldVectors, they cite the fields of the structs and change as the loop does.
 use Rattle.std.specs.Prelude.{◌≡◌, ℕ, ◌+◌, ◌*◌, ◌-◌, ◌<◌, ◌≤◌, length, All, slice_index}
 use Rattle.history.specs.declared.op_id.OpId.{OpId}
 use Rattle.history.specs.History.{IsOp, session}
@@ -7,7 +9,7 @@ use Rattle.causal_order.specs.declared.growing_order.GrowingOrder.{GrowingOrder}
 use Rattle.causal_order.specs.Memory.{MemoryHistory}
 use Rattle.causal_order.specs.Vectors.{Counts, count, AreVectorsOf}
 
--- how many steps an order is from being given up, with those that are not followed yet
+-- a bound on the steps until the state is given up, with those that are not followed yet
 abbrev pub left_of : GrowingOrder → ℕ
 left_of order = 2 * (100001 - order.added) + length order.pending.items
 
@@ -23,7 +25,7 @@ module _ (h : MemoryHistory) where
     pub vectors : AreVectorsOf h v
     pub held : (o : OpId) (s : ℕ) → IsOp h o → count v o s ≤ length (session h s)
 
-  -- the order is one of operations of the history
+  -- the state speaks of operations of the history, and of no more of each session than is there
   pub record IsGrowing (order : GrowingOrder) : Type 0 where
     pub counts : AreHeldVectors order.counts
     pub short : (s : ℕ) → length (session h s) ≤ 256
@@ -31,7 +33,7 @@ module _ (h : MemoryHistory) where
     pub past : (s : ℕ) → slice_index order.past.items s ≤ length (session h s)
     pub pending : All IsRaisedIn order.pending.items
 
-  -- an order has grown: no count has fallen, and it isn't farther from being given up
+  -- no count has fallen, and the state isn't farther from being given up
   pub record Grows (before after : GrowingOrder) : Type 0 where
     pub growing : IsGrowing after
     pub counts : (o : OpId) (s : ℕ) → count before.counts o s ≤ count after.counts o s

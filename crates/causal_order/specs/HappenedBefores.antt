@@ -1,4 +1,7 @@
--- The happened-before relations of the operations of a session, as vectors.
+-- The state in which the happened-before relations of the operations of a session are made, as vectors. What stands here
+-- says of it only that it speaks of the history, which operation is next and that no count falls; nothing says that the
+-- vectors are those of the relation HB. Nobody has to believe these definitions to trust an answer: they cite the fields of
+-- the structs and change as the loop does.
 use Rattle.std.specs.Prelude.{◌≡◌, ◌≢◌, ℕ, ◌+◌, ◌<◌, ◌≤◌, List, length, All, IfSome, Option, slice_index_or}
 use Rattle.history.specs.declared.op_id.OpId.{OpId}
 use Rattle.history.specs.History.{IsOp, session}
@@ -17,7 +20,7 @@ session_of happened = happened.session
 abbrev pub taken_of : HappenedBefore → ℕ
 taken_of happened = happened.taken
 
--- for each operation, how many operations of each session are before it
+-- its vectors
 abbrev pub vectors_of : HappenedBefore → Counts
 vectors_of happened = happened.order.counts
 
@@ -32,8 +35,8 @@ pub record IsStrict (sessions : ℕ) (v : Counts) (o : OpId) (xs : List ℕ) : T
   pub others : (s : ℕ) → s ≢ o.session → slice_index_or xs s 0 ≡ count v o s
 
 module _ (h : MemoryHistory) where
-  -- a source for each of so many operations, or none
-  pub record AreSourcesIn (n : ℕ) (sources : List (Option OpId)) : Type 0 where
+  -- for each of so many operations, an operation of the history or none
+  pub record AreOpsOrNone (n : ℕ) (sources : List (Option OpId)) : Type 0 where
     pub size : length sources ≡ n
     pub each : All (λ e. IfSome e (IsOp h)) sources
 
@@ -42,25 +45,25 @@ module _ (h : MemoryHistory) where
     pub own : (o : OpId) → IsOp h o → count strict o o.session ≡ o.index
     pub others : (o : OpId) (s : ℕ) → IsOp h o → s ≢ o.session → count strict o s ≡ count v o s
 
-  -- they are relations on operations of the history
-  pub record IsHappenedBefore (happened : HappenedBefore) : Type 0 where
+  -- the state speaks of operations of the history, holds its writes, and has taken in no more than its session has
+  pub record IsWellFormed (happened : HappenedBefore) : Type 0 where
     pub order : IsGrowing h happened.order
     pub exists : happened.session < length h.1
     pub taken : happened.taken ≤ length (session h happened.session)
     pub writes : ListsWrites h happened.writes.items
     pub by_variable : AreByVariable happened.writes.items
-    pub sources : AreSourcesIn (length (session h happened.session)) happened.sources.items
+    pub sources : AreOpsOrNone (length (session h happened.session)) happened.sources.items
 
-  -- the relation has grown, for the same operation
+  -- as many operations are taken in, and no vector counts less than before
   pub record HasGrown (before after : HappenedBefore) : Type 0 where
-    pub happened : IsHappenedBefore after
+    pub well_formed : IsWellFormed after
     pub order : Grows h before.order after.order
     pub session : session_of after ≡ session_of before
     pub taken : taken_of after ≡ taken_of before
 
-  -- the relation is that of the next operation, and no vector counts less than before
+  -- one operation more of the session is taken in, and no vector counts less than before
   pub record TakesNext (before after : HappenedBefore) : Type 0 where
-    pub happened : IsHappenedBefore after
+    pub well_formed : IsWellFormed after
     pub session : session_of after ≡ session_of before
     pub taken : taken_of after ≡ taken_of before + 1
     pub counts : (o : OpId) (s : ℕ) → count (vectors_of before) o s ≤ count (vectors_of after) o s

@@ -40,8 +40,9 @@ module _ (h : MemoryHistory) where
   abbrev pub IsPast : OpId → OpId → Type 0
   IsPast o a = (a ≡ o) ⊎ CO a o
 
-  -- an order on the past of o that contains CO there, is transitive, and puts a write that comes before a read of another
-  -- write of its variable before that write, where the read is o or before o in program order
+  -- an order that contains CO on the past of o, is transitive, and puts a write that comes before a read of another write
+  -- of its variable before that write, where the read is o or before o in program order; it may relate operations outside
+  -- the past of o too
   pub record IsClosed (o : OpId) (order : Order) : Type 0 where
     pub causal : (a b : OpId) → IsPast o a → IsPast o b → CO a b → IsTrue (order a b)
     pub transitive : (a b c : OpId) → IsTrue (order a b) → IsTrue (order b c) → IsTrue (order a c)
@@ -50,3 +51,12 @@ module _ (h : MemoryHistory) where
   -- the happened-before relation of o: what every such order has
   abbrev pub HB : OpId → OpId → OpId → Type 0
   HB o a b = (order : Order) → IsClosed o order → IsTrue (order a b)
+
+  -- such an order that relates operations of the past of o alone
+  pub record IsClosedWithin (o : OpId) (order : Order) : Type 0 where
+    pub closed : IsClosed o order
+    pub within : (a b : OpId) → IsTrue (order a b) → IsPast o a × IsPast o b
+
+  -- the happened-before relation of o with orders on the past of o alone: what every one of these has
+  abbrev pub HBWithin : OpId → OpId → OpId → Type 0
+  HBWithin o a b = (order : Order) → IsClosedWithin o order → IsTrue (order a b)

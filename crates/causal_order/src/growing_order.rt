@@ -54,6 +54,8 @@ pub struct Raise {
 ///
 /// Within a session no count falls from one operation to the next. An operation comes before itself where its vector
 /// counts more of its own session than its index.
+///
+/// What is proved of it: it speaks of operations of the history alone, and its counts only grow. The rest is tested.
 #[derive(Drop)]
 pub(crate) struct GrowingOrder {
     /// The vectors.

@@ -3,7 +3,7 @@
 ghost use Rattle.std.specs.Prelude.{◌≡◌, ◌+◌, ◌<◌, length, IfOk, IfSome, OnOk};
 ghost use Rattle.history.specs.History.{IsOp, session as operations_of};
 ghost use Rattle.causal_order.specs.GrowingOrders.{AreHeldVectors, IsRaisedIn};
-ghost use Rattle.causal_order.specs.HappenedBefores.{AreStrictOf, HasGrown, IsHappenedBefore, TakesNext, raises_of, session_of, taken_of, vectors_of};
+ghost use Rattle.causal_order.specs.HappenedBefores.{AreStrictOf, HasGrown, IsWellFormed, TakesNext, raises_of, session_of, taken_of, vectors_of};
 
 use crate::by_operation::Vectors;
 use crate::growing_order::{GrowingOrder, Raise, Raised};
@@ -15,6 +15,8 @@ use objects::Memory;
 use std::alloc::{AllocError, Global};
 
 /// What is known of the happened-before relation of an operation.
+///
+/// That these answers are right is tested, not proved.
 #[derive(Clone, Copy, Debug, PartialEq, Eq)]
 pub enum Saturation {
     /// The vectors are those of the relation, and no operation is before itself.
@@ -56,7 +58,7 @@ impl HappenedBefore {
     ) -> Result<HappenedBefore, AllocError>
         requires vectors { AreHeldVectors h.now vectors.now }
         requires exists { session < length h.now.1 }
-        ensures happened { IfOk result (IsHappenedBefore h.now) }
+        ensures well_formed { IfOk result (IsWellFormed h.now) }
         ensures session { IfOk result (λ happened. session_of happened ≡ session) }
         ensures taken { IfOk result (λ happened. taken_of happened ≡ 0) }
         ensures strict { IfOk result (λ happened. AreStrictOf h.now vectors.now (vectors_of happened)) }
@@ -76,13 +78,15 @@ impl HappenedBefore {
 
     /// Goes on to the happened-before relation of the session's next operation.
     ///
-    /// After a cyclic one those of the later operations are cyclic or given up, and after one that is given up all are. Fails for want of memory alone, and
-    /// the vectors are then those of no relation. O(q k^2 + m k log p) for q operations and m pairs that the relation
-    /// has more than before, and k sessions of at most p operations.
-    pub fn take_next(&mut self, h: &History<Memory>) -> Result<Saturation, AllocError>
-        requires happened { IsHappenedBefore h.now self.old }
-        requires next { taken_of self.old < length (operations_of h.now (session_of self.old)) }
-        ensures { OnOk result (TakesNext h.now self.old self.new) }
+    /// It is proved that this operation is taken in and that no vector counts less than before. That the vectors are then
+    /// those of its relation, where this isn't given up, is tested, not proved. After a cyclic relation those of the later
+    /// operations are cyclic or given up, and after one that is given up all are. Fails for want of memory alone, and
+    /// nothing is left then. O(q k^2 + m k log p) for q operations and m pairs that the relation has more than before, and
+    /// k sessions of at most p operations.
+    pub fn take_next(mut self, h: &History<Memory>) -> Result<HappenedBefore, AllocError>
+        requires well_formed { IsWellFormed h.now self }
+        requires next { taken_of self < length (operations_of h.now (session_of self)) }
+        ensures { IfOk result (TakesNext h.now self) }
     {
         let index = self.taken;
         let op = OpId {
@@ -93,31 +97,11 @@ impl HappenedBefore {
         self.taken += 1;
         self.follow_read_of_all(h, index)?;
         self.saturate(h)?;
-        Ok(self.saturation())
+        Ok(self)
     }
 
-    /// For each operation, how many operations of each session are before it. O(1).
-    ///
-    /// For an operation that is neither the last one taken in nor before it in the causal order, these are what the causal
-    /// order puts before it.
-    pub fn vectors(&self) -> &Vectors
-        ensures { result.now ≡ vectors_of self.now }
-    {
-        &self.order.counts
-    }
-
-    /// What was raised in the vectors, in turn.
-    ///
-    /// Each raise puts operations before an operation whose vector did not count them until then, and names the cause,
-    /// which rests on the causal order and on earlier raises. O(1).
-    pub fn raises(&self) -> &[Raise]
-        ensures { result.now ≡ raises_of self.now }
-    {
-        self.order.raises.as_slice()
-    }
-
-    /// What the last operation that was taken in came to.
-    fn saturation(&self) -> Saturation {
+    /// What the relation of the last operation that was taken in came to: tested, not proved. O(1).
+    pub fn saturation(&self) -> Saturation {
         if self.order.is_given_up() {
             Saturation::GivenUp
         } else if self.order.is_cyclic {
@@ -127,9 +111,29 @@ impl HappenedBefore {
         }
     }
 
+    /// For each operation, how many operations of each session are before it. O(1).
+    ///
+    /// For an operation that is neither the last one taken in nor before it in the causal order, these are what the causal
+    /// order puts before it. That they are so is tested, not proved.
+    pub fn vectors(&self) -> &Vectors
+        ensures { result.now ≡ vectors_of self.now }
+    {
+        &self.order.counts
+    }
+
+    /// What was raised in the vectors, in turn.
+    ///
+    /// Each raise puts operations before an operation whose vector did not count them until then, and names the cause,
+    /// which rests on the causal order and on earlier raises. That they do so is tested, not proved. O(1).
+    pub fn raises(&self) -> &[Raise]
+        ensures { result.now ≡ raises_of self.now }
+    {
+        self.order.raises.as_slice()
+    }
+
     /// Follows what was raised until nothing is left, or the order is given up.
     fn saturate(&mut self, h: &History<Memory>) -> Result<(), AllocError>
-        requires { IsHappenedBefore h.now self.old }
+        requires { IsWellFormed h.now self.old }
         ensures { OnOk result (HasGrown h.now self.old self.new) }
     {
         while let Some(raised) = self.order.next_raised(h) {
@@ -141,7 +145,7 @@ impl HappenedBefore {
 
     /// Puts the writes before the sources that what was raised demands.
     fn follow_reads(&mut self, h: &History<Memory>, raised: Raised) -> Result<(), AllocError>
-        requires happened { IsHappenedBefore h.now self.old }
+        requires well_formed { IsWellFormed h.now self.old }
         requires raised { IsRaisedIn h.now raised }
         ensures { OnOk result (HasGrown h.now self.old self.new) }
     {
@@ -156,7 +160,7 @@ impl HappenedBefore {
 
     /// Puts the writes of each session that are before a read of this session before its source.
     fn follow_read_of_all(&mut self, h: &History<Memory>, index: usize) -> Result<(), AllocError>
-        requires happened { IsHappenedBefore h.now self.old }
+        requires well_formed { IsWellFormed h.now self.old }
         requires index { index < length (operations_of h.now (session_of self.old)) }
         ensures { OnOk result (HasGrown h.now self.old self.new) }
     {
@@ -174,7 +178,7 @@ impl HappenedBefore {
         index: usize,
         session: usize,
     ) -> Result<(), AllocError>
-        requires happened { IsHappenedBefore h.now self.old }
+        requires well_formed { IsWellFormed h.now self.old }
         requires index { index < length (operations_of h.now (session_of self.old)) }
         requires exists { session < length h.now.1 }
         ensures { OnOk result (HasGrown h.now self.old self.new) }
@@ -194,7 +198,7 @@ impl HappenedBefore {
 
     /// The last operation of a session that is before a read and writes its variable.
     fn last_write(&self, h: &History<Memory>, read: OpId, session: usize) -> Option<OpId>
-        requires happened { IsHappenedBefore h.now self.now }
+        requires well_formed { IsWellFormed h.now self.now }
         requires is_op { IsOp h.now read }
         requires exists { session < length h.now.1 }
         ensures { IfSome result (IsOp h.now) }

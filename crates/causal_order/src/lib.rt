@@ -6,6 +6,7 @@ mod differentiation;
 mod growing_order;
 mod happened_before;
 mod last_writes;
+pub mod laws;
 mod order;
 mod placing;
 mod program_vectors;

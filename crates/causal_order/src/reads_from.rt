@@ -1,6 +1,6 @@
 ghost use Rattle.std.specs.Prelude.{◌<◌, length, IfOk, IfNone, IfSome, MatchOption};
 ghost use Rattle.history.specs.History.{session as operations_of};
-ghost use Rattle.causal_order.specs.HappenedBefores.{AreSourcesIn};
+ghost use Rattle.causal_order.specs.HappenedBefores.{AreOpsOrNone};
 ghost use Rattle.causal_order.specs.SourceOrder.{IsSourceOf, LacksSource, ListsSources, ListsSourcesBelow};
 ghost use Rattle.causal_order.specs.Written.{AreInOrder, IsSorted, ListsWrites};
 
@@ -68,7 +68,7 @@ pub(crate) fn known_sources(
     requires writes { ListsWrites h.now writes.now }
     requires sorted { IsSorted writes.now }
     requires in_order { AreInOrder writes.now }
-    ensures { IfOk result (λ sources. AreSourcesIn h.now (length (operations_of h.now session)) sources.items) }
+    ensures { IfOk result (λ sources. AreOpsOrNone h.now (length (operations_of h.now session)) sources.items) }
 {
     let mut sources = Vec::new(alloc);
     for index in 0..h.len(session as u64) {

@@ -1,5 +1,5 @@
 ghost use Rattle.std.specs.Prelude.{◌≡◌, ◌≢◌, ◌∷◌, ◌++◌, ◌<◌, ◌≤◌, ◌↔◌, ℕ, [], length, max, MatchOption, OnErr, OnOk, IsTrue, slice_index_or};
-ghost use Rattle.causal_order.specs.Topological.{AreSeen, AreSquare, CanGoOn, IsFullWalk, IsNext, placed};
+ghost use Rattle.causal_order.specs.Topological.{AreSeen, AreSquare, CanGoOn, IsFullWalk, IsNext, IsWalk, placed};
 
 use crate::by_operation::Vectors;
 use history::OpId;
@@ -62,13 +62,15 @@ impl Walk {
     /// until none can.
     ///
     /// A session can go on where its next operation has a vector, is below the session's limit, and all that its vector
-    /// counts of other sessions is placed. Fails for want of memory alone, and what was placed until then stays placed.
+    /// counts of other sessions is placed. Fails for want of memory alone, and what was placed by the rule until then stays
+    /// placed.
     /// O(p k + k^2) for p operations that are placed and k sessions.
     pub fn run_to(&mut self, vectors: &Vectors, limits: &[u16]) -> Result<(), AllocError>
         requires few { length vectors.now ≤ 16 }
         requires square { AreSquare vectors.now }
         requires limits { length limits.now ≡ length vectors.now }
         ensures rule { OnOk result (IsFullWalk vectors.now limits.now self.old self.new) }
+        ensures err { OnErr result (IsWalk vectors.now limits.now self.old self.new) }
         ensures within { (s : ℕ) → placed self.new s ≤ max (placed self.old s) (slice_index_or limits.now s 0) }
     {
         let mut seen = [0; MOST_SESSIONS];

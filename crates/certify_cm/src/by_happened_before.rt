@@ -6,7 +6,7 @@ ghost use Rattle.causal_order.specs.GrowingOrders.{AreHeldVectors};
 ghost use Rattle.causal_order.specs.SourceOrder.{CountsSourceOrder};
 ghost use Rattle.causal_order.specs.Vectors.{HasOneEach};
 ghost use Rattle.cert_check.specs.Certificates.{criterion_of, HasShapeOf, vectors_of};
-ghost use Rattle.certify_cm.specs.ByHappenedBefore.{IsByTurns};
+ghost use Rattle.certify_cm.specs.Turns.{TakesTurns};
 
 use crate::schedule::schedule_of;
 use causal_order::{HappenedBefore, Saturation, Vectors, memory_order};
@@ -22,7 +22,8 @@ use std::alloc::{AllocError, Global};
 /// The source of a known read of a value that is not the initial one is the first write of that value. The schedule takes
 /// the operations of its session in turn, up to it. Before each comes what the relation puts before it
 /// and isn't placed yet, by the topological rule. `None` where the order is cyclic, where a read has no source, or where
-/// the relation of some operation is cyclic or has more than 100,000 pairs that the order doesn't have. Whether the
+/// the relation of some operation is cyclic or has more than 100,000 pairs that the order doesn't have. That the schedules
+/// go by the relations, and that a relation is the reason where there is no certificate, is tested, not proved. Whether the
 /// certificate explains the known returns is for the checker of certificates to say. Fails for want of memory alone.
 /// O(n p k + n k (k^2 + log n) + m k^2 log p) for n operations of k sessions, pasts of at most p operations and m pairs
 /// more in each relation.
@@ -40,7 +41,7 @@ pub fn make_memory(alloc: Global, h: &History<Memory>) -> Result<Option<Certific
 /// The certificate that `make_memory` makes, for a caller that has the vectors of the order already.
 ///
 /// `None` where the happened-before relation of some operation is cyclic or has more than 100,000 pairs that the order
-/// doesn't have. Fails for want of memory alone. O(n p k + n k (k^2 + log n) + m k^2 log p) for n operations of k
+/// doesn't have: tested, not proved. Fails for want of memory alone. O(n p k + n k (k^2 + log n) + m k^2 log p) for n operations of k
 /// sessions, pasts of at most p operations and m pairs more in each relation.
 pub fn make_by_order(
     alloc: Global,
@@ -88,13 +89,14 @@ fn push_schedules(
     requires vectors { AreHeldVectors h.now vectors.now }
     requires few { length h.now.1 ≤ 16 }
     requires exists { session < length h.now.1 }
-    requires so_far { AreGatheredBefore h.now IsByTurns session schedules.old }
-    ensures { IfOk result (λ all. IsTrue all → AreGatheredBefore h.now IsByTurns (session + 1) schedules.new) }
+    requires so_far { AreGatheredBefore h.now TakesTurns session schedules.old }
+    ensures { IfOk result (λ all. IsTrue all → AreGatheredBefore h.now TakesTurns (session + 1) schedules.new) }
 {
     let mut happened = HappenedBefore::of(alloc, h, vectors, session)?;
     schedules.push_session()?;
     for index in 0..h.len(session as u64) {
-        if happened.take_next(h)? != Saturation::Saturated {
+        happened = happened.take_next(h)?;
+        if happened.saturation() != Saturation::Saturated {
             return Ok(false);
         }
         let op = OpId {

@@ -11,7 +11,8 @@ use objects::Memory;
 use std::alloc::{AllocError, Global};
 
 /// A walk through what is before an operation, by vectors of what is before each, and through the operation: each of its
-/// session in turn up to it, before it by the topological rule what its vector counts and isn't placed yet.
+/// session in turn up to it, before it by the topological rule what its vector counts and isn't placed yet. What the
+/// vectors count is for the caller to say.
 ///
 /// Fails for want of memory alone. O(p k) for p operations that are before it, of k sessions.
 pub fn schedule_of(

@@ -8,6 +8,8 @@ use objects::Memory;
 use std::alloc::{AllocError, Global};
 
 /// The happened-before relation of the last operation of a session, and how it was made.
+///
+/// What it tells is tested, not proved: a derivation that is made from it is checked.
 #[derive(Drop)]
 pub struct Relation {
     op: OpId,
@@ -32,7 +34,8 @@ impl Relation {
         let mut happened = HappenedBefore::of(alloc, h, vectors, session)?;
         let mut last = None;
         for index in 0..h.len(session as u64) {
-            if happened.take_next(h)? == Saturation::GivenUp {
+            happened = happened.take_next(h)?;
+            if happened.saturation() == Saturation::GivenUp {
                 return Ok(None);
             }
             last = Some(OpId {

@@ -1,14 +1,14 @@
 use Rattle.std.proofs.Common.{◌≡◌}
 use Rattle.causal_order.specs.Gathered.{AreGatheredUpTo}
-use Rattle.causal_order.specs.HappenedBefores.{IsHappenedBefore, session_of, taken_of}
-use Rattle.certify_cm.specs.ByHappenedBefore.{IsByTurns}
+use Rattle.causal_order.specs.HappenedBefores.{IsWellFormed, session_of, taken_of}
+use Rattle.certify_cm.specs.Turns.{TakesTurns}
 use Rattle.certify_cm.proofs.by_happened_before.push_schedules.Given as goal
 
 -- the operations so far are taken in and have their schedules
 abbrev pub invariant-loop-index : goal.invariant-loop-index
 invariant-loop-index l = record {
-  so_far : AreGatheredUpTo l.h IsByTurns l.session l.index l.schedules;
-  happened : IsHappenedBefore l.h l.happened;
+  so_far : AreGatheredUpTo l.h TakesTurns l.session l.index l.schedules;
+  well_formed : IsWellFormed l.h l.happened;
   session : session_of l.happened ≡ l.session;
   taken : taken_of l.happened ≡ l.index;
 }

@@ -17,6 +17,6 @@ below-of_history h writes x s n i lists below =
 pub returns : goal.returns
 returns c =
     let end = c.end_of_writes-end.result in
-    let lists = subst (λ (writes : List Write). ListsWrites c.args.h.now writes) (sym c.deref.ensures.value) c.requires.happened.writes in
+    let lists = subst (λ (writes : List Write). ListsWrites c.args.h.now writes) (sym c.deref.ensures.value) c.requires.well_formed.writes in
     below-of_history c.args.h.now c.deref.result.now c.call.result.key c.args.session c.count-count.result (end - 1) lists
     ((c.end_of_writes-end.ensures (end - 1)).0 (omega arith))

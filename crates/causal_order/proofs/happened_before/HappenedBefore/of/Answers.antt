@@ -2,8 +2,8 @@ use Rattle.std.proofs.Common.{arith}
 use Rattle.causal_order.proofs.Listed.{ListsWrites-permutation}
 use Rattle.causal_order.proofs.happened_before.HappenedBefore.of.Goals as goal
 
-pub returns-clause-happened : goal.returns-clause-happened
-returns-clause-happened c = record {
+pub returns-clause-well_formed : goal.returns-clause-well_formed
+returns-clause-well_formed c = record {
   order = c.in_ok-order.ensures.growing;
   exists = c.requires.exists;
   taken = omega arith;
