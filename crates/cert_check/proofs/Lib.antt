@@ -15,3 +15,5 @@ pub mod CertificateForms
 pub mod InTurn
 pub mod ConvergentLaws
 pub mod FilteredLaws
+pub mod ReadPieces
+pub mod WalkedSchedules
