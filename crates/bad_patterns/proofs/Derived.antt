@@ -13,7 +13,8 @@ use Rattle.bad_patterns.specs.declared.derivation.Line.{Line}
 use Rattle.bad_patterns.specs.declared.derivation.Line.TheVariants.{Co, Tr, Rf}
 use Rattle.bad_patterns.specs.Derivations.{Pair, Gives, GivesJoinedPair, GivesRivalPair, GivePairs, IsDerivation}
 use Rattle.bad_patterns.proofs.Leads.{goes-leads, goes-past, past-before}
-use Rattle.bad_patterns.proofs.ReadPasts.{take-from, itself}
+use Rattle.causal_order.proofs.Fronts.{take-from}
+use Rattle.bad_patterns.proofs.ReadPasts.{itself}
 
 module _ (h : MemoryHistory) (distinct : IsDifferentiated h) where
   -- a read reads from one write

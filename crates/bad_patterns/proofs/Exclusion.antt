@@ -15,7 +15,7 @@ use Rattle.cert_check.proofs.ConvergentLaws.{cut_is_linearization}
 use Rattle.bad_patterns.specs.declared.kind.Kind.{Kind}
 use Rattle.bad_patterns.specs.declared.kind.Kind.TheVariants.{CyclicCO, ThinAirRead, WriteCOInitRead, WriteCORead, WriteHBInitRead, CyclicHB, CyclicCF}
 use Rattle.bad_patterns.specs.Kinds.{is_against, Shows}
-use Rattle.bad_patterns.proofs.LastWrites.{IsUnwritten, IsLastWrite}
+use Rattle.causal_order.proofs.LastWrites.{IsUnwritten, IsLastWrite}
 use Rattle.bad_patterns.proofs.Leads.{leads_in}
 use Rattle.bad_patterns.proofs.ReadPasts.{place, stands_before, value-cases, no_write_before, source-stands, source-before}
 

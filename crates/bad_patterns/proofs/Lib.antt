@@ -3,7 +3,6 @@ pub mod Exclusion
 pub mod Standing
 pub mod MemoryExclusion
 pub mod First
-pub mod LastWrites
 pub mod Leads
 pub mod Derived
 pub mod DerivedEnds

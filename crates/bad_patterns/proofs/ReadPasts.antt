@@ -11,34 +11,14 @@ use Rattle.causal_order.specs.Orders.{Order, Ops, only, past, StandsAt, IsLinear
 use Rattle.causal_order.specs.Memory.{MemoryCall, MemoryHistory, memory_answer, initial, Writes, Reads, IsDifferentiated}
 use Rattle.cert_check.specs.Criteria.{Explains}
 use Rattle.cert_check.proofs.ConvergentLaws.{only-same}
-use Rattle.bad_patterns.proofs.LastWrites.{IsUnwritten, IsLastWrite, answer-cases}
-
-module _ {X : Type 0} where
-  -- what stands in the front part of a list stands in the list
-  pub take-from : (n : ℕ) (xs : List X) (k : ℕ) (a : X) → slice_get (take n xs) k ≡ Some a → (k < n) × (slice_get xs k ≡ Some a)
-  take-from zero xs k a at = absurd cc
-  take-from (suc n) [] k a at = absurd cc
-  take-from (suc n) (x ∷ xs) zero a at = (omega arith, at)
-  take-from (suc n) (x ∷ xs) (suc k) a at = let rest = take-from n xs k a at in (omega arith, rest.1)
-
-  -- what stands before a place stands in the part before it
-  pub take-stands : (n : ℕ) (xs : List X) (k : ℕ) (a : X) → k < n → slice_get xs k ≡ Some a → slice_get (take n xs) k ≡ Some a
-  take-stands zero xs k a below at = absurd (omega arith)
-  take-stands (suc n) [] k a below at = absurd cc
-  take-stands (suc n) (x ∷ xs) zero a below at = at
-  take-stands (suc n) (x ∷ xs) (suc k) a below at = take-stands n xs k a (omega arith) at
+use Rattle.causal_order.proofs.Fronts.{take-from, take-stands}
+use Rattle.causal_order.proofs.MemoryLaws.{write-or_read}
+use Rattle.causal_order.proofs.LastWrites.{IsUnwritten, IsLastWrite, answer-cases}
 
 pub itself : (r : OpId) → IsTrue (only r r)
 itself r = and_from (r.session == r.session) (r.index == r.index) (eq-eqb r.session r.session refl) (eq-eqb r.index r.index refl)
 
 module _ (h : MemoryHistory) where
-  -- a write is no read
-  pub write-or_read : (a b : OpId) (x v y u : ℕ) → Writes h a x v → Reads h b y u → a ≢ b
-  write-or_read a b x v y u writes reads same =
-      let here : Writes h b x v = rw (← same) writes in
-      let both = sym here ∙ ap (option_map (λ (e : MemoryCall × Option RegisterRet). e.0)) reads in
-      let call : Write v ≡ Read = ap (λ (c : MemoryCall). c.call) (same_Some _ _ both) in absurd cc
-
   -- a known read at a place of a list that explains it
   module _ (distinct : IsDifferentiated h) (ops : List OpId) (set : Ops) (explains : Explains memory_answer h ops set)
       (r : OpId) (kept : IsTrue (set r)) (n : ℕ) (stands : StandsAt ops n r) (x v : ℕ) (reads : Reads h r x v) where
@@ -105,6 +85,6 @@ module _ (h : MemoryHistory) where
     source-before other w wrote =
         let there = source-stands other w wrote in
         ⊎_elim
-        (λ (alone : IsTrue (only r w)). absurd (write-or_read w r x v x v wrote reads (only-same r w alone)))
+        (λ (alone : IsTrue (only r w)). absurd (write-or_read h w r x v x v wrote reads (only-same r w alone)))
         (λ (before : IsTrue (co w r)). before)
         (or_cases (only r w) (co w r) (linear.no_other there.0 w there.1))

@@ -22,7 +22,7 @@ use Rattle.bad_patterns.proofs.Derived.{derivation-sound}
 use Rattle.bad_patterns.proofs.MemoryExclusion.{initial_read_HB-excluded, cyclic_HB-excluded}
 use Rattle.bad_patterns.proofs.Exclusion.{consistency-excluded, convergence-excluded}
 use Rattle.bad_patterns.proofs.Leads.{leads-step, goes-leads, goes-apart}
-use Rattle.bad_patterns.proofs.ReadPasts.{write-or_read}
+use Rattle.causal_order.proofs.MemoryLaws.{write-or_read}
 
 module _ (h : MemoryHistory) where
   -- a step of a cycle of the causal order and conflicts

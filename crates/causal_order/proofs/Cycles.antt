@@ -9,7 +9,7 @@ use Rattle.causal_order.proofs.RelationsLaws.{leads-edge, leads-first, leads-lea
 use Rattle.causal_order.specs.Sources.{Sources, IsListed, AreListed, IsStep, Comes, IsUnfinished, next, IsReady}
 use Rattle.causal_order.specs.Vectors.{Counts}
 use Rattle.causal_order.proofs.PushedLaws.{listed-length}
-use Rattle.causal_order.proofs.RepeatsLaws.{repeats}
+use Rattle.causal_order.proofs.WaitingCycles.{waiting-cycle}
 
 -- the session of a source, or the one that is given
 abbrev session_or : ℕ → Option (Option OpId) → ℕ
@@ -54,32 +54,9 @@ module _ (sources : Sources) (v : Counts) (listed : AreListed sources) where
               (cases_eq (length (get_or v w.session [])) w.index),
         )
 
-  module _ (none_ready : (s : ℕ) → ¬ IsReady sources v s) (s : ℕ) (unfinished : IsUnfinished sources v s) where
-    -- the sessions that wait for one another, from s on
-    walk : ℕ → ℕ
-    walk zero = s
-    walk (suc j) = waits_for (walk j)
-
-    walk-unfinished : (j : ℕ) → IsUnfinished sources v (walk j)
-    unfolding walk
-    walk-unfinished zero = unfinished
-    walk-unfinished (suc j) = (waiting (walk j) (walk-unfinished j) (none_ready (walk j)) _ refl).0
-
-    walk-step : (j : ℕ) → Comes sources (next v (walk (suc j))) (next v (walk j))
-    unfolding walk
-    walk-step j = (waiting (walk j) (walk-unfinished j) (none_ready (walk j)) _ refl).1
-
-    walk-comes : (i j : ℕ) → i < j → Comes sources (next v (walk j)) (next v (walk i))
-    walk-comes i zero below = absurd (omega arith)
-    walk-comes i (suc j) below = ⊎_elim
-        (λ (before : i < j). leads-leads (IsStep sources) _ _ _ (walk-step j) (walk-comes i j before))
-        (λ (after : j ≤ i). let here : j ≡ i = omega arith in
-        subst (λ (n : ℕ). Comes sources (next v (walk (suc j))) (next v (walk n))) here (walk-step j))
-        (cases_lt i j)
-
-    -- where no session is ready and one is unfinished, some operation comes before itself
-    pub stuck-cycle : (a : OpId) × Comes sources a a
-    stuck-cycle =
-        let again = repeats (length sources) walk (λ j _. listed-length sources (walk j) _ (walk-unfinished j)) in
-        let comes = walk-comes again.0 again.1 again.2 in
-        (next v (walk again.0), subst (λ (t : ℕ). Comes sources (next v t) (next v (walk again.0))) (sym again.4) comes)
+  -- where no session is ready and one is unfinished, some operation comes before itself
+  pub stuck-cycle : ((s : ℕ) → ¬ IsReady sources v s) → (s : ℕ) → IsUnfinished sources v s → (a : OpId) × Comes sources a a
+  stuck-cycle none_ready = waiting-cycle (IsUnfinished sources v) (next v) (Comes sources) (length sources)
+      (λ t open_t. listed-length sources t _ open_t)
+      (λ t open_t. let before = waiting t open_t (none_ready t) _ refl in (waits_for t, before.0, before.1))
+      (leads-leads (IsStep sources))

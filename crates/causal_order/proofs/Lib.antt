@@ -27,3 +27,11 @@ pub mod RepeatsLaws
 pub mod SourcedLaws
 pub mod TopologicalLaws
 pub mod VectorsLaws
+pub mod WaitingCycles
+pub mod FullWalks
+pub mod SourceVectors
+pub mod ClosedLimits
+pub mod LastWrites
+pub mod Fronts
+pub mod ReadAnswers
+pub mod SourcesExist

@@ -1,8 +1,8 @@
 -- What follows for the writes and reads of a memory history.
-use Rattle.std.specs.Prelude.{◌≡◌, ℕ, Option, Some, None, option_map}
+use Rattle.std.specs.Prelude.{◌≡◌, ◌≢◌, ℕ, Option, Some, None, option_map}
 use Rattle.std.proofs.Common.{ap, sym, ◌∙◌}
 use Rattle.std.proofs.lemmas.Option.{slice_get_within, same_Some}
-use Rattle.objects.specs.declared.register.RegisterCall.TheVariants.{Write}
+use Rattle.objects.specs.declared.register.RegisterCall.TheVariants.{Write, Read}
 use Rattle.objects.specs.declared.register.RegisterRet.{RegisterRet}
 use Rattle.objects.specs.declared.register.RegisterRet.TheVariants.{Value}
 use Rattle.history.specs.declared.op_id.OpId.{OpId}
@@ -35,3 +35,10 @@ module _ (h : MemoryHistory) where
 
   pub read-of_history : (a : OpId) (x v : ℕ) → Reads h a x v → IsOp h a
   read-of_history a x v reads = slice_get_within (session h a.session) a.index _ reads
+
+  -- a write is no read
+  pub write-or_read : (a b : OpId) (x v y u : ℕ) → Writes h a x v → Reads h b y u → a ≢ b
+  write-or_read a b x v y u writes reads same =
+      let here : Writes h b x v = rw (← same) writes in
+      let both = sym here ∙ ap (option_map (λ (e : MemoryCall × Option RegisterRet). e.0)) reads in
+      let call : Write v ≡ Read = ap (λ (c : MemoryCall). c.call) (same_Some _ _ both) in absurd cc

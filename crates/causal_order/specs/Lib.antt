@@ -12,3 +12,5 @@ pub mod ProgramOrder
 pub mod Topological
 pub mod GrowingOrders
 pub mod HappenedBefores
+pub mod OverwrittenReads
+pub mod MemoryHistories

@@ -14,3 +14,5 @@ pub mod ListReading
 pub mod CertificateForms
 pub mod ConvergentLaws
 pub mod FilteredLaws
+pub mod ReadPieces
+pub mod WalkedSchedules

@@ -3,6 +3,7 @@
 
 mod by_program_order;
 mod by_sources;
+pub mod laws;
 mod schedule;
 
 pub use by_program_order::make;

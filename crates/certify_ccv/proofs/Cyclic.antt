@@ -11,7 +11,8 @@ use Rattle.causal_order.specs.Orders.{op}
 use Rattle.causal_order.proofs.OrdersLaws.{session-of_history}
 use Rattle.causal_order.specs.Relations.{Leads}
 use Rattle.causal_order.proofs.RelationsLaws.{leads-edge, leads-first, leads-leads}
-use Rattle.causal_order.proofs.RepeatsLaws.{repeats}
+use Rattle.causal_order.proofs.FullWalks.{missing}
+use Rattle.causal_order.proofs.WaitingCycles.{waiting-cycle}
 use Rattle.causal_order.specs.SourceOrder.{CountsSourceOrder, IsSourceEdge, SourceOrder}
 use Rattle.causal_order.specs.Topological.{placed, next_of}
 use Rattle.causal_order.specs.Vectors.{Counts, count, list_of, AreVectorsOf}
@@ -56,24 +57,6 @@ module _ (h : MemoryHistory) where
               (cases_eq j (placed list t)),
         )
 
-    -- a session other than s of which more is counted than is placed
-    missing : (s : ℕ) (counts : List ℕ) (n : ℕ)
-        → ((t : ℕ) × (t ≢ s) × (placed list t < get_or counts t 0)) ⊎ ((t : ℕ) → t < n → t ≢ s → get_or counts t 0 ≤ placed list t)
-    missing s counts zero = inr (λ t below apart. absurd (omega arith))
-    missing s counts (suc n) = ⊎_elim
-        (λ (found : (t : ℕ) × (t ≢ s) × (placed list t < get_or counts t 0)). inl found)
-        (λ (none : (t : ℕ) → t < n → t ≢ s → get_or counts t 0 ≤ placed list t). ⊎_elim
-        (λ (own : n ≡ s). inr (λ t below apart. none t (let other : t ≢ n = λ same. apart (rw same own) in omega arith) apart))
-        (λ (other : n ≢ s). ⊎_elim
-        (λ (more : placed list n < get_or counts n 0). inl (n, other, more))
-        (λ (enough : get_or counts n 0 ≤ placed list n). inr (λ t below apart. ⊎_elim
-        (λ (same : t ≡ n). subst (λ (r : ℕ). get_or counts r 0 ≤ placed list r) (sym same) enough)
-        (λ (before : t ≢ n). none t (omega arith) apart)
-        (cases_eq t n)))
-        (cases_lt (placed list n) (get_or counts n 0)))
-        (cases_eq n s))
-        (missing s counts n)
-
     module _ (v : Counts) (order : CountsSourceOrder h v) (rows : Counts) (shape : AreVectorsOf h rows) (each : (o : OpId) → IsOp h o → IsRow h v (length h.1) o (list_of rows o))
         (over : IsWalkOver rows list) where
       waiting : (s : ℕ) → IsOpen s → Waits s
@@ -100,7 +83,7 @@ module _ (h : MemoryHistory) where
                 omega arith)
                 (cases_lt t (length h.1));
           })))
-          (missing s (list_of rows o) (length h.1)))
+          (missing list s (list_of rows o) (length h.1)))
           (λ (past : get_or over.limits s 0 ≤ placed list s).
           let within = over.within s in
           let last : placed list s ≡ get_or over.limits s 0 = omega arith in
@@ -113,27 +96,7 @@ module _ (h : MemoryHistory) where
           waits-for s s part.0 (omega arith) (part-first h v order o (op s part.0) is_op apart part.2))
           (cases_lt (placed list s) (get_or over.limits s 0))
 
-      module _ (s : ℕ) (open_s : IsOpen s) where
-        -- the sessions that wait for one another, from s on
-        line : ℕ → (t : ℕ) × IsOpen t
-        line zero = (s, open_s)
-        line (suc j) = ((waiting (line j).0 (line j).1).0, (waiting (line j).0 (line j).1).1)
-
-        line-step : (j : ℕ) → Leads (ComesFirst h) (next_of list (line (suc j)).0) (next_of list (line j).0)
-        unfolding line
-        line-step j = (waiting (line j).0 (line j).1).2
-
-        line-leads : (i j : ℕ) → i < j → Leads (ComesFirst h) (next_of list (line j).0) (next_of list (line i).0)
-        line-leads i zero below = absurd (omega arith)
-        line-leads i (suc j) below = ⊎_elim
-            (λ (before : i < j). leads-leads (ComesFirst h) _ _ _ (line-step j) (line-leads i j before))
-            (λ (after : j ≤ i). let here : j ≡ i = omega arith in
-            subst (λ (n : ℕ). Leads (ComesFirst h) (next_of list (line (suc j)).0) (next_of list (line n).0)) here (line-step j))
-            (cases_lt i j)
-
-        -- some operation has to stand before itself
-        pub open-cycle : (a : OpId) × Leads (ComesFirst h) a a
-        open-cycle =
-            let again = repeats (length h.1) (λ j. (line j).0) (λ j up_to. session-of_history h (next_of list (line j).0) (line j).1) in
-            let comes = line-leads again.0 again.1 again.2 in
-            (next_of list (line again.0).0, subst (λ (t : ℕ). Leads (ComesFirst h) (next_of list t) (next_of list (line again.0).0)) (sym again.4) comes)
+      -- some operation has to stand before itself
+      pub open-cycle : (s : ℕ) → IsOpen s → (a : OpId) × Leads (ComesFirst h) a a
+      open-cycle = waiting-cycle IsOpen (next_of list) (Leads (ComesFirst h)) (length h.1)
+          (λ t open_t. session-of_history h (next_of list t) open_t) waiting (leads-leads (ComesFirst h))

@@ -2,3 +2,4 @@ pub mod SourcedReads
 pub mod Raised
 pub mod ByRule
 pub mod Cyclic
+pub mod Explained

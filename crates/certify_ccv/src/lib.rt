@@ -3,6 +3,7 @@
 
 mod by_conflicts;
 mod by_program_order;
+pub mod laws;
 mod limits;
 mod rows;
 mod sourced_reads;

@@ -1,7 +1,7 @@
 -- What a memory answers to a read comes from the last write of the variable in the list of operations before it.
-use Rattle.std.proofs.Common.{◌≡◌, ℕ, zero, suc, ◌≤◌, ◌⊎◌, inl, inr, ⊎_elim, true, false, cond, List, [], ◌∷◌, map, ap, ◌∙◌, refl, eqb-true, eq-eqb, arith}
+use Rattle.std.proofs.Common.{◌≡◌, ℕ, zero, suc, ◌≤◌, ◌⊎◌, inl, inr, ⊎_elim, true, false, cond, List, [], ◌∷◌, map, ap, sym, subst, ◌∙◌, refl, eqb-true, eq-eqb, arith}
 use Rattle.std.specs.List.{cons_option}
-use Rattle.std.specs.Prelude.{Option, Some, None, option_map, filter, ◌==◌}
+use Rattle.std.specs.Prelude.{Option, Some, None, option_map, slice_get, filter, ◌==◌}
 use Rattle.std.proofs.lemmas.Option.{same_Some}
 use Rattle.objects.specs.declared.register.RegisterCall.{RegisterCall}
 use Rattle.objects.specs.declared.register.RegisterCall.TheVariants.{Write, Read}
@@ -11,6 +11,7 @@ use Rattle.objects.specs.Register.{last_written}
 use Rattle.objects.specs.Keyed.{calls_at}
 use Rattle.history.specs.declared.op_id.OpId.{OpId}
 use Rattle.history.specs.History.{entry, calls}
+use Rattle.causal_order.proofs.MemoryLaws.{same_written}
 use Rattle.causal_order.specs.Orders.{StandsAt}
 use Rattle.causal_order.specs.Memory.{MemoryCall, MemoryHistory, memory_answer, initial, Writes}
 
@@ -99,7 +100,7 @@ module _ (h : MemoryHistory) (x : ℕ) where
   }
 
   -- what was written last is the start, and the variable is unwritten, or it is of the last write
-  written-cases : (start : ℕ) (ops : List OpId)
+  pub written-cases : (start : ℕ) (ops : List OpId)
       → (IsUnwritten ops × (written_by start ops ≡ start)) ⊎ ((w : OpId) × IsLastWrite ops w (written_by start ops))
   written-cases start [] = inl ((λ k a u stands writes. absurd cc), refl)
   written-cases start (a ∷ ops) =
@@ -126,3 +127,30 @@ module _ (h : MemoryHistory) (x : ℕ) where
       (λ (none : IsUnwritten ops × (written_by (initial h x) ops ≡ initial h x)). inl (none.0, last ∙ none.1))
       (λ (some : (w : OpId) × IsLastWrite ops w (written_by (initial h x) ops)). inr (some.0, rw last some.1))
       (written-cases (initial h x) ops)
+
+  -- after a list whose last write of the variable is known, a memory answers what it writes
+  pub last_write-answers : (ops : List OpId) (w : OpId) (v : ℕ) → IsLastWrite ops w v
+      → Value v ≡ memory_answer h.0 (calls h ops) (record { key = x; call = Read })
+  last_write-answers ops w v last =
+      let value : written_by (initial h x) ops ≡ v = ⊎_elim
+      (λ (none : IsUnwritten ops × (written_by (initial h x) ops ≡ initial h x)). absurd (none.0 last.place w v last.stands last.writes))
+      (λ (some : (b : OpId) × IsLastWrite ops b (written_by (initial h x) ops)).
+      let first = last.last some.1.place some.0 _ some.1.stands some.1.writes in
+      let second = some.1.last last.place w v last.stands last.writes in
+      let same : some.1.place ≡ last.place = omega arith in
+      let one : some.0 ≡ w = same_Some some.0 w (sym some.1.stands ∙ ap (slice_get ops) same ∙ last.stands) in
+      (same_written h w x (written_by (initial h x) ops) x v
+      (subst (λ (o : OpId). Writes h o x (written_by (initial h x) ops)) one some.1.writes) last.writes).1)
+      (written-cases (initial h x) ops) in
+      ap Value (sym value)
+
+  -- after a list that doesn't write the variable it answers the initial value
+  pub unwritten-answers : (ops : List OpId) → IsUnwritten ops
+      → Value (initial h x) ≡ memory_answer h.0 (calls h ops) (record { key = x; call = Read })
+  unwritten-answers ops unwritten =
+      let value : written_by (initial h x) ops ≡ initial h x = ⊎_elim
+      (λ (none : IsUnwritten ops × (written_by (initial h x) ops ≡ initial h x)). none.1)
+      (λ (some : (b : OpId) × IsLastWrite ops b (written_by (initial h x) ops)).
+      absurd (unwritten some.1.place some.0 _ some.1.stands some.1.writes))
+      (written-cases (initial h x) ops) in
+      ap Value (sym value)

@@ -1,0 +1,3 @@
+pub mod SourceLimits
+pub mod SourceSchedules
+pub mod Explained

@@ -1,0 +1,19 @@
+//! What holds of these certificates. The functions do nothing: what they ensure is the law.
+
+ghost use Rattle.causal_order.specs.Memory.{MemoryHistory, memory_answer};
+ghost use Rattle.causal_order.specs.MemoryHistories.{IsMemoryHistory};
+ghost use Rattle.causal_order.specs.OverwrittenReads.{HasOverwrittenRead, HasOverwrittenStart};
+ghost use Rattle.cert_check.specs.Certificates.{IsExplainedThroughout};
+ghost use Rattle.certify_cc.specs.BySources.{IsBySources};
+
+use cert_check::Certificate;
+
+/// On distinct values, where no bad pattern against causal consistency is present, every piece of the certificate made by
+/// sources explains its operation.
+///
+/// Of these patterns a cycle of the causal order and a read from thin air leave no such certificate, so that the law asks
+/// for the two others alone. It holds of values that are not distinct too.
+pub fn certificates_by_sources_explain()
+    ensures { (h : MemoryHistory) (c : Certificate) → IsMemoryHistory h → ¬ HasOverwrittenStart h → ¬ HasOverwrittenRead h
+        → IsBySources h c → IsExplainedThroughout memory_answer h c }
+{}

@@ -1,0 +1,20 @@
+//! What holds of these certificates. The functions do nothing: what they ensure is the law.
+
+ghost use Rattle.causal_order.specs.Memory.{MemoryHistory, memory_answer};
+ghost use Rattle.causal_order.specs.MemoryHistories.{IsMemoryHistory};
+ghost use Rattle.causal_order.specs.OverwrittenReads.{HasOverwrittenStart};
+ghost use Rattle.cert_check.specs.Certificates.{HasShapeOf, IsExplainedThroughout};
+ghost use Rattle.certify_ccv.specs.ByConflicts.{IsByConflicts};
+
+use cert_check::Certificate;
+
+/// On distinct values, where no bad pattern against causal convergence is present, every piece of the certificate made by
+/// conflicts explains its operation.
+///
+/// Of these patterns a cycle of the causal order and its conflicts and a read from thin air leave no such certificate, and
+/// an overwritten read makes such a cycle, so that the law asks for reads of overwritten initial values alone. It holds of
+/// values that are not distinct too.
+pub fn certificates_by_conflicts_explain()
+    ensures { (h : MemoryHistory) (c : Certificate) → IsMemoryHistory h → ¬ HasOverwrittenStart h → HasShapeOf h c
+        → IsByConflicts h c → IsExplainedThroughout memory_answer h c }
+{}
