@@ -71,7 +71,8 @@ impl<O: Spelled> Named for Keyed<O> {
         call: KeyedCall<O::Call>,
         ret: Option<O::Ret>,
     ) -> Result<Value, AllocError>
-        ensures { IfOk result (λ v. view v ≡ keyed_form O.word_of O.arguments O.ret_form call ret) }
+        ensures form { IfOk result (λ v. view v ≡ keyed_form O.word_of O.arguments O.ret_form call ret) }
+        ensures numbers { call.key < 2 ^ 32 }
     {
         let mut values = word_and_key(alloc, O::word(&call.call), call.key)?;
         O::push_rest(alloc, &call.call, &ret, &mut values)?;

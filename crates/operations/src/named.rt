@@ -45,7 +45,8 @@ pub trait Named: SeqObject {
         call: Self::Call,
         ret: Option<Self::Ret>,
     ) -> Result<Value, AllocError>
-        ensures { IfOk result (λ v. view v ≡ operation_form call ret) };
+        ensures form { IfOk result (λ v. view v ≡ operation_form call ret) }
+        ensures numbers { is_call call };
 
     fn read_start(alloc: Global, rest: &[Value]) -> Result<Option<Self::Start>, AllocError>
         ensures { IfOk result (λ s. s ≡ start_at (map view rest.now)) };

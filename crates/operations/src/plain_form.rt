@@ -68,7 +68,8 @@ impl Named for Register {
         call: RegisterCall,
         ret: Option<RegisterRet>,
     ) -> Result<Value, AllocError>
-        ensures { IfOk result (λ v. view v ≡ plain_form register.word_of register.arguments register.ret_form call ret) }
+        ensures form { IfOk result (λ v. view v ≡ plain_form register.word_of register.arguments register.ret_form call ret) }
+        ensures numbers { Unit {0} }
     {
         Register::write_plain(alloc, &call, &ret)
     }
@@ -124,7 +125,8 @@ impl Named for Counter {
         call: CounterCall,
         ret: Option<CounterRet>,
     ) -> Result<Value, AllocError>
-        ensures { IfOk result (λ v. view v ≡ plain_form counter.word_of counter.arguments counter.ret_form call ret) }
+        ensures form { IfOk result (λ v. view v ≡ plain_form counter.word_of counter.arguments counter.ret_form call ret) }
+        ensures numbers { Unit {0} }
     {
         Counter::write_plain(alloc, &call, &ret)
     }
@@ -180,7 +182,8 @@ impl Named for AddRemoveSet {
         call: SetCall,
         ret: Option<SetRet>,
     ) -> Result<Value, AllocError>
-        ensures { IfOk result (λ v. view v ≡ plain_form set.word_of set.arguments set.ret_form call ret) }
+        ensures form { IfOk result (λ v. view v ≡ plain_form set.word_of set.arguments set.ret_form call ret) }
+        ensures numbers { Unit {0} }
     {
         AddRemoveSet::write_plain(alloc, &call, &ret)
     }
@@ -236,7 +239,8 @@ impl Named for Queue {
         call: QueueCall,
         ret: Option<QueueRet>,
     ) -> Result<Value, AllocError>
-        ensures { IfOk result (λ v. view v ≡ plain_form queue.word_of queue.arguments queue.ret_form call ret) }
+        ensures form { IfOk result (λ v. view v ≡ plain_form queue.word_of queue.arguments queue.ret_form call ret) }
+        ensures numbers { Unit {0} }
     {
         Queue::write_plain(alloc, &call, &ret)
     }
