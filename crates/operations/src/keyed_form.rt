@@ -74,9 +74,8 @@ impl<O: Spelled> Named for Keyed<O> {
         ensures form { IfOk result (λ v. view v ≡ keyed_form O.word_of O.arguments O.ret_form call ret) }
         ensures numbers { call.key < 2 ^ 32 }
     {
-        let mut values = word_and_key(alloc, O::word(&call.call), call.key)?;
-        O::push_rest(alloc, &call.call, &ret, &mut values)?;
-        Ok(Value::from(values))
+        let values = word_and_key(alloc, O::word(&call.call), call.key)?;
+        Ok(Value::from(O::with_rest(alloc, &call.call, &ret, values)?))
     }
 
     fn read_start(alloc: Global, rest: &[Value]) -> Result<Option<Table<O::Start>>, AllocError> {
