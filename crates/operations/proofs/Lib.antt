@@ -3,9 +3,11 @@ pub mod AnyHistories
 pub mod AnyReading
 pub mod EntriesReading
 pub mod FirstRefusal
+pub mod FormDepth
 pub mod HistoryForm
 pub mod HistoryReading
 pub mod JsonLists
 pub mod PartsForm
+pub mod PartsWritten
 pub mod SessionReading
 pub mod ListLaws

@@ -37,6 +37,10 @@ session_at operation_at d = option_map (map operation_at) (elements d)
 abbrev pub ReadAs : {C R : Type 0} → (Data → Option (C × Option R)) → List Data → List (List (C × Option R)) → Type 0
 ReadAs operation_at ds ss = map (session_at operation_at) ds ≡ map (λ es. Some (map (λ e. Some e) es)) ss
 
+-- each call of a session is one of its type
+abbrev pub AreCalls : {C R : Type 0} → (C → Type 0) → List (C × Option R) → Type 0
+AreCalls {C} {R} is_call es = (i : ℕ) (c : C) (r : Option R) → slice_get es i ≡ Some (c, r) → is_call c
+
 -- each call is one of its type
 abbrev pub EachCall : {C R : Type 0} → (C → Type 0) → List (List (C × Option R)) → Type 0
-EachCall {C} {R} is_call ss = (s i : ℕ) (c : C) (r : Option R) → slice_get (slice_index_or ss s []) i ≡ Some (c, r) → is_call c
+EachCall is_call ss = (s : ℕ) → AreCalls is_call (slice_index_or ss s [])

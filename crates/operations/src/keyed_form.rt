@@ -4,7 +4,7 @@ ghost use Rattle.std.specs.Prelude.{◌≡◌, ◌<◌, ◌^◌, [], ◌∷◌, 
 ghost use Rattle.serde_json.specs.View.{view};
 ghost use Rattle.operations.specs.Json.{elements};
 ghost use Rattle.operations.specs.Spelling.{keyed_form, keyed_at, table_elements, table_form, table_at};
-ghost use Rattle.operations.specs.KeyedFormLaws.{keyed_read, keyed_again, keyed_has_no_float};
+ghost use Rattle.operations.specs.KeyedFormLaws.{keyed_read, keyed_is_call, keyed_again, keyed_has_no_float};
 ghost use Rattle.operations.specs.TableFormLaws.{table_read, table_again, table_has_no_float};
 
 use crate::json::elements_of;
@@ -44,6 +44,8 @@ impl<O: Spelled> Named for Keyed<O> {
 
     ghost operation_read = { keyed_read O.word_of O.arguments O.ret_form O.call_at O.ret_at O.matches O.call_read O.ret_read };
 
+    ghost operation_is_call = { keyed_is_call O.call_at O.ret_at };
+
     ghost operation_again = { keyed_again O.word_of O.arguments O.ret_form O.call_at O.ret_at O.matches O.call_again O.ret_again O.ret_is_known };
 
     ghost start_read = { table_read O.plain_start O.is_start O.start_form O.start_at O.start_read };
@@ -69,11 +71,11 @@ impl<O: Spelled> Named for Keyed<O> {
         call: KeyedCall<O::Call>,
         ret: Option<O::Ret>,
     ) -> Result<Value, AllocError>
-        ensures { IfOk result (λ v. view v ≡ keyed_form O.word_of O.arguments O.ret_form call ret) }
+        ensures form { IfOk result (λ v. view v ≡ keyed_form O.word_of O.arguments O.ret_form call ret) }
+        ensures numbers { call.key < 2 ^ 32 }
     {
-        let mut values = word_and_key(alloc, O::word(&call.call), call.key)?;
-        O::push_rest(alloc, &call.call, &ret, &mut values)?;
-        Ok(Value::from(values))
+        let values = word_and_key(alloc, O::word(&call.call), call.key)?;
+        Ok(Value::from(O::with_rest(alloc, &call.call, &ret, values)?))
     }
 
     fn read_start(alloc: Global, rest: &[Value]) -> Result<Option<Table<O::Start>>, AllocError> {

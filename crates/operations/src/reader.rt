@@ -1,6 +1,6 @@
 //! Reading and writing the JSON text of a history.
 
-ghost use Rattle.std.specs.Prelude.{◌≡◌, ◌∷◌, map, IfOk, IfErr, MatchResult, string_bytes};
+ghost use Rattle.std.specs.Prelude.{◌≡◌, ◌∷◌, map, IfOk, IfErr, OnOk, MatchResult, string_bytes};
 ghost use Rattle.serde_json.specs.Data.{string};
 ghost use Rattle.serde_json.specs.View.{view};
 ghost use Rattle.serde_json.specs.Written.{compact_text};
@@ -58,6 +58,7 @@ fn read_named(
 /// A refusal is the first in the order of reading: the shape of the whole, the name, the number of sessions, each
 /// session in order, and the start at last. O(n) for n operations.
 pub fn history_of(alloc: Global, value: &Value) -> Result<AnyHistory, ReadError>
+    ensures is_history { IfOk result IsAnyHistory }
     ensures form { IfOk result (λ h. view value.now ≡ form_of h) }
 
     // The form of a history is read as that history, unless memory runs out.
@@ -79,6 +80,7 @@ pub fn history_of(alloc: Global, value: &Value) -> Result<AnyHistory, ReadError>
 /// `NotJson` where `serde_json` refuses the text, else the first refusal of its value in the order of reading. `Memory`
 /// only where an allocation was refused. O(n) for a text of n bytes.
 pub fn read_history(alloc: Global, text: &[u8]) -> Result<AnyHistory, ReadError>
+    ensures is_history { IfOk result IsAnyHistory }
     ensures form { IfOk result (λ h. IsJson text.now (form_of h)) }
 
     // A text of the form of a history is read as that history, unless memory runs out.
@@ -100,7 +102,8 @@ pub fn read_history(alloc: Global, text: &[u8]) -> Result<AnyHistory, ReadError>
 
 /// The form of a history, as a JSON value. O(n) for n operations.
 pub fn value_of(alloc: Global, history: &AnyHistory) -> Result<Value, AllocError>
-    ensures { IfOk result (λ v. view v ≡ form_of history.now) }
+    ensures form { IfOk result (λ v. view v ≡ form_of history.now) }
+    ensures is_history { OnOk result (IsAnyHistory history.now) }
 {
     match history {
         AnyHistory::Register(plain) => write_parts(alloc, plain.history()),
@@ -116,7 +119,9 @@ pub fn value_of(alloc: Global, history: &AnyHistory) -> Result<Value, AllocError
 
 /// The form of a history as compact JSON text, which is read back as that history. O(n) for n operations.
 pub fn write_history(alloc: Global, history: &AnyHistory) -> Result<String, AllocError>
-    ensures { IfOk result (λ text. string_bytes text ≡ compact_text (form_of history.now)) }
+    ensures text { IfOk result (λ text. string_bytes text ≡ compact_text (form_of history.now)) }
+    ensures json { IfOk result (λ text. IsJson (string_bytes text) (form_of history.now)) }
+    ensures is_history { OnOk result (IsAnyHistory history.now) }
 {
     value_of(alloc, history)?.to_string(alloc)
 }

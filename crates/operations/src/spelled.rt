@@ -1,4 +1,4 @@
-ghost use Rattle.std.specs.Prelude.{◌≡◌, ◌≢◌, ℕ, List, [], ◌∷◌, ◌++◌, Option, Some, None, true, false, map, option_map, IfOk, OnOk};
+ghost use Rattle.std.specs.Prelude.{◌≡◌, ◌≢◌, ℕ, List, [], ◌∷◌, ◌++◌, Option, Some, None, true, false, map, option_map, IfOk, OnOk, OnErr};
 ghost use Rattle.serde_json.specs.Data.{Data};
 ghost use Rattle.serde_json.specs.View.{view};
 ghost use Rattle.serde_json.specs.Written.{has_float};
@@ -63,11 +63,15 @@ pub trait Spelled: SeqObject {
     fn read_ret(call: &Self::Call, values: &[Value]) -> Option<Self::Ret>
         ensures { result ≡ ret_at call.now (map view values.now) };
 
+    /// Puts what a call takes behind the others. Where memory runs out they stay as they were.
     fn push_arguments(call: &Self::Call, values: &mut Vec<Value>) -> Result<(), AllocError>
-        ensures { OnOk result (map view values.new.items ≡ map view values.old.items ++ arguments call.now) };
+        ensures ok { OnOk result (map view values.new.items ≡ map view values.old.items ++ arguments call.now) }
+        ensures err { OnErr result (values.new.items ≡ values.old.items) };
 
+    /// Puts a return behind the others. Where memory runs out they stay as they were.
     fn push_ret(ret: &Self::Ret, values: &mut Vec<Value>) -> Result<(), AllocError>
-        ensures { OnOk result (map view values.new.items ≡ map view values.old.items ++ ret_form ret.now) };
+        ensures ok { OnOk result (map view values.new.items ≡ map view values.old.items ++ ret_form ret.now) }
+        ensures err { OnErr result (values.new.items ≡ values.old.items) };
 
     fn read_start(value: &Value) -> Option<Self::Start>
         ensures { result ≡ start_at (view value.now) };
@@ -87,20 +91,21 @@ pub trait Spelled: SeqObject {
         }
     }
 
-    /// Puts the arguments of a call and its return, or `"?"`, behind the others.
-    fn push_rest(
+    /// The values, and behind them the arguments of a call and its return, or `"?"`.
+    fn with_rest(
         alloc: Global,
         call: &Self::Call,
         ret: &Option<Self::Ret>,
-        values: &mut Vec<Value>,
-    ) -> Result<(), AllocError>
-        ensures { OnOk result (map view values.new.items ≡ map view values.old.items ++ rest_form arguments ret_form call.now ret.now) }
+        mut values: Vec<Value>,
+    ) -> Result<Vec<Value>, AllocError>
+        ensures { IfOk result (λ vs. map view vs.items ≡ map view values.items ++ rest_form arguments ret_form call.now ret.now) }
     {
-        Self::push_arguments(call, values)?;
+        Self::push_arguments(call, &mut values)?;
         match ret {
-            Some(ret) => Self::push_ret(ret, values),
-            None => push_question_mark(alloc, values),
+            Some(ret) => Self::push_ret(ret, &mut values)?,
+            None => push_question_mark(alloc, &mut values)?,
         }
+        Ok(values)
     }
 
     /// The operation without a key that the value spells.
@@ -119,9 +124,8 @@ pub trait Spelled: SeqObject {
     ) -> Result<Value, AllocError>
         ensures { IfOk result (λ v. view v ≡ plain_form word_of arguments ret_form call.now ret.now) }
     {
-        let mut values = word_alone(alloc, Self::word(call))?;
-        Self::push_rest(alloc, call, ret, &mut values)?;
-        Ok(Value::from(values))
+        let values = word_alone(alloc, Self::word(call))?;
+        Ok(Value::from(Self::with_rest(alloc, call, ret, values)?))
     }
 
     /// The plain start, where nothing stands behind the sessions.

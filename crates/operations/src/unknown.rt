@@ -1,6 +1,6 @@
 //! The text `"?"` in the place of a return that is not known.
 
-ghost use Rattle.std.specs.Prelude.{◌≡◌, [], ◌∷◌, ◌++◌, map, OnOk};
+ghost use Rattle.std.specs.Prelude.{◌≡◌, [], ◌∷◌, ◌++◌, map, OnOk, OnErr};
 ghost use Rattle.serde_json.specs.View.{view};
 ghost use Rattle.operations.specs.Json.{unknown as question_mark};
 ghost use Rattle.operations.specs.Spelling.{is_unknown_alone};
@@ -19,9 +19,10 @@ pub fn is_question_mark_alone(values: &[Value]) -> bool
     }
 }
 
-/// Puts `"?"` behind the others.
+/// Puts `"?"` behind the others. Where memory runs out they stay as they were.
 pub fn push_question_mark(alloc: Global, values: &mut Vec<Value>) -> Result<(), AllocError>
-    ensures { OnOk result (map view values.new.items ≡ map view values.old.items ++ question_mark ∷ []) }
+    ensures ok { OnOk result (map view values.new.items ≡ map view values.old.items ++ question_mark ∷ []) }
+    ensures err { OnErr result (values.new.items ≡ values.old.items) }
 {
     values.push(Value::try_from_str(alloc, "?")?)?;
     Ok(())

@@ -1,9 +1,9 @@
 //! Writing a history of a named object as a JSON value.
 
-ghost use Rattle.std.specs.Prelude.{◌≡◌, ◌<◌, length, map, IfOk};
+ghost use Rattle.std.specs.Prelude.{◌≡◌, ◌<◌, ◌≤◌, length, map, IfOk, OnOk};
 ghost use Rattle.serde_json.specs.View.{view};
-ghost use Rattle.operations.specs.Form.{history_form, session_form};
-ghost use Rattle.history.specs.History.{session};
+ghost use Rattle.operations.specs.Form.{history_form, session_form, AreCalls, AreSessions, EachCall};
+ghost use Rattle.history.specs.History.{session, IsHistory};
 ghost use Rattle.operations.specs.Json.{list};
 
 use crate::named::Named;
@@ -16,7 +16,8 @@ fn write_session<O: Named>(
     alloc: Global,
     entries: &[(O::Call, Option<O::Ret>)],
 ) -> Result<Value, AllocError>
-    ensures { IfOk result (λ v. view v ≡ session_form O.operation_form entries.now) }
+    ensures form { IfOk result (λ v. view v ≡ session_form O.operation_form entries.now) }
+    ensures calls { OnOk result (AreCalls O.is_call entries.now) }
 {
     let mut values = Vec::new(alloc);
     for entry in entries {
@@ -28,7 +29,10 @@ fn write_session<O: Named>(
 
 /// The form of all sessions.
 fn write_sessions<O: Named>(alloc: Global, history: &History<O>) -> Result<Value, AllocError>
-    ensures { IfOk result (λ v. view v ≡ list (map (session_form O.operation_form) history.now.1)) }
+    ensures form { IfOk result (λ v. view v ≡ list (map (session_form O.operation_form) history.now.1)) }
+    ensures few { OnOk result (length history.now.1 ≤ 16) }
+    ensures sessions { OnOk result (AreSessions O.matches history.now.1) }
+    ensures calls { OnOk result (EachCall O.is_call history.now.1) }
 {
     let mut values = Vec::new(alloc);
     for s in 0..history.sessions() {
@@ -40,9 +44,11 @@ fn write_sessions<O: Named>(alloc: Global, history: &History<O>) -> Result<Value
 
 /// The form of a history.
 ///
-/// O(n) for n operations.
+/// Each part of the history passes here, so the contract says what its type keeps of it. O(n) for n operations.
 pub fn write_parts<O: Named>(alloc: Global, history: &History<O>) -> Result<Value, AllocError>
-    ensures { IfOk result (λ v. view v ≡ history_form O.name O.operation_form O.start_form history.now) }
+    ensures form { IfOk result (λ v. view v ≡ history_form O.name O.operation_form O.start_form history.now) }
+    ensures is_history { OnOk result (IsHistory O.is_start O.matches history.now) }
+    ensures calls { OnOk result (EachCall O.is_call history.now.1) }
 {
     let name = String::from_str(alloc, O::name())?;
     let mut values = Vec::new(alloc);
