@@ -15,9 +15,10 @@ module _ (name : ObjectName) (ss rest : List Data) (refusal : Option ReadError) 
   abbrev pub Each : (RecordOf name → Type 0) → Type 0
   Each P = (h : RecordOf name) → IsAnyHistory (history_from name h) → ss ≡ sessions_of (history_from name h) → rest ≡ rest_of (history_from name h) → P h
 
-  pub read : (h : RecordOf name) → ss ≡ sessions_of (history_from name h) → rest ≡ rest_of (history_from name h) → Each (λ x. h ≡ x)
+  pub read : (h : RecordOf name) → IsAnyHistory (history_from name h) → ss ≡ sessions_of (history_from name h) → rest ≡ rest_of (history_from name h) → Each (λ x. h ≡ x)
       → IsReadAs (formed (text_of name, ss, rest)) refusal (Ok (history_from name h))
-  read h sessions behind only = record {
+  read h is_history sessions behind only = record {
+    is_history = is_history;
     form = rw (sessions, behind) (sym (form_from name h));
     only = only_with_name name ss rest (λ x. history_from name h ≡ x) (λ x is s t. ap (history_from name) (only x is s t));
     refused = tt;
@@ -25,6 +26,7 @@ module _ (name : ObjectName) (ss rest : List Data) (refusal : Option ReadError) 
 
   pub refused : (e : ReadError) → IsFirst refusal e → Each (λ x. e ≡ Memory) → IsReadAs (formed (text_of name, ss, rest)) refusal (Err e)
   refused e first only = record {
+    is_history = tt;
     form = tt;
     only = only_with_name name ss rest (λ x. e ≡ Memory) only;
     refused = first;

@@ -44,6 +44,20 @@ module _ {C R : Type 0} (operation_at : Data → Option (C × Option R)) where
       let second_rest : ReadAs operation_at ds ts = cc in
       rw (same_values s t head, same_sessions ss ts ds first_rest second_rest) refl
 
+-- each call that was read is one of its type
+module _ {C R : Type 0} (operation_at : Data → Option (C × Option R)) (is_call : C → Type 0)
+    (call_law : (d : Data) (c : C) (r : Option R) → operation_at d ≡ Some (c, r) → is_call c) where
+  pub calls_read : (ds : List Data) (ss : List (List (C × Option R))) → ReadAs operation_at ds ss → EachCall is_call ss
+  calls_read [] [] read s i c r here = absurd cc
+  calls_read [] (es ∷ ss) read s i c r here = absurd cc
+  calls_read (d ∷ ds) [] read s i c r here = absurd cc
+  calls_read (d ∷ ds) (es ∷ ss) read zero i c r here =
+      let first : session_at operation_at d ≡ Some (map (λ e. Some e) es) = cc in
+      let p = option_map_some (map operation_at) (elements d) (map (λ e. Some e) es) first in
+      let f = form_at operation_at p.0 es i (c, r) p.2 here in
+      call_law f.0 c r f.2
+  calls_read (d ∷ ds) (es ∷ ss) read (suc s) i c r here = calls_read ds ss (cc) s i c r here
+
 module _ {C R : Type 0} (operation_at : Data → Option (C × Option R)) (operation_form : C → Option R → Data) (fits : C → R → Bool) where
   -- what reads as operations are their forms
   module _ (read_law : (d : Data) (c : C) (r : Option R) → operation_at d ≡ Some (c, r) → (d ≡ operation_form c r) × Fits fits c r) where

@@ -89,8 +89,9 @@ parts_refusal (Some p) = refusal_by_name (name_at p.0) p.1 p.2
 abbrev pub first_refusal : Data → Option ReadError
 first_refusal d = parts_refusal (parts_of d)
 
--- what a reader owes of a JSON value with this first refusal: a history with this form and no other, or the refusal
+-- what a reader owes of a JSON value with this first refusal: a history, with this form and no other, or the refusal
 pub record IsReadAs (d : Data) (refusal : Option ReadError) (result : Result AnyHistory ReadError) : Type 0 where
+  pub is_history : IfOk result IsAnyHistory
   pub form : IfOk result (λ h. d ≡ form_of h)
   pub only : (h : AnyHistory) → IsAnyHistory h → d ≡ form_of h → MatchResult result (λ g. g ≡ h) (λ e. e ≡ errors.Memory)
   pub refused : IfErr result (IsFirst refusal)

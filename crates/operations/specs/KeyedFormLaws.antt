@@ -43,10 +43,27 @@ word_key_rest-read (w ∷ k ∷ rest) p e =
     let key = map_from (λ (key : ℕ). (text.0, key, rest)) (key_at k) p text.2 in
     parts_are w k rest text.0 key.0 p (as_str-read w text.0 text.1) ((key_at-read k key.0 key.1).0) key.2
 
+word_key_rest-small : (ds : List Data) (p : List ℕ × ℕ × List Data) → word_key_rest ds ≡ Some p → p.1 < 2 ^ 32
+word_key_rest-small [] p e = absurd cc
+word_key_rest-small (w ∷ []) p e = absurd cc
+word_key_rest-small (w ∷ k ∷ rest) p e =
+    let text = and_then_from (λ (word : List ℕ). option_map (λ (key : ℕ). (word, key, rest)) (key_at k)) (as_str w) p e in
+    let key = map_from (λ (key : ℕ). (text.0, key, rest)) (key_at k) p text.2 in
+    subst (λ (x : List ℕ × ℕ × List Data). x.1 < 2 ^ 32) key.2 ((key_at-read k key.0 key.1).1)
+
 pub word_key_rest-again : (word : List ℕ) (k : ℕ) (rest : List Data) → k < 2 ^ 32 → word_key_rest (string word ∷ number (unsigned k) ∷ rest) ≡ Some (word, k, rest)
 word_key_rest-again word k rest small = rw (lt-ltb k (2 ^ 32) small) refl
 
 -- ---- an operation under a key
+
+module _ {C R : Type 0} (call_at : List ℕ → List Data → Option (C × List Data)) (ret_at : C → List Data → Option R) where
+  -- the key of a call that was read fits its type
+  pub keyed_is_call : (d : Data) (c : KeyedCall C) (r : Option R) → keyed_at call_at ret_at d ≡ Some (c, r) → c.key < 2 ^ 32
+  keyed_is_call d c r e =
+      let p = and_then_from (keyed_parts_at call_at ret_at) (option_and_then word_key_rest (elements d)) (c, r) e in
+      let q = and_then_from word_key_rest (elements d) p.0 p.1 in
+      let s = map_from (λ (e : C × Option R). (record { key = p.0.1; call = e.0 }, e.1)) (spelled_at call_at ret_at p.0.0 p.0.2) (c, r) p.2 in
+      subst (λ (y : KeyedCall C × Option R). y.0.key < 2 ^ 32) s.2 (word_key_rest-small q.0 p.0 q.2)
 
 module _ {C R : Type 0} (word_of : C → List ℕ) (arguments : C → List Data) (ret_form : R → List Data)
     (call_at : List ℕ → List Data → Option (C × List Data)) (ret_at : C → List Data → Option R) (fits : C → R → Bool) where

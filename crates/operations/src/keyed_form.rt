@@ -4,7 +4,7 @@ ghost use Rattle.std.specs.Prelude.{◌≡◌, ◌<◌, ◌^◌, [], ◌∷◌, 
 ghost use Rattle.serde_json.specs.View.{view};
 ghost use Rattle.operations.specs.Json.{elements};
 ghost use Rattle.operations.specs.Spelling.{keyed_form, keyed_at, table_elements, table_form, table_at};
-ghost use Rattle.operations.specs.KeyedFormLaws.{keyed_read, keyed_again, keyed_has_no_float};
+ghost use Rattle.operations.specs.KeyedFormLaws.{keyed_read, keyed_is_call, keyed_again, keyed_has_no_float};
 ghost use Rattle.operations.specs.TableFormLaws.{table_read, table_again, table_has_no_float};
 
 use crate::json::elements_of;
@@ -43,6 +43,8 @@ impl<O: Spelled> Named for Keyed<O> {
     ghost has_form = { λ _. Unit {0} };
 
     ghost operation_read = { keyed_read O.word_of O.arguments O.ret_form O.call_at O.ret_at O.matches O.call_read O.ret_read };
+
+    ghost operation_is_call = { keyed_is_call O.call_at O.ret_at };
 
     ghost operation_again = { keyed_again O.word_of O.arguments O.ret_form O.call_at O.ret_at O.matches O.call_again O.ret_again O.ret_is_known };
 

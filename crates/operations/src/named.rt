@@ -57,6 +57,8 @@ pub trait Named: SeqObject {
     ghost operation_read: { (d : Data) (c : Self.Call) (r : Option Self.Ret) → operation_at d ≡ Some (c, r)
         → (d ≡ operation_form c r) × Fits Self.matches c r };
 
+    ghost operation_is_call: { (d : Data) (c : Self.Call) (r : Option Self.Ret) → operation_at d ≡ Some (c, r) → is_call c };
+
     ghost operation_again: { (c : Self.Call) (r : Option Self.Ret) → is_call c → Fits Self.matches c r
         → operation_at (operation_form c r) ≡ Some (c, r) };
 

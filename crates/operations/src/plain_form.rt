@@ -43,6 +43,8 @@ impl Named for Register {
 
     ghost operation_read = { plain_read register.word_of register.arguments register.ret_form register.call_at register.ret_at register_matches register_laws.call_read register_laws.ret_read };
 
+    ghost operation_is_call = { λ _ _ _ _. tt };
+
     ghost operation_again = { plain_again register.word_of register.arguments register.ret_form register.call_at register.ret_at register_matches register_laws.call_again register_laws.ret_again register_laws.ret_is_known };
 
     ghost start_read = { plain_start_read 0 (λ _. Unit {0}) tt };
@@ -96,6 +98,8 @@ impl Named for Counter {
     ghost has_form = { λ start. start ≡ tt };
 
     ghost operation_read = { plain_read counter.word_of counter.arguments counter.ret_form counter.call_at counter.ret_at counter_matches counter_laws.call_read counter_laws.ret_read };
+
+    ghost operation_is_call = { λ _ _ _ _. tt };
 
     ghost operation_again = { plain_again counter.word_of counter.arguments counter.ret_form counter.call_at counter.ret_at counter_matches counter_laws.call_again counter_laws.ret_again counter_laws.ret_is_known };
 
@@ -151,6 +155,8 @@ impl Named for AddRemoveSet {
 
     ghost operation_read = { plain_read set.word_of set.arguments set.ret_form set.call_at set.ret_at set_matches set_laws.call_read set_laws.ret_read };
 
+    ghost operation_is_call = { λ _ _ _ _. tt };
+
     ghost operation_again = { plain_again set.word_of set.arguments set.ret_form set.call_at set.ret_at set_matches set_laws.call_again set_laws.ret_again set_laws.ret_is_known };
 
     ghost start_read = { plain_start_read tt (λ _. Unit {0}) tt };
@@ -204,6 +210,8 @@ impl Named for Queue {
     ghost has_form = { λ start. start ≡ tt };
 
     ghost operation_read = { plain_read queue.word_of queue.arguments queue.ret_form queue.call_at queue.ret_at queue_matches queue_laws.call_read queue_laws.ret_read };
+
+    ghost operation_is_call = { λ _ _ _ _. tt };
 
     ghost operation_again = { plain_again queue.word_of queue.arguments queue.ret_form queue.call_at queue.ret_at queue_matches queue_laws.call_again queue_laws.ret_again queue_laws.ret_is_known };
 

@@ -58,6 +58,7 @@ fn read_named(
 /// A refusal is the first in the order of reading: the shape of the whole, the name, the number of sessions, each
 /// session in order, and the start at last. O(n) for n operations.
 pub fn history_of(alloc: Global, value: &Value) -> Result<AnyHistory, ReadError>
+    ensures is_history { IfOk result IsAnyHistory }
     ensures form { IfOk result (λ h. view value.now ≡ form_of h) }
 
     // The form of a history is read as that history, unless memory runs out.
@@ -79,6 +80,7 @@ pub fn history_of(alloc: Global, value: &Value) -> Result<AnyHistory, ReadError>
 /// `NotJson` where `serde_json` refuses the text, else the first refusal of its value in the order of reading. `Memory`
 /// only where an allocation was refused. O(n) for a text of n bytes.
 pub fn read_history(alloc: Global, text: &[u8]) -> Result<AnyHistory, ReadError>
+    ensures is_history { IfOk result IsAnyHistory }
     ensures form { IfOk result (λ h. IsJson text.now (form_of h)) }
 
     // A text of the form of a history is read as that history, unless memory runs out.

@@ -101,6 +101,8 @@ pub fn read_parts<O: Named>(
     ensures sessions { IfOk result (λ h. map view sessions.now ≡ map (session_form O.operation_form) h.1) }
     ensures start { IfOk result (λ h. map view rest.now ≡ O.start_form h.0) }
     ensures has_form { IfOk result (λ h. O.has_form h.0) }
+    ensures is_history { IfOk result (λ h. IsHistory O.is_start O.matches h) }
+    ensures each_call { IfOk result (λ h. EachCall O.is_call h.1) }
 
     // The form of a history is read as that history.
     ensures only { (h : Record O.Start O.Call O.Ret) → IsHistory O.is_start O.matches h → EachCall O.is_call h.1 → O.has_form h.0

@@ -15,7 +15,7 @@ returns-in_err-history-in-Register c =
 pub returns-in_ok-history-in-Register : goal.returns-in_ok-history-in-Register
 returns-in_ok-history-in-Register c =
     let clauses = c.in_ok-history-in-Register.ensures in
-    rw (c.in-Register.is, c.of.ensures) (read names.Register (map view c.args.sessions.now) (map view c.args.rest.now) _ c.in_ok-history-in-Register.history clauses.sessions clauses.start
+    rw (c.in-Register.is, c.of.ensures) (read names.Register (map view c.args.sessions.now) (map view c.args.rest.now) _ c.in_ok-history-in-Register.history (clauses.is_history, clauses.has_form) clauses.sessions clauses.start
     (λ h is s t. clauses.only h is.0 (λ x i d r here. tt) is.1 s t))
 
 pub returns-in_err-history-in-Counter : goal.returns-in_err-history-in-Counter
@@ -28,7 +28,7 @@ returns-in_err-history-in-Counter c =
 pub returns-in_ok-history-in-Counter : goal.returns-in_ok-history-in-Counter
 returns-in_ok-history-in-Counter c =
     let clauses = c.in_ok-history-in-Counter.ensures in
-    rw (c.in-Counter.is, c.of-in-Counter.ensures) (read names.Counter (map view c.args.sessions.now) (map view c.args.rest.now) _ c.in_ok-history-in-Counter.history clauses.sessions clauses.start
+    rw (c.in-Counter.is, c.of-in-Counter.ensures) (read names.Counter (map view c.args.sessions.now) (map view c.args.rest.now) _ c.in_ok-history-in-Counter.history (clauses.is_history, clauses.has_form) clauses.sessions clauses.start
     (λ h is s t. clauses.only h is.0 (λ x i d r here. tt) is.1 s t))
 
 pub returns-in_err-history-in-Set : goal.returns-in_err-history-in-Set
@@ -41,7 +41,7 @@ returns-in_err-history-in-Set c =
 pub returns-in_ok-history-in-Set : goal.returns-in_ok-history-in-Set
 returns-in_ok-history-in-Set c =
     let clauses = c.in_ok-history-in-Set.ensures in
-    rw (c.in-Set.is, c.of-in-Set.ensures) (read names.Set (map view c.args.sessions.now) (map view c.args.rest.now) _ c.in_ok-history-in-Set.history clauses.sessions clauses.start
+    rw (c.in-Set.is, c.of-in-Set.ensures) (read names.Set (map view c.args.sessions.now) (map view c.args.rest.now) _ c.in_ok-history-in-Set.history (clauses.is_history, clauses.has_form) clauses.sessions clauses.start
     (λ h is s t. clauses.only h is.0 (λ x i d r here. tt) is.1 s t))
 
 pub returns-in_err-history-in-Queue : goal.returns-in_err-history-in-Queue
@@ -54,7 +54,7 @@ returns-in_err-history-in-Queue c =
 pub returns-in_ok-history-in-Queue : goal.returns-in_ok-history-in-Queue
 returns-in_ok-history-in-Queue c =
     let clauses = c.in_ok-history-in-Queue.ensures in
-    rw (c.in-Queue.is, c.of-in-Queue.ensures) (read names.Queue (map view c.args.sessions.now) (map view c.args.rest.now) _ c.in_ok-history-in-Queue.history clauses.sessions clauses.start
+    rw (c.in-Queue.is, c.of-in-Queue.ensures) (read names.Queue (map view c.args.sessions.now) (map view c.args.rest.now) _ c.in_ok-history-in-Queue.history (clauses.is_history, clauses.has_form) clauses.sessions clauses.start
     (λ h is s t. clauses.only h is.0 (λ x i d r here. tt) is.1 s t))
 
 pub returns-in_err-read_parts-in-Memory : goal.returns-in_err-read_parts-in-Memory
@@ -67,7 +67,7 @@ returns-in_err-read_parts-in-Memory c =
 pub returns-in_ok-read_parts-in-Memory : goal.returns-in_ok-read_parts-in-Memory
 returns-in_ok-read_parts-in-Memory c =
     let clauses = c.in_ok-read_parts-in-Memory.ensures in
-    rw c.in-Memory.is (read names.Memory (map view c.args.sessions.now) (map view c.args.rest.now) _ c.in_ok-read_parts-in-Memory.field-0 clauses.sessions clauses.start
+    rw c.in-Memory.is (read names.Memory (map view c.args.sessions.now) (map view c.args.rest.now) _ c.in_ok-read_parts-in-Memory.field-0 (clauses.is_history, clauses.each_call) clauses.sessions clauses.start
     (λ h is s t. clauses.only h is.0 is.1 tt s t))
 
 pub returns-in_err-read_parts-in-Counters : goal.returns-in_err-read_parts-in-Counters
@@ -80,7 +80,7 @@ returns-in_err-read_parts-in-Counters c =
 pub returns-in_ok-read_parts-in-Counters : goal.returns-in_ok-read_parts-in-Counters
 returns-in_ok-read_parts-in-Counters c =
     let clauses = c.in_ok-read_parts-in-Counters.ensures in
-    rw c.in-Counters.is (read names.Counters (map view c.args.sessions.now) (map view c.args.rest.now) _ c.in_ok-read_parts-in-Counters.field-0 clauses.sessions clauses.start
+    rw c.in-Counters.is (read names.Counters (map view c.args.sessions.now) (map view c.args.rest.now) _ c.in_ok-read_parts-in-Counters.field-0 (clauses.is_history, clauses.each_call) clauses.sessions clauses.start
     (λ h is s t. clauses.only h is.0 is.1 tt s t))
 
 pub returns-in_err-read_parts-in-Sets : goal.returns-in_err-read_parts-in-Sets
@@ -93,7 +93,7 @@ returns-in_err-read_parts-in-Sets c =
 pub returns-in_ok-read_parts-in-Sets : goal.returns-in_ok-read_parts-in-Sets
 returns-in_ok-read_parts-in-Sets c =
     let clauses = c.in_ok-read_parts-in-Sets.ensures in
-    rw c.in-Sets.is (read names.Sets (map view c.args.sessions.now) (map view c.args.rest.now) _ c.in_ok-read_parts-in-Sets.field-0 clauses.sessions clauses.start
+    rw c.in-Sets.is (read names.Sets (map view c.args.sessions.now) (map view c.args.rest.now) _ c.in_ok-read_parts-in-Sets.field-0 (clauses.is_history, clauses.each_call) clauses.sessions clauses.start
     (λ h is s t. clauses.only h is.0 is.1 tt s t))
 
 pub returns-in_err-read_parts-in-Queues : goal.returns-in_err-read_parts-in-Queues
@@ -106,5 +106,5 @@ returns-in_err-read_parts-in-Queues c =
 pub returns-in_ok-read_parts-in-Queues : goal.returns-in_ok-read_parts-in-Queues
 returns-in_ok-read_parts-in-Queues c =
     let clauses = c.in_ok-read_parts-in-Queues.ensures in
-    rw c.in-Queues.is (read names.Queues (map view c.args.sessions.now) (map view c.args.rest.now) _ c.in_ok-read_parts-in-Queues.field-0 clauses.sessions clauses.start
+    rw c.in-Queues.is (read names.Queues (map view c.args.sessions.now) (map view c.args.rest.now) _ c.in_ok-read_parts-in-Queues.field-0 (clauses.is_history, clauses.each_call) clauses.sessions clauses.start
     (λ h is s t. clauses.only h is.0 is.1 tt s t))

@@ -4,7 +4,7 @@ use Rattle.std.proofs.lemmas.Result.{err_from_is_err_and}
 use Rattle.serde_json.specs.View.{view}
 use Rattle.operations.specs.Form.{ReadAs, session_form}
 use Rattle.operations.specs.Reading.{sessions_refusal}
-use Rattle.operations.proofs.HistoryForm.{same_sessions, sessions_formed, sessions_read, sessions_fine}
+use Rattle.operations.proofs.HistoryForm.{same_sessions, calls_read, sessions_formed, sessions_read, sessions_fine}
 use Rattle.operations.proofs.HistoryReading.{IsFirst_of_none}
 use Rattle.operations.proofs.reading.read_parts.Goals as goal
 
@@ -47,3 +47,18 @@ pub returns-clause-has_form : goal.returns-clause-has_form
 returns-clause-has_form g c =
     let read = sym c.in_ok-start.ensures ∙ c.in-Some.is in
     rw c.of.ensures ((g.met.O.Named.start_read (map view c.args.rest.now) c.in-Some.start read).2)
+
+pub returns-clause-is_history : goal.returns-clause-is_history
+returns-clause-is_history g c =
+    let read = sym c.in_ok-start.ensures ∙ c.in-Some.is in
+    let few : length (map (λ s. s.items) c.in_ok-read.read.items) ≤ 16 = simp length-map (let h = c.in_ok-read.ensures.few in omega (arith, h, c.in_ok-read.read.ok)) in
+    rw c.of.ensures (record {
+      start = (g.met.O.Named.start_read (map view c.args.rest.now) c.in-Some.start read).1;
+      few = few;
+      each = c.in_ok-read.ensures.are_sessions;
+    })
+
+pub returns-clause-each_call : goal.returns-clause-each_call
+returns-clause-each_call g c =
+    let ss = map (λ s. s.items) c.in_ok-read.read.items in
+    rw c.of.ensures (calls_read g.O.Named.operation_at g.O.Named.is_call g.met.O.Named.operation_is_call (map view c.args.sessions.now) ss c.in_ok-read.ensures.read)
