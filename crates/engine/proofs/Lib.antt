@@ -2,3 +2,4 @@ pub mod FirstWord
 pub mod Usages
 pub mod Pairs
 pub mod Founded
+pub mod ReadCallLaws

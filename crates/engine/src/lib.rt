@@ -11,6 +11,7 @@ mod output;
 mod program;
 mod report;
 mod running;
+mod source;
 
 pub use checking::answer_of_certificate;
 pub use command_line::{Order, Usage, command_of};
@@ -21,3 +22,4 @@ pub use output::write_answer;
 pub use program::status_of_process;
 pub use report::{Answer, Report, report_line, report_text};
 pub use running::{answer_to, run};
+pub use source::Source;
