@@ -3,3 +3,5 @@ pub mod Usages
 pub mod Pairs
 pub mod Founded
 pub mod ReadCallLaws
+pub mod NotRefused
+pub mod Outcomes

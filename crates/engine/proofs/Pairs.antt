@@ -15,7 +15,7 @@ use Rattle.engine.specs.Failure.{certificate_failure, failure_of}
 use Rattle.engine.specs.Checking.{first_of_pair, pair_form, pair_refusal, IsPairErrorOf}
 
 -- the first refusal of a pair is that of its history
-refusal-pair : (d h c : Data) → d ≡ pair_form h c → pair_refusal (elements d) ≡ first_refusal h
+pub refusal-pair : (d h c : Data) → d ≡ pair_form h c → pair_refusal (elements d) ≡ first_refusal h
 refusal-pair d h c is = ap (λ (x : Data). pair_refusal (elements x)) is
 
 first-of_pair : (d h c : Data) (e : ReadError) → d ≡ pair_form h c → IsFirst (first_refusal h) e → IsFirst (pair_refusal (elements d)) e

@@ -7,6 +7,7 @@ mod command_line;
 mod failure;
 mod input;
 mod judging;
+pub mod laws;
 mod output;
 mod program;
 mod report;
