@@ -1,5 +1,5 @@
 -- The form of a history is not refused.
-use Rattle.std.proofs.Common.{◌≡◌, ◌≢◌, ◌<◌, ◌^◌, ◌++◌, ℕ, Bool, true, List, [], ◌∷◌, map, Option, Some, None, refl, ap, ◌∙◌}
+use Rattle.std.proofs.Common.{◌≡◌, ◌≢◌, ◌<◌, ◌^◌, ◌++◌, ℕ, Bool, true, List, [], ◌∷◌, map, Option, Some, None, ap, ◌∙◌}
 use Rattle.std.specs.Option.{option_or}
 use Rattle.serde_json.specs.Data.{Data}
 use Rattle.objects.specs.AddRemoveSet.{matches as set_matches}
@@ -49,7 +49,7 @@ module _ {C R : Type 0} (word_of : C → List ℕ) (arguments : C → List Data)
   plain_fine plain h is =
       let read =
       sessions_read (plain_at call_at ret_at) (plain_form word_of arguments ret_form) fits (λ _. Unit {0})
-          (plain_again word_of arguments ret_form call_at ret_at fits call_again ret_again ret_is_known) h.1 is.0.each (λ s i c r here. tt) in
+      (plain_again word_of arguments ret_form call_at ret_at fits call_again ret_again ret_is_known) h.1 is.0.each (λ s i c r here. tt) in
       ap (λ (o : Option ReadError). option_or o (start_refusal (plain_start_at plain [])))
       (sessions_fine (plain_at call_at ret_at) fits (map (session_form (plain_form word_of arguments ret_form)) h.1) h.1 read is.0.each is.0.few)
 
@@ -61,7 +61,7 @@ module _ {C R : Type 0} (word_of : C → List ℕ) (arguments : C → List Data)
       let ss = map (session_form (keyed_form word_of arguments ret_form)) h.1 in
       let read =
       sessions_read (keyed_at call_at ret_at) (keyed_form word_of arguments ret_form) (λ (c : KeyedCall C). fits c.call) (λ (c : KeyedCall C). c.key < 2 ^ 32)
-          (keyed_again word_of arguments ret_form call_at ret_at fits call_again ret_again ret_is_known) h.1 is.0.each is.1 in
+      (keyed_again word_of arguments ret_form call_at ret_at fits call_again ret_again ret_is_known) h.1 is.0.each is.1 in
       ap (λ (o : Option ReadError). option_or o (start_refusal (table_at start_at (table_form start_form h.0))))
       (sessions_fine (keyed_at call_at ret_at) (λ (c : KeyedCall C). fits c.call) ss h.1 read is.0.each is.0.few)
       ∙ ap start_refusal (table_again plain (λ _. Unit {0}) start_form start_at start_again h.0 is.0.start tt)

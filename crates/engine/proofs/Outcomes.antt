@@ -1,12 +1,12 @@
 -- What can come of one input, and what cannot come of it beside that.
-use Rattle.std.proofs.Common.{◌≡◌, ◌<◌, ◌≤◌, ◌⊎◌, ℕ, List, [], ◌∷◌, Option, Some, None, IfSome, length, refl, sym, ap, subst, ◌∙◌, arith, inl, inr, ⊎_elim}
+use Rattle.std.proofs.Common.{◌≡◌, ◌<◌, ◌⊎◌, ℕ, List, [], ◌∷◌, Option, Some, None, length, refl, sym, ap, subst, ◌∙◌, arith, inl, inr, ⊎_elim}
 use Rattle.std.proofs.lemmas.Option.{same_Some}
 use Rattle.serde_json.specs.Data.{Data}
 use Rattle.operations.specs.declared.any_history.AnyHistory.{AnyHistory}
 use Rattle.operations.specs.declared.read_error.ReadError.{ReadError}
 use Rattle.operations.specs.declared.read_error.ReadError.TheVariants as errors
 use Rattle.operations.specs.AnyForm.{IsAnyHistory, IsJson, IsRefusedFor, first_refusal, form_of}
-use Rattle.operations.specs.Json.{elements, list}
+use Rattle.operations.specs.Json.{elements}
 use Rattle.operations.specs.JsonLaws.{elements-list}
 use Rattle.operations.specs.Refusals.{IsFirst}
 use Rattle.operations.proofs.AnyForms.{any_forms_are_distinct}
@@ -19,7 +19,7 @@ use Rattle.engine.specs.declared.command_line.Order.TheVariants.{Judge, Check}
 use Rattle.engine.specs.declared.failure.RunError.{RunError}
 use Rattle.engine.specs.declared.failure.RunError.TheVariants.{History, BadCertificate, ShapeMismatch, TooLong, Memory, ReadFault, WriteFault}
 use Rattle.engine.specs.declared.input.TheConstants.{MOST_INPUT_BYTES}
-use Rattle.engine.specs.Checking.{HasBadCertificate, HasOtherShape, HasShape, IsCheckReport, IsPair, IsPairError, pair_form, pair_refusal}
+use Rattle.engine.specs.Checking.{HasOtherShape, HasShape, IsCheckReport, IsPair, IsPairError, pair_form, pair_refusal}
 use Rattle.engine.specs.Failure.{failure_status, refusal_status}
 use Rattle.engine.specs.Running.{Answers, Fails, IsAnswer, IsAnswerError, IsReport}
 use Rattle.engine.proofs.NotRefused.{form_is_fine}
@@ -115,7 +115,7 @@ no_other_shape text e refused other one =
 has_a_form : (text : List ℕ) (h : AnyHistory) (c : Certificate) → IsCertificate c → IsPair text (form_of h) (certificate_form c) → IsPairError text BadCertificate → ⊥
 has_a_form text h c is_c pair bad =
     let same = one_pair (form_of bad.2.0) (form_of h) bad.2.1 (certificate_form c)
-        (sym bad.2.3 ∙ one_value text bad.0 (pair_form (form_of h) (certificate_form c)) bad.1 pair) in
+    (sym bad.2.3 ∙ one_value text bad.0 (pair_form (form_of h) (certificate_form c)) bad.1 pair) in
     bad.2.4 c is_c same.1
 
 -- an input is refused in one way
@@ -182,7 +182,7 @@ check_not_refused text answer (History p) report is_e =
 check_not_refused text answer BadCertificate report is_e = absurd (has_a_form text report.history report.certificate report.is_certificate report.read is_e)
 check_not_refused text answer ShapeMismatch report is_e =
     let same = one_pair (form_of is_e.0) (form_of report.history) (certificate_form is_e.1) (certificate_form report.certificate)
-        (one_value text _ _ is_e.4 report.read) in
+    (one_value text _ _ is_e.4 report.read) in
     let history : report.history ≡ is_e.0 = sym (any_forms_are_distinct is_e.0 report.history is_e.2 report.is_history same.0) in
     let certificate : report.certificate ≡ is_e.1 = sym (one_certificate is_e.1 report.certificate is_e.3 report.is_certificate same.1) in
     absurd (is_e.5 (subst (λ (h : AnyHistory). HasShape h is_e.1) history (subst (λ (c : Certificate). HasShape report.history c) certificate report.shape)))

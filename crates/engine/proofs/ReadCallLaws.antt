@@ -1,5 +1,5 @@
 -- One read call more.
-use Rattle.std.proofs.Common.{◌≡◌, ◌<◌, ◌≤◌, ◌+◌, ℕ, zero, suc, refl, arith, add-one}
+use Rattle.std.proofs.Common.{◌≡◌, ◌<◌, ◌≤◌, ◌+◌, ℕ, zero, suc, refl, ap, arith, add-one}
 use Rattle.engine.specs.ReadCalls.{Calls, CallsAtMost, GoOn, GoesOn, Outcome}
 
 module _ {S : Type 0} (called : S → Outcome → S → Type 0) where
@@ -32,3 +32,19 @@ module _ {S : Type 0} (called : S → Outcome → S → Type 0) where
   pub ended_at_most : (n most : ℕ) (old between new : S) (outcome : Outcome) → n < most → GoOn called n old between → called between outcome new
       → CallsAtMost called most old new
   ended_at_most n most old between new outcome few before call = (n + 1, omega arith, one_more n old between new outcome before call)
+
+  -- what grows by one at most at each call
+  module _ (count : S → ℕ) (grows : (a : S) (outcome : Outcome) (b : S) → called a outcome b → count b ≤ count a + 1) where
+    counted : (n : ℕ) (old new : S) → Calls called n old new → count new ≤ count old + n
+    unfolding Calls
+    counted zero old new calls = let same : count old ≡ count new = ap count calls in omega arith
+    counted (suc n) old new calls =
+        let before : count calls.0 ≤ count old + n = counted n old calls.0 calls.2 in
+        let here : count new ≤ count calls.0 + 1 = grows calls.0 calls.1 new calls.3 in
+        omega arith
+
+    pub counted_at_most : (most : ℕ) (old new : S) → CallsAtMost called most old new → count new ≤ count old + most
+    counted_at_most most old new calls =
+        let few : calls.0 ≤ most = calls.1 in
+        let sum : count new ≤ count old + calls.0 = counted calls.0 old new calls.2 in
+        omega arith

@@ -1,13 +1,15 @@
 //! Laws of runs: the contract of each function is the law, and the function does nothing.
 
-ghost use Rattle.std.specs.Prelude.{List, Option, Some, length, ◌<◌, ◌≡◌, ◌⊎◌, ℕ};
+ghost use Rattle.std.specs.Prelude.{List, Option, Some, length, ◌+◌, ◌<◌, ◌≤◌, ◌≡◌, ◌⊎◌, ℕ};
 ghost use Rattle.operations.specs.AnyForm.{form_of, IsAnyHistory, IsJson};
 ghost use Rattle.engine.specs.Failure.{failure_status};
+ghost use Rattle.engine.specs.ReadCalls.{CallsAtMost, Outcome};
 ghost use Rattle.engine.specs.Running.{Answers, Fails, IsAnswer, IsAnswerError, IsReport};
 
 use crate::command_line::Order;
 use crate::failure::RunError;
 use crate::input::MOST_INPUT_BYTES;
+use crate::source::Source;
 use operations::AnyHistory;
 
 /// A report on the form of a history is a report on that history: no other start can be taken, for instance.
@@ -34,4 +36,10 @@ pub fn too_long_input_is_refused_as_such()
         → ¬ Answers order (Some bytes) before after }
     ensures failure { (order : Order) (bytes : List ℕ) (error : RunError) → MOST_INPUT_BYTES < length bytes
         → Fails order (Some bytes) error → (error ≡ RunError.TooLong) ⊎ ((error ≡ RunError.Memory) ⊎ (error ≡ RunError.ReadFault)) }
+{}
+
+/// What counts the calls of a source, by one at most for each, counts no more than were made.
+pub fn calls_are_counted<S: Source>()
+    ensures { (count : S → ℕ) → ((a : S) (outcome : Outcome) (b : S) → S.called a outcome b → count b ≤ count a + 1)
+        → (most : ℕ) (old new : S) → CallsAtMost S.called most old new → count new ≤ count old + most }
 {}

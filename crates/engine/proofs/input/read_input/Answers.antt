@@ -1,4 +1,4 @@
-use Rattle.std.proofs.Common.{rules, arith}
+use Rattle.std.proofs.Common.{rules}
 use Rattle.std.proofs.KnownBytes.{Consumes-nil, Consumes-trans}
 use Rattle.engine.proofs.ReadCallLaws.{ended_at_most, goes_on, gone_at_most, no_call, no_call_at_most}
 use Rattle.engine.proofs.input.read_input.Goals as goal
