@@ -1,11 +1,11 @@
 -- What founded answers say.
-use Rattle.std.proofs.Common.{◌≡◌, refl, subst, List}
+use Rattle.std.proofs.Common.{◌≡◌, refl, subst, List, Some, None}
 use Rattle.history.specs.History.{Record}
 use Rattle.operations.specs.declared.any_history.AnyHistory.{AnyHistory}
 use Rattle.cert_check.specs.declared.certificate.Certificate.{Certificate}
 use Rattle.cert_check.specs.declared.criterion.Criterion.{Criterion}
 use Rattle.cert_check.specs.declared.criterion.Criterion.TheVariants.{Cc, Cm, Ccv}
-use Rattle.cert_check.specs.Certificates.{criterion_of}
+use Rattle.cert_check.specs.Certificates.{HasShapeOf, criterion_of}
 use Rattle.cert_check.specs.Criteria.{Meets}
 use Rattle.engine.specs.declared.failure.RunError.{RunError}
 use Rattle.engine.specs.declared.failure.RunError.TheVariants.{History, BadCertificate, ShapeMismatch, TooLong, Memory, ReadFault, WriteFault}
@@ -13,21 +13,30 @@ use Rattle.engine.specs.declared.report.Answer.{Answer}
 use Rattle.engine.specs.declared.report.Answer.TheVariants.{Yes, No, Unknown}
 use Rattle.engine.specs.declared.report.Report.{Report}
 use Rattle.engine.specs.Checking.{IsCheckError, IsSaidOf}
-use Rattle.engine.specs.Report.{IsFounded, IsMet, IsTrueOf, answer_for}
+use Rattle.engine.specs.Report.{IsFounded, IsMet, IsTrueOf, IsUnexplained, IsUnexplainedOf, NamesUnexplained, answer_for}
 
--- a founded answer is true
-pub founded_is_true : (history : AnyHistory) (criterion : Criterion) (answer : Answer) → IsFounded (IsMet history criterion) answer → IsTrueOf history criterion answer
+-- a founded answer is true, and names an operation only where it is unexplained
+pub founded_is_true : (history : AnyHistory) (criterion : Criterion) (answer : Answer)
+    → IsFounded (IsMet history criterion) (IsUnexplained history criterion) answer → IsTrueOf history criterion answer
 founded_is_true history criterion Yes founded = founded
 founded_is_true history criterion (No kind) founded = absurd founded
 founded_is_true history criterion (Unknown place) founded = tt
 
+pub founded_names : (history : AnyHistory) (criterion : Criterion) (answer : Answer)
+    → IsFounded (IsMet history criterion) (IsUnexplained history criterion) answer → NamesUnexplained history criterion answer
+founded_names history criterion Yes founded = tt
+founded_names history criterion (No kind) founded = absurd founded
+founded_names history criterion (Unknown None) founded = tt
+founded_names history criterion (Unknown (Some o)) founded = founded
+
 -- what the pieces of a certificate show is founded
 pub said_is_founded : {S C R : Type 0} (answer : S → List C → C → R) (h : Record S C R) (certificate : Certificate) (criterion : Criterion) (said : Answer)
-    → criterion_of certificate ≡ criterion → IsSaidOf answer h certificate said → (said ≡ Yes → Meets answer h (criterion_of certificate))
-    → IsFounded (Meets answer h criterion) said
-said_is_founded answer h certificate criterion Yes same shown met = subst (λ (k : Criterion). Meets answer h k) same (met refl)
-said_is_founded answer h certificate criterion (No kind) same shown met = absurd shown
-said_is_founded answer h certificate criterion (Unknown place) same shown met = tt
+    → criterion_of certificate ≡ criterion → HasShapeOf h certificate → IsSaidOf answer h certificate said
+    → (said ≡ Yes → Meets answer h (criterion_of certificate)) → IsFounded (Meets answer h criterion) (IsUnexplainedOf answer h criterion) said
+said_is_founded answer h certificate criterion Yes same shape shown met = subst (λ (k : Criterion). Meets answer h k) same (met refl)
+said_is_founded answer h certificate criterion (No kind) same shape shown met = absurd shown
+said_is_founded answer h certificate criterion (Unknown None) same shape shown met = absurd shown
+said_is_founded answer h certificate criterion (Unknown (Some o)) same shape shown met = (certificate, same, shape, shown)
 
 -- a certificate of good shape fails to be checked for want of memory alone
 pub memory_alone : (has_shape : Type 0) (e : RunError) → has_shape → IsCheckError has_shape e → e ≡ Memory

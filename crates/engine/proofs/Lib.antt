@@ -2,3 +2,6 @@ pub mod FirstWord
 pub mod Usages
 pub mod Pairs
 pub mod Founded
+pub mod ReadCallLaws
+pub mod NotRefused
+pub mod Outcomes

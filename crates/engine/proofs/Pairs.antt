@@ -4,7 +4,7 @@ use Rattle.serde_json.specs.Data.{Data}
 use Rattle.operations.specs.declared.read_error.ReadError.{ReadError}
 use Rattle.operations.specs.declared.read_error.ReadError.TheVariants as errors
 use Rattle.operations.specs.declared.any_history.AnyHistory.{AnyHistory}
-use Rattle.operations.specs.AnyForm.{first_refusal, form_of}
+use Rattle.operations.specs.AnyForm.{first_refusal, form_of, IsAnyHistory}
 use Rattle.operations.specs.Json.{elements, list}
 use Rattle.operations.specs.JsonLaws.{list_from_elements}
 use Rattle.operations.specs.Refusals.{IsFirst}
@@ -15,7 +15,7 @@ use Rattle.engine.specs.Failure.{certificate_failure, failure_of}
 use Rattle.engine.specs.Checking.{first_of_pair, pair_form, pair_refusal, IsPairErrorOf}
 
 -- the first refusal of a pair is that of its history
-refusal-pair : (d h c : Data) → d ≡ pair_form h c → pair_refusal (elements d) ≡ first_refusal h
+pub refusal-pair : (d h c : Data) → d ≡ pair_form h c → pair_refusal (elements d) ≡ first_refusal h
 refusal-pair d h c is = ap (λ (x : Data). pair_refusal (elements x)) is
 
 first-of_pair : (d h c : Data) (e : ReadError) → d ≡ pair_form h c → IsFirst (first_refusal h) e → IsFirst (pair_refusal (elements d)) e
@@ -33,11 +33,11 @@ pair_refused d h c errors.Memory is first = tt
 pair_refused d h c errors.BadInitial is first = first-of_pair d h c errors.BadInitial is first
 
 -- the second element of a pair with a good history is no form of a certificate, or memory ran out
-pub pair_without_certificate : (d h c : Data) (history : AnyHistory) (e : CertError) → d ≡ pair_form h c → h ≡ form_of history
-    → IsRefusedFor c e → IsPairErrorOf d (certificate_failure e)
-pair_without_certificate d h c history certificates.Memory is good refused = tt
-pair_without_certificate d h c history certificates.BadCertificate is good refused =
-    (history, c, is ∙ ap (λ (x : Data). pair_form x c) good, refused)
+pub pair_without_certificate : (d h c : Data) (history : AnyHistory) (e : CertError) → d ≡ pair_form h c → IsAnyHistory history
+    → h ≡ form_of history → IsRefusedFor c e → IsPairErrorOf d (certificate_failure e)
+pair_without_certificate d h c history certificates.Memory is good same refused = tt
+pair_without_certificate d h c history certificates.BadCertificate is good same refused =
+    (history, c, good, is ∙ ap (λ (x : Data). pair_form x c) same, refused)
 
 -- a list of another length than two
 pub other_length : (ds : List Data) → (length ds ≡ 2 → ⊥) → first_of_pair ds ≡ Some errors.BadShape

@@ -6,7 +6,7 @@ use Rattle.operations.specs.declared.read_error.ReadError.TheVariants as errors
 use Rattle.operations.specs.declared.any_history.AnyHistory.{AnyHistory}
 use Rattle.history.specs.History.{Record}
 use Rattle.operations.specs.Json.{elements, list}
-use Rattle.operations.specs.AnyForm.{first_refusal, form_of, IsJson}
+use Rattle.operations.specs.AnyForm.{first_refusal, form_of, IsAnyHistory, IsJson}
 use Rattle.cert_check.specs.declared.certificate.Certificate.{Certificate}
 use Rattle.cert_check.specs.Certificates.{HasShapeOf, IsExplainedThroughout, IsFirstUnexplained}
 use Rattle.cert_check.specs.CertificateForm.{form_of as certificate_form, IsCertificate}
@@ -36,10 +36,10 @@ abbrev pub pair_refusal : Option (List Data) → Option ReadError
 pair_refusal None = Some errors.BadShape
 pair_refusal (Some ds) = first_of_pair ds
 
--- the second element of a pair is no form of a certificate
+-- the first element of a pair is the form of a history, and the second no form of a certificate
 abbrev pub HasBadCertificate : Data → Type 0
 HasBadCertificate pair =
-    (h : AnyHistory) × (d : Data) × (pair ≡ pair_form (form_of h) d) × ((c : Certificate) → IsCertificate c → d ≢ certificate_form c)
+    (h : AnyHistory) × (d : Data) × IsAnyHistory h × (pair ≡ pair_form (form_of h) d) × ((c : Certificate) → IsCertificate c → d ≢ certificate_form c)
 
 -- why a value is refused as a pair of a history and a certificate: the first refusal is that of the list or of the
 -- history, or else the certificate has no form
@@ -76,7 +76,8 @@ IsShown history certificate said = HoldsOf (λ S C R answer h. IsSaidOf answer h
 
 -- the certificate of a text has another shape than its history
 abbrev pub HasOtherShape : List ℕ → Type 0
-HasOtherShape text = (h : AnyHistory) × (c : Certificate) × IsPair text (form_of h) (certificate_form c) × ¬ HasShape h c
+HasOtherShape text =
+    (h : AnyHistory) × (c : Certificate) × IsAnyHistory h × IsCertificate c × IsPair text (form_of h) (certificate_form c) × ¬ HasShape h c
 
 -- why a certificate with a form is not checked: it does not have the shape of the history, or memory ran out
 abbrev pub IsCheckError : Type 0 → RunError → Type 0
@@ -90,6 +91,8 @@ pub record IsCheckReport (input text : List ℕ) : Type 0 where
   pub history : AnyHistory
   pub certificate : Certificate
   pub answer : Answer
+  pub is_history : IsAnyHistory history
+  pub is_certificate : IsCertificate certificate
   pub read : IsPair input (form_of history) (certificate_form certificate)
   pub shape : HasShape history certificate
   pub shown : IsShown history certificate answer

@@ -3,4 +3,5 @@ pub mod Failure
 pub mod Report
 pub mod Checking
 pub mod Running
+pub mod ReadCalls
 pub mod Transfer

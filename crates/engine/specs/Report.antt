@@ -1,5 +1,6 @@
 -- What the lines of a report say, and when they are true.
-use Rattle.std.specs.Prelude.{⊤, ℕ, List, ◌++◌, codes, decimal, Some, None}
+use Rattle.std.specs.Prelude.{◌≡◌, ⊤, ℕ, List, ◌++◌, codes, decimal, Some, None}
+use Rattle.history.specs.declared.op_id.OpId.{OpId}
 use Rattle.cert_check.specs.declared.criterion.Criterion.{Criterion}
 use Rattle.cert_check.specs.declared.criterion.Criterion.TheVariants.{Cc, Cm, Ccv}
 use Rattle.operations.specs.declared.any_history.AnyHistory.{AnyHistory}
@@ -13,6 +14,8 @@ use Rattle.objects.specs.Queue.{answer as queue_answer}
 use Rattle.objects.specs.Keyed.{answer as keyed_answer}
 use Rattle.history.specs.History.{Record}
 use Rattle.causal_order.specs.Memory.{memory_answer}
+use Rattle.cert_check.specs.declared.certificate.Certificate.{Certificate}
+use Rattle.cert_check.specs.Certificates.{HasShapeOf, IsFirstUnexplained, criterion_of}
 use Rattle.cert_check.specs.Criteria.{Meets}
 use Rattle.bad_patterns.specs.Kinds.{IsPresent}
 use Rattle.bad_patterns.specs.Patterns.{IsTrueNo}
@@ -51,11 +54,27 @@ IsTrueOf history criterion Yes = IsMet history criterion
 IsTrueOf history criterion (No kind) = IsExcluded history criterion kind
 IsTrueOf history criterion (Unknown place) = ⊤
 
--- a yes where the criterion is met, or nothing is known
-abbrev pub IsFounded : Type 0 → Answer → Type 0
-IsFounded met Yes = met
-IsFounded met (No kind) = ⊥
-IsFounded met (Unknown place) = ⊤
+-- a certificate of the criterion has the shape of the history, and o is the first operation that it doesn't explain
+abbrev pub IsUnexplainedOf : {S C R : Type 0} → (S → List C → C → R) → Record S C R → Criterion → OpId → Type 0
+IsUnexplainedOf answer h criterion o =
+    (certificate : Certificate) × (criterion_of certificate ≡ criterion) × HasShapeOf h certificate × IsFirstUnexplained answer h certificate o
+
+abbrev pub IsUnexplained : AnyHistory → Criterion → OpId → Type 0
+IsUnexplained history criterion o = HoldsOf (λ S C R answer h. IsUnexplainedOf answer h criterion o) history
+
+-- an operation is named only where it is the first that a certificate doesn't explain
+abbrev pub NamesUnexplained : AnyHistory → Criterion → Answer → Type 0
+NamesUnexplained history criterion Yes = ⊤
+NamesUnexplained history criterion (No kind) = ⊤
+NamesUnexplained history criterion (Unknown None) = ⊤
+NamesUnexplained history criterion (Unknown (Some o)) = IsUnexplained history criterion o
+
+-- a yes where the criterion is met, or nothing is known, and then an operation is named only where it is unexplained
+abbrev pub IsFounded : Type 0 → (OpId → Type 0) → Answer → Type 0
+IsFounded met unexplained Yes = met
+IsFounded met unexplained (No kind) = ⊥
+IsFounded met unexplained (Unknown None) = ⊤
+IsFounded met unexplained (Unknown (Some o)) = unexplained o
 
 -- nothing is left unknown where a value is read out of thin air, in a history of distinct values
 abbrev pub HasNoThinAir : AnyHistory → Type 0

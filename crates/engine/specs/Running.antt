@@ -1,15 +1,15 @@
 -- What a run answers, and when it fails.
-use Rattle.std.specs.Prelude.{◌≡◌, ◌<◌, ℕ, List, Option, IfSome, length}
+use Rattle.std.specs.Prelude.{◌≡◌, ◌<◌, ◌≤◌, ℕ, List, Option, IfSome, length}
 use Rattle.std.specs.Io.KnownBytes.{Appends}
 use Rattle.engine.specs.declared.command_line.Order.{Order}
 use Rattle.engine.specs.declared.failure.RunError.{RunError}
-use Rattle.engine.specs.declared.failure.RunError.TheVariants.{History, BadCertificate, ShapeMismatch, TooLong, Memory}
+use Rattle.engine.specs.declared.failure.RunError.TheVariants.{History, BadCertificate, ShapeMismatch, TooLong, Memory, ReadFault, WriteFault}
 use Rattle.operations.specs.declared.any_history.AnyHistory.{AnyHistory}
-use Rattle.operations.specs.AnyForm.{form_of, IsJson, IsRefusedFor}
+use Rattle.operations.specs.AnyForm.{form_of, IsAnyHistory, IsJson, IsRefusedFor}
 use Rattle.cert_check.specs.declared.criterion.Criterion.{Criterion}
 use Rattle.engine.specs.declared.report.Report.{Report}
 use Rattle.engine.specs.declared.command_line.Order.TheVariants.{Judge, Check}
-use Rattle.engine.specs.Report.{IsTrueOf, OnlyWithoutThinAir, answer_for, text_for}
+use Rattle.engine.specs.Report.{IsTrueOf, NamesUnexplained, OnlyWithoutThinAir, answer_for, text_for}
 use Rattle.engine.specs.Checking.{IsCheckReport, IsPairError, HasOtherShape}
 use Rattle.engine.specs.declared.input.TheConstants.{MOST_INPUT_BYTES}
 
@@ -17,9 +17,11 @@ use Rattle.engine.specs.declared.input.TheConstants.{MOST_INPUT_BYTES}
 pub record IsReport (input text : List ℕ) : Type 0 where
   pub history : AnyHistory
   pub report : Report
+  pub is_history : IsAnyHistory history
   pub read : IsJson input (form_of history)
   pub true_of : (criterion : Criterion) → IsTrueOf history criterion (answer_for report criterion)
   pub unknown : (criterion : Criterion) → OnlyWithoutThinAir history (answer_for report criterion)
+  pub unexplained : (criterion : Criterion) → NamesUnexplained history criterion (answer_for report criterion)
   pub lines : text ≡ text_for report
 
 -- the text answers the input as the order asks
@@ -42,18 +44,21 @@ pub record Answers (order : Order) (reader writer_before writer_after : Option (
   pub input : List ℕ
   pub text : List ℕ
   pub whole : IfSome reader (λ bytes. input ≡ bytes)
+  pub within : length input ≤ MOST_INPUT_BYTES
   pub answered : IsAnswer order input text
   pub written : Appends writer_before writer_after text
 
--- a refusal of the input, where the reader tells its bytes, of these bytes
+-- it is so of the input, which is not too long: where the reader tells its bytes, of these bytes
 abbrev pub IsOfInput : Option (List ℕ) → (List ℕ → Type 0) → Type 0
-IsOfInput reader refused = (input : List ℕ) × IfSome reader (λ bytes. input ≡ bytes) × refused input
+IsOfInput reader IsSo = (input : List ℕ) × IfSome reader (λ bytes. input ≡ bytes) × (length input ≤ MOST_INPUT_BYTES) × IsSo input
 
--- why a run failed: the input is too long, or it is refused; or memory, the reader or the writer failed, which can be at
--- any time
+-- why a run failed: the input is too long, or it is refused; or its answer could not be written; or memory or the reader
+-- failed, which can be at any time
 abbrev pub Fails : Order → Option (List ℕ) → RunError → Type 0
 Fails order reader TooLong = IfSome reader (λ bytes. MOST_INPUT_BYTES < length bytes)
 Fails order reader (History refusal) = IsOfInput reader (λ input. IsAnswerError order input (History refusal))
 Fails order reader BadCertificate = IsOfInput reader (λ input. IsAnswerError order input BadCertificate)
 Fails order reader ShapeMismatch = IsOfInput reader (λ input. IsAnswerError order input ShapeMismatch)
-Fails order reader _ = Unit {0}
+Fails order reader WriteFault = IsOfInput reader (λ input. (text : List ℕ) × IsAnswer order input text)
+Fails order reader Memory = Unit {0}
+Fails order reader ReadFault = Unit {0}

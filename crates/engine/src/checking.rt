@@ -4,8 +4,8 @@ ghost use Rattle.std.specs.Prelude.{◌≡◌, IfErr, IfOk, MatchOption, Some, s
 ghost use Rattle.serde_json.specs.View.{view};
 ghost use Rattle.cert_check.specs.Certificates.{HasShapeOf, criterion_of};
 ghost use Rattle.cert_check.specs.Criteria.{Meets};
-ghost use Rattle.cert_check.specs.CertificateForm.{form_of as certificate_form};
-ghost use Rattle.operations.specs.AnyForm.{form_of};
+ghost use Rattle.cert_check.specs.CertificateForm.{form_of as certificate_form, IsCertificate};
+ghost use Rattle.operations.specs.AnyForm.{form_of, IsAnyHistory};
 ghost use Rattle.operations.specs.Json.{elements};
 ghost use Rattle.engine.specs.Report.{IsTrueOf};
 ghost use Rattle.engine.specs.Running.{IsAnswer, IsAnswerError};
@@ -80,6 +80,8 @@ pub fn answer_of_pieces<O: SeqObject>(
 
 // The history and the certificate of an input.
 fn read_pair(alloc: Global, input: &[u8]) -> Result<(AnyHistory, Certificate), RunError>
+    ensures history { IfOk result (λ pair. IsAnyHistory pair.0) }
+    ensures certificate { IfOk result (λ pair. IsCertificate pair.1) }
     ensures read { IfOk result (λ pair. IsPair input.now (form_of pair.0) (certificate_form pair.1)) }
     ensures error { IfErr result (IsPairError input.now) }
 {
@@ -98,6 +100,8 @@ fn read_pair(alloc: Global, input: &[u8]) -> Result<(AnyHistory, Certificate), R
 // The history and the certificate of a value.
 #[tactic(auto, using(crate::proofs::Pairs::pair_refused, crate::proofs::Pairs::pair_without_certificate))]
 fn pair_of(alloc: Global, value: &Value) -> Result<(AnyHistory, Certificate), RunError>
+    ensures history { IfOk result (λ pair. IsAnyHistory pair.0) }
+    ensures certificate { IfOk result (λ pair. IsCertificate pair.1) }
     ensures read { IfOk result (λ pair. view value.now ≡ pair_form (form_of pair.0) (certificate_form pair.1)) }
     ensures error { IfErr result (IsPairErrorOf (view value.now)) }
 {

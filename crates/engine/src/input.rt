@@ -1,12 +1,14 @@
 //! Reading the input, within bounds.
-ghost use Rattle.std.specs.Prelude.{◌≡◌, ◌+◌, ◌++◌, ◌<◌, ◌≤◌, ◌⊎◌, ◌↔◌, Err, IfErr, IfOk, IfSome, OnErr, OnOk, length, true, vec_len};
+ghost use Rattle.std.specs.Prelude.{◌≡◌, ◌+◌, ◌++◌, ◌<◌, ◌≤◌, ◌⊎◌, ◌↔◌, Err, IfErr, IfOk, IfSome, OnOk, length, true, vec_len};
 ghost use Rattle.std.specs.Io.KnownBytes.{IsAtEnd};
 ghost use Rattle.engine.specs.Failure.{IsInputError};
+ghost use Rattle.engine.specs.ReadCalls.{CallsAtMost, CameTo, EndsBy, FindsNoEnd, IsEnd, Outcome};
 ghost use Rattle.engine.specs.Transfer.{Gives, GivesPast, MovesTo};
 
 use crate::failure::RunError;
+use crate::source::Source;
 use std::alloc::Global;
-use std::io::{ErrorKind, Read};
+use std::io::ErrorKind;
 
 /// The most bytes of an input.
 pub const MOST_INPUT_BYTES: usize = 67_108_864;
@@ -17,12 +19,12 @@ pub const MOST_READ_CALLS: u32 = 1_048_576;
 // How many bytes a read call asks for.
 const CHUNK_BYTES: usize = 65_536;
 
-/// Reads all that the reader has.
+/// Reads all that the source has.
 ///
 /// Refused are more than [`MOST_INPUT_BYTES`], at the first read that passes them. An interrupted read is made again.
-/// Any other error of the reader is a read fault, and so is a reader that did not come to its end in
+/// Any other error of the source is a read fault, and so is a source that did not come to its end in
 /// [`MOST_READ_CALLS`] calls.
-pub fn read_input<R: Read>(alloc: Global, reader: &mut R) -> Result<Vec<u8>, RunError>
+pub fn read_input<R: Source>(alloc: Global, reader: &mut R) -> Result<Vec<u8>, RunError>
     ensures all { IfOk result (λ input. IfSome (R.remaining reader.old) (λ bytes. input.items ≡ bytes)) }
     ensures end { OnOk result (IsAtEnd (R.remaining reader.new)) }
     ensures within { IfOk result (λ input. vec_len input ≤ MOST_INPUT_BYTES) }
@@ -31,6 +33,11 @@ pub fn read_input<R: Read>(alloc: Global, reader: &mut R) -> Result<Vec<u8>, Run
         → IfSome (R.remaining reader.old) (λ bytes. MOST_INPUT_BYTES < length bytes) }
     ensures errors { IfErr result IsInputError }
     ensures reader { Gives (R.remaining reader.old) (R.remaining reader.new) }
+
+    // However often the source could be called, and whatever it tells of its calls.
+    ensures calls { CallsAtMost R.called MOST_READ_CALLS reader.old reader.new }
+    ensures end_found { OnOk result (EndsBy R.called MOST_READ_CALLS IsEnd reader.old reader.new) }
+    ensures fault { result ≡ Err RunError.ReadFault → FindsNoEnd R.called MOST_READ_CALLS reader.old reader.new }
 {
     let mut chunk = chunk_of_zeros(alloc)?;
     let mut input = Vec::new(alloc);
@@ -51,7 +58,7 @@ fn chunk_of_zeros(alloc: Global) -> Result<Vec<u8>, RunError>
 }
 
 // Makes one read call, and appends what it gave. Returns whether it found the end.
-fn read_once<R: Read>(
+fn read_once<R: Source>(
     reader: &mut R,
     chunk: &mut [u8],
     input: &mut Vec<u8>,
@@ -67,8 +74,9 @@ fn read_once<R: Read>(
         → GivesPast (R.remaining reader.old) (R.remaining reader.new) input.old.items MOST_INPUT_BYTES }
     ensures errors { IfErr result IsInputError }
     ensures reader { Gives (R.remaining reader.old) (R.remaining reader.new) }
+    ensures call { (outcome : Outcome) × R.called reader.old outcome reader.new × CameTo outcome result }
 {
-    match reader.read(chunk) {
+    match reader.call(chunk) {
         Ok(0) => Ok(true),
         Ok(count) => {
             append(input, &chunk[..count])?;

@@ -7,7 +7,7 @@ ghost use Rattle.causal_order.specs.SourceOrder.{CountsSourceOrder};
 ghost use Rattle.cert_check.specs.Certificates.{HasShapeOf, criterion_of};
 ghost use Rattle.cert_check.specs.Criteria.{Meets};
 ghost use Rattle.history.specs.declared.op_id.OpId.{OpId};
-ghost use Rattle.engine.specs.Report.{IsFounded, IsTrueOf, OnlyWithoutThinAir, answer_for};
+ghost use Rattle.engine.specs.Report.{IsFounded, IsTrueOf, IsUnexplainedOf, NamesUnexplained, OnlyWithoutThinAir, answer_for};
 
 use crate::checking::answer_of_pieces;
 use crate::failure::RunError;
@@ -28,10 +28,11 @@ use std::alloc::{AllocError, Global};
 ///
 /// Fails for want of memory alone. O(n (n + p k + k^2)) for n operations with pasts of p operations in k sessions, and what
 /// the search for patterns and the makers of certificates take.
-#[tactic(auto, using(crate::proofs::Founded::founded_is_true))]
+#[tactic(auto, using(crate::proofs::Founded::founded_is_true, crate::proofs::Founded::founded_names))]
 pub fn report_on(alloc: Global, history: AnyHistory) -> Result<Report, RunError>
     ensures truth { IfOk result (λ report. (criterion : Criterion) → IsTrueOf history criterion (answer_for report criterion)) }
     ensures unknown { IfOk result (λ report. (criterion : Criterion) → OnlyWithoutThinAir history (answer_for report criterion)) }
+    ensures unexplained { IfOk result (λ report. (criterion : Criterion) → NamesUnexplained history criterion (answer_for report criterion)) }
     ensures error { IfErr result (λ e. e ≡ RunError.Memory) }
 {
     match history {
@@ -50,6 +51,7 @@ pub fn report_on(alloc: Global, history: AnyHistory) -> Result<Report, RunError>
 fn report_on_memory(alloc: Global, history: History<Memory>) -> Result<Report, RunError>
     ensures truth { IfOk result (λ report. (criterion : Criterion) → IsTrueOf (AnyHistory.Memory history) criterion (answer_for report criterion)) }
     ensures unknown { IfOk result (λ report. (criterion : Criterion) → OnlyWithoutThinAir (AnyHistory.Memory history) (answer_for report criterion)) }
+    ensures unexplained { IfOk result (λ report. (criterion : Criterion) → NamesUnexplained (AnyHistory.Memory history) criterion (answer_for report criterion)) }
     ensures error { IfErr result (λ e. e ≡ RunError.Memory) }
 {
     let order = memory_order(alloc, &history)?;
@@ -62,7 +64,7 @@ fn report_on_memory(alloc: Global, history: History<Memory>) -> Result<Report, R
 
 // The same for the histories of one object, in which no patterns are looked for.
 fn report_on_object<O: SeqObject>(alloc: Global, history: History<O>) -> Result<Report, RunError>
-    ensures founded { IfOk result (λ report. (criterion : Criterion) → IsFounded (Meets O.answer history criterion) (answer_for report criterion)) }
+    ensures founded { IfOk result (λ report. (criterion : Criterion) → IsFounded (Meets O.answer history criterion) (IsUnexplainedOf O.answer history criterion) (answer_for report criterion)) }
     ensures error { IfErr result (λ e. e ≡ RunError.Memory) }
 {
     let cc = answer_of_object(alloc, history.copy(alloc)?, Criterion::Cc)?;
@@ -72,7 +74,7 @@ fn report_on_object<O: SeqObject>(alloc: Global, history: History<O>) -> Result<
 }
 
 // What is known of a history of a memory and a criterion, by the causal order of the history where it has one.
-#[tactic(auto, using(crate::proofs::Founded::founded_is_true))]
+#[tactic(auto, using(crate::proofs::Founded::founded_is_true, crate::proofs::Founded::founded_names))]
 fn answer_of_memory(
     alloc: Global,
     history: History<Memory>,
@@ -82,6 +84,7 @@ fn answer_of_memory(
     requires order { IfSome (option_copied order) (CountsSourceOrder history) }
     ensures truth { IfOk result (IsTrueOf (AnyHistory.Memory history) criterion) }
     ensures unknown { IfOk result (OnlyWithoutThinAir (AnyHistory.Memory history)) }
+    ensures unexplained { IfOk result (NamesUnexplained (AnyHistory.Memory history) criterion) }
     ensures error { IfErr result (λ e. e ≡ RunError.Memory) }
 {
     if let Some(kind) = excluding_kind(alloc, &history, order, criterion)? {
@@ -97,7 +100,7 @@ fn answer_of_object<O: SeqObject>(
     history: History<O>,
     criterion: Criterion,
 ) -> Result<Answer, RunError>
-    ensures founded { IfOk result (IsFounded (Meets O.answer history criterion)) }
+    ensures founded { IfOk result (IsFounded (Meets O.answer history criterion) (IsUnexplainedOf O.answer history criterion)) }
     ensures error { IfErr result (λ e. e ≡ RunError.Memory) }
 {
     let made = certificate_by_program_order(alloc, &history, criterion)?;
@@ -190,7 +193,7 @@ fn answer_by<O: SeqObject>(
 ) -> Result<Answer, RunError>
     requires criterion { IfSome made (λ c. criterion_of c ≡ criterion) }
     requires shape { IfSome made (HasShapeOf history) }
-    ensures founded { IfOk result (IsFounded (Meets O.answer history criterion)) }
+    ensures founded { IfOk result (IsFounded (Meets O.answer history criterion) (IsUnexplainedOf O.answer history criterion)) }
     ensures error { IfErr result (λ e. e ≡ RunError.Memory) }
 {
     match made {

@@ -7,10 +7,12 @@ mod command_line;
 mod failure;
 mod input;
 mod judging;
+pub mod laws;
 mod output;
 mod program;
 mod report;
 mod running;
+mod source;
 
 pub use checking::answer_of_certificate;
 pub use command_line::{Order, Usage, command_of};
@@ -21,3 +23,4 @@ pub use output::write_answer;
 pub use program::status_of_process;
 pub use report::{Answer, Report, report_line, report_text};
 pub use running::{answer_to, run};
+pub use source::Source;

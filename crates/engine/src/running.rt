@@ -1,25 +1,27 @@
 //! One run of the program: from the bytes of its input to the bytes of its answer.
-ghost use Rattle.std.specs.Prelude.{◌≡◌, ◌≢◌, IfErr, IfOk, OnOk, string_bytes};
+ghost use Rattle.std.specs.Prelude.{◌≡◌, ◌≢◌, Err, IfErr, IfOk, OnOk, string_bytes};
 ghost use Rattle.std.specs.Io.KnownBytes.{IsAtEnd};
+ghost use Rattle.engine.specs.ReadCalls.{CallsAtMost, FindsNoEnd};
 ghost use Rattle.engine.specs.Running.{Answers, Fails, IsAnswer, IsAnswerError};
 
 use crate::checking::check;
 use crate::command_line::Order;
 use crate::failure::RunError;
-use crate::input::read_input;
+use crate::input::{MOST_READ_CALLS, read_input};
 use crate::judging::report_on;
 use crate::output::write_answer;
 use crate::report::report_text;
+use crate::source::Source;
 use operations::read_history;
 use std::alloc::Global;
-use std::io::{Read, Write};
+use std::io::Write;
 
 /// Reads the whole input, makes the whole answer that the order asks for, and then writes it.
 ///
 /// Nothing is written before the answer is made: after every error but a write fault the writer is as it was. How much
 /// was written before a write fault is not said, nor how much was read before an error. O(n log n) for an input of n
 /// bytes, and what [`report_on`] or [`answer_of_certificate`](crate::answer_of_certificate) takes for its history.
-pub fn run<P: AllocGlobal, R: Read, W: Write>(
+pub fn run<P: AllocGlobal, R: Source, W: Write>(
     rt: &P,
     reader: &mut R,
     writer: &mut W,
@@ -31,6 +33,9 @@ pub fn run<P: AllocGlobal, R: Read, W: Write>(
 
     ensures failed { IfErr result (Fails order.now (R.remaining reader.old)) }
     ensures unwritten { IfErr result (λ e. e ≢ RunError.WriteFault → writer.new ≡ writer.old) }
+
+    ensures calls { CallsAtMost R.called MOST_READ_CALLS reader.old reader.new }
+    ensures fault { result ≡ Err RunError.ReadFault → FindsNoEnd R.called MOST_READ_CALLS reader.old reader.new }
 {
     let input = read_input(rt.alloc(), reader)?;
     let answer = answer_to(rt.alloc(), input.as_slice(), order)?;

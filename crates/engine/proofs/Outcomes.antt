@@ -1,0 +1,213 @@
+-- What can come of one input, and what cannot come of it beside that.
+use Rattle.std.proofs.Common.{◌≡◌, ◌<◌, ◌⊎◌, ℕ, List, [], ◌∷◌, Option, Some, None, length, refl, sym, ap, subst, ◌∙◌, arith, inl, inr, ⊎_elim}
+use Rattle.std.proofs.lemmas.Option.{same_Some}
+use Rattle.serde_json.specs.Data.{Data}
+use Rattle.operations.specs.declared.any_history.AnyHistory.{AnyHistory}
+use Rattle.operations.specs.declared.read_error.ReadError.{ReadError}
+use Rattle.operations.specs.declared.read_error.ReadError.TheVariants as errors
+use Rattle.operations.specs.AnyForm.{IsAnyHistory, IsJson, IsRefusedFor, first_refusal, form_of}
+use Rattle.operations.specs.Json.{elements}
+use Rattle.operations.specs.JsonLaws.{elements-list}
+use Rattle.operations.specs.Refusals.{IsFirst}
+use Rattle.operations.proofs.AnyForms.{any_forms_are_distinct}
+use Rattle.cert_check.specs.declared.certificate.Certificate.{Certificate}
+use Rattle.cert_check.specs.CertificateForm.{IsCertificate, form_of as certificate_form}
+use Rattle.cert_check.specs.CertificateReading.{certificate_at}
+use Rattle.cert_check.proofs.CertificateForms.{certificate_again}
+use Rattle.engine.specs.declared.command_line.Order.{Order}
+use Rattle.engine.specs.declared.command_line.Order.TheVariants.{Judge, Check}
+use Rattle.engine.specs.declared.failure.RunError.{RunError}
+use Rattle.engine.specs.declared.failure.RunError.TheVariants.{History, BadCertificate, ShapeMismatch, TooLong, Memory, ReadFault, WriteFault}
+use Rattle.engine.specs.declared.input.TheConstants.{MOST_INPUT_BYTES}
+use Rattle.engine.specs.Checking.{HasOtherShape, HasShape, IsCheckReport, IsPair, IsPairError, pair_form, pair_refusal}
+use Rattle.engine.specs.Failure.{failure_status, refusal_status}
+use Rattle.engine.specs.Running.{Answers, Fails, IsAnswer, IsAnswerError, IsReport}
+use Rattle.engine.proofs.NotRefused.{form_is_fine}
+use Rattle.engine.proofs.Pairs.{refusal-pair}
+
+-- a text has one value, a value is the form of one history, and of one certificate
+one_value : (text : List ℕ) (d e : Data) → IsJson text d → IsJson text e → d ≡ e
+one_value text d e first second = same_Some d e (sym first.1 ∙ second.1)
+
+one_history : (text : List ℕ) (g h : AnyHistory) → IsAnyHistory g → IsAnyHistory h → IsJson text (form_of g) → IsJson text (form_of h) → g ≡ h
+one_history text g h is_g is_h first second = any_forms_are_distinct g h is_g is_h (one_value text (form_of g) (form_of h) first second)
+
+one_certificate : (b c : Certificate) → IsCertificate b → IsCertificate c → certificate_form b ≡ certificate_form c → b ≡ c
+one_certificate b c is_b is_c same = same_Some b c (sym (certificate_again b is_b) ∙ ap certificate_at same ∙ certificate_again c is_c)
+
+two_elements : (a b x y : Data) → a ∷ x ∷ [] ≡ b ∷ y ∷ [] → (a ≡ b) × (x ≡ y)
+two_elements a b x y same = let first : a ≡ b = cc in let second : x ≡ y = cc in (first, second)
+
+one_pair : (a b x y : Data) → pair_form a x ≡ pair_form b y → (a ≡ b) × (x ≡ y)
+one_pair a b x y same =
+    two_elements a b x y (same_Some _ _ (sym (elements-list (a ∷ x ∷ [])) ∙ ap elements same ∙ elements-list (b ∷ y ∷ [])))
+
+-- a pair whose first element is the form of a history has no first refusal
+pair_is_fine : (d x : Data) (h : AnyHistory) → IsAnyHistory h → d ≡ pair_form (form_of h) x → pair_refusal (elements d) ≡ None
+pair_is_fine d x h is same = refusal-pair d (form_of h) x same ∙ form_is_fine h is
+
+-- the refusal of a text is that it is no JSON, or the first of its value
+abbrev Refused : (Data → Option ReadError) → List ℕ → ReadError → Type 0
+Refused first text refusal =
+    ((refusal ≡ errors.NotJson) × ((d : Data) → ¬ IsJson text d)) ⊎ ((d : Data) × IsJson text d × (first d ≡ Some refusal))
+
+one_refusal : (first : Data → Option ReadError) (text : List ℕ) (p q : ReadError) → Refused first text p → Refused first text q → p ≡ q
+one_refusal first text p q (inl a) (inl b) = a.0 ∙ sym b.0
+one_refusal first text p q (inl a) (inr b) = absurd (a.1 b.0 b.1)
+one_refusal first text p q (inr a) (inl b) = absurd (b.1 a.0 a.1)
+one_refusal first text p q (inr a) (inr b) =
+    same_Some p q (sym a.2 ∙ ap first (one_value text a.0 b.0 a.1 b.1) ∙ b.2)
+
+not_refused : (first : Data → Option ReadError) (text : List ℕ) (p : ReadError) (d : Data) → Refused first text p → IsJson text d → first d ≡ None → ⊥
+not_refused first text p d (inl a) json fine = a.1 d json
+not_refused first text p d (inr a) json fine =
+    let bad : Some p ≡ None = sym a.2 ∙ ap first (one_value text a.0 d a.1 json) ∙ fine in absurd cc
+
+-- each refusal of a history but want of memory is such a one
+first_is : (first : Option ReadError) (e : ReadError) → IsFirst first e → refusal_status e ≡ 1 → first ≡ Some e
+first_is first errors.NotJson is one = absurd is
+first_is first errors.BadShape is one = is
+first_is first errors.UnknownObject is one = is
+first_is first (errors.BadOp op) is one = is
+first_is first (errors.ReturnAfterUnknown op) is one = is
+first_is first errors.TooManySessions is one = is
+first_is first errors.TooManyOps is one = is
+first_is first errors.Memory is one = absurd (omega arith)
+first_is first errors.BadInitial is one = is
+
+judge_refused : (text : List ℕ) (e : ReadError) → IsRefusedFor text e → refusal_status e ≡ 1 → Refused first_refusal text e
+judge_refused text errors.NotJson is one = inl (refl, is)
+judge_refused text errors.BadShape is one = inr is
+judge_refused text errors.UnknownObject is one = inr is
+judge_refused text (errors.BadOp op) is one = inr is
+judge_refused text (errors.ReturnAfterUnknown op) is one = inr is
+judge_refused text errors.TooManySessions is one = inr is
+judge_refused text errors.TooManyOps is one = inr is
+judge_refused text errors.Memory is one = absurd (omega arith)
+judge_refused text errors.BadInitial is one = inr is
+
+check_refused : (text : List ℕ) (e : ReadError) → IsPairError text (History e) → refusal_status e ≡ 1 → Refused (λ d. pair_refusal (elements d)) text e
+check_refused text e (inl is) one = inl is
+check_refused text e (inr is) one = inr (is.0, is.1, first_is (pair_refusal (elements is.0)) e is.2 one)
+
+statuses : (e : ReadError) → (refusal_status e ≡ 4) ⊎ (refusal_status e ≡ 1)
+statuses errors.NotJson = inr refl
+statuses errors.BadShape = inr refl
+statuses errors.UnknownObject = inr refl
+statuses (errors.BadOp op) = inr refl
+statuses (errors.ReturnAfterUnknown op) = inr refl
+statuses errors.TooManySessions = inr refl
+statuses errors.TooManyOps = inr refl
+statuses errors.Memory = inl refl
+statuses errors.BadInitial = inr refl
+
+-- a history that is refused has no certificate that is, nor one of another shape
+no_bad_certificate : (text : List ℕ) (e : ReadError) → IsPairError text (History e) → IsPairError text BadCertificate → refusal_status e ≡ 1 → ⊥
+no_bad_certificate text e refused bad one =
+    not_refused (λ d. pair_refusal (elements d)) text e bad.0 (check_refused text e refused one) bad.1 (pair_is_fine bad.0 bad.2.1 bad.2.0 bad.2.2 bad.2.3)
+
+no_other_shape : (text : List ℕ) (e : ReadError) → IsPairError text (History e) → HasOtherShape text → refusal_status e ≡ 1 → ⊥
+no_other_shape text e refused other one =
+    not_refused (λ d. pair_refusal (elements d)) text e (pair_form (form_of other.0) (certificate_form other.1)) (check_refused text e refused one) other.4
+    (pair_is_fine _ (certificate_form other.1) other.0 other.2 refl)
+
+-- a certificate with a form is not refused for its form
+has_a_form : (text : List ℕ) (h : AnyHistory) (c : Certificate) → IsCertificate c → IsPair text (form_of h) (certificate_form c) → IsPairError text BadCertificate → ⊥
+has_a_form text h c is_c pair bad =
+    let same = one_pair (form_of bad.2.0) (form_of h) bad.2.1 (certificate_form c)
+    (sym bad.2.3 ∙ one_value text bad.0 (pair_form (form_of h) (certificate_form c)) bad.1 pair) in
+    bad.2.4 c is_c same.1
+
+-- an input is refused in one way
+judge_once : (text : List ℕ) (e f : RunError) → IsAnswerError Judge text e → IsAnswerError Judge text f → failure_status e ≡ 1 → failure_status f ≡ 1 → e ≡ f
+judge_once text (History p) (History q) is_e is_f one two =
+    ap History (one_refusal first_refusal text p q (judge_refused text p is_e one) (judge_refused text q is_f two))
+judge_once text BadCertificate f is_e is_f one two = absurd is_e
+judge_once text ShapeMismatch f is_e is_f one two = absurd is_e
+judge_once text TooLong f is_e is_f one two = absurd is_e
+judge_once text Memory f is_e is_f one two = absurd (omega arith)
+judge_once text ReadFault f is_e is_f one two = absurd is_e
+judge_once text WriteFault f is_e is_f one two = absurd is_e
+judge_once text e BadCertificate is_e is_f one two = absurd is_f
+judge_once text e ShapeMismatch is_e is_f one two = absurd is_f
+judge_once text e TooLong is_e is_f one two = absurd is_f
+judge_once text e Memory is_e is_f one two = absurd (omega arith)
+judge_once text e ReadFault is_e is_f one two = absurd is_f
+judge_once text e WriteFault is_e is_f one two = absurd is_f
+
+check_once : (text : List ℕ) (e f : RunError) → IsAnswerError Check text e → IsAnswerError Check text f → failure_status e ≡ 1 → failure_status f ≡ 1 → e ≡ f
+check_once text (History p) (History q) is_e is_f one two =
+    ap History (one_refusal (λ d. pair_refusal (elements d)) text p q (check_refused text p is_e one) (check_refused text q is_f two))
+check_once text (History p) BadCertificate is_e is_f one two = absurd (no_bad_certificate text p is_e is_f one)
+check_once text (History p) ShapeMismatch is_e is_f one two = absurd (no_other_shape text p is_e is_f one)
+check_once text BadCertificate (History q) is_e is_f one two = absurd (no_bad_certificate text q is_f is_e two)
+check_once text BadCertificate BadCertificate is_e is_f one two = refl
+check_once text BadCertificate ShapeMismatch is_e is_f one two = absurd (has_a_form text is_f.0 is_f.1 is_f.3 is_f.4 is_e)
+check_once text ShapeMismatch (History q) is_e is_f one two = absurd (no_other_shape text q is_f is_e two)
+check_once text ShapeMismatch BadCertificate is_e is_f one two = absurd (has_a_form text is_e.0 is_e.1 is_e.3 is_e.4 is_f)
+check_once text ShapeMismatch ShapeMismatch is_e is_f one two = refl
+check_once text TooLong f is_e is_f one two = absurd is_e
+check_once text Memory f is_e is_f one two = absurd (omega arith)
+check_once text ReadFault f is_e is_f one two = absurd is_e
+check_once text WriteFault f is_e is_f one two = absurd is_e
+check_once text e TooLong is_e is_f one two = absurd is_f
+check_once text e Memory is_e is_f one two = absurd (omega arith)
+check_once text e ReadFault is_e is_f one two = absurd is_f
+check_once text e WriteFault is_e is_f one two = absurd is_f
+
+pub refused_in_one_way : (order : Order) (text : List ℕ) (e f : RunError) → IsAnswerError order text e → IsAnswerError order text f
+    → failure_status e ≡ 1 → failure_status f ≡ 1 → e ≡ f
+refused_in_one_way Judge text e f is_e is_f one two = judge_once text e f is_e is_f one two
+refused_in_one_way Check text e f is_e is_f one two = check_once text e f is_e is_f one two
+
+-- what is answered is not refused
+judge_not_refused : (text answer : List ℕ) (e : RunError) → IsReport text answer → IsAnswerError Judge text e → failure_status e ≡ 4
+judge_not_refused text answer (History p) report is_e =
+    ⊎_elim (λ (four : refusal_status p ≡ 4). four)
+    (λ (one : refusal_status p ≡ 1). absurd (not_refused first_refusal text p (form_of report.history) (judge_refused text p is_e one) report.read (form_is_fine report.history report.is_history)))
+    (statuses p)
+judge_not_refused text answer BadCertificate report is_e = absurd is_e
+judge_not_refused text answer ShapeMismatch report is_e = absurd is_e
+judge_not_refused text answer TooLong report is_e = absurd is_e
+judge_not_refused text answer Memory report is_e = refl
+judge_not_refused text answer ReadFault report is_e = absurd is_e
+judge_not_refused text answer WriteFault report is_e = absurd is_e
+
+check_not_refused : (text answer : List ℕ) (e : RunError) → IsCheckReport text answer → IsAnswerError Check text e → failure_status e ≡ 4
+check_not_refused text answer (History p) report is_e =
+    ⊎_elim (λ (four : refusal_status p ≡ 4). four)
+    (λ (one : refusal_status p ≡ 1). absurd (not_refused (λ d. pair_refusal (elements d)) text p (pair_form (form_of report.history) (certificate_form report.certificate))
+    (check_refused text p is_e one) report.read (pair_is_fine _ (certificate_form report.certificate) report.history report.is_history refl)))
+    (statuses p)
+check_not_refused text answer BadCertificate report is_e = absurd (has_a_form text report.history report.certificate report.is_certificate report.read is_e)
+check_not_refused text answer ShapeMismatch report is_e =
+    let same = one_pair (form_of is_e.0) (form_of report.history) (certificate_form is_e.1) (certificate_form report.certificate)
+    (one_value text _ _ is_e.4 report.read) in
+    let history : report.history ≡ is_e.0 = sym (any_forms_are_distinct is_e.0 report.history is_e.2 report.is_history same.0) in
+    let certificate : report.certificate ≡ is_e.1 = sym (one_certificate is_e.1 report.certificate is_e.3 report.is_certificate same.1) in
+    absurd (is_e.5 (subst (λ (h : AnyHistory). HasShape h is_e.1) history (subst (λ (c : Certificate). HasShape report.history c) certificate report.shape)))
+check_not_refused text answer TooLong report is_e = absurd is_e
+check_not_refused text answer Memory report is_e = refl
+check_not_refused text answer ReadFault report is_e = absurd is_e
+check_not_refused text answer WriteFault report is_e = absurd is_e
+
+pub answered_is_not_refused : (order : Order) (text answer : List ℕ) (e : RunError) → IsAnswer order text answer → IsAnswerError order text e → failure_status e ≡ 4
+answered_is_not_refused Judge text answer e report is_e = judge_not_refused text answer e report is_e
+answered_is_not_refused Check text answer e report is_e = check_not_refused text answer e report is_e
+
+-- a report is on the history of its input
+pub reported_history : (text answer : List ℕ) (h : AnyHistory) → IsAnyHistory h → IsJson text (form_of h) → (report : IsReport text answer) → report.history ≡ h
+reported_history text answer h is json report = one_history text report.history h report.is_history is report.read json
+
+-- what is too long is not answered, and refused for that alone
+pub too_long-not_answered : (order : Order) (bytes : List ℕ) (before after : Option (List ℕ)) → MOST_INPUT_BYTES < length bytes → Answers order (Some bytes) before after → ⊥
+too_long-not_answered order bytes before after long answers = let same : length answers.input ≡ length bytes = ap length answers.whole in let within = answers.within in omega arith
+
+pub too_long-fails : (order : Order) (bytes : List ℕ) (e : RunError) → MOST_INPUT_BYTES < length bytes → Fails order (Some bytes) e → (e ≡ TooLong) ⊎ ((e ≡ Memory) ⊎ (e ≡ ReadFault))
+too_long-fails order bytes (History p) long fails = let same : length fails.0 ≡ length bytes = ap length fails.1 in let within = fails.2 in absurd (omega arith)
+too_long-fails order bytes BadCertificate long fails = let same : length fails.0 ≡ length bytes = ap length fails.1 in let within = fails.2 in absurd (omega arith)
+too_long-fails order bytes ShapeMismatch long fails = let same : length fails.0 ≡ length bytes = ap length fails.1 in let within = fails.2 in absurd (omega arith)
+too_long-fails order bytes TooLong long fails = inl refl
+too_long-fails order bytes Memory long fails = inr (inl refl)
+too_long-fails order bytes ReadFault long fails = inr (inr refl)
+too_long-fails order bytes WriteFault long fails = let same : length fails.0 ≡ length bytes = ap length fails.1 in let within = fails.2 in absurd (omega arith)

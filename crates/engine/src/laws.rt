@@ -1,0 +1,45 @@
+//! Laws of runs: the contract of each function is the law, and the function does nothing.
+
+ghost use Rattle.std.specs.Prelude.{List, Option, Some, length, ◌+◌, ◌<◌, ◌≤◌, ◌≡◌, ◌⊎◌, ℕ};
+ghost use Rattle.operations.specs.AnyForm.{form_of, IsAnyHistory, IsJson};
+ghost use Rattle.engine.specs.Failure.{failure_status};
+ghost use Rattle.engine.specs.ReadCalls.{CallsAtMost, Outcome};
+ghost use Rattle.engine.specs.Running.{Answers, Fails, IsAnswer, IsAnswerError, IsReport};
+
+use crate::command_line::Order;
+use crate::failure::RunError;
+use crate::input::MOST_INPUT_BYTES;
+use crate::source::Source;
+use operations::AnyHistory;
+
+/// A report on the form of a history is a report on that history: no other start can be taken, for instance.
+pub fn report_is_on_the_history_of_its_input()
+    ensures { (input text : List ℕ) (history : AnyHistory) → IsAnyHistory history → IsJson input (form_of history)
+        → (report : IsReport input text) → report.history ≡ history }
+{}
+
+/// An input that is answered is not refused: the most that can come in place of its answer is want of memory.
+pub fn answered_input_is_not_refused()
+    ensures { (order : Order) (input text : List ℕ) (error : RunError) → IsAnswer order input text
+        → IsAnswerError order input error → failure_status error ≡ 4 }
+{}
+
+/// An input is refused in one way: no other refusal can come in the place of the first.
+pub fn input_is_refused_in_one_way()
+    ensures { (order : Order) (input : List ℕ) (first second : RunError) → IsAnswerError order input first
+        → IsAnswerError order input second → failure_status first ≡ 1 → failure_status second ≡ 1 → first ≡ second }
+{}
+
+/// What is longer than may be is not answered, and refused for that alone.
+pub fn too_long_input_is_refused_as_such()
+    ensures answer { (order : Order) (bytes : List ℕ) (before after : Option (List ℕ)) → MOST_INPUT_BYTES < length bytes
+        → ¬ Answers order (Some bytes) before after }
+    ensures failure { (order : Order) (bytes : List ℕ) (error : RunError) → MOST_INPUT_BYTES < length bytes
+        → Fails order (Some bytes) error → (error ≡ RunError.TooLong) ⊎ ((error ≡ RunError.Memory) ⊎ (error ≡ RunError.ReadFault)) }
+{}
+
+/// What counts the calls of a source, by one at most for each, counts no more than were made.
+pub fn calls_are_counted<S: Source>()
+    ensures { (count : S → ℕ) → ((a : S) (outcome : Outcome) (b : S) → S.called a outcome b → count b ≤ count a + 1)
+        → (most : ℕ) (old new : S) → CallsAtMost S.called most old new → count new ≤ count old + most }
+{}
