@@ -1,4 +1,6 @@
 -- The writes that the operations of a memory history read from, listed by operation.
+--
+-- Private functions alone name these in their contracts: what a pattern is and what it shows does not rest on them.
 use Rattle.std.specs.Prelude.{◌≡◌, ℕ, ◌<◌, ◌≤◌, List, [], length, Option, MatchOption, Some, slice_get, slice_index_or}
 use Rattle.history.specs.declared.op_id.OpId.{OpId}
 use Rattle.history.specs.History.{session}

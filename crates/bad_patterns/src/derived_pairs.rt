@@ -1,9 +1,10 @@
 //! What a derivation gives.
 
-ghost use Rattle.std.specs.Prelude.{◌≡◌, IfOk, MatchOption, slice_get};
+ghost use Rattle.std.specs.Prelude.{◌≡◌, ◌↔◌, IfOk, IsTrue, MatchOption, slice_get};
 ghost use Rattle.history.specs.declared.op_id.OpId.{OpId};
 ghost use Rattle.causal_order.specs.Memory.{IsDifferentiated};
 ghost use Rattle.causal_order.specs.Orders.{program_past};
+ghost use Rattle.causal_order.specs.Relations.{AreRivalWrites};
 ghost use Rattle.causal_order.specs.Written.{AreInOrder, IsSorted, ListsWrites};
 ghost use Rattle.bad_patterns.specs.Derivations.{Gives, GivesCausalPair, GivesJoinedPair, GivesRivalPair, IsDerivation};
 
@@ -125,11 +126,19 @@ fn rival_pair(
     let (Some(pair), Some(source)) = (pair_at(pairs, i), source_of(h, writes, read)) else {
         return None;
     };
-    if pair.1 == read && is_in_program_past(op, read) && are_rival_writes(h, pair.0, source) {
+    if pair.1 == read && comes_before_source(h, op, pair.0, read, source) {
         Some((pair.0, source))
     } else {
         None
     }
+}
+
+/// Whether a write that happened before a read happened before the read's source too: the read is the operation or before it
+/// in program order, and the source is another write of the variable.
+fn comes_before_source(h: &History<Memory>, op: OpId, write: OpId, read: OpId, source: OpId) -> bool
+    ensures { IsTrue result ↔ (IsTrue (program_past op read) × AreRivalWrites h.now write source) }
+{
+    is_in_program_past(op, read) && are_rival_writes(h, write, source)
 }
 
 /// The pair of a number, where there is one.

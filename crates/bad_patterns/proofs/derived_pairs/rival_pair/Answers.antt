@@ -3,7 +3,7 @@ use Rattle.cert_check.proofs.ConvergentLaws.{only-same}
 use Rattle.bad_patterns.specs.Derivations.{Pair}
 use Rattle.bad_patterns.proofs.Derived.{ends-with, rival-parts, only-apart}
 use Rattle.bad_patterns.proofs.derived_pairs.rival_pair.Goals as goal
-use Rattle.bad_patterns.proofs.derived_pairs.rival_pair.Goals.{else-eq-via-then-eq+then-is_in_program_past+else-are_rival_writes, else-eq-via-then-eq+else-is_in_program_past, else-eq-via-else-eq}
+use Rattle.bad_patterns.proofs.derived_pairs.rival_pair.Goals.{else-eq-via-then-eq+else-comes_before_source, else-eq-via-else-eq}
 
 pub returns-in_default : goal.returns-in_default
 returns-in_default c = λ a b gives. c.in_default.ensures' b gives.reads
@@ -12,13 +12,13 @@ pub returns-in_default-2 : goal.returns-in_default-2
 returns-in_default-2 c = λ a b gives.
     let no : ◌≡◌ {A = Option Pair} None (Some (a, c.args.read)) = sym c.in_default.is-0 ∙ c.pair_at.ensures ∙ gives.before_read in absurd cc
 
-pub returns-then-are_rival_writes : goal.returns-then-are_rival_writes
-returns-then-are_rival_writes c = record {
+pub returns-then-comes_before_source : goal.returns-then-comes_before_source
+returns-then-comes_before_source c = record {
   before_read = ends-with c.args.pairs.now c.args.i c.in-Some-Some.pair (sym c.pair_at.ensures ∙ c.in-Some-Some.is-0) c.args.read
       (only-same c.args.read c.in-Some-Some.pair.1 (sym c.eq.ensures ∙ c.if-eq.true));
-  of_session = sym c.is_in_program_past.ensures ∙ c.if-is_in_program_past.true;
+  of_session = (c.comes_before_source.ensures.0 c.if-comes_before_source.true).0;
   reads = c.in-Some-Some.ensures';
-  rivals = c.are_rival_writes.ensures.0 c.if-are_rival_writes.true;
+  rivals = (c.comes_before_source.ensures.0 c.if-comes_before_source.true).1;
 }
 
 pub returns-else-eq : goal.returns-else-eq
@@ -26,9 +26,7 @@ returns-else-eq c = λ a b gives.
     let parts = rival-parts c.args.h.now c.args.op c.requires.differentiated c.args.pairs.now c.args.i c.args.read c.in-Some-Some.source c.in-Some-Some.pair
     (sym c.pair_at.ensures ∙ c.in-Some-Some.is-0) c.in-Some-Some.ensures' a b gives in
     elim c.else-eq.branch [
-      | else-eq-via-then-eq+then-is_in_program_past+else-are_rival_writes w ↦
-          let no : false ≡ true = sym w.if-are_rival_writes.false ∙ w.are_rival_writes.ensures.1 parts.2 in absurd cc
-      | else-eq-via-then-eq+else-is_in_program_past w ↦
-          let no : false ≡ true = sym w.if-is_in_program_past.false ∙ w.is_in_program_past.ensures ∙ parts.1 in absurd cc
+      | else-eq-via-then-eq+else-comes_before_source w ↦
+          let no : false ≡ true = sym w.if-comes_before_source.false ∙ w.comes_before_source.ensures.1 (parts.1, parts.2) in absurd cc
       | else-eq-via-else-eq w ↦ only-apart c.args.read c.in-Some-Some.pair.1 (sym c.eq.ensures ∙ w.if-eq.false) parts.0
     ]
