@@ -19,8 +19,9 @@ use std::io::Write;
 /// Reads the whole input, makes the whole answer that the order asks for, and then writes it.
 ///
 /// Nothing is written before the answer is made: after every error but a write fault the writer is as it was. How much
-/// was written before a write fault is not said, nor how much was read before an error. O(n log n) for an input of n
-/// bytes, and what [`report_on`] or [`answer_of_certificate`](crate::answer_of_certificate) takes for its history.
+/// was written before a write fault is not said, nor how much was read before an error; how many read calls are made is
+/// said by [`read_input`]. O(n log n) for an input of n bytes, and what [`report_on`] or
+/// [`answer_of_certificate`](crate::answer_of_certificate) takes for its history.
 pub fn run<P: AllocGlobal, R: Source, W: Write>(
     rt: &P,
     reader: &mut R,

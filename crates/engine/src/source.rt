@@ -10,7 +10,8 @@ use std::io::Read;
 /// What bytes are read from, one read call after the other. Every [`Read`] is one.
 ///
 /// A `Read` says nothing of its calls but which bytes they give. A source may tell more of them, and what is proved of a
-/// reading is proved for every source, whatever it tells: so it is proved how many calls are made.
+/// reading is proved for every source, whatever it tells: so it is proved how many calls are made, and
+/// [`calls_are_counted`](crate::laws::calls_are_counted).
 pub trait Source {
     // The bytes that read calls will give from here on, where they are known.
     ghost remaining: { Self → Option (List ℕ) };
