@@ -1,5 +1,5 @@
 -- A walk over the one list up to an operation: what it takes in, and that it comes to the operation.
-use Rattle.std.proofs.Common.{◌≡◌, ◌≢◌, ℕ, ◌+◌, ◌<◌, ◌≤◌, Bool, false, List, [], ◌∷◌, ◌++◌, length, take, drop, get_or, refl, sym, ap, ◌∙◌, subst, arith, ⊎_elim, lt-ltb, take_all, append-nil}
+use Rattle.std.proofs.Common.{◌≡◌, ◌≢◌, ℕ, ◌+◌, ◌<◌, ◌≤◌, ◌↔◌, Bool, false, List, [], ◌∷◌, ◌++◌, length, take, drop, get_or, refl, sym, ap, ◌∙◌, subst, arith, ⊎_elim, lt-ltb, take_all, append-nil}
 use Rattle.std.specs.Prelude.{IsTrue, Some, filter, slice_get}
 use Rattle.std.proofs.lemmas.Bool.{cases_eq, cases_lt, cond-true, cond-false}
 use Rattle.std.proofs.lemmas.List.{take-append-drop, drop_more, take_at}
@@ -124,7 +124,7 @@ module _ {S C R : Type 0} (answer : S → List C → C → R) (h : Record S C R)
   counts_itself : IsTrue (counted v o o)
   counts_itself = let own = good.own in lt-ltb o.index (count v o o.session) (omega arith)
 
-  pub arbitrated-from : ((s : ℕ) → count v o s ≤ get_or counts s 0) → IsAnsweredAfter answer h (filter (counted v o) (take i (named list))) o
+  arbitrated-from : ((s : ℕ) → count v o s ≤ get_or counts s 0) → IsAnsweredAfter answer h (filter (counted v o) (take i (named list))) o
       → IsArbitratedPiece answer h v list o
   arbitrated-from within answered = record {
     vector = good;
@@ -144,12 +144,21 @@ module _ {S C R : Type 0} (answer : S → List C → C → R) (h : Record S C R)
         (answered c r (subst (λ (y : OpId). entry h y ≡ Some (c, Some r)) is known));
   }
 
-  pub arbitrated-within : IsArbitratedPiece answer h v list o → (s : ℕ) → count v o s ≤ get_or counts s 0
+  arbitrated-within : IsArbitratedPiece answer h v list o → (s : ℕ) → count v o s ≤ get_or counts s 0
   arbitrated-within piece =
       within_from_after v list i (length h.1) o stands counts at (λ a. piece.after_counted i a stands)
 
-  pub arbitrated-answered : IsArbitratedPiece answer h v list o → IsAnsweredAfter answer h (filter (counted v o) (take i (named list))) o
+  arbitrated-answered : IsArbitratedPiece answer h v list o → IsAnsweredAfter answer h (filter (counted v o) (take i (named list))) o
   arbitrated-answered piece c r known =
       subst (λ (ops : List OpId). r ≡ answer h.0 (calls h ops) c) (filter_front (counted v o) (named list) i o stands counts_itself)
       (piece.explains (length (filter (counted v o) (take i (named list)))) o c r
       (filter_stands (counted v o) (named list) i o stands counts_itself) (only-itself o) known)
+
+  -- the tests that decide it
+  pub arbitrated-tests : (complete answered : Bool) → IsTrue complete ↔ ((s : ℕ) → count v o s ≤ get_or counts s 0)
+      → IsTrue answered ↔ IsAnsweredAfter answer h (filter (counted v o) (take i (named list))) o
+      → (IsTrue complete × IsTrue answered) ↔ IsArbitratedPiece answer h v list o
+  arbitrated-tests complete answered within after = (
+    (λ both. arbitrated-from (within.0 both.0) (after.0 both.1)),
+    λ piece. (within.1 (arbitrated-within piece), after.1 (arbitrated-answered piece)),
+  )

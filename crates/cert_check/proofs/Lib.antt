@@ -5,6 +5,7 @@ pub mod Sessions
 pub mod Counting
 pub mod PastPieces
 pub mod Complete
+pub mod Ranges
 pub mod Shapes
 pub mod WalkSteps
 pub mod SchedulePieces

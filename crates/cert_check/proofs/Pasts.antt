@@ -5,11 +5,12 @@ use Rattle.std.specs.Cmp.{both_ways}
 use Rattle.std.proofs.lemmas.Bool.{and_parts, and_from, or_cases, or_left, or_right, cases_Bool, cases_eq, false_from_ne_true, not_from_true, not_from_false, true≢false}
 use Rattle.history.specs.declared.op_id.OpId.{OpId}
 use Rattle.history.specs.History.{Record, IsOp, session}
-use Rattle.causal_order.specs.Orders.{op, Order, only, past}
+use Rattle.causal_order.specs.Orders.{op, only, past}
 use Rattle.causal_order.proofs.OrdersLaws.{same_op}
 use Rattle.causal_order.specs.Vectors.{Counts, count, IsCounted, IsWithin, IsVectorOk}
 use Rattle.cert_check.specs.Criteria.{every, IsCausalOrder}
 use Rattle.cert_check.specs.Certificates.{counted}
+use Rattle.cert_check.specs.Witnesses.{counted_before}
 use Rattle.cert_check.proofs.ConvergentLaws.{only-same}
 
 -- an operation is itself, and no other
@@ -37,11 +38,7 @@ module _ {S C R : Type 0} (h : Record S C R) (v : Counts) where
     pub second : IsOp h b
     pub counts : IsCounted v b a
 
-  -- the same as a test
-  abbrev pub counted_before : Order
-  counted_before a b = not (only b a) && (every h a && (every h b && counted v b a))
-
-  pub counted_before-parts : (a b : OpId) → IsTrue (counted_before a b) → IsCountedBefore a b
+  pub counted_before-parts : (a b : OpId) → IsTrue (counted_before h v a b) → IsCountedBefore a b
   counted_before-parts a b before =
       let other = and_parts (not (only b a)) (every h a && (every h b && counted v b a)) before in
       let one = and_parts (every h a) (every h b && counted v b a) other.1 in
@@ -53,7 +50,7 @@ module _ {S C R : Type 0} (h : Record S C R) (v : Counts) where
         counts = ltb-true a.index (count v b a.session) two.1;
       }
 
-  pub counted_before-from : (a b : OpId) → IsCountedBefore a b → IsTrue (counted_before a b)
+  pub counted_before-from : (a b : OpId) → IsCountedBefore a b → IsTrue (counted_before h v a b)
   counted_before-from a b p =
       and_from (not (only b a)) (every h a && (every h b && counted v b a)) (not_from_false (only b a) (only-other b a p.apart))
       (and_from (every h a) (every h b && counted v b a) (op-every h a p.first)
@@ -112,7 +109,7 @@ module _ {S C R : Type 0} (h : Record S C R) (v : Counts) where
         absurd ((good o is_op).uncounted a.session i (other, last) (omega arith)))
         (cases_eq a.session o.session)
 
-    pub counted_before-causal : IsCausalOrder h counted_before
+    pub counted_before-causal : IsCausalOrder h (counted_before h v)
     counted_before-causal = record {
       of_history = λ a b before. let p = counted_before-parts a b before in (p.first, p.second);
       transitive = λ a b c before after.
@@ -141,10 +138,10 @@ module _ {S C R : Type 0} (h : Record S C R) (v : Counts) where
     }
 
     -- the past of an operation is what its vector counts
-    pub past-from_counted : (o a : OpId) → IsOp h o → IsCounted v o a → IsTrue (past counted_before o a)
+    pub past-from_counted : (o a : OpId) → IsOp h o → IsCounted v o a → IsTrue (past (counted_before h v) o a)
     past-from_counted o a is_op counts = ⊎_elim
-        (λ (alone : only o a ≡ true). or_left (only o a) (counted_before a o) alone)
-        (λ (other : only o a ≡ false). or_right (only o a) (counted_before a o)
+        (λ (alone : only o a ≡ true). or_left (only o a) (counted_before h v a o) alone)
+        (λ (other : only o a ≡ false). or_right (only o a) (counted_before h v a o)
         (counted_before-from a o (record {
           apart = λ same. let alone = subst (λ (x : OpId). IsTrue (only o x)) (sym same) (only-itself o) in absurd cc;
           first = counted-of_history o a is_op counts;
@@ -153,15 +150,15 @@ module _ {S C R : Type 0} (h : Record S C R) (v : Counts) where
         })))
         (cases_Bool (only o a))
 
-    pub counted-from_past : (o a : OpId) → IsOp h o → IsTrue (past counted_before o a) → IsCounted v o a
+    pub counted-from_past : (o a : OpId) → IsOp h o → IsTrue (past (counted_before h v) o a) → IsCounted v o a
     counted-from_past o a is_op inside = ⊎_elim
         (λ (alone : IsTrue (only o a)). let same = only-same o a alone in
         let own = (good o is_op).own in
         subst (λ (x : OpId). IsCounted v o x) (sym same) (omega arith))
-        (λ (before : IsTrue (counted_before a o)). (counted_before-parts a o before).counts)
-        (or_cases (only o a) (counted_before a o) inside)
+        (λ (before : IsTrue (counted_before h v a o)). (counted_before-parts a o before).counts)
+        (or_cases (only o a) (counted_before h v a o) inside)
 
-    pub past-is_counted : (o a : OpId) → IsOp h o → past counted_before o a ≡ counted v o a
-    past-is_counted o a is_op = both_ways (past counted_before o a) (counted v o a)
+    pub past-is_counted : (o a : OpId) → IsOp h o → past (counted_before h v) o a ≡ counted v o a
+    past-is_counted o a is_op = both_ways (past (counted_before h v) o a) (counted v o a)
         (λ inside. lt-ltb a.index (count v o a.session) (counted-from_past o a is_op inside))
         (λ counts. past-from_counted o a is_op (ltb-true a.index (count v o a.session) counts))

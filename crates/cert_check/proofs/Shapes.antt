@@ -1,4 +1,4 @@
--- What the shape of a certificate says of its vectors and of its one list.
+-- What the shape of a certificate says of its one list.
 use Rattle.std.proofs.Common.{◌≡◌, ℕ, ◌+◌, ◌<◌, ◌≤◌, List, [], length, get_or, refl, sym, ap, ◌∙◌, arith, ⊎_elim, take_all}
 use Rattle.std.specs.Prelude.{All, Some, slice_get}
 use Rattle.std.proofs.lemmas.Bool.{cases_lt}
@@ -7,8 +7,6 @@ use Rattle.std.proofs.lemmas.Option.{slice_get-get_or, slice_get_within, get_or_
 use Rattle.history.specs.History.{Record, session}
 use Rattle.causal_order.specs.Orders.{op}
 use Rattle.causal_order.proofs.OrdersLaws.{session-of_history}
-use Rattle.causal_order.specs.Vectors.{Counts, AreVectorsOf}
-use Rattle.cert_check.specs.Certificates.{HaveLength}
 use Rattle.cert_check.specs.Schedules.{times}
 use Rattle.cert_check.proofs.Named.{times-next, times-same, times-take-le, named_each, named_is}
 
@@ -37,11 +35,6 @@ times_none list n s small large =
     (cases_lt 0 (times s list))
 
 module _ {S C R : Type 0} (h : Record S C R) where
-  pub vectors_have_length : (v : Counts) (s : ℕ) → AreVectorsOf h v → HaveLength v s (length h.1)
-  vectors_have_length v s shape = λ i below.
-      let operations = shape.one_each.operations s in
-      shape.counts (op s i) (omega arith)
-
   -- each number of a list that names each operation is that of a session
   pub names_within : (list : List ℕ) → ((s : ℕ) → times s list ≡ length (session h s)) → All (λ s. s < length h.1) list
   names_within list exact = λ k d below.

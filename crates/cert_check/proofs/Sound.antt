@@ -1,17 +1,20 @@
--- A certificate of which every piece explains its operation shows that its criterion is met.
+-- A certificate of which every piece explains its operation names a witness of its criterion, and so the criterion is
+-- met.
 use Rattle.std.proofs.Common.{◌≡◌, ◌≢◌, ℕ, List, length, arith, sym, subst}
 use Rattle.std.specs.Prelude.{filter}
 use Rattle.history.specs.declared.op_id.OpId.{OpId}
 use Rattle.history.specs.History.{Record, IsOp, session}
-use Rattle.causal_order.specs.Orders.{Ops, only, program_past, past, StandsAt, IsLinearization}
-use Rattle.causal_order.specs.Vectors.{Counts, ByOperation, list_of, IsCounted, IsVectorOk}
+use Rattle.causal_order.specs.Orders.{only, past, StandsAt, IsLinearization}
+use Rattle.causal_order.specs.Vectors.{Counts, list_of, IsCounted, IsVectorOk}
 use Rattle.cert_check.specs.declared.certificate.Certificate.{Certificate}
 use Rattle.cert_check.specs.declared.certificate.Certificate.TheVariants.{Cc, Cm, Ccv}
-use Rattle.cert_check.specs.Criteria.{every, Explains, ExplainsEachPast, IsCausallyConvergent, Meets}
+use Rattle.cert_check.specs.Criteria.{every, Explains, Meets}
 use Rattle.cert_check.specs.Schedules.{times, named, StandsBefore, IsSchedule}
-use Rattle.cert_check.specs.Certificates.{counted, criterion_of, HasShapeOf, IsScheduledPiece, IsArbitratedPiece, IsExplainedThroughout}
+use Rattle.cert_check.specs.Certificates.{counted, criterion_of, HasShapeOf, IsExplainedThroughout}
+use Rattle.cert_check.specs.Witnesses.{counted_before, IsWitness}
+use Rattle.cert_check.proofs.ConvergentLaws.{cut_is_linearization}
 use Rattle.cert_check.proofs.Named.{named_each, named_within, named_once}
-use Rattle.cert_check.proofs.Pasts.{every-op, op-every, counted_before, counted_before-parts, counted_before-causal, past-from_counted, counted-from_past, past-is_counted}
+use Rattle.cert_check.proofs.Pasts.{every-op, op-every, counted_before-parts, counted_before-causal, past-from_counted, counted-from_past, past-is_counted}
 
 module _ {S C R : Type 0} (h : Record S C R) (v : Counts) (good : (o : OpId) → IsOp h o → IsVectorOk h v o) where
   -- what a schedule of an operation names is a linearization of its past
@@ -58,34 +61,45 @@ module _ {S C R : Type 0} (h : Record S C R) (v : Counts) (good : (o : OpId) →
   }
 
 module _ {S C R : Type 0} (answer : S → List C → C → R) (h : Record S C R) where
-  -- good pieces by schedules explain each past
-  pub scheduled-explain : (v : Counts) (schedules : ByOperation ℕ) (kept : OpId → Ops)
-      → ((o : OpId) → IsOp h o → IsScheduledPiece answer h v (list_of schedules o) o (kept o)) → ExplainsEachPast answer h kept
-  scheduled-explain v schedules kept pieces =
-      let good : (o : OpId) → IsOp h o → IsVectorOk h v o = λ o is_op. (pieces o is_op).vector in (
-        counted_before h v,
-        counted_before-causal h v good,
-        λ o is_op.
-            (named (list_of schedules o), scheduled_past h v good o (list_of schedules o) is_op (pieces o is_op).schedules, (pieces o is_op).explains),
-      )
-
-  -- good pieces by one list show causal convergence
-  pub arbitrated-converge : (v : Counts) (arbitration : List ℕ) → ((s : ℕ) → times s arbitration ≡ length (session h s))
-      → ((o : OpId) → IsOp h o → IsArbitratedPiece answer h v arbitration o) → IsCausallyConvergent answer h
-  arbitrated-converge v arbitration whole pieces =
-      let good : (o : OpId) → IsOp h o → IsVectorOk h v o = λ o is_op. (pieces o is_op).vector in
+  -- what a certificate names where every piece explains its operation
+  pub explained-witness : (c : Certificate) → HasShapeOf h c → IsExplainedThroughout answer h c → IsWitness answer h c
+  explained-witness (Cc v schedules) shape explained =
+      let good : (o : OpId) → IsOp h o → IsVectorOk h v o = λ o is_op. (explained o is_op).vector in
+      record {
+        causal = counted_before-causal h v good;
+        linear = λ o is_op. scheduled_past h v good o (list_of schedules o) is_op (explained o is_op).schedules;
+        explains = λ o is_op. (explained o is_op).explains;
+        arbitrated = tt;
+      }
+  explained-witness (Cm v schedules) shape explained =
+      let good : (o : OpId) → IsOp h o → IsVectorOk h v o = λ o is_op. (explained o is_op).vector in
+      record {
+        causal = counted_before-causal h v good;
+        linear = λ o is_op. scheduled_past h v good o (list_of schedules o) is_op (explained o is_op).schedules;
+        explains = λ o is_op. (explained o is_op).explains;
+        arbitrated = tt;
+      }
+  explained-witness (Ccv v arbitration) shape explained =
+      let good : (o : OpId) → IsOp h o → IsVectorOk h v o = λ o is_op. (explained o is_op).vector in
+      let causal = counted_before-causal h v good in
+      let whole = arbitrated_whole h v good arbitration shape.1 (λ o is_op. (explained o is_op).after_counted) in
       let cut : (o : OpId) → IsOp h o → filter (counted v o) (named arbitration) ≡ filter (past (counted_before h v) o) (named arbitration) =
-      λ o is_op. λ i. filter (λ a. sym (past-is_counted h v good o a is_op) i) (named arbitration) in (
-        counted_before h v,
-        named arbitration,
-        counted_before-causal h v good,
-        arbitrated_whole h v good arbitration whole (λ o is_op. (pieces o is_op).after_counted),
-        λ o is_op.
-            subst (λ (ops : List OpId). Explains answer h ops (only o)) (cut o is_op) (pieces o is_op).explains,
-      )
+      λ o is_op. λ i. filter (λ a. sym (past-is_counted h v good o a is_op) i) (named arbitration) in
+      record {
+        causal = causal;
+        linear = λ o is_op. cut_is_linearization h (counted_before h v) causal (named arbitration) whole o is_op;
+        explains = λ o is_op. subst (λ (ops : List OpId). Explains answer h ops (only o)) (cut o is_op) (explained o is_op).explains;
+        arbitrated = whole;
+      }
+
+  -- a witness of its criterion
+  witness-meets : (c : Certificate) → IsWitness answer h c → Meets answer h (criterion_of c)
+  witness-meets (Cc v schedules) w =
+      (counted_before h v, w.causal, λ o is_op. (named (list_of schedules o), w.linear o is_op, w.explains o is_op))
+  witness-meets (Cm v schedules) w =
+      (counted_before h v, w.causal, λ o is_op. (named (list_of schedules o), w.linear o is_op, w.explains o is_op))
+  witness-meets (Ccv v arbitration) w = (counted_before h v, named arbitration, w.causal, w.arbitrated, w.explains)
 
   -- a certificate shows its criterion
   pub explained-meets : (c : Certificate) → HasShapeOf h c → IsExplainedThroughout answer h c → Meets answer h (criterion_of c)
-  explained-meets (Cc v schedules) shape explained = scheduled-explain v schedules only explained
-  explained-meets (Cm v schedules) shape explained = scheduled-explain v schedules program_past explained
-  explained-meets (Ccv v arbitration) shape explained = arbitrated-converge v arbitration shape.1 explained
+  explained-meets c shape explained = witness-meets c (explained-witness c shape explained)

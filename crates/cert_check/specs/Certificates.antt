@@ -1,9 +1,9 @@
 -- Certificates: for each operation of a history a vector of its past, and schedules or one list that explain the known
 -- returns, as a criterion demands (this project's profile).
-use Rattle.std.specs.Prelude.{◌≡◌, ◌≢◌, ℕ, ◌<◌, List, [], Option, Some, filter, length, nat_lt, slice_index_or}
+use Rattle.std.specs.Prelude.{◌≡◌, ◌≢◌, ℕ, List, Option, Some, filter, length, nat_lt}
 use Rattle.history.specs.declared.op_id.OpId.{OpId}
 use Rattle.history.specs.History.{Record, IsOp, session}
-use Rattle.causal_order.specs.Orders.{Ops, IsEarlier, StandsAt, op, only, program_past}
+use Rattle.causal_order.specs.Orders.{Ops, IsEarlier, StandsAt, only, program_past}
 use Rattle.causal_order.specs.Vectors.{Counts, list_of, count, HasOneEach, AreVectorsOf, IsCounted, IsVectorOk}
 use Rattle.cert_check.specs.declared.criterion.Criterion.{Criterion}
 use Rattle.cert_check.specs.declared.criterion.Criterion.TheVariants as criteria
@@ -27,10 +27,6 @@ vectors_of (Ccv vectors arbitration) = vectors
 -- what the vector of o counts
 abbrev pub counted : Counts → OpId → Ops
 counted v o a = nat_lt a.index (count v o a.session)
-
--- the vectors of the session s have this length
-abbrev pub HaveLength : Counts → ℕ → ℕ → Type 0
-HaveLength v s n = (i : ℕ) → i < length (slice_index_or v s []) → length (list_of v (op s i)) ≡ n
 
 module _ {S C R : Type 0} where
   -- a certificate has the shape of a history: a vector for each operation, and a schedule for each or one list in which

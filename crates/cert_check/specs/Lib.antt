@@ -1,6 +1,7 @@
 pub mod Criteria
 pub mod Schedules
 pub mod Certificates
+pub mod Witnesses
 pub mod DeskErrors
 pub mod Walks
 pub mod CertificateForm

@@ -32,10 +32,9 @@ pub fn is_arbitrated_piece<O: SeqObject>(
         return Ok(false);
     }
     let mut walk = walk_to(alloc, h, v, list, op)?;
-    if !walk.has_named_all(v, op) {
-        return Ok(false);
-    }
-    walk.take_in(h, op)
+    let complete = walk.has_named_all(v, op);
+    let answered = walk.take_in(h, op)?;
+    Ok(complete && answered)
 }
 
 /// Walks over the list until it names an operation, and takes in the operations before it that its vector counts.

@@ -1,5 +1,4 @@
-ghost use Rattle.std.specs.Prelude.{◌≡◌, ◌≢◌, ◌⊎◌, Option, Some, IfErr, IfOk, option_copied};
-ghost use Rattle.cert_check.specs.declared.certificate.Certificate.{Certificate};
+ghost use Rattle.std.specs.Prelude.{◌≡◌, ◌↔◌, Option, IfErr, IfOk, IsTrue, option_copied};
 ghost use Rattle.cert_check.specs.Certificates.{criterion_of, HasShapeOf, IsCaseFile};
 
 use crate::certificate::Certificate;
@@ -44,11 +43,10 @@ impl<O: SeqObject> CaseFile<O> {
         certificate: Option<Certificate>,
     ) -> Result<CaseFile<O>, DeskError>
         ensures made { IfOk result (λ file. file ≡ (history, criterion, certificate)) }
-        ensures refused { IfErr result (λ e. (e ≡ DeskError.ShapeMismatch)
-            × ((other : Certificate) × (certificate ≡ Some other) × ((criterion_of other ≢ criterion) ⊎ (¬ HasShapeOf history other)))) }
+        ensures refused { IfErr result (λ e. (e ≡ DeskError.ShapeMismatch) × ¬ IsCaseFile (history, criterion, certificate)) }
     {
         if let Some(offered) = &certificate {
-            if offered.criterion() != criterion || !shape_ok(&history, offered) {
+            if !is_for(&history, criterion, offered) {
                 return Err(DeskError::ShapeMismatch);
             }
         }
@@ -80,4 +78,15 @@ impl<O: SeqObject> CaseFile<O> {
     {
         self.certificate.as_ref()
     }
+}
+
+/// Whether a certificate is for a criterion and has the shape of a history.
+fn is_for<O: SeqObject>(
+    history: &History<O>,
+    criterion: Criterion,
+    certificate: &Certificate,
+) -> bool
+    ensures { IsTrue result ↔ ((criterion_of certificate.now ≡ criterion) × HasShapeOf history.now certificate.now) }
+{
+    certificate.criterion() == criterion && shape_ok(history, certificate)
 }

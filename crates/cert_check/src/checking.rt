@@ -55,10 +55,8 @@ pub fn first_unexplained<O: SeqObject>(
     file: &CaseFile<O>,
 ) -> Result<Option<OpId>, AllocError>
     requires { IsSome file.now.2 }
-    ensures explained { IfOk result (λ first. IsNone first → (certificate : Certificate) → file.now.2 ≡ Some certificate
-        → IsExplainedThroughout O.answer file.now.0 certificate) }
-    ensures first { IfOk result (λ first. IfSome first (λ o. (certificate : Certificate) → file.now.2 ≡ Some certificate
-        → IsFirstUnexplained O.answer file.now.0 certificate o)) }
+    ensures first { (certificate : Certificate) → file.now.2 ≡ Some certificate → IfOk result (λ first. MatchOption first
+        (IsExplainedThroughout O.answer file.now.0 certificate) (IsFirstUnexplained O.answer file.now.0 certificate)) }
     ensures meets { IfOk result (λ first. IsNone first → Meets O.answer file.now.0 file.now.1) }
 {
     explained_certificates_show_their_criterion::<O>();

@@ -1,9 +1,11 @@
 //! What holds of the criteria for every object. The functions do nothing: what they ensure is the law.
 
 ghost use Rattle.std.specs.Prelude.{◌↔◌};
-ghost use Rattle.history.specs.History.{Record};
+ghost use Rattle.history.specs.History.{Record, IsHistory};
+ghost use Rattle.cert_check.specs.CertificateForm.{IsCertificate};
 ghost use Rattle.cert_check.specs.Certificates.{criterion_of, Certifies, HasShapeOf, IsExplainedThroughout};
 ghost use Rattle.cert_check.specs.Criteria.{Meets};
+ghost use Rattle.cert_check.specs.Witnesses.{IsWitness};
 
 use crate::certificate::Certificate;
 use crate::criterion::Criterion;
@@ -25,7 +27,15 @@ pub fn explained_certificates_show_their_criterion<O: SeqObject>()
     ensures { (h : Record O.Start O.Call O.Ret) (c : Certificate) → HasShapeOf h c → IsExplainedThroughout O.answer h c → Meets O.answer h (criterion_of c) }
 {}
 
+/// Where a certificate fits a history and every piece explains its operation, it names what shows its criterion: one
+/// operation is before another in the causal order where the vector of the other counts it, the schedule of an operation
+/// or the one list cut to its past is a linearization of this past, and the one list is the arbitration.
+pub fn explained_certificates_are_witnesses<O: SeqObject>()
+    ensures { (h : Record O.Start O.Call O.Ret) (c : Certificate) → HasShapeOf h c → IsExplainedThroughout O.answer h c → IsWitness O.answer h c }
+{}
+
 /// A history meets a criterion exactly where some certificate of that criterion certifies it.
 pub fn met_exactly_where_certified<O: SeqObject>()
-    ensures { (h : Record O.Start O.Call O.Ret) (criterion : Criterion) → Meets O.answer h criterion ↔ ((c : Certificate) × Certifies O.answer h criterion c) }
+    ensures { (h : Record O.Start O.Call O.Ret) (criterion : Criterion) → IsHistory O.is_start O.matches h
+        → Meets O.answer h criterion ↔ ((c : Certificate) × IsCertificate c × Certifies O.answer h criterion c) }
 {}

@@ -1,13 +1,11 @@
-ghost use Rattle.std.specs.Prelude.{◌≡◌, ◌<◌, ℕ, ◌↔◌, All, IsTrue, length, slice_index_or, []};
+ghost use Rattle.std.specs.Prelude.{◌≡◌, ◌<◌, ℕ, ◌↔◌, All, IsTrue, length};
 ghost use Rattle.history.specs.History.{session};
-ghost use Rattle.causal_order.specs.Vectors.{AreVectorsOf, HasOneEach};
 ghost use Rattle.cert_check.specs.Certificates.{HasShapeOf};
-ghost use Rattle.cert_check.specs.Certificates.{HaveLength};
 ghost use Rattle.cert_check.specs.Schedules.{times};
 
 use crate::certificate::Certificate;
-use causal_order::{ByOperation, Vectors};
-use history::{History, OpId};
+use causal_order::{are_vectors_of, has_one_each};
+use history::History;
 use object_trait::SeqObject;
 
 /// Whether a certificate has the shape of a history: a vector for each operation with one count for each session, and
@@ -28,53 +26,6 @@ pub fn shape_ok<O: SeqObject>(h: &History<O>, certificate: &Certificate) -> bool
             are_vectors_of(h, vectors) && names_all(h, arbitration.sessions())
         }
     }
-}
-
-/// Whether there is one list for each operation of a history, and no other.
-fn has_one_each<O: SeqObject, T>(h: &History<O>, lists: &ByOperation<T>) -> bool
-    ensures { IsTrue result ↔ HasOneEach h.now lists.now }
-{
-    if lists.sessions() != h.sessions() {
-        return false;
-    }
-    for session in 0..h.sessions() {
-        if lists.operations(session) != h.len(session as u64) {
-            return false;
-        }
-    }
-    true
-}
-
-/// Whether there is one vector for each operation of a history, with one count for each session.
-fn are_vectors_of<O: SeqObject>(h: &History<O>, v: &Vectors) -> bool
-    ensures { IsTrue result ↔ AreVectorsOf h.now v.now }
-{
-    if !has_one_each(h, v) {
-        return false;
-    }
-    for session in 0..h.sessions() {
-        if !have_length(v, session, h.sessions()) {
-            return false;
-        }
-    }
-    true
-}
-
-/// Whether the lists of a session's operations have this length.
-fn have_length(v: &Vectors, session: usize, len: usize) -> bool
-    requires { session < length v.now }
-    ensures { IsTrue result ↔ HaveLength v.now session len }
-{
-    for index in 0..v.operations(session) {
-        let op = OpId {
-            session: session as u64,
-            index: index as u64,
-        };
-        if v.get(op).len() != len {
-            return false;
-        }
-    }
-    true
 }
 
 /// Whether each session occurs in the list as often as it has operations, and no other number occurs.

@@ -9,8 +9,8 @@ use Rattle.cert_check.specs.Certificates.{IsExplainedPiece}
 use Rattle.cert_check.specs.declared.certificate.Certificate.{Certificate}
 use Rattle.cert_check.proofs.checking.first_unexplained.Goals as goal
 
-pub returns-clause-explained : goal.returns-clause-explained
-returns-clause-explained g c = λ _ certificate is o is_op.
+pub returns-clause-first : goal.returns-clause-first
+returns-clause-first g c = λ certificate is o is_op.
     let same : c.unwrap-certificate.result.now ≡ certificate =
     same_Some _ _ (sym (ap option_copied c.unwrap-certificate.ensures) ∙ c.certificate.ensures.certificate ∙ is) in
     let there = subst (λ h. IsOp h o) (sym c.history-h.ensures) is_op in
@@ -20,10 +20,10 @@ returns-clause-explained g c = λ _ certificate is o is_op.
     (subst (λ (one : Certificate). IsExplainedPiece g.O.SeqObject.answer c.history-h.result.now one o) same explained)
 
 pub returns-clause-meets : goal.returns-clause-meets
-returns-clause-meets g c = λ none.
+returns-clause-meets g c = λ _.
     let is : c.args.file.now.2 ≡ Some c.unwrap-certificate.result.now =
     sym (sym (ap option_copied c.unwrap-certificate.ensures) ∙ c.certificate.ensures.certificate) in
     let good = c.certificate.ensures.is_case_file c.unwrap-certificate.result.now is in
     subst (λ (k : Criterion). Meets g.O.SeqObject.answer c.args.file.now.0 k) good.0
     (c.explained_certificates_show_their_criterion.ensures c.args.file.now.0 c.unwrap-certificate.result.now good.1
-    (returns-clause-explained g c none c.unwrap-certificate.result.now is))
+    (returns-clause-first g c c.unwrap-certificate.result.now is))

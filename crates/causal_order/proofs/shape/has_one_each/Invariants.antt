@@ -1,6 +1,6 @@
 use Rattle.std.proofs.Common.{◌≡◌, ℕ, ◌<◌, [], length, get_or}
 use Rattle.history.specs.History.{session}
-use Rattle.cert_check.proofs.shape.has_one_each.Given as goal
+use Rattle.causal_order.proofs.shape.has_one_each.Given as goal
 
 -- the sessions so far have one list for each operation
 abbrev pub invariant-loop-session : goal.invariant-loop-session

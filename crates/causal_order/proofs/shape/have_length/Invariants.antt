@@ -1,7 +1,7 @@
 use Rattle.std.proofs.Common.{◌≡◌, ℕ, ◌<◌, length}
 use Rattle.causal_order.specs.Orders.{op}
 use Rattle.causal_order.specs.Vectors.{list_of}
-use Rattle.cert_check.proofs.shape.have_length.Given as goal
+use Rattle.causal_order.proofs.shape.have_length.Given as goal
 
 -- the vectors so far have this length
 abbrev pub invariant-loop-index : goal.invariant-loop-index

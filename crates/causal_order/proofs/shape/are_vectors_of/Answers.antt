@@ -1,0 +1,18 @@
+use Rattle.std.proofs.Common.{◌≡◌, ℕ, ◌<◌, [], length, get_or, arith}
+use Rattle.std.proofs.lemmas.Bool.{both_ways}
+use Rattle.causal_order.specs.Orders.{op}
+use Rattle.causal_order.specs.Vectors.{list_of}
+use Rattle.causal_order.proofs.shape.are_vectors_of.Goals as goal
+
+pub returns-then-not-have_length : goal.returns-then-not-have_length
+returns-then-not-have_length g c = (
+  (λ e. absurd cc),
+  λ shape.
+      let v = c.args.v.now in
+      let s = c.loop-session.session in
+      let have : (i : ℕ) → i < length (get_or v s []) → length (list_of v (op s i)) ≡ c.sessions.result = λ i below.
+      let operations = shape.one_each.operations s in
+      let counts = shape.counts (op s i) (omega arith) in
+      omega arith in
+      absurd (both_ways c.have_length.result c.if-not-have_length.true (c.have_length.ensures.1 have)),
+)
