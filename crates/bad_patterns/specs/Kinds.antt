@@ -8,7 +8,8 @@ use Rattle.causal_order.specs.Orders.{program_past}
 use Rattle.bad_patterns.specs.declared.kind.Kind.{Kind}
 use Rattle.bad_patterns.specs.declared.kind.Kind.TheVariants.{CyclicCO, ThinAirRead, WriteCOInitRead, WriteCORead, WriteHBInitRead, CyclicHB, CyclicCF}
 use Rattle.causal_order.specs.Memory.{MemoryHistory, initial, Writes, Reads, IsDifferentiated}
-use Rattle.causal_order.specs.Relations.{Leads, ReadsFrom, CO, AreRivalWrites, CF, HB}
+use Rattle.causal_order.specs.Relations.{Leads, CO, CF, HB}
+use Rattle.causal_order.specs.OverwrittenReads.{HasOverwrittenRead, HasOverwrittenStart}
 
 -- which kinds exclude which criterion
 abbrev pub is_against : Kind → Criterion → Bool
@@ -35,8 +36,8 @@ module _ (h : MemoryHistory) where
   abbrev pub Shows : Kind → Type 0
   Shows CyclicCO = (a : OpId) × CO h a a
   Shows ThinAirRead = (r : OpId) × IsThinAirRead r
-  Shows WriteCOInitRead = (w r : OpId) × (x v : ℕ) × Writes h w x v × Reads h r x (initial h x) × CO h w r
-  Shows WriteCORead = (a b r : OpId) × ReadsFrom h a r × AreRivalWrites h a b × CO h a b × CO h b r
+  Shows WriteCOInitRead = HasOverwrittenStart h
+  Shows WriteCORead = HasOverwrittenRead h
   Shows WriteHBInitRead =
       (o w r : OpId) × (x v : ℕ) × Writes h w x v × Reads h r x (initial h x) × IsTrue (program_past o r) × HB h o w r
   Shows CyclicHB = (o a : OpId) × HB h o a a
