@@ -1,4 +1,4 @@
--- Schedules in which the operations of one session take turns with what must come before them (this project's profile).
+-- Schedules in which the operations of one session take turns with what their vectors count (this project's profile).
 use Rattle.std.specs.Prelude.{◌≡◌, ℕ, ◌+◌, List, [], ◌∷◌, ◌++◌}
 use Rattle.std.proofs.Common.{zero, suc}
 use Rattle.history.specs.declared.op_id.OpId.{OpId}
