@@ -1,153 +1,59 @@
 //! What `check` says of certificates.
 
-use crate::asking::{expect_answer, expect_refusal};
+use crate::cases::{Question, failures};
+use crate::running::said_of;
 use engine::Order;
-use std::alloc::{AllocError, Global};
-use std::process::Abort;
+use std::alloc::AllocError;
 use std::test::Fail;
 
-/// A write in one session, and its read in another.
-const WRITE_AND_READ: &str = r#"["memory",[[["w",0,1]],[["r",0,1]]]]"#;
+const CERTIFICATES: &str = r#"
+read_after_the_write_of_another | [["memory",[[["w",0,1]],[["r",0,1]]]],["cc",[[[1,0]],[[1,1]]],[[[0]],[[0,1]]]]] | 0 cc yes;
+queue_popped_twice | [["queue",[[["push",5]],[["pop",5]],[["pop",5]]]],["cc",[[[1,0,0]],[[1,1,0]],[[1,0,1]]],[[[0]],[[0,1]],[[0,2]]]]] | 0 cc yes;
+increment_that_another_has_seen | [["counter",[[["inc"]],[["get",1]]]],["ccv",[[[1,0]],[[1,1]]],[0,1]]] | 0 ccv yes;
+no_operation | [["memory",[]],["ccv",[],[]]] | 0 ccv yes;
+returns_are_kept_one_by_one_for_causal_consistency | [["memory",[[["w",0,1]],[["w",0,2],["r",0,1],["r",0,2]]]],["cc",[[[1,0]],[[0,1],[1,2],[1,3]]],[[[0]],[[1],[1,0,1],[0,1,1,1]]]]] | 0 cc yes;
+returns_of_the_whole_session_are_kept_for_causal_memory | [["memory",[[["w",0,1]],[["w",0,2],["r",0,1],["r",0,2]]]],["cm",[[[1,0]],[[0,1],[1,2],[1,3]]],[[[0]],[[1],[1,0,1],[0,1,1,1]]]]] | 0 cm unknown 1.2;
+each_counts_the_other | [["memory",[[["w",0,1]],[["r",0,1]]]],["cc",[[[1,1]],[[1,1]]],[[[0]],[[0,1]]]]] | 0 cc unknown 0.0;
+count_above_the_length_of_the_session | [["memory",[[["w",0,1]],[["r",0,1]]]],["cc",[[[65535,0]],[[1,1]]],[[[0]],[[0,1]]]]] | 0 cc unknown 0.0;
+schedule_that_names_what_is_not_there | [["memory",[[["w",0,1]],[["r",0,1]]]],["cc",[[[1,0]],[[1,1]]],[[[0,0]],[[0,1]]]]] | 0 cc unknown 0.0;
+schedule_without_the_source | [["memory",[[["w",0,1]],[["r",0,1]]]],["cc",[[[1,0]],[[1,1]]],[[[0]],[[1]]]]] | 0 cc unknown 1.0;
+each_counts_the_other_for_convergence | [["memory",[[["w",0,1]],[["r",0,1]]]],["ccv",[[[1,1]],[[1,1]]],[1,0]]] | 0 ccv unknown 0.0;
+list_in_which_the_get_stands_before_the_increment | [["counter",[[["inc"]],[["get",1]]]],["ccv",[[[1,0]],[[1,1]]],[1,0]]] | 0 ccv unknown 1.0;
+"#;
 
-/// A push in one session, which two others pop.
-const POPPED_TWICE: &str = r#"["queue",[[["push",5]],[["pop",5]],[["pop",5]]]]"#;
-
-/// A session that reads back from its own write to that of another.
-const READ_BACK: &str = r#"["memory",[[["w",0,1]],[["w",0,2],["r",0,1],["r",0,2]]]]"#;
-
-/// An increment in one session that another has seen.
-const COUNTED: &str = r#"["counter",[[["inc"]],[["get",1]]]]"#;
-
-/// The vectors and schedules of the second session's operations, after the write of the first.
-const READ_BACK_PIECES: &str = "[[[1,0]],[[0,1],[1,2],[1,3]]],[[[0]],[[1],[1,0,1],[0,1,1,1]]]";
-
-fn pair(alloc: Global, history: &str, certificate: &str) -> Result<String, AllocError> {
-    format!(in alloc; "[{history},{certificate}]")
-}
-
-fn expect_check<P: Abort + AllocGlobal>(
-    rt: &P,
-    history: &str,
-    certificate: &str,
-    answer: &str,
-) -> Result<(), Fail> {
-    let text = pair(rt.alloc(), history, certificate)?;
-    expect_answer(rt, Order::Check, text.as_str(), answer);
+#[test]
+fn certificates_explain_each_operation_or_not(rt: HostRuntime) -> Result<(), Fail> {
+    assert_eq!(rt; failures(&rt, Question::Check, CERTIFICATES)?.as_str(), "");
     Ok(())
 }
 
-fn expect_refused_check<P: Abort + AllocGlobal>(
-    rt: &P,
-    history: &str,
-    certificate: &str,
-    line: &str,
-) -> Result<(), Fail> {
-    let text = pair(rt.alloc(), history, certificate)?;
-    expect_refusal(rt, Order::Check, text.as_bytes(), line)
-}
+const REFUSED: &str = r#"
+schedule_of_a_17th_session | [["memory",[[["w",0,1]],[["r",0,1]]]],["cc",[[[1,0]],[[1,1]]],[[[16]],[[0,1]]]]] | 1 refused 20
+count_of_65536 | [["memory",[[["w",0,1]],[["r",0,1]]]],["cc",[[[65536,0]],[[1,1]]],[[[0]],[[0,1]]]]] | 1 refused 20
+count_of_65536_in_vectors_of_another_shape | [["memory",[[["w",0,1]],[["r",0,1]]]],["cc",[[[65536,0]]],[[[0]],[[0,1]]]]] | 1 refused 20
+list_of_a_17th_session | [["memory",[[["w",0,1]],[["r",0,1]]]],["ccv",[[[1,0]],[[1,1]]],[0,16]]] | 1 refused 20
+criterion_in_capitals | [["memory",[[["w",0,1]],[["r",0,1]]]],["CC",[[[1,0]],[[1,1]]],[[[0]],[[0,1]]]]] | 1 refused 20
+certificate_without_schedules | [["memory",[[["w",0,1]],[["r",0,1]]]],["cc",[[[1,0]],[[1,1]]]]] | 1 refused 20
+certificate_that_is_no_list | [["memory",[[["w",0,1]],[["r",0,1]]]],{}] | 1 refused 20
+certificate_that_is_null | [["memory",[[["w",0,1]],[["r",0,1]]]],null] | 1 refused 20
+vectors_of_one_session_of_two | [["memory",[[["w",0,1]],[["r",0,1]]]],["cc",[[[1,0]]],[[[0]],[[0,1]]]]] | 1 refused 21
+list_that_names_a_session_twice | [["counter",[[["inc"]],[["get",1]]]],["ccv",[[[1,0]],[[1,1]]],[0,0]]] | 1 refused 21
+text_that_is_no_json | [ | 1 refused 1
+history_alone | ["memory",[[["w",0,1]],[["r",0,1]]]] | 1 refused 2
+list_of_a_history_alone | [["memory",[]]] | 1 refused 2
+history_without_sessions | [["memory"],{}] | 1 refused 2
+operation_without_a_form_before_the_certificate | [["memory",[[["x"]]]],{}] | 1 refused 4 0.0
+empty_table_before_the_certificate | [["memory",[],[]],{}] | 1 refused 29
+table_with_zero_before_the_certificate | [["memory",[],[[0,0]]],null] | 1 refused 29
+"#;
 
 #[test]
-fn pieces_that_explain_each_operation(rt: HostRuntime) -> Result<(), Fail> {
-    expect_check(
-        &rt,
-        WRITE_AND_READ,
-        r#"["cc",[[[1,0]],[[1,1]]],[[[0]],[[0,1]]]]"#,
-        "cc yes\n",
-    )?;
-    expect_check(
-        &rt,
-        POPPED_TWICE,
-        r#"["cc",[[[1,0,0]],[[1,1,0]],[[1,0,1]]],[[[0]],[[0,1]],[[0,2]]]]"#,
-        "cc yes\n",
-    )?;
-    expect_check(
-        &rt,
-        COUNTED,
-        r#"["ccv",[[[1,0]],[[1,1]]],[0,1]]"#,
-        "ccv yes\n",
-    )?;
-    expect_check(&rt, r#"["memory",[]]"#, r#"["ccv",[],[]]"#, "ccv yes\n")
-}
-
-#[test]
-fn returns_of_the_whole_session_are_kept_for_causal_memory(rt: HostRuntime) -> Result<(), Fail> {
-    let alloc = rt.alloc();
-    let one = format!(in alloc; "[\"cc\",{READ_BACK_PIECES}]")?;
-    expect_check(&rt, READ_BACK, one.as_str(), "cc yes\n")?;
-    let all = format!(in alloc; "[\"cm\",{READ_BACK_PIECES}]")?;
-    expect_check(&rt, READ_BACK, all.as_str(), "cm unknown 1.2\n")
-}
-
-#[test]
-fn pieces_that_explain_nothing(rt: HostRuntime) -> Result<(), Fail> {
-    let certificates = [
-        (
-            r#"["cc",[[[1,1]],[[1,1]]],[[[0]],[[0,1]]]]"#,
-            "cc unknown 0.0\n",
-        ),
-        (
-            r#"["cc",[[[65535,0]],[[1,1]]],[[[0]],[[0,1]]]]"#,
-            "cc unknown 0.0\n",
-        ),
-        (
-            r#"["cc",[[[1,0]],[[1,1]]],[[[0,0]],[[0,1]]]]"#,
-            "cc unknown 0.0\n",
-        ),
-        (
-            r#"["cc",[[[1,0]],[[1,1]]],[[[0]],[[1]]]]"#,
-            "cc unknown 1.0\n",
-        ),
-        (r#"["ccv",[[[1,1]],[[1,1]]],[1,0]]"#, "ccv unknown 0.0\n"),
-    ];
-    for (certificate, answer) in certificates {
-        expect_check(&rt, WRITE_AND_READ, certificate, answer)?;
-    }
-    expect_check(
-        &rt,
-        COUNTED,
-        r#"["ccv",[[[1,0]],[[1,1]]],[1,0]]"#,
-        "ccv unknown 1.0\n",
-    )
-}
-
-#[test]
-fn certificates_without_a_form(rt: HostRuntime) -> Result<(), Fail> {
-    let certificates = [
-        r#"["cc",[[[1,0]],[[1,1]]],[[[16]],[[0,1]]]]"#,
-        r#"["cc",[[[65536,0]],[[1,1]]],[[[0]],[[0,1]]]]"#,
-        r#"["ccv",[[[1,0]],[[1,1]]],[0,16]]"#,
-        r#"["CC",[[[1,0]],[[1,1]]],[[[0]],[[0,1]]]]"#,
-        r#"["cc",[[[1,0]],[[1,1]]]]"#,
-        "{}",
-    ];
-    for certificate in certificates {
-        expect_refused_check(&rt, WRITE_AND_READ, certificate, "refused 20")?;
-    }
+fn pairs_are_refused_with_their_line(rt: HostRuntime) -> Result<(), Fail> {
+    assert_eq!(rt; failures(&rt, Question::Check, REFUSED)?.as_str(), "");
     Ok(())
 }
 
-#[test]
-fn certificates_of_another_shape(rt: HostRuntime) -> Result<(), Fail> {
-    expect_refused_check(
-        &rt,
-        WRITE_AND_READ,
-        r#"["cc",[[[1,0]]],[[[0]],[[0,1]]]]"#,
-        "refused 21",
-    )?;
-    expect_refused_check(
-        &rt,
-        COUNTED,
-        r#"["ccv",[[[1,0]],[[1,1]]],[0,0]]"#,
-        "refused 21",
-    )
-}
-
-#[test]
-fn pairs_are_refused_as_histories_are(rt: HostRuntime) -> Result<(), Fail> {
-    expect_refusal(&rt, Order::Check, b"[", "refused 1")?;
-    expect_refusal(&rt, Order::Check, WRITE_AND_READ.as_bytes(), "refused 2")?;
-    expect_refusal(&rt, Order::Check, b"[[\"memory\",[]]]", "refused 2")?;
-    expect_refused_check(&rt, r#"["memory"]"#, "{}", "refused 2")?;
-    expect_refused_check(&rt, r#"["memory",[[["x"]]]]"#, "{}", "refused 4 0.0")?;
-    expect_refused_check(&rt, r#"["memory",[],[]]"#, "{}", "refused 29")
+/// What a run of `check` says of a text.
+pub fn said<P: AllocGlobal>(rt: &P, text: &str) -> Result<String, AllocError> {
+    said_of(rt, Order::Check, text.as_bytes())
 }

@@ -2,21 +2,29 @@
 use std::alloc::Global;
 use std::io;
 use std::io::{ErrorKind, Read, Write};
-use std::ops::Range;
 
-/// The calls that fail, counted from 1, and how.
-#[derive(Drop)]
-struct Failing {
-    calls: Range<u64>,
-    kind: ErrorKind,
+/// The calls that fail, from the first of them to the one before `end`, counted from 1; and how.
+#[derive(Clone, Copy)]
+pub struct Failing {
+    pub first: u64,
+    pub end: u64,
+    pub kind: ErrorKind,
 }
 
+/// No call fails.
+pub const NEVER: Failing = Failing {
+    first: 0,
+    end: 0,
+    kind: ErrorKind::Other,
+};
+
 /// Counts one more call, and answers how it fails, where it does.
-fn failure_of(failing: &Option<Failing>, calls: &mut u64) -> io::Result<()> {
+fn count(failing: Failing, calls: &mut u64) -> io::Result<()> {
     *calls = calls.saturating_add(1);
-    match failing {
-        Some(failing) if failing.calls.contains(calls) => Err(io::Error::from(failing.kind)),
-        _ => Ok(()),
+    if failing.first <= *calls && *calls < failing.end {
+        Err(io::Error::from(failing.kind))
+    } else {
+        Ok(())
     }
 }
 
@@ -26,31 +34,26 @@ pub struct Device<'a> {
     text: &'a [u8],
     blanks: usize,
     piece: usize,
-    failing: Option<Failing>,
+    failing: Failing,
     pub calls: u64,
 }
 
 impl<'a> Device<'a> {
     /// The text and then so many blanks, at most `piece` bytes a call.
-    pub fn new(text: &'a [u8], blanks: usize, piece: usize) -> Device<'a> {
+    pub fn new(text: &'a [u8], blanks: usize, piece: usize, failing: Failing) -> Device<'a> {
         Device {
             text,
             blanks,
             piece,
-            failing: None,
+            failing,
             calls: 0,
         }
-    }
-
-    pub fn failing(mut self, calls: Range<u64>, kind: ErrorKind) -> Device<'a> {
-        self.failing = Some(Failing { calls, kind });
-        self
     }
 }
 
 impl Read for Device<'_> {
     fn read(&mut self, buffer: &mut [u8]) -> io::Result<usize> {
-        failure_of(&self.failing, &mut self.calls)?;
+        count(self.failing, &mut self.calls)?;
         let room = buffer.len().min(self.piece);
         if self.text.is_empty() {
             let count = self.blanks.min(room);
@@ -73,29 +76,24 @@ impl Read for Device<'_> {
 pub struct Sink {
     pub taken: Vec<u8>,
     piece: usize,
-    failing: Option<Failing>,
+    failing: Failing,
     calls: u64,
 }
 
 impl Sink {
-    pub fn new(alloc: Global, piece: usize) -> Sink {
+    pub fn new(alloc: Global, piece: usize, failing: Failing) -> Sink {
         Sink {
             taken: Vec::new(alloc),
             piece,
-            failing: None,
+            failing,
             calls: 0,
         }
-    }
-
-    pub fn failing(mut self, calls: Range<u64>, kind: ErrorKind) -> Sink {
-        self.failing = Some(Failing { calls, kind });
-        self
     }
 }
 
 impl Write for Sink {
     fn write(&mut self, buffer: &[u8]) -> io::Result<usize> {
-        failure_of(&self.failing, &mut self.calls)?;
+        count(self.failing, &mut self.calls)?;
         let count = buffer.len().min(self.piece);
         self.taken.extend_from_slice(&buffer[..count])?;
         Ok(count)

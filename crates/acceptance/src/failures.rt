@@ -1,46 +1,84 @@
+//! The exit status of each failure, and its line.
+
 use engine::{RunError, fault_line, status_of};
 use operations::{OpId, ReadError};
+use std::alloc::{AllocError, Global};
 use std::test::Fail;
 
+/// The status after a failure, and its line.
+fn status_and_line(alloc: Global, error: RunError) -> Result<String, AllocError> {
+    let line = fault_line(alloc, &error)?;
+    let status = status_of(&Err(error));
+    format!(in alloc; "{status} {line}")
+}
+
+/// The same of a refused history.
+fn refused(alloc: Global, refusal: ReadError) -> Result<String, AllocError> {
+    status_and_line(alloc, RunError::History(refusal))
+}
+
+const LAST: OpId = OpId {
+    session: 15,
+    index: 255,
+};
+
 #[test]
-fn each_failure_has_its_status_and_its_line(rt: HostRuntime) -> Result<(), Fail> {
-    let op = OpId {
-        session: 15,
-        index: 255,
-    };
-    let failures = [
-        (RunError::History(ReadError::NotJson), 1, "refused 1"),
-        (RunError::History(ReadError::BadShape), 1, "refused 2"),
-        (RunError::History(ReadError::UnknownObject), 1, "refused 3"),
-        (
-            RunError::History(ReadError::BadOp(op)),
-            1,
-            "refused 4 15.255",
-        ),
-        (
-            RunError::History(ReadError::ReturnAfterUnknown(op)),
-            1,
-            "refused 5 15.255",
-        ),
-        (
-            RunError::History(ReadError::TooManySessions),
-            1,
-            "refused 6",
-        ),
-        (RunError::History(ReadError::TooManyOps), 1, "refused 7"),
-        (RunError::History(ReadError::Memory), 4, "no memory"),
-        (RunError::History(ReadError::BadInitial), 1, "refused 29"),
-        (RunError::BadCertificate, 1, "refused 20"),
-        (RunError::ShapeMismatch, 1, "refused 21"),
-        (RunError::TooLong, 1, "refused 9"),
-        (RunError::Memory, 4, "no memory"),
-        (RunError::ReadFault, 3, "read fault"),
-        (RunError::WriteFault, 3, "write fault"),
-    ];
-    for (error, status, line) in failures {
-        assert_eq!(rt; fault_line(rt.alloc(), &error)?.as_str(), line);
-        assert_eq!(rt; status_of(&Err(error)), status, "{line}");
-    }
+fn each_refusal_of_a_history_has_its_status_and_its_line(rt: HostRuntime) -> Result<(), Fail> {
+    let alloc = rt.alloc();
+    assert_eq!(rt; refused(alloc, ReadError::NotJson)?.as_str(), "1 refused 1");
+    assert_eq!(rt;
+        refused(alloc, ReadError::BadShape)?.as_str(),
+        "1 refused 2"
+    );
+    assert_eq!(rt;
+        refused(alloc, ReadError::UnknownObject)?.as_str(),
+        "1 refused 3"
+    );
+    assert_eq!(rt;
+        refused(alloc, ReadError::BadOp(LAST))?.as_str(),
+        "1 refused 4 15.255"
+    );
+    let after_unknown = refused(alloc, ReadError::ReturnAfterUnknown(LAST))?;
+    assert_eq!(rt; after_unknown.as_str(), "1 refused 5 15.255");
+    assert_eq!(rt;
+        refused(alloc, ReadError::TooManySessions)?.as_str(),
+        "1 refused 6"
+    );
+    assert_eq!(rt;
+        refused(alloc, ReadError::TooManyOps)?.as_str(),
+        "1 refused 7"
+    );
+    assert_eq!(rt; refused(alloc, ReadError::Memory)?.as_str(), "4 no memory");
+    assert_eq!(rt;
+        refused(alloc, ReadError::BadInitial)?.as_str(),
+        "1 refused 29"
+    );
+    Ok(())
+}
+
+#[test]
+fn each_other_failure_has_its_status_and_its_line(rt: HostRuntime) -> Result<(), Fail> {
+    let alloc = rt.alloc();
+    let bad_certificate = status_and_line(alloc, RunError::BadCertificate)?;
+    assert_eq!(rt; bad_certificate.as_str(), "1 refused 20");
+    let other_shape = status_and_line(alloc, RunError::ShapeMismatch)?;
+    assert_eq!(rt; other_shape.as_str(), "1 refused 21");
+    assert_eq!(rt;
+        status_and_line(alloc, RunError::TooLong)?.as_str(),
+        "1 refused 9"
+    );
+    assert_eq!(rt;
+        status_and_line(alloc, RunError::Memory)?.as_str(),
+        "4 no memory"
+    );
+    assert_eq!(rt;
+        status_and_line(alloc, RunError::ReadFault)?.as_str(),
+        "3 read fault"
+    );
+    assert_eq!(rt;
+        status_and_line(alloc, RunError::WriteFault)?.as_str(),
+        "3 write fault"
+    );
     assert_eq!(rt; status_of(&Ok(())), 0);
     Ok(())
 }

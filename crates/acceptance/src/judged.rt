@@ -1,169 +1,127 @@
 //! What `judge` says of histories.
 
-use crate::asking::expect_answer;
+use crate::cases::{Question, failures};
+use crate::running::said_of;
 use engine::Order;
 use std::alloc::{AllocError, Global};
-use std::process::Abort;
 use std::test::Fail;
 
-/// Judges a text, and expects these answers for causal consistency, causal memory and causal convergence.
-fn expect_report<P: Abort + AllocGlobal>(
-    rt: &P,
-    text: &str,
-    cc: &str,
-    cm: &str,
-    ccv: &str,
-) -> Result<(), Fail> {
-    let report = format!(in rt.alloc(); "cc {cc}\ncm {cm}\nccv {ccv}\n")?;
-    expect_answer(rt, Order::Judge, text, report.as_str());
+const MEMORIES: &str = r#"
+value_is_read_in_another_session | ["memory",[[["w",0,1]],[["r",0,1]]]] | 0 cc yes;cm yes;ccv yes;
+no_session | ["memory",[]] | 0 cc yes;cm yes;ccv yes;
+session_without_operations | ["memory",[[]]] | 0 cc yes;cm yes;ccv yes;
+value_that_two_sessions_wrote | ["memory",[[["w",0,1]],[["w",0,1]],[["r",0,1]]]] | 0 cc yes;cm yes;ccv yes;
+unknown_return_is_no_read_of_the_initial_value | ["memory",[[["w",0,1],["r",0,"?"]]]] | 0 cc yes;cm yes;ccv yes;
+write_without_a_return_is_read | ["memory",[[["w",0,1,"?"]],[["r",0,1]]]] | 0 cc yes;cm yes;ccv yes;
+written_value_is_the_initial_one | ["memory",[[["w",0,0]],[["r",0,0]]]] | 0 cc yes;cm yes;ccv yes;
+initial_value_of_the_table | ["memory",[[["r",0,5]]],[[0,5]]] | 0 cc yes;cm yes;ccv yes;
+unknown_return_beside_a_table | ["memory",[[["r",0,"?"]]],[[0,5]]] | 0 cc yes;cm yes;ccv yes;
+each_sees_its_own_write_first | ["memory",[[["w",0,1],["r",0,2]],[["w",0,2],["r",0,1]]]] | 0 cc yes;cm yes;ccv no CyclicCF;
+last_read_puts_a_write_before_a_read_of_the_start | ["memory",[[["w",2,1],["w",0,1],["w",1,1]],[["w",0,2],["r",2,0],["r",1,1],["r",0,2]]]] | 0 cc yes;cm no WriteHBInitRead;ccv yes;
+own_write_is_read_again_after_that_of_another | ["memory",[[["w",0,1]],[["w",0,2],["r",0,1],["r",0,2]]]] | 0 cc yes;cm no CyclicHB;ccv no CyclicCF;
+session_with_a_cycle_before_the_one_that_reads_the_start | ["memory",[[["w",10,1]],[["w",10,2],["r",10,1],["r",10,2]],[["w",2,1],["w",0,1],["w",1,1]],[["w",0,2],["r",2,0],["r",1,1],["r",0,2]]]] | 0 cc yes;cm no WriteHBInitRead;ccv no CyclicCF;
+value_that_nobody_wrote | ["memory",[[["r",0,7]]]] | 0 cc no ThinAirRead;cm no ThinAirRead;ccv no ThinAirRead;
+value_of_another_variable | ["memory",[[["w",1,7]],[["r",0,7]]]] | 0 cc no ThinAirRead;cm no ThinAirRead;ccv no ThinAirRead;
+text_with_blanks_and_an_escape |  [ "memory" , [ [ [ "\u0072", 0, 7 ] ] ] ]  | 0 cc no ThinAirRead;cm no ThinAirRead;ccv no ThinAirRead;
+zero_where_the_table_has_another_value | ["memory",[[["r",0,0]]],[[0,5]]] | 0 cc no ThinAirRead;cm no ThinAirRead;ccv no ThinAirRead;
+initial_value_of_another_variable | ["memory",[[["r",1,5]]],[[0,5]]] | 0 cc no ThinAirRead;cm no ThinAirRead;ccv no ThinAirRead;
+overwritten_value_is_read | ["memory",[[["w",0,1],["w",1,1]],[["r",1,1],["w",0,2]],[["r",0,2],["r",0,1]]]] | 0 cc no WriteCORead;cm no WriteCORead;ccv no WriteCORead;
+value_is_read_before_it_is_written | ["memory",[[["r",0,1],["w",0,1]]]] | 0 cc no CyclicCO;cm no CyclicCO;ccv no CyclicCO;
+own_write_is_lost | ["memory",[[["w",0,1],["r",0,0]]]] | 0 cc no WriteCOInitRead;cm no WriteCOInitRead;ccv no WriteCOInitRead;
+write_in_the_past_by_way_of_another_is_lost | ["memory",[[["w",0,1]],[["r",0,1],["w",1,1]],[["r",1,1],["r",0,0]]]] | 0 cc no WriteCOInitRead;cm no WriteCOInitRead;ccv no WriteCOInitRead;
+write_of_zero_over_the_table_is_lost | ["memory",[[["w",0,0],["r",0,5]]],[[0,5]]] | 0 cc no WriteCOInitRead;cm no WriteCOInitRead;ccv no WriteCOInitRead;
+written_initial_value_forbids_a_no | ["memory",[[["w",0,0],["r",0,7]]]] | 0 cc unknown;cm unknown;ccv unknown;
+value_of_another_variable_written_twice_forbids_a_no | ["memory",[[["r",0,7]],[["w",1,4]],[["w",1,4]]]] | 0 cc unknown;cm unknown;ccv unknown;
+written_value_of_the_table_forbids_a_no | ["memory",[[["w",0,5]],[["r",0,7]]],[[0,5]]] | 0 cc unknown;cm unknown;ccv unknown;
+value_written_twice_forbids_a_no_of_a_cycle | ["memory",[[["r",0,1],["w",0,1]],[["w",0,1]]]] | 0 cc unknown;cm unknown;ccv unknown;
+"#;
+
+#[test]
+fn histories_of_a_memory_are_judged(rt: HostRuntime) -> Result<(), Fail> {
+    assert_eq!(rt; failures(&rt, Question::Judge, MEMORIES)?.as_str(), "");
     Ok(())
 }
 
-/// Judges each text, and expects this answer for all three criteria.
-fn expect_each<P: Abort + AllocGlobal>(rt: &P, texts: &[&str], answer: &str) -> Result<(), Fail> {
-    for text in texts {
-        expect_report(rt, text, answer, answer, answer)?;
-    }
-    Ok(())
-}
-
-#[test]
-fn histories_that_meet_all_criteria(rt: HostRuntime) -> Result<(), Fail> {
-    let texts = [
-        r#"["memory",[[["w",0,1]],[["r",0,1]]]]"#,
-        r#"["memory",[]]"#,
-        r#"["memory",[[]]]"#,
-        r#"["memory",[[["w",0,1]],[["w",0,1]],[["r",0,1]]]]"#,
-        r#"["memory",[[["w",0,1],["r",0,"?"]]]]"#,
-        r#"["memory",[[["w",0,1,"?"]],[["r",0,1]]]]"#,
-        r#"["memory",[[["w",0,0]],[["r",0,0]]]]"#,
-        r#"["memory",[[["r",0,5]]],[[0,5]]]"#,
-        r#"["memory",[[["r",0,"?"]]],[[0,5]]]"#,
-    ];
-    expect_each(&rt, &texts, "yes")
-}
-
-#[test]
-fn criteria_that_differ(rt: HostRuntime) -> Result<(), Fail> {
-    expect_report(
-        &rt,
-        r#"["memory",[[["w",0,1],["r",0,2]],[["w",0,2],["r",0,1]]]]"#,
-        "yes",
-        "yes",
-        "no CyclicCF",
-    )?;
-    expect_report(
-        &rt,
-        r#"["memory",[[["w",2,1],["w",0,1],["w",1,1]],[["w",0,2],["r",2,0],["r",1,1],["r",0,2]]]]"#,
-        "yes",
-        "no WriteHBInitRead",
-        "yes",
-    )?;
-    expect_report(
-        &rt,
-        r#"["memory",[[["w",0,1]],[["w",0,2],["r",0,1],["r",0,2]]]]"#,
-        "yes",
-        "no CyclicHB",
-        "no CyclicCF",
-    )?;
-    // A session before the one that reads the start has a cycle.
-    expect_report(
-        &rt,
-        r#"["memory",[[["w",10,1]],[["w",10,2],["r",10,1],["r",10,2]],[["w",2,1],["w",0,1],["w",1,1]],[["w",0,2],["r",2,0],["r",1,1],["r",0,2]]]]"#,
-        "yes",
-        "no WriteHBInitRead",
-        "no CyclicCF",
-    )
-}
-
-#[test]
-fn read_of_a_value_that_nobody_wrote(rt: HostRuntime) -> Result<(), Fail> {
-    let texts = [
-        r#"["memory",[[["r",0,7]]]]"#,
-        r#"["memory",[[["w",1,7]],[["r",0,7]]]]"#,
-        r#" [ "memory" , [ [ [ "\u0072", 0, 7 ] ] ] ] "#,
-        r#"["memory",[[["r",0,0]]],[[0,5]]]"#,
-        r#"["memory",[[["r",1,5]]],[[0,5]]]"#,
-    ];
-    expect_each(&rt, &texts, "no ThinAirRead")
-}
-
-#[test]
-fn patterns_of_the_causal_order(rt: HostRuntime) -> Result<(), Fail> {
-    expect_each(
-        &rt,
-        &[r#"["memory",[[["w",0,1],["w",1,1]],[["r",1,1],["w",0,2]],[["r",0,2],["r",0,1]]]]"#],
-        "no WriteCORead",
-    )?;
-    expect_each(
-        &rt,
-        &[r#"["memory",[[["r",0,1],["w",0,1]]]]"#],
-        "no CyclicCO",
-    )?;
-    let texts = [
-        r#"["memory",[[["w",0,1],["r",0,0]]]]"#,
-        r#"["memory",[[["w",0,1]],[["r",0,1],["w",1,1]],[["r",1,1],["r",0,0]]]]"#,
-        r#"["memory",[[["w",0,0],["r",0,5]]],[[0,5]]]"#,
-    ];
-    expect_each(&rt, &texts, "no WriteCOInitRead")
-}
-
-#[test]
-fn without_distinct_values_there_is_no_no(rt: HostRuntime) -> Result<(), Fail> {
-    let texts = [
-        r#"["memory",[[["w",0,0],["r",0,7]]]]"#,
-        r#"["memory",[[["r",0,7]],[["w",1,4]],[["w",1,4]]]]"#,
-        r#"["memory",[[["w",0,5]],[["r",0,7]]],[[0,5]]]"#,
-        r#"["memory",[[["r",0,1],["w",0,1]],[["w",0,1]]]]"#,
-    ];
-    expect_each(&rt, &texts, "unknown")
-}
+const OTHER_OBJECTS: &str = r#"
+register_reads_its_write | ["register",[[["w",7],["r",7]]]] | 0 cc yes;cm yes;ccv yes;
+counter_counts_what_it_has_seen | ["counter",[[["inc"],["get",1]],[["get",0]]]] | 0 cc yes;cm yes;ccv yes;
+set_has_what_was_added_and_not_removed | ["set",[[["add",1],["has",1,true],["rem",1],["has",1,false]]]] | 0 cc yes;cm yes;ccv yes;
+queue_pops_what_was_pushed | ["queue",[[["push",5],["pop",5],["pop",null]]]] | 0 cc yes;cm yes;ccv yes;
+counter_at_a_key_begins_at_zero | ["counters",[[["get",0,0]]]] | 0 cc yes;cm yes;ccv yes;
+set_at_a_key_begins_empty | ["sets",[[["has",0,1,false]]]] | 0 cc yes;cm yes;ccv yes;
+queue_at_a_key_begins_empty | ["queues",[[["pop",0,null]]]] | 0 cc yes;cm yes;ccv yes;
+write_of_another_session_of_a_register | ["register",[[["w",7]],[["r",7]]]] | 0 cc unknown 1.0;cm unknown 1.0;ccv unknown 1.0;
+increment_of_another_session | ["counter",[[["inc"]],[["get",1]]]] | 0 cc unknown 1.0;cm unknown 1.0;ccv unknown 1.0;
+element_that_nobody_added | ["set",[[],[["has",1,true]]]] | 0 cc unknown 1.0;cm unknown 1.0;ccv unknown 1.0;
+push_of_another_session_at_a_key | ["queues",[[["push",1,5]],[["pop",1,5]]]] | 0 cc unknown 1.0;cm unknown 1.0;ccv unknown 1.0;
+register_has_no_start_but_zero | ["register",[[["r",5]]]] | 0 cc unknown 0.0;cm unknown 0.0;ccv unknown 0.0;
+"#;
 
 #[test]
 fn the_other_objects_are_explained_by_program_order_alone(rt: HostRuntime) -> Result<(), Fail> {
-    let texts = [
-        r#"["register",[[["w",7],["r",7]]]]"#,
-        r#"["counter",[[["inc"],["get",1]],[["get",0]]]]"#,
-        r#"["set",[[["add",1],["has",1,true],["rem",1],["has",1,false]]]]"#,
-        r#"["queue",[[["push",5],["pop",5],["pop",null]]]]"#,
-        r#"["counters",[[["get",0,0]]]]"#,
-        r#"["sets",[[["has",0,1,false]]]]"#,
-        r#"["queues",[[["pop",0,null]]]]"#,
-    ];
-    expect_each(&rt, &texts, "yes")?;
-    let texts = [
-        r#"["register",[[["w",7]],[["r",7]]]]"#,
-        r#"["counter",[[["inc"]],[["get",1]]]]"#,
-        r#"["set",[[],[["has",1,true]]]]"#,
-        r#"["queues",[[["push",1,5]],[["pop",1,5]]]]"#,
-    ];
-    expect_each(&rt, &texts, "unknown 1.0")
+    assert_eq!(rt; failures(&rt, Question::Judge, OTHER_OBJECTS)?.as_str(), "");
+    Ok(())
 }
 
-/// The history of a session that writes 1 to `most` to one variable, and of another that reads these values.
-fn written_and_read(alloc: Global, most: u64, reads: &[u64]) -> Result<String, AllocError> {
-    let mut text = String::from_str(alloc, r#"["memory",[["#)?;
-    for value in 1..=most {
-        let comma = if value == 1 { "" } else { "," };
-        text.push_str(format!(in alloc; "{comma}[\"w\",0,{value}]")?.as_str())?;
-    }
-    text.push_str("],[")?;
-    for (place, value) in reads.iter().enumerate() {
+/// What a run of `judge` says of a text.
+pub fn said<P: AllocGlobal>(rt: &P, text: &str) -> Result<String, AllocError> {
+    said_of(rt, Order::Judge, text.as_bytes())
+}
+
+/// Puts the operations of a session into a text: this word with variable 0, at each of the values.
+fn push_session(
+    text: &mut String,
+    alloc: Global,
+    word: &str,
+    values: &[u64],
+) -> Result<(), AllocError> {
+    for (place, value) in values.iter().enumerate() {
         let comma = if place == 0 { "" } else { "," };
-        text.push_str(format!(in alloc; "{comma}[\"r\",0,{value}]")?.as_str())?;
+        let operation = format!(in alloc; "{comma}[\"{word}\",0,{value}]")?;
+        text.push_str(operation.as_str())?;
     }
+    Ok(())
+}
+
+fn values_to(alloc: Global, most: u64) -> Result<Vec<u64>, AllocError> {
+    let mut values = Vec::new(alloc);
+    for value in 1..=most {
+        values.push(value)?;
+    }
+    Ok(values)
+}
+
+/// The history of a session that writes 1 to 256 to one variable, and of another that reads these values.
+fn written_and_read(alloc: Global, reads: &[u64]) -> Result<String, AllocError> {
+    let writes = values_to(alloc, 256)?;
+    let mut text = String::from_str(alloc, r#"["memory",[["#)?;
+    push_session(&mut text, alloc, "w", writes.as_slice())?;
+    text.push_str("],[")?;
+    push_session(&mut text, alloc, "r", reads)?;
     text.push_str("]]]")?;
     Ok(text)
 }
 
+/// What `judge` says of such a history.
+fn said_of_reads<P: AllocGlobal>(rt: &P, reads: &[u64]) -> Result<String, AllocError> {
+    let text = written_and_read(rt.alloc(), reads)?;
+    said(rt, text.as_str())
+}
+
 #[test]
-fn values_may_be_read_in_their_order_alone(rt: HostRuntime) -> Result<(), Fail> {
-    let mut values = Vec::new(rt.alloc());
-    for value in 1..=256 {
-        values.push(value)?;
-    }
-    let in_order = written_and_read(rt.alloc(), 256, &values)?;
-    expect_each(&rt, &[in_order.as_str()], "yes")?;
-    let backward = written_and_read(rt.alloc(), 256, &[256, 255])?;
-    expect_each(&rt, &[backward.as_str()], "no WriteCORead")
+fn values_may_be_read_in_their_order(rt: HostRuntime) -> Result<(), Fail> {
+    let values = values_to(rt.alloc(), 256)?;
+    let answer = said_of_reads(&rt, values.as_slice())?;
+    assert_eq!(rt; answer.as_str(), "0 cc yes;cm yes;ccv yes;");
+    Ok(())
+}
+
+#[test]
+fn values_may_not_be_read_backward(rt: HostRuntime) -> Result<(), Fail> {
+    let answer = said_of_reads(&rt, &[256, 255])?;
+    assert_eq!(rt;
+        answer.as_str(),
+        "0 cc no WriteCORead;cm no WriteCORead;ccv no WriteCORead;"
+    );
+    Ok(())
 }

@@ -1,14 +1,21 @@
-//! Tests that cross the crates: whole runs over readers and writers in memory, patterns and certificates.
+//! Tests that cross the crates: what the objects answer, whole runs over readers and writers in memory, patterns and
+//! certificates.
+//!
+//! Most cases are lines of text, `name | input | wanted answer`, which one test reads.
 #![tactic(auto)]
 
 #[cfg(test)]
-mod asking;
+mod applied_calls;
+#[cfg(test)]
+mod cases;
 #[cfg(test)]
 mod checked;
 #[cfg(test)]
 mod command_lines;
 #[cfg(test)]
 mod devices;
+#[cfg(test)]
+mod examples;
 #[cfg(test)]
 mod failures;
 #[cfg(test)]
@@ -22,9 +29,13 @@ mod made_certificates;
 #[cfg(test)]
 mod many_pairs;
 #[cfg(test)]
+mod objects_alone;
+#[cfg(test)]
 mod patterns;
 #[cfg(test)]
 mod refused;
+#[cfg(test)]
+mod running;
 #[cfg(test)]
 mod runs;
 #[cfg(test)]

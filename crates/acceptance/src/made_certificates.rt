@@ -1,171 +1,167 @@
 //! What certificates are made of small histories.
 
-use crate::histories::{BACK_AND_FORTH, DIVERGING, STALE_START, list_at, memory};
-use causal_order::Vectors;
-use cert_check::{CaseFile, Certificate, Schedules, first_unexplained};
-use operations::OpId;
-use std::alloc::Global;
-use std::process::Abort;
+use crate::cases::{Question, failures};
+use crate::histories::{criterion_named, memory};
+use causal_order::ByOperation;
+use cert_check::{CaseFile, Certificate, Criterion, first_unexplained};
+use objects::Memory;
+use operations::{History, OpId};
+use std::alloc::{AllocError, Global};
 use std::test::Fail;
 
-/// The criteria, each of which has a maker of its own.
-#[derive(Clone, Copy)]
-enum Maker {
-    Consistency,
-    Memory,
-    Convergence,
-}
-
-/// A certificate of the memory history in a text.
-fn made(alloc: Global, text: &str, maker: Maker) -> Result<Option<Certificate>, Fail> {
-    let history = memory(alloc, text)?;
-    let certificate = match maker {
-        Maker::Consistency => certify_cc::make_memory(alloc, &history)?,
-        Maker::Memory => certify_cm::make_memory(alloc, &history)?,
-        Maker::Convergence => certify_ccv::make_memory(alloc, &history)?,
-    };
-    Ok(certificate)
-}
-
-/// The vectors and schedules of a certificate that has schedules.
-fn schedules_of(certificate: Option<Certificate>) -> Option<(Vectors, Schedules)> {
-    match certificate {
-        Some(Certificate::Cc(vectors, schedules) | Certificate::Cm(vectors, schedules)) => {
-            Some((vectors, schedules))
-        }
-        _ => None,
-    }
-}
-
-/// Expects this vector and this schedule of an operation.
-fn expect_schedule<P: Abort + AllocGlobal>(
-    rt: &P,
-    made: &(Vectors, Schedules),
-    op: OpId,
-    vector: &[u16],
-    schedule: &[u8],
-) {
-    assert_eq!(rt;
-        list_at(&made.0, op.session, op.index),
-        Some(vector),
-        "{op:?}"
-    );
-    assert_eq!(rt;
-        list_at(&made.1, op.session, op.index),
-        Some(schedule),
-        "{op:?}"
-    );
-}
-
-fn op(session: u64, index: u64) -> OpId {
-    OpId { session, index }
-}
+const PIECES: &str = r#"
+write_that_another_reads | cc 0.0 ["memory",[[["w",0,1]],[["r",0,1]]]] | Some([1, 0]) Some([0])
+read_follows_its_source | cc 1.0 ["memory",[[["w",0,1]],[["r",0,1]]]] | Some([1, 1]) Some([0, 1])
+no_operation_has_no_piece | cc 1.1 ["memory",[[["w",0,1]],[["r",0,1]]]] | None None
+write_before_it_has_read | cc 1.0 ["memory",[[["w",0,1]],[["w",0,2],["r",0,1],["r",0,2]]]] | Some([0, 1]) Some([1])
+read_of_another_after_the_own_write | cc 1.1 ["memory",[[["w",0,1]],[["w",0,2],["r",0,1],["r",0,2]]]] | Some([1, 2]) Some([1, 0, 1])
+read_of_the_own_write_after_that_of_another | cc 1.2 ["memory",[[["w",0,1]],[["w",0,2],["r",0,1],["r",0,2]]]] | Some([1, 3]) Some([0, 1, 1, 1])
+write_of_one_of_two | cm 0.0 ["memory",[[["w",0,1],["r",0,2]],[["w",0,2],["r",0,1]]]] | Some([1, 0]) Some([0])
+read_of_the_other_s_write | cm 0.1 ["memory",[[["w",0,1],["r",0,2]],[["w",0,2],["r",0,1]]]] | Some([2, 1]) Some([0, 1, 0])
+read_of_the_first_s_write | cm 1.1 ["memory",[[["w",0,1],["r",0,2]],[["w",0,2],["r",0,1]]]] | Some([1, 2]) Some([1, 0, 1])
+read_of_the_start | cm 1.1 ["memory",[[["w",2,1],["w",0,1],["w",1,1]],[["w",0,2],["r",2,0],["r",1,1],["r",0,2]]]] | Some([0, 2]) Some([1, 1])
+read_after_the_read_of_the_start | cm 1.2 ["memory",[[["w",2,1],["w",0,1],["w",1,1]],[["w",0,2],["r",2,0],["r",1,1],["r",0,2]]]] | Some([3, 3]) Some([1, 1, 0, 0, 0, 1])
+read_that_puts_a_write_before_the_read_of_the_start | cm 1.3 ["memory",[[["w",2,1],["w",0,1],["w",1,1]],[["w",0,2],["r",2,0],["r",1,1],["r",0,2]]]] | Some([3, 4]) Some([0, 0, 1, 1, 0, 1, 1])
+another_write_of_the_value_comes_before_the_source | cm 1.1 ["memory",[[["w",0,1]],[["w",0,1],["r",0,1]]]] | Some([1, 2]) Some([1, 0, 1])
+overtaken_write | ccv 1.1 ["memory",[[["w",0,1]],[["w",0,2],["r",0,1]]]] | Some([1, 2]) [1, 0, 1]
+writes_that_are_seen_from_outside | ccv 2.1 ["memory",[[["w",0,1]],[["w",0,2]],[["r",0,2],["r",0,1]]]] | Some([1, 1, 2]) [1, 0, 2, 2]
+write_of_another_variable | ccv 1.1 ["memory",[[["w",0,1]],[["w",1,2],["r",0,1]]]] | Some([1, 2]) [0, 1, 1]
+write_without_a_return | ccv 1.1 ["memory",[[["w",0,1],["w",0,3,"?"]],[["w",0,2],["r",0,3]]]] | Some([2, 2]) [0, 1, 0, 1]
+reads_of_the_start_come_before_the_write | ccv 1.0 ["memory",[[["r",0,0],["w",0,1]],[["r",0,0]]]] | Some([0, 1]) [0, 0, 1]
+value_that_nobody_wrote_has_no_certificate_for_causal_consistency | cc 0.0 ["memory",[[["r",0,7]]]] | none
+value_that_nobody_wrote_has_no_certificate_for_causal_memory | cm 0.0 ["memory",[[["r",0,7]]]] | none
+value_that_nobody_wrote_has_no_certificate_for_convergence | ccv 0.0 ["memory",[[["r",0,7]]]] | none
+cycle_has_no_certificate_for_causal_consistency | cc 0.0 ["memory",[[["r",0,1],["w",1,2]],[["r",1,2],["w",0,1]]]] | none
+cycle_has_no_certificate_for_causal_memory | cm 0.0 ["memory",[[["r",0,1],["w",1,2]],[["r",1,2],["w",0,1]]]] | none
+cycle_has_no_certificate_for_convergence | ccv 0.0 ["memory",[[["r",0,1],["w",1,2]],[["r",1,2],["w",0,1]]]] | none
+cycle_of_happened_before_has_no_certificate_for_causal_memory | cm 0.0 ["memory",[[["w",0,1]],[["w",0,2],["r",0,1],["r",0,2]]]] | none
+cycle_of_conflicts_has_no_certificate_for_convergence | ccv 0.0 ["memory",[[["w",0,1],["r",0,2]],[["w",0,2],["r",0,1]]]] | none
+"#;
 
 #[test]
-fn reads_follow_their_sources(rt: HostRuntime) -> Result<(), Fail> {
-    let one_read = r#"["memory",[[["w",0,1]],[["r",0,1]]]]"#;
-    let made_of_one = made(rt.alloc(), one_read, Maker::Consistency)?;
-    let one = schedules_of(made_of_one).ok_or("schedules")?;
-    expect_schedule(&rt, &one, op(0, 0), &[1, 0], &[0]);
-    expect_schedule(&rt, &one, op(1, 0), &[1, 1], &[0, 1]);
-    assert_eq!(rt; list_at(&one.0, 1, 1), None);
-
-    let made_of_two = made(rt.alloc(), BACK_AND_FORTH, Maker::Consistency)?;
-    let two = schedules_of(made_of_two).ok_or("schedules")?;
-    expect_schedule(&rt, &two, op(1, 0), &[0, 1], &[1]);
-    expect_schedule(&rt, &two, op(1, 1), &[1, 2], &[1, 0, 1]);
-    expect_schedule(&rt, &two, op(1, 2), &[1, 3], &[0, 1, 1, 1]);
+fn certificates_are_made_by_what_is_read(rt: HostRuntime) -> Result<(), Fail> {
+    assert_eq!(rt; failures(&rt, Question::Make, PIECES)?.as_str(), "");
     Ok(())
 }
 
-#[test]
-fn operations_take_turns_with_what_happened_before(rt: HostRuntime) -> Result<(), Fail> {
-    let made_of_crossed = made(rt.alloc(), DIVERGING, Maker::Memory)?;
-    let crossed = schedules_of(made_of_crossed).ok_or("schedules")?;
-    expect_schedule(&rt, &crossed, op(0, 0), &[1, 0], &[0]);
-    expect_schedule(&rt, &crossed, op(0, 1), &[2, 1], &[0, 1, 0]);
-    expect_schedule(&rt, &crossed, op(1, 1), &[1, 2], &[1, 0, 1]);
-
-    let made_of_stale = made(rt.alloc(), STALE_START, Maker::Memory)?;
-    let stale = schedules_of(made_of_stale).ok_or("schedules")?;
-    expect_schedule(&rt, &stale, op(1, 1), &[0, 2], &[1, 1]);
-    expect_schedule(&rt, &stale, op(1, 2), &[3, 3], &[1, 1, 0, 0, 0, 1]);
-    expect_schedule(&rt, &stale, op(1, 3), &[3, 4], &[0, 0, 1, 1, 0, 1, 1]);
-
-    // Another write of the same value is one that comes before the source.
-    let written_twice = r#"["memory",[[["w",0,1]],[["w",0,1],["r",0,1]]]]"#;
-    let made_of_twice = made(rt.alloc(), written_twice, Maker::Memory)?;
-    let twice = schedules_of(made_of_twice).ok_or("schedules")?;
-    expect_schedule(&rt, &twice, op(1, 1), &[1, 2], &[1, 0, 1]);
-    Ok(())
-}
-
-/// The one list of the certificate of causal convergence of a text.
-fn expect_list<P: Abort + AllocGlobal>(rt: &P, text: &str, list: &[u8]) -> Result<(), Fail> {
-    match made(rt.alloc(), text, Maker::Convergence)? {
-        Some(Certificate::Ccv(_, arbitration)) => {
-            assert_eq!(rt; arbitration.sessions(), list, "in {text}");
-            Ok(())
-        }
-        _ => Err("an arbitration".into()),
-    }
-}
-
-#[test]
-fn writes_before_a_read_come_before_its_source(rt: HostRuntime) -> Result<(), Fail> {
-    let overtaken = r#"["memory",[[["w",0,1]],[["w",0,2],["r",0,1]]]]"#;
-    expect_list(&rt, overtaken, &[1, 0, 1])?;
-    let seen_from_outside = r#"["memory",[[["w",0,1]],[["w",0,2]],[["r",0,2],["r",0,1]]]]"#;
-    expect_list(&rt, seen_from_outside, &[1, 0, 2, 2])?;
-    let of_another_variable = r#"["memory",[[["w",0,1]],[["w",1,2],["r",0,1]]]]"#;
-    expect_list(&rt, of_another_variable, &[0, 1, 1])?;
-    let without_return = r#"["memory",[[["w",0,1],["w",0,3,"?"]],[["w",0,2],["r",0,3]]]]"#;
-    expect_list(&rt, without_return, &[0, 1, 0, 1])?;
-    let of_the_start = r#"["memory",[[["r",0,0],["w",0,1]],[["r",0,0]]]]"#;
-    expect_list(&rt, of_the_start, &[0, 0, 1])
-}
-
-#[test]
-fn cycles_and_reads_of_nothing_have_none(rt: HostRuntime) -> Result<(), Fail> {
-    let of_nothing = r#"["memory",[[["r",0,7]]]]"#;
-    let cyclic = r#"["memory",[[["r",0,1],["w",1,2]],[["r",1,2],["w",0,1]]]]"#;
-    for maker in [Maker::Consistency, Maker::Memory, Maker::Convergence] {
-        assert!(rt; made(rt.alloc(), of_nothing, maker)?.is_none());
-        assert!(rt; made(rt.alloc(), cyclic, maker)?.is_none());
-    }
-    assert!(rt; made(rt.alloc(), BACK_AND_FORTH, Maker::Memory)?.is_none());
-    assert!(rt; made(rt.alloc(), DIVERGING, Maker::Convergence)?.is_none());
-    Ok(())
-}
-
-#[test]
-fn made_certificate_may_explain_all_or_not(rt: HostRuntime) -> Result<(), Fail> {
-    let Some(certificate) = made(rt.alloc(), STALE_START, Maker::Memory)? else {
-        return Err("a certificate".into());
-    };
-    let history = memory(rt.alloc(), STALE_START)?;
-    let file = CaseFile::new(history, certificate.criterion(), Some(certificate))?;
-    assert_eq!(rt; first_unexplained(rt.alloc(), &file)?, Some(op(1, 3)));
-
-    let Some(certificate) = made(rt.alloc(), STALE_START, Maker::Convergence)? else {
-        return Err("a certificate".into());
-    };
-    let history = memory(rt.alloc(), STALE_START)?;
-    let file = CaseFile::new(history, certificate.criterion(), Some(certificate))?;
-    assert_eq!(rt; first_unexplained(rt.alloc(), &file)?, None);
-    Ok(())
-}
+const PIECES_BY_PROGRAM_ORDER: &str = r#"
+session_alone_for_causal_consistency | cc 2.1 ["memory",[[["w",0,1]],[],[["r",0,1],["r",0,7]]]] | Some([0, 0, 2]) Some([2, 2])
+session_alone_for_causal_memory | cm 2.1 ["memory",[[["w",0,1]],[],[["r",0,1],["r",0,7]]]] | Some([0, 0, 2]) Some([2, 2])
+sessions_one_after_the_other_for_convergence | ccv 2.1 ["memory",[[["w",0,1]],[],[["r",0,1],["r",0,7]]]] | Some([0, 0, 2]) [0, 2, 2]
+"#;
 
 #[test]
 fn program_order_alone_always_has_certificates(rt: HostRuntime) -> Result<(), Fail> {
-    let text = r#"["memory",[[["w",0,1]],[],[["r",0,1],["r",0,7]]]]"#;
-    let history = memory(rt.alloc(), text)?;
-    let of_memory = schedules_of(certify_cm::make(rt.alloc(), &history)?).ok_or("schedules")?;
-    expect_schedule(&rt, &of_memory, op(2, 1), &[0, 0, 2], &[2, 2]);
-    let Some(Certificate::Ccv(vectors, list)) = certify_ccv::make(rt.alloc(), &history)? else {
-        return Err("an arbitration".into());
-    };
-    assert_eq!(rt; list_at(&vectors, 2, 1), Some([0, 0, 2].as_slice()));
-    assert_eq!(rt; list.sessions(), [0, 2, 2].as_slice());
+    let failed = failures(&rt, Question::MakeByProgramOrder, PIECES_BY_PROGRAM_ORDER)?;
+    assert_eq!(rt; failed.as_str(), "");
     Ok(())
+}
+
+const UNEXPLAINED: &str = r#"
+read_of_the_start_behind_a_write | cm ["memory",[[["w",2,1],["w",0,1],["w",1,1]],[["w",0,2],["r",2,0],["r",1,1],["r",0,2]]]] | 1.3
+read_of_the_start_before_the_writes_are_seen | ccv ["memory",[[["w",2,1],["w",0,1],["w",1,1]],[["w",0,2],["r",2,0],["r",1,1],["r",0,2]]]] | all are explained
+"#;
+
+#[test]
+fn made_certificate_may_explain_all_or_not(rt: HostRuntime) -> Result<(), Fail> {
+    assert_eq!(rt; failures(&rt, Question::Explain, UNEXPLAINED)?.as_str(), "");
+    Ok(())
+}
+
+/// The vector and the schedule of an operation in the certificate that is made, where the input has the name of a
+/// criterion, an operation and a history. For causal convergence the one list stands in the place of the schedule.
+pub fn made(alloc: Global, input: &str) -> Result<String, AllocError> {
+    let Some((criterion, op, history)) = asked(alloc, input) else {
+        return String::from_str(alloc, "no criterion, operation and history");
+    };
+    match made_for(alloc, &history, criterion)? {
+        Some(certificate) => piece_of(alloc, &certificate, op),
+        None => String::from_str(alloc, "none"),
+    }
+}
+
+/// The same of the certificate by program order alone.
+pub fn made_by_program_order(alloc: Global, input: &str) -> Result<String, AllocError> {
+    let Some((criterion, op, history)) = asked(alloc, input) else {
+        return String::from_str(alloc, "no criterion, operation and history");
+    };
+    let certificate = match criterion {
+        Criterion::Cc => certify_cc::make(alloc, &history)?,
+        Criterion::Cm => certify_cm::make(alloc, &history)?,
+        Criterion::Ccv => certify_ccv::make(alloc, &history)?,
+    };
+    match certificate {
+        Some(certificate) => piece_of(alloc, &certificate, op),
+        None => String::from_str(alloc, "none"),
+    }
+}
+
+/// The first operation that the certificate that is made does not explain, where the input has the name of a criterion
+/// and a history.
+pub fn explained(alloc: Global, input: &str) -> Result<String, AllocError> {
+    let Some((criterion, history)) = criterion_and_history(alloc, input) else {
+        return String::from_str(alloc, "no criterion and history");
+    };
+    let Some(made) = made_for(alloc, &history, criterion)? else {
+        return String::from_str(alloc, "none");
+    };
+    let Ok(file) = CaseFile::new(history, made.criterion(), Some(made)) else {
+        return String::from_str(alloc, "no case file");
+    };
+    match first_unexplained(alloc, &file)? {
+        Some(OpId { session, index }) => format!(in alloc; "{session}.{index}"),
+        None => String::from_str(alloc, "all are explained"),
+    }
+}
+
+fn criterion_and_history(alloc: Global, input: &str) -> Option<(Criterion, History<Memory>)> {
+    let (criterion, history) = input.split_once(' ')?;
+    Some((criterion_named(criterion)?, memory(alloc, history)?))
+}
+
+fn asked(alloc: Global, input: &str) -> Option<(Criterion, OpId, History<Memory>)> {
+    let (criterion, rest) = input.split_once(' ')?;
+    let (session, rest) = rest.split_once('.')?;
+    let (index, history) = rest.split_once(' ')?;
+    let op = OpId {
+        session: session.parse().ok()?,
+        index: index.parse().ok()?,
+    };
+    Some((criterion_named(criterion)?, op, memory(alloc, history)?))
+}
+
+fn made_for(
+    alloc: Global,
+    history: &History<Memory>,
+    criterion: Criterion,
+) -> Result<Option<Certificate>, AllocError> {
+    match criterion {
+        Criterion::Cc => certify_cc::make_memory(alloc, history),
+        Criterion::Cm => certify_cm::make_memory(alloc, history),
+        Criterion::Ccv => certify_ccv::make_memory(alloc, history),
+    }
+}
+
+fn piece_of(alloc: Global, certificate: &Certificate, op: OpId) -> Result<String, AllocError> {
+    match certificate {
+        Certificate::Cc(vectors, schedules) | Certificate::Cm(vectors, schedules) => {
+            let vector = list_at(vectors, op);
+            let schedule = list_at(schedules, op);
+            format!(in alloc; "{vector:?} {schedule:?}")
+        }
+        Certificate::Ccv(vectors, arbitration) => {
+            let vector = list_at(vectors, op);
+            let list = arbitration.sessions();
+            format!(in alloc; "{vector:?} {list:?}")
+        }
+    }
+}
+
+/// The list of an operation, where it has one.
+fn list_at<T>(lists: &ByOperation<T>, op: OpId) -> Option<&[T]> {
+    if lists.contains(op) {
+        Some(lists.get(op))
+    } else {
+        None
+    }
 }

@@ -1,10 +1,8 @@
 //! What `judge` says where the happened-before relation of an operation has about 100,000 pairs that the causal order
 //! doesn't have.
 
-use crate::asking::expect_answer;
-use engine::Order;
+use crate::judged::said;
 use std::alloc::{AllocError, Global};
-use std::process::Abort;
 use std::test::Fail;
 
 /// Puts two sessions into a text. The first has so many idle reads, a write of a variable and a mark; the second has
@@ -51,38 +49,36 @@ fn history_of(alloc: Global, more: usize, cycle: bool) -> Result<String, AllocEr
     Ok(text)
 }
 
-/// Judges such a history, and expects these answers for causal memory and causal convergence.
-fn expect_answers<P: Abort + AllocGlobal>(
-    rt: &P,
-    more: usize,
-    cycle: bool,
-    cm: &str,
-    ccv: &str,
-) -> Result<(), Fail> {
+/// What `judge` says of such a history.
+fn said_of_pairs<P: AllocGlobal>(rt: &P, more: usize, cycle: bool) -> Result<String, AllocError> {
     let text = history_of(rt.alloc(), more, cycle)?;
-    let report = format!(in rt.alloc(); "cc yes\ncm {cm}\nccv {ccv}\n")?;
-    expect_answer(rt, Order::Judge, text.as_str(), report.as_str());
-    Ok(())
+    said(rt, text.as_str())
 }
+
+const MET: &str = "0 cc yes;cm yes;ccv yes;";
+
+const UNKNOWN: &str = "0 cc yes;cm unknown;ccv yes;";
+
+const CYCLIC: &str = "0 cc yes;cm no CyclicHB;ccv no CyclicCF;";
+
+const UNKNOWN_AND_CYCLIC: &str = "0 cc yes;cm unknown;ccv no CyclicCF;";
 
 #[test]
 fn up_to_100000_pairs_a_relation_is_made(rt: HostRuntime) -> Result<(), Fail> {
-    for more in [0, 247, 248] {
-        expect_answers(&rt, more, false, "yes", "yes")?;
-    }
-    for more in [0, 243, 244] {
-        expect_answers(&rt, more, true, "no CyclicHB", "no CyclicCF")?;
-    }
+    assert_eq!(rt; said_of_pairs(&rt, 0, false)?.as_str(), MET);
+    assert_eq!(rt; said_of_pairs(&rt, 247, false)?.as_str(), MET);
+    assert_eq!(rt; said_of_pairs(&rt, 248, false)?.as_str(), MET);
+    assert_eq!(rt; said_of_pairs(&rt, 0, true)?.as_str(), CYCLIC);
+    assert_eq!(rt; said_of_pairs(&rt, 243, true)?.as_str(), CYCLIC);
+    assert_eq!(rt; said_of_pairs(&rt, 244, true)?.as_str(), CYCLIC);
     Ok(())
 }
 
 #[test]
 fn above_100000_pairs_a_relation_is_given_up(rt: HostRuntime) -> Result<(), Fail> {
-    for more in [249, 250] {
-        expect_answers(&rt, more, false, "unknown", "yes")?;
-    }
-    for more in [245, 246] {
-        expect_answers(&rt, more, true, "unknown", "no CyclicCF")?;
-    }
+    assert_eq!(rt; said_of_pairs(&rt, 249, false)?.as_str(), UNKNOWN);
+    assert_eq!(rt; said_of_pairs(&rt, 250, false)?.as_str(), UNKNOWN);
+    assert_eq!(rt; said_of_pairs(&rt, 245, true)?.as_str(), UNKNOWN_AND_CYCLIC);
+    assert_eq!(rt; said_of_pairs(&rt, 246, true)?.as_str(), UNKNOWN_AND_CYCLIC);
     Ok(())
 }

@@ -1,118 +1,96 @@
 //! What `check_pattern` says of patterns as JSON.
 
-use crate::histories::{BACK_AND_FORTH, DIVERGING, STALE_START, memory};
+use crate::cases::{Question, failures};
+use crate::histories::{criterion_named, memory};
 use bad_patterns::{check_pattern, is_differentiated, read_pattern};
 use cert_check::Criterion;
+use objects::Memory;
+use operations::History;
 use serde_json::Value;
-use std::process::Abort;
+use std::alloc::{AllocError, Global};
 use std::test::Fail;
 
-/// A value that is read, through another session, from a write that another one overwrote.
-const OVERWRITTEN: &str =
-    r#"["memory",[[["w",0,1],["w",1,1]],[["r",1,1],["w",0,2]],[["r",0,2],["r",0,1]]]]"#;
+const PATHS: &str = r#"
+paths_to_an_overwritten_read | cc ["memory",[[["w",0,1],["w",1,1]],[["r",1,1],["w",0,2]],[["r",0,2],["r",0,1]]]] ["WriteCORead",[[0,0],[0,1],[1,0],[1,1]],[[1,1],[2,0],[2,1]]] | shown
+paths_to_an_overwritten_read_against_causal_memory | cm ["memory",[[["w",0,1],["w",1,1]],[["r",1,1],["w",0,2]],[["r",0,2],["r",0,1]]]] ["WriteCORead",[[0,0],[0,1],[1,0],[1,1]],[[1,1],[2,0],[2,1]]] | shown
+step_that_is_no_edge | cc ["memory",[[["w",0,1],["w",1,1]],[["r",1,1],["w",0,2]],[["r",0,2],["r",0,1]]]] ["WriteCORead",[[0,0],[1,1]],[[1,1],[2,0],[2,1]]] | not shown
+first_of_the_first_path_is_no_operation | cc ["memory",[[["w",0,1],["w",1,1]],[["r",1,1],["w",0,2]],[["r",0,2],["r",0,1]]]] ["WriteCORead",[[9,0],[0,1],[1,0],[1,1]],[[1,1],[2,0],[2,1]]] | not shown
+second_of_the_first_path_is_no_operation | cc ["memory",[[["w",0,1],["w",1,1]],[["r",1,1],["w",0,2]],[["r",0,2],["r",0,1]]]] ["WriteCORead",[[0,0],[9,0],[1,0],[1,1]],[[1,1],[2,0],[2,1]]] | not shown
+third_of_the_first_path_is_no_operation | cc ["memory",[[["w",0,1],["w",1,1]],[["r",1,1],["w",0,2]],[["r",0,2],["r",0,1]]]] ["WriteCORead",[[0,0],[0,1],[9,0],[1,1]],[[1,1],[2,0],[2,1]]] | not shown
+last_of_the_first_path_is_no_operation | cc ["memory",[[["w",0,1],["w",1,1]],[["r",1,1],["w",0,2]],[["r",0,2],["r",0,1]]]] ["WriteCORead",[[0,0],[0,1],[1,0],[9,0]],[[1,1],[2,0],[2,1]]] | not shown
+first_of_the_second_path_is_no_operation | cc ["memory",[[["w",0,1],["w",1,1]],[["r",1,1],["w",0,2]],[["r",0,2],["r",0,1]]]] ["WriteCORead",[[0,0],[0,1],[1,0],[1,1]],[[9,0],[2,0],[2,1]]] | not shown
+second_of_the_second_path_is_no_operation | cc ["memory",[[["w",0,1],["w",1,1]],[["r",1,1],["w",0,2]],[["r",0,2],["r",0,1]]]] ["WriteCORead",[[0,0],[0,1],[1,0],[1,1]],[[1,1],[9,0],[2,1]]] | not shown
+last_of_the_second_path_is_no_operation | cc ["memory",[[["w",0,1],["w",1,1]],[["r",1,1],["w",0,2]],[["r",0,2],["r",0,1]]]] ["WriteCORead",[[0,0],[0,1],[1,0],[1,1]],[[1,1],[2,0],[9,0]]] | not shown
+path_that_ends_where_it_begins | cc ["memory",[[["r",0,1],["w",0,1]]]] ["CyclicCO",[[0,0],[0,1],[0,0]]] | shown
+path_of_one_operation | cc ["memory",[[["r",0,1],["w",0,1]]]] ["CyclicCO",[[0,0]]] | not shown
+cycle_in_a_history_without_operations | cc ["memory",[]] ["CyclicCO",[[0,0],[0,1],[0,0]]] | not shown
+read_of_the_initial_value_after_a_write | cc ["memory",[[["w",0,0],["r",0,5]]],[[0,5]]] ["WriteCOInitRead",[[0,0],[0,1]]] | shown
+read_of_another_value_than_the_initial_one | cc ["memory",[[["r",0,1],["w",0,1]]]] ["WriteCOInitRead",[[0,0],[0,1]]] | not shown
+"#;
 
-/// A value that is read before it is written.
-const READ_AHEAD: &str = r#"["memory",[[["r",0,1],["w",0,1]]]]"#;
+#[test]
+fn paths_are_shown_or_not(rt: HostRuntime) -> Result<(), Fail> {
+    assert_eq!(rt; failures(&rt, Question::Show, PATHS)?.as_str(), "");
+    Ok(())
+}
 
-/// A variable that is read as it was at the start, after it was written.
-const START_AFTER_A_WRITE: &str = r#"["memory",[[["w",0,0],["r",0,5]]],[[0,5]]]"#;
+const CYCLES_AND_DERIVATIONS: &str = r#"
+cycle_of_conflicts_against_convergence | ccv ["memory",[[["w",0,1],["r",0,2]],[["w",0,2],["r",0,1]]]] ["CyclicCF",[["cf",[[0,0],[0,1]],[1,0]],["cf",[[1,0],[1,1]],[0,0]]]] | shown
+cycle_of_conflicts_against_causal_consistency | cc ["memory",[[["w",0,1],["r",0,2]],[["w",0,2],["r",0,1]]]] ["CyclicCF",[["cf",[[0,0],[0,1]],[1,0]],["cf",[[1,0],[1,1]],[0,0]]]] | not shown
+cycle_of_conflicts_against_causal_memory | cm ["memory",[[["w",0,1],["r",0,2]],[["w",0,2],["r",0,1]]]] ["CyclicCF",[["cf",[[0,0],[0,1]],[1,0]],["cf",[[1,0],[1,1]],[0,0]]]] | not shown
+derivation_of_a_read_of_the_start_against_causal_memory | cm ["memory",[[["w",2,1],["w",0,1],["w",1,1]],[["w",0,2],["r",2,0],["r",1,1],["r",0,2]]]] ["WriteHBInitRead",[1,3],[["co",[[0,1],[0,2],[1,2],[1,3]],[[1,3]]],["rf",0,[1,3]],["co",[[0,0],[0,1]],[[0,1],[0,2],[1,2],[1,3]]],["tr",2,1],["co",[[1,0],[1,1]],[[1,1],[1,3]]],["tr",3,4]]] | shown
+derivation_of_a_read_of_the_start_against_causal_consistency | cc ["memory",[[["w",2,1],["w",0,1],["w",1,1]],[["w",0,2],["r",2,0],["r",1,1],["r",0,2]]]] ["WriteHBInitRead",[1,3],[["co",[[0,1],[0,2],[1,2],[1,3]],[[1,3]]],["rf",0,[1,3]],["co",[[0,0],[0,1]],[[0,1],[0,2],[1,2],[1,3]]],["tr",2,1],["co",[[1,0],[1,1]],[[1,1],[1,3]]],["tr",3,4]]] | not shown
+derivation_of_a_read_of_the_start_against_convergence | ccv ["memory",[[["w",2,1],["w",0,1],["w",1,1]],[["w",0,2],["r",2,0],["r",1,1],["r",0,2]]]] ["WriteHBInitRead",[1,3],[["co",[[0,1],[0,2],[1,2],[1,3]],[[1,3]]],["rf",0,[1,3]],["co",[[0,0],[0,1]],[[0,1],[0,2],[1,2],[1,3]]],["tr",2,1],["co",[[1,0],[1,1]],[[1,1],[1,3]]],["tr",3,4]]] | not shown
+derivation_of_a_cycle | cm ["memory",[[["w",0,1]],[["w",0,2],["r",0,1],["r",0,2]]]] ["CyclicHB",[1,2],[["co",[[1,0],[1,1]],[[1,1],[1,2]]],["rf",0,[1,1]],["co",[[0,0],[1,1],[1,2]],[[1,2]]],["rf",2,[1,2]],["tr",1,3]]] | shown
+lines_that_close_no_cycle | cm ["memory",[[["w",0,1]],[["w",0,2],["r",0,1],["r",0,2]]]] ["CyclicHB",[1,2],[["co",[[1,0],[1,1]],[[1,1],[1,2]]],["rf",0,[1,1]],["co",[[0,0],[1,1],[1,2]],[[1,2]]],["rf",2,[1,2]]]] | not shown
+derivation_for_an_operation_before_its_reads | cm ["memory",[[["w",0,1]],[["w",0,2],["r",0,1],["r",0,2]]]] ["CyclicHB",[1,1],[["co",[[1,0],[1,1]],[[1,1],[1,2]]],["rf",0,[1,1]],["co",[[0,0],[1,1],[1,2]],[[1,2]]],["rf",2,[1,2]],["tr",1,3]]] | not shown
+derivation_for_no_operation | cm ["memory",[[["w",0,1]],[["w",0,2],["r",0,1],["r",0,2]]]] ["CyclicHB",[9,0],[["co",[[1,0],[1,1]],[[1,1],[1,2]]],["rf",0,[1,1]],["co",[[0,0],[1,1],[1,2]],[[1,2]]],["rf",2,[1,2]],["tr",1,3]]] | not shown
+derivation_without_lines | cm ["memory",[[["w",0,1]],[["w",0,2],["r",0,1],["r",0,2]]]] ["CyclicHB",[1,2],[]] | not shown
+line_that_rests_on_itself | cm ["memory",[[["w",0,1]],[["w",0,2],["r",0,1],["r",0,2]]]] ["CyclicHB",[1,2],[["tr",0,0]]] | not shown
+"#;
 
-/// A derivation by which a write is before a read of the start that is in its past.
-const BEFORE_THE_START: &str =
-    r#"["WriteHBInitRead",[1,3],[["co",[[0,1],[0,2],[1,2],[1,3]],[[1,3]]],["rf",0,[1,3]],["co",[[0,0],[0,1]],[[0,1],[0,2],[1,2],[1,3]]],["tr",2,1],["co",[[1,0],[1,1]],[[1,1],[1,3]]],["tr",3,4]]]"#;
+#[test]
+fn cycles_and_derivations_are_shown_or_not(rt: HostRuntime) -> Result<(), Fail> {
+    assert_eq!(rt;
+        failures(&rt, Question::Show, CYCLES_AND_DERIVATIONS)?.as_str(),
+        ""
+    );
+    Ok(())
+}
 
-/// The lines by which each of two writes is before the other.
-const EACH_BEFORE_THE_OTHER: &str =
-    r#"["co",[[1,0],[1,1]],[[1,1],[1,2]]],["rf",0,[1,1]],["co",[[0,0],[1,1],[1,2]],[[1,2]]],["rf",2,[1,2]]"#;
+/// Whether the pattern shows that the history does not meet the criterion, where the input has these three.
+pub fn shown(alloc: Global, input: &str) -> Result<String, AllocError> {
+    let Some((criterion, history, pattern)) = asked(alloc, input) else {
+        return String::from_str(alloc, "no criterion, history and pattern");
+    };
+    String::from_str(alloc, shown_in(alloc, &history, criterion, pattern)?)
+}
 
-const CYCLE_OF_CONFLICTS: &str =
-    r#"["CyclicCF",[["cf",[[0,0],[0,1]],[1,0]],["cf",[[1,0],[1,1]],[0,0]]]]"#;
+fn asked(alloc: Global, input: &str) -> Option<(Criterion, History<Memory>, &str)> {
+    let (criterion, rest) = input.split_once(' ')?;
+    let (history, pattern) = rest.split_once(' ')?;
+    Some((
+        criterion_named(criterion)?,
+        memory(alloc, history)?,
+        pattern,
+    ))
+}
 
-/// Whether the pattern shows that the history does not meet the criterion.
-fn is_shown<P: Abort + AllocGlobal>(
-    rt: &P,
-    history: &str,
+fn shown_in(
+    alloc: Global,
+    history: &History<Memory>,
     criterion: Criterion,
-    pattern: &str,
-) -> Result<bool, Fail> {
-    let history = memory(rt.alloc(), history)?;
-    assert!(rt; is_differentiated(rt.alloc(), &history)?);
-    let value = Value::from_slice(rt.alloc(), pattern.as_bytes())?;
-    let pattern = read_pattern(rt.alloc(), &value)?.ok_or("a pattern")?;
-    Ok(check_pattern(rt.alloc(), &history, criterion, &pattern)?)
-}
-
-#[test]
-fn paths_to_a_read_of_an_overwritten_value(rt: HostRuntime) -> Result<(), Fail> {
-    let pattern = r#"["WriteCORead",[[0,0],[0,1],[1,0],[1,1]],[[1,1],[2,0],[2,1]]]"#;
-    assert!(rt; is_shown(&rt, OVERWRITTEN, Criterion::Cc, pattern)?);
-    assert!(rt; is_shown(&rt, OVERWRITTEN, Criterion::Cm, pattern)?);
-    let patterns = [
-        r#"["WriteCORead",[[0,0],[1,1]],[[1,1],[2,0],[2,1]]]"#,
-        r#"["WriteCORead",[[9,0],[0,1],[1,0],[1,1]],[[1,1],[2,0],[2,1]]]"#,
-        r#"["WriteCORead",[[0,0],[9,0],[1,0],[1,1]],[[1,1],[2,0],[2,1]]]"#,
-        r#"["WriteCORead",[[0,0],[0,1],[9,0],[1,1]],[[1,1],[2,0],[2,1]]]"#,
-        r#"["WriteCORead",[[0,0],[0,1],[1,0],[9,0]],[[1,1],[2,0],[2,1]]]"#,
-        r#"["WriteCORead",[[0,0],[0,1],[1,0],[1,1]],[[9,0],[2,0],[2,1]]]"#,
-        r#"["WriteCORead",[[0,0],[0,1],[1,0],[1,1]],[[1,1],[9,0],[2,1]]]"#,
-        r#"["WriteCORead",[[0,0],[0,1],[1,0],[1,1]],[[1,1],[2,0],[9,0]]]"#,
-    ];
-    for pattern in patterns {
-        assert!(rt;
-            !is_shown(&rt, OVERWRITTEN, Criterion::Cc, pattern)?,
-            "{pattern}"
-        );
+    text: &str,
+) -> Result<&'static str, AllocError> {
+    if !is_differentiated(alloc, history)? {
+        return Ok("no distinct values");
     }
-    Ok(())
-}
-
-#[test]
-fn path_that_ends_where_it_begins(rt: HostRuntime) -> Result<(), Fail> {
-    let cycle = r#"["CyclicCO",[[0,0],[0,1],[0,0]]]"#;
-    assert!(rt; is_shown(&rt, READ_AHEAD, Criterion::Cc, cycle)?);
-    assert!(rt; !is_shown(&rt, READ_AHEAD, Criterion::Cc, r#"["CyclicCO",[[0,0]]]"#)?);
-    assert!(rt; !is_shown(&rt, r#"["memory",[]]"#, Criterion::Cc, cycle)?);
-    Ok(())
-}
-
-#[test]
-fn cycle_of_conflicts_is_against_convergence_alone(rt: HostRuntime) -> Result<(), Fail> {
-    assert!(rt; is_shown(&rt, DIVERGING, Criterion::Ccv, CYCLE_OF_CONFLICTS)?);
-    assert!(rt; !is_shown(&rt, DIVERGING, Criterion::Cc, CYCLE_OF_CONFLICTS)?);
-    assert!(rt; !is_shown(&rt, DIVERGING, Criterion::Cm, CYCLE_OF_CONFLICTS)?);
-    Ok(())
-}
-
-#[test]
-fn read_of_the_initial_value_after_a_write(rt: HostRuntime) -> Result<(), Fail> {
-    let pattern = r#"["WriteCOInitRead",[[0,0],[0,1]]]"#;
-    assert!(rt; is_shown(&rt, START_AFTER_A_WRITE, Criterion::Cc, pattern)?);
-    assert!(rt; !is_shown(&rt, READ_AHEAD, Criterion::Cc, pattern)?);
-    Ok(())
-}
-
-#[test]
-fn derivation_of_a_read_of_the_start(rt: HostRuntime) -> Result<(), Fail> {
-    assert!(rt; is_shown(&rt, STALE_START, Criterion::Cm, BEFORE_THE_START)?);
-    assert!(rt; !is_shown(&rt, STALE_START, Criterion::Cc, BEFORE_THE_START)?);
-    assert!(rt; !is_shown(&rt, STALE_START, Criterion::Ccv, BEFORE_THE_START)?);
-    Ok(())
-}
-
-/// Whether a derivation for an operation, of these lines, shows a cycle in the history.
-fn is_cycle<P: Abort + AllocGlobal>(rt: &P, op: &str, lines: &str) -> Result<bool, Fail> {
-    let pattern = format!(in rt.alloc(); "[\"CyclicHB\",{op},[{lines}]]")?;
-    is_shown(rt, BACK_AND_FORTH, Criterion::Cm, pattern.as_str())
-}
-
-#[test]
-fn derivation_of_a_cycle(rt: HostRuntime) -> Result<(), Fail> {
-    let closed = format!(in rt.alloc(); "{EACH_BEFORE_THE_OTHER},[\"tr\",1,3]")?;
-    assert!(rt; is_cycle(&rt, "[1,2]", closed.as_str())?);
-    assert!(rt; !is_cycle(&rt, "[1,2]", EACH_BEFORE_THE_OTHER)?);
-    assert!(rt; !is_cycle(&rt, "[1,1]", closed.as_str())?);
-    assert!(rt; !is_cycle(&rt, "[9,0]", closed.as_str())?);
-    assert!(rt; !is_cycle(&rt, "[1,2]", "")?);
-    assert!(rt; !is_cycle(&rt, "[1,2]", r#"["tr",0,0]"#)?);
-    Ok(())
+    let Ok(value) = Value::from_slice(alloc, text.as_bytes()) else {
+        return Ok("no JSON");
+    };
+    match read_pattern(alloc, &value)? {
+        Some(pattern) if check_pattern(alloc, history, criterion, &pattern)? => Ok("shown"),
+        Some(_) => Ok("not shown"),
+        None => Ok("no pattern"),
+    }
 }

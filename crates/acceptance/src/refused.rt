@@ -1,161 +1,111 @@
-use crate::asking::{self, expect_answer};
+//! Which texts `judge` refuses.
+
+use crate::cases::{Question, failures};
+use crate::judged::said;
+use crate::running::said_of;
 use engine::Order;
 use std::alloc::{AllocError, Global};
-use std::process::Abort;
 use std::test::Fail;
 
-/// Judges a text, and expects that it is refused with this line.
-fn expect_refusal<P: Abort + AllocGlobal>(rt: &P, text: &[u8], line: &str) -> Result<(), Fail> {
-    asking::expect_refusal(rt, Order::Judge, text, line)
+const REFUSED: &str = r#"
+nothing |  | 1 refused 1
+list_without_its_end | ["memory",[[["w",0,1]],[["r",0,1]]] | 1 refused 1
+lists_in_200_levels | [[[[[[[[[[[[[[[[[[[[[[[[[[[[[[[[[[[[[[[[[[[[[[[[[[[[[[[[[[[[[[[[[[[[[[[[[[[[[[[[[[[[[[[[[[[[[[[[[[[[[[[[[[[[[[[[[[[[[[[[[[[[[[[[[[[[[[[[[[[[[[[[[[[[[[[[[[[[[[[[[[[[[[[[[[[[[[[[[[[[[[[[[[[[[[[[[[[[[[[[ | 1 refused 1
+sessions_that_are_no_list | ["memory",{}] | 1 refused 2
+shape_is_asked_before_the_name | ["foo",[],0] | 1 refused 2
+name_alone | ["memory"] | 1 refused 2
+fourth_element | ["memory",[],[],[]] | 1 refused 2
+name_that_is_no_text | [[],[]] | 1 refused 2
+value_that_is_no_list | {} | 1 refused 2
+session_that_is_no_list_is_no_shape | ["memory",[[],0]] | 1 refused 2
+name_is_asked_before_the_operations | ["foo",[[["x"]]]] | 1 refused 3
+name_with_a_capital | ["Memory",[]] | 1 refused 3
+other_name_with_a_capital | ["Counter",[]] | 1 refused 3
+name_in_the_plural | ["memories",[]] | 1 refused 3
+write_that_returned_a_text | ["memory",[[["w",0,1,"ok"]]]] | 1 refused 4 0.0
+write_that_returned_a_number | ["memory",[[["w",0,1,5]]]] | 1 refused 4 0.0
+variable_above_32_bits | ["memory",[[["w",4294967296,1]]]] | 1 refused 4 0.0
+value_below_zero | ["memory",[[["w",0,-1]]]] | 1 refused 4 0.0
+operation_of_an_unknown_word | ["memory",[[["x"]],[]]] | 1 refused 4 0.0
+read_without_a_return | ["memory",[[],[["w",0,1],["r",0]]]] | 1 refused 4 1.1
+number_for_a_truth_value | ["set",[[["has",1,0]]]] | 1 refused 4 0.0
+register_write_that_returned_a_text | ["register",[[["w",1,"ok"]]]] | 1 refused 4 0.0
+register_write_that_returned_a_number | ["register",[[["w",0,1]]]] | 1 refused 4 0.0
+increment_that_returned_a_number | ["counter",[[["inc",1]]]] | 1 refused 4 0.0
+operations_are_asked_before_the_table | ["counter",[[["get"]]],[[0,5]]] | 1 refused 4 0.0
+push_of_nothing | ["queue",[[["push",null]]]] | 1 refused 4 0.0
+pop_that_returned_a_truth_value | ["queue",[[["pop",false]]]] | 1 refused 4 0.0
+increment_without_a_key | ["counters",[[["inc"]]]] | 1 refused 4 0.0
+add_without_a_key | ["sets",[[["add",1]]]] | 1 refused 4 0.0
+pop_without_a_key | ["queues",[[["pop",null]]]] | 1 refused 4 0.0
+key_above_32_bits | ["queues",[[["pop",4294967296,null]]]] | 1 refused 4 0.0
+known_return_after_an_unknown_one | ["memory",[[["r",0,"?"],["w",0,1]]]] | 1 refused 5 0.1
+empty_table | ["memory",[],[]] | 1 refused 29
+table_of_falling_keys | ["memory",[],[[1,5],[0,5]]] | 1 refused 29
+table_with_a_key_twice | ["memory",[],[[0,5],[0,6]]] | 1 refused 29
+table_with_the_initial_value_zero | ["memory",[],[[0,0]]] | 1 refused 29
+table_with_a_key_above_32_bits | ["memory",[],[[4294967296,1]]] | 1 refused 29
+table_of_a_register | ["register",[],[[0,5]]] | 1 refused 29
+table_of_a_counter | ["counter",[],[[0,5]]] | 1 refused 29
+empty_table_of_a_set | ["set",[],[]] | 1 refused 29
+empty_table_of_a_queue | ["queue",[],[]] | 1 refused 29
+table_of_counters | ["counters",[],[[0,5]]] | 1 refused 29
+table_of_sets | ["sets",[],[[0,null]]] | 1 refused 29
+empty_table_of_queues | ["queues",[],[]] | 1 refused 29
+third_element_of_a_counter_that_is_no_list | ["counter",[],0] | 1 refused 2
+"#;
+
+#[test]
+fn texts_are_refused_with_their_line(rt: HostRuntime) -> Result<(), Fail> {
+    assert_eq!(rt; failures(&rt, Question::Judge, REFUSED)?.as_str(), "");
+    Ok(())
 }
 
-/// A memory history of so many sessions, each of so many writes of its own key.
-fn writes(alloc: Global, sessions: usize, operations: usize) -> Result<String, AllocError> {
-    let mut text = String::from_str(alloc, "[\"memory\",[")?;
-    for s in 0..sessions {
-        text.push_str(if s == 0 { "[" } else { ",[" })?;
-        for i in 0..operations {
-            text.push_str(if i == 0 { "[\"w\"," } else { ",[\"w\"," })?;
-            text.push_str(s.to_string(alloc)?.as_str())?;
-            text.push_str(",")?;
-            text.push_str(i.wrapping_add(1).to_string(alloc)?.as_str())?;
-            text.push_str("]")?;
-        }
+#[test]
+fn bytes_that_are_no_text_are_refused(rt: HostRuntime) -> Result<(), Fail> {
+    let answer = said_of(&rt, Order::Judge, &[b'[', b'"', 255, b'"', b']'])?;
+    assert_eq!(rt; answer.as_str(), "1 refused 1");
+    Ok(())
+}
+
+/// Puts a session of so many writes of its own variable into a text.
+fn push_writes(
+    text: &mut String,
+    alloc: Global,
+    session: usize,
+    operations: usize,
+) -> Result<(), AllocError> {
+    for value in 1..=operations {
+        let comma = if value == 1 { "" } else { "," };
+        let write = format!(in alloc; "{comma}[\"w\",{session},{value}]")?;
+        text.push_str(write.as_str())?;
+    }
+    Ok(())
+}
+
+/// What `judge` says of a memory history of so many sessions, each of so many writes of its own variable.
+fn said_of_writes<P: AllocGlobal>(
+    rt: &P,
+    sessions: usize,
+    operations: usize,
+) -> Result<String, AllocError> {
+    let mut text = String::from_str(rt.alloc(), r#"["memory",["#)?;
+    for session in 0..sessions {
+        text.push_str(if session == 0 { "[" } else { ",[" })?;
+        push_writes(&mut text, rt.alloc(), session, operations)?;
         text.push_str("]")?;
     }
     text.push_str("]]")?;
-    Ok(text)
-}
-
-#[test]
-fn texts_that_are_no_json(rt: HostRuntime) -> Result<(), Fail> {
-    expect_refusal(&rt, b"", "refused 1")?;
-    expect_refusal(
-        &rt,
-        b"[\"memory\",[[[\"w\",0,1]],[[\"r\",0,1]]]",
-        "refused 1",
-    )?;
-    expect_refusal(&rt, &[b'['; 200], "refused 1")?;
-    expect_refusal(&rt, &[b'[', b'"', 255, b'"', b']'], "refused 1")?;
-    Ok(())
-}
-
-#[test]
-fn values_that_have_no_shape(rt: HostRuntime) -> Result<(), Fail> {
-    let texts = [
-        "[\"memory\",{}]",
-        "[\"foo\",[],0]",
-        "[\"memory\"]",
-        "[\"memory\",[],[],[]]",
-        "[[],[]]",
-        "{}",
-        "[\"memory\",[[],0]]",
-    ];
-    for text in texts {
-        expect_refusal(&rt, text.as_bytes(), "refused 2")?;
-    }
-    Ok(())
-}
-
-#[test]
-fn names_of_no_object(rt: HostRuntime) -> Result<(), Fail> {
-    expect_refusal(&rt, b"[\"foo\",[[[\"x\"]]]]", "refused 3")?;
-    expect_refusal(&rt, b"[\"Memory\",[]]", "refused 3")?;
-    expect_refusal(&rt, b"[\"Counter\",[]]", "refused 3")?;
-    expect_refusal(&rt, b"[\"memories\",[]]", "refused 3")?;
-    Ok(())
-}
-
-#[test]
-fn operations_that_are_no_form(rt: HostRuntime) -> Result<(), Fail> {
-    expect_refusal(&rt, b"[\"memory\",[[[\"w\",0,1,\"ok\"]]]]", "refused 4 0.0")?;
-    expect_refusal(
-        &rt,
-        b"[\"memory\",[[[\"w\",4294967296,1]]]]",
-        "refused 4 0.0",
-    )?;
-    expect_refusal(&rt, b"[\"memory\",[[[\"w\",0,-1]]]]", "refused 4 0.0")?;
-    expect_refusal(&rt, b"[\"memory\",[[[\"x\"]]],[]]", "refused 4 0.0")?;
-    expect_refusal(
-        &rt,
-        b"[\"memory\",[[],[[\"w\",0,1],[\"r\",0]]]]",
-        "refused 4 1.1",
-    )?;
-    Ok(())
-}
-
-#[test]
-fn operations_that_are_no_form_of_the_object(rt: HostRuntime) -> Result<(), Fail> {
-    let texts = [
-        r#"["set",[[["has",1,0]]]]"#,
-        r#"["register",[[["w",1,"ok"]]]]"#,
-        r#"["register",[[["w",0,1]]]]"#,
-        r#"["counter",[[["inc",1]]]]"#,
-        r#"["counter",[[["get"]]],[[0,5]]]"#,
-        r#"["queue",[[["push",null]]]]"#,
-        r#"["queue",[[["pop",false]]]]"#,
-        r#"["counters",[[["inc"]]]]"#,
-        r#"["sets",[[["add",1]]]]"#,
-        r#"["queues",[[["pop",null]]]]"#,
-        r#"["queues",[[["pop",4294967296,null]]]]"#,
-    ];
-    for text in texts {
-        expect_refusal(&rt, text.as_bytes(), "refused 4 0.0")?;
-    }
-    Ok(())
-}
-
-#[test]
-fn known_return_after_an_unknown_one(rt: HostRuntime) -> Result<(), Fail> {
-    expect_refusal(
-        &rt,
-        b"[\"memory\",[[[\"r\",0,\"?\"],[\"w\",0,1]]]]",
-        "refused 5 0.1",
-    )
-}
-
-#[test]
-fn starts_that_are_no_table(rt: HostRuntime) -> Result<(), Fail> {
-    let texts = [
-        "[\"memory\",[],[]]",
-        "[\"memory\",[],[[1,5],[0,5]]]",
-        "[\"memory\",[],[[0,5],[0,6]]]",
-        "[\"memory\",[],[[0,0]]]",
-        "[\"memory\",[],[[4294967296,1]]]",
-    ];
-    for text in texts {
-        expect_refusal(&rt, text.as_bytes(), "refused 29")?;
-    }
-    Ok(())
-}
-
-#[test]
-fn tables_under_the_other_names(rt: HostRuntime) -> Result<(), Fail> {
-    let texts = [
-        r#"["register",[],[[0,5]]]"#,
-        r#"["counter",[],[[0,5]]]"#,
-        r#"["set",[],[]]"#,
-        r#"["queue",[],[]]"#,
-        r#"["counters",[],[[0,5]]]"#,
-        r#"["sets",[],[[0,null]]]"#,
-        r#"["queues",[],[]]"#,
-    ];
-    for text in texts {
-        expect_refusal(&rt, text.as_bytes(), "refused 29")?;
-    }
-    expect_refusal(&rt, br#"["counter",[],0]"#, "refused 2")
+    said(rt, text.as_str())
 }
 
 #[test]
 fn as_many_sessions_and_operations_as_may_be(rt: HostRuntime) -> Result<(), Fail> {
-    let full = writes(rt.alloc(), 16, 256)?;
-    expect_answer(
-        &rt,
-        Order::Judge,
-        full.as_str(),
-        "cc yes\ncm yes\nccv yes\n",
+    assert_eq!(rt;
+        said_of_writes(&rt, 16, 256)?.as_str(),
+        "0 cc yes;cm yes;ccv yes;"
     );
-    expect_refusal(&rt, writes(rt.alloc(), 17, 1)?.as_bytes(), "refused 6")?;
-    expect_refusal(&rt, writes(rt.alloc(), 1, 257)?.as_bytes(), "refused 7")?;
+    assert_eq!(rt; said_of_writes(&rt, 17, 1)?.as_str(), "1 refused 6");
+    assert_eq!(rt; said_of_writes(&rt, 1, 257)?.as_str(), "1 refused 7");
     Ok(())
 }

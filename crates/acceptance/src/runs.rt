@@ -1,125 +1,164 @@
-use crate::devices::{Device, Sink};
-use engine::{
-    MOST_INPUT_BYTES, MOST_READ_CALLS, Order, RunError, fault_line, read_input, run, status_of,
-};
+//! Runs over readers and writers that misbehave.
+
+use crate::devices::{Device, Failing, NEVER, Sink};
+use crate::running::said_over;
+use engine::{MOST_INPUT_BYTES, MOST_READ_CALLS, Order, RunError, read_input};
+use std::alloc::AllocError;
 use std::io::ErrorKind;
-use std::process::Abort;
 use std::test::Fail;
 
 const HISTORY: &[u8] = b"[\"memory\",[[[\"r\",0,7]]]]";
 
 const LONGER_HISTORY: &[u8] = b"[\"memory\",[[[\"w\",0,1]],[[\"r\",0,1]]]]";
 
-const ANSWER: &[u8] = b"cc no ThinAirRead\ncm no ThinAirRead\nccv no ThinAirRead\n";
+const ANSWER: &str = "0 cc no ThinAirRead;cm no ThinAirRead;ccv no ThinAirRead;";
 
-/// Runs `judge` over a device, which ends with a read fault and writes nothing.
-fn expect_read_fault<P: Abort + AllocGlobal>(rt: &P, device: &mut Device<'_>) -> Result<(), Fail> {
-    let mut sink = Sink::new(rt.alloc(), ANSWER.len());
-    let outcome = run(rt, device, &mut sink, &Order::Judge);
-    assert_eq!(rt; status_of(&outcome), 3);
-    let error = outcome.err().ok_or("a read fault")?;
-    assert_eq!(rt; fault_line(rt.alloc(), &error)?.as_str(), "read fault");
-    assert!(rt; sink.taken.is_empty());
-    Ok(())
+/// What `judge` says over a device, and how many read calls it made.
+fn said_of_reads<P: AllocGlobal>(rt: &P, mut device: Device<'_>) -> Result<String, AllocError> {
+    let mut sink = Sink::new(rt.alloc(), 1, NEVER);
+    let said = said_over(rt, Order::Judge, &mut device, &mut sink)?;
+    let calls = device.calls;
+    format!(in rt.alloc(); "{said} after {calls} reads")
 }
 
-/// Runs `judge` over a device, which is judged.
-fn expect_answer<P: Abort + AllocGlobal>(rt: &P, device: &mut Device<'_>, sink: &mut Sink) {
-    let outcome = run(rt, device, sink, &Order::Judge);
-    assert_eq!(rt; status_of(&outcome), 0, "{outcome:?}");
-    assert_eq!(rt; sink.taken.as_slice(), ANSWER);
+/// The same over a text, a byte a call, where calls fail.
+fn said_of_failing<P: AllocGlobal>(
+    rt: &P,
+    text: &[u8],
+    failing: Failing,
+) -> Result<String, AllocError> {
+    said_of_reads(rt, Device::new(text, 0, 1, failing))
+}
+
+/// The same over a history and then so many blanks, a byte a call.
+fn said_of_blanks<P: AllocGlobal>(rt: &P, blanks: usize) -> Result<String, AllocError> {
+    said_of_reads(rt, Device::new(HISTORY, blanks, 1, NEVER))
 }
 
 #[test]
 fn as_many_read_calls_are_made_as_may_be(rt: HostRuntime) -> Result<(), Fail> {
     let blanks = MOST_READ_CALLS as usize - 1 - HISTORY.len();
-    let mut device = Device::new(HISTORY, blanks, 1);
-    expect_answer(&rt, &mut device, &mut Sink::new(rt.alloc(), 1));
-    assert_eq!(rt; device.calls, u64::from(MOST_READ_CALLS));
-
-    let mut device = Device::new(HISTORY, blanks + 1, 1);
-    expect_read_fault(&rt, &mut device)?;
-    assert_eq!(rt; device.calls, u64::from(MOST_READ_CALLS));
+    let answered = said_of_blanks(&rt, blanks)?;
+    let wanted = "0 cc no ThinAirRead;cm no ThinAirRead;ccv no ThinAirRead; after 1048576 reads";
+    assert_eq!(rt; answered.as_str(), wanted);
+    let failed = said_of_blanks(&rt, blanks + 1)?;
+    assert_eq!(rt; failed.as_str(), "3 read fault after 1048576 reads");
     Ok(())
 }
 
+const INTERRUPTED_THREE_TIMES: Failing = Failing {
+    first: 2,
+    end: 5,
+    kind: ErrorKind::Interrupted,
+};
+
+const INTERRUPTED_EVER_SINCE: Failing = Failing {
+    first: 2,
+    end: u64::MAX,
+    kind: ErrorKind::Interrupted,
+};
+
 #[test]
 fn an_interrupted_read_is_made_again_and_counted(rt: HostRuntime) -> Result<(), Fail> {
-    let mut device = Device::new(HISTORY, 0, 1).failing(2..5, ErrorKind::Interrupted);
-    expect_answer(&rt, &mut device, &mut Sink::new(rt.alloc(), 1));
-    assert_eq!(rt; device.calls, HISTORY.len() as u64 + 4);
-
-    let mut device = Device::new(HISTORY, 0, 1).failing(2..u64::MAX, ErrorKind::Interrupted);
-    expect_read_fault(&rt, &mut device)?;
-    assert_eq!(rt; device.calls, u64::from(MOST_READ_CALLS));
+    let answered = said_of_failing(&rt, HISTORY, INTERRUPTED_THREE_TIMES)?;
+    let wanted = "0 cc no ThinAirRead;cm no ThinAirRead;ccv no ThinAirRead; after 28 reads";
+    assert_eq!(rt; answered.as_str(), wanted);
+    let failed = said_of_failing(&rt, HISTORY, INTERRUPTED_EVER_SINCE)?;
+    assert_eq!(rt; failed.as_str(), "3 read fault after 1048576 reads");
     Ok(())
+}
+
+/// This call fails.
+fn failing_at(call: u64) -> Failing {
+    Failing {
+        first: call,
+        end: call.saturating_add(1),
+        kind: ErrorKind::Other,
+    }
+}
+
+/// The calls before `end` at which a reader that fails gives another answer than a read fault after that call.
+fn reads_that_fail_otherwise<P: AllocGlobal>(rt: &P, end: u64) -> Result<String, AllocError> {
+    let mut otherwise = String::new(rt.alloc());
+    for call in 1..end {
+        let said = said_of_failing(rt, LONGER_HISTORY, failing_at(call))?;
+        let wanted = format!(in rt.alloc(); "3 read fault after {call} reads")?;
+        if said != wanted {
+            otherwise.push_str(format!(in rt.alloc(); "{call}: {said}\n")?.as_str())?;
+        }
+    }
+    Ok(otherwise)
 }
 
 #[test]
 fn a_reader_may_fail_at_any_call(rt: HostRuntime) -> Result<(), Fail> {
-    for call in 1..LONGER_HISTORY.len() as u64 + 2 {
-        let mut device = Device::new(LONGER_HISTORY, 0, 1).failing(
-            call..call + 1,
-            ErrorKind::Other,
-        );
-        expect_read_fault(&rt, &mut device)?;
-        assert_eq!(rt; device.calls, call);
-    }
+    assert_eq!(rt; LONGER_HISTORY.len(), 36);
+    assert_eq!(rt; reads_that_fail_otherwise(&rt, 38)?.as_str(), "");
+    let answered = said_of_failing(&rt, LONGER_HISTORY, failing_at(38))?;
+    assert_eq!(rt;
+        answered.as_str(),
+        "0 cc yes;cm yes;ccv yes; after 37 reads"
+    );
     Ok(())
+}
+
+const PIECE: usize = 65_536;
+
+/// How many blanks are read where there are so many.
+fn blanks_read<P: AllocGlobal>(rt: &P, blanks: usize) -> Result<usize, RunError> {
+    let input = read_input(rt.alloc(), &mut Device::new(b"", blanks, PIECE, NEVER))?;
+    Ok(input.len())
 }
 
 #[test]
 fn an_input_is_as_long_as_may_be(rt: HostRuntime) -> Result<(), Fail> {
-    let piece = 65_536;
-    let calls = (MOST_INPUT_BYTES / piece) as u64;
-    let mut device = Device::new(b"", MOST_INPUT_BYTES, piece);
-    let input = read_input(rt.alloc(), &mut device)?;
-    assert_eq!(rt; input.len(), MOST_INPUT_BYTES);
-
-    // What is behind the read that passes the limit is never learned.
-    let mut device = Device::new(b"", MOST_INPUT_BYTES + 1, piece).failing(
-        calls + 2..u64::MAX,
-        ErrorKind::Other,
-    );
-    let outcome = run(
-        &rt,
-        &mut device,
-        &mut Sink::new(rt.alloc(), 1),
-        &Order::Judge,
-    );
-    assert!(rt; matches!(&outcome, Err(RunError::TooLong)), "{outcome:?}");
-    assert_eq!(rt; device.calls, calls + 1);
+    assert_eq!(rt; blanks_read(&rt, MOST_INPUT_BYTES)?, MOST_INPUT_BYTES);
     Ok(())
 }
 
+const FAILING_BEHIND_THE_LIMIT: Failing = Failing {
+    first: 1026,
+    end: u64::MAX,
+    kind: ErrorKind::Other,
+};
+
 #[test]
-fn a_writer_takes_the_answer_or_fails(rt: HostRuntime) {
-    let mut sink = Sink::new(rt.alloc(), 1).failing(3..6, ErrorKind::Interrupted);
-    expect_answer(&rt, &mut Device::new(HISTORY, 0, 1), &mut sink);
+fn what_is_behind_the_read_that_passes_the_limit_is_never_learned(
+    rt: HostRuntime,
+) -> Result<(), Fail> {
+    let blanks = MOST_INPUT_BYTES + 1;
+    let device = Device::new(b"", blanks, PIECE, FAILING_BEHIND_THE_LIMIT);
+    assert_eq!(rt;
+        said_of_reads(&rt, device)?.as_str(),
+        "1 refused 9 after 1025 reads"
+    );
+    Ok(())
+}
 
-    for call in 1..ANSWER.len() as u64 + 1 {
-        let mut sink = Sink::new(rt.alloc(), 1).failing(call..call + 1, ErrorKind::Other);
-        let outcome = run(
-            &rt,
-            &mut Device::new(HISTORY, 0, 1),
-            &mut sink,
-            &Order::Judge,
-        );
-        assert!(rt;
-            matches!(&outcome, Err(RunError::WriteFault)),
-            "{outcome:?}"
-        );
+/// What `judge` says of a history over a writer that takes so many bytes a call, where calls fail.
+fn said_to<P: AllocGlobal>(rt: &P, piece: usize, failing: Failing) -> Result<String, AllocError> {
+    let mut device = Device::new(HISTORY, 0, 1, NEVER);
+    let mut sink = Sink::new(rt.alloc(), piece, failing);
+    said_over(rt, Order::Judge, &mut device, &mut sink)
+}
+
+/// The calls before `end` at which a writer that fails gives no write fault.
+fn writes_without_a_fault<P: AllocGlobal>(rt: &P, end: u64) -> Result<String, AllocError> {
+    let mut without = String::new(rt.alloc());
+    for call in 1..end {
+        let said = said_to(rt, 1, failing_at(call))?;
+        if !said.as_str().starts_with("3 ") || !said.as_str().ends_with("write fault") {
+            without.push_str(format!(in rt.alloc(); "{call}: {said}\n")?.as_str())?;
+        }
     }
+    Ok(without)
+}
 
-    let outcome = run(
-        &rt,
-        &mut Device::new(HISTORY, 0, 1),
-        &mut Sink::new(rt.alloc(), 0),
-        &Order::Judge,
-    );
-    assert!(rt;
-        matches!(&outcome, Err(RunError::WriteFault)),
-        "{outcome:?}"
-    );
-    assert_eq!(rt; status_of(&outcome), 3);
+#[test]
+fn a_writer_takes_the_answer_or_fails(rt: HostRuntime) -> Result<(), Fail> {
+    assert_eq!(rt; said_to(&rt, 1, INTERRUPTED_THREE_TIMES)?.as_str(), ANSWER);
+    assert_eq!(rt; ANSWER.len(), 57);
+    assert_eq!(rt; writes_without_a_fault(&rt, 56)?.as_str(), "");
+    assert_eq!(rt; said_to(&rt, 0, NEVER)?.as_str(), "3 write fault");
+    Ok(())
 }

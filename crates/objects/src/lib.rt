@@ -14,8 +14,6 @@ pub mod laws;
 mod queue;
 mod register;
 mod table;
-#[cfg(test)]
-mod tests;
 
 pub use add_remove_set::{AddRemoveSet, SetCall, SetRet};
 pub use counter::{Counter, CounterCall, CounterRet};

@@ -1,0 +1,83 @@
+//! Cases as lines of text, `name | input | wanted answer`.
+
+use crate::{
+    applied_calls, checked, command_lines, found_patterns, judged, made_certificates, patterns,
+    texts,
+};
+use std::alloc::AllocError;
+
+/// What is asked of the input of a case.
+#[derive(Clone, Copy)]
+pub enum Question {
+    /// What a run of `judge` says of it.
+    Judge,
+    /// What a run of `check` says of it.
+    Check,
+    /// Which order its words give.
+    Order,
+    /// Which kinds of patterns are found in its history.
+    Find,
+    /// Whether its pattern is shown in its history.
+    Show,
+    /// Which piece of an operation is made for its history.
+    Make,
+    /// The same by program order alone.
+    MakeByProgramOrder,
+    /// Which operation the certificate that is made for its history leaves unexplained.
+    Explain,
+    /// How its history is written.
+    Write,
+    /// How a copy of its history is written.
+    Copy,
+    /// What the object of its history answers.
+    Apply,
+}
+
+/// The cases of a table that get another answer than the wanted one: the name and the answer of each.
+pub fn failures<P: AllocGlobal>(
+    rt: &P,
+    question: Question,
+    table: &str,
+) -> Result<String, AllocError> {
+    let mut failures = String::new(rt.alloc());
+    for line in table.lines() {
+        if !line.is_empty() {
+            failures.push_str(failure(rt, question, line)?.as_str())?;
+        }
+    }
+    Ok(failures)
+}
+
+/// Nothing where the case gets the wanted answer, else its name and its answer.
+fn failure<P: AllocGlobal>(rt: &P, question: Question, line: &str) -> Result<String, AllocError> {
+    let mut parts = line.split(" | ");
+    let (Some(name), Some(input), Some(wanted)) = (parts.next(), parts.next(), parts.next()) else {
+        return format!(in rt.alloc(); "{line}: no case\n");
+    };
+    let answer = answer_to(rt, question, input)?;
+    if answer.as_str() == wanted {
+        Ok(String::new(rt.alloc()))
+    } else {
+        format!(in rt.alloc(); "{name}: {answer}\n")
+    }
+}
+
+fn answer_to<P: AllocGlobal>(
+    rt: &P,
+    question: Question,
+    input: &str,
+) -> Result<String, AllocError> {
+    match question {
+        Question::Judge => judged::said(rt, input),
+        Question::Check => checked::said(rt, input),
+        Question::Order => command_lines::ordered(rt.alloc(), input),
+        Question::Find => found_patterns::found(rt.alloc(), input),
+        Question::Show => patterns::shown(rt.alloc(), input),
+        Question::Make => made_certificates::made(rt.alloc(), input),
+        Question::MakeByProgramOrder => made_certificates::made_by_program_order(rt.alloc(), input),
+        Question::Explain => made_certificates::explained(rt.alloc(), input),
+        Question::Write => texts::written(rt.alloc(), input),
+        Question::Copy => texts::copied(rt.alloc(), input),
+        Question::Apply => applied_calls::applied(rt.alloc(), input),
+    }
+}
