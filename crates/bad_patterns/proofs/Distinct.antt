@@ -6,7 +6,7 @@ use Rattle.causal_order.specs.declared.writes.Write.{Write}
 use Rattle.causal_order.specs.Memory.{MemoryHistory, initial, Reads}
 use Rattle.bad_patterns.specs.Kinds.{IsThinAirRead}
 use Rattle.causal_order.proofs.MemoryLaws.{same_read}
-use Rattle.causal_order.specs.Written.{ListsWrites}
+use Rattle.causal_order.specs.Steps.Written.{ListsWrites}
 
 module _ (h : MemoryHistory) (writes : List Write) (lists : ListsWrites h writes) where
   -- a known read of a value that is not the initial one is out of thin air where that value is not written

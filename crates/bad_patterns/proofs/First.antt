@@ -10,7 +10,7 @@ use Rattle.history.specs.History.{IsOp, session}
 use Rattle.causal_order.specs.Memory.{MemoryHistory}
 use Rattle.bad_patterns.specs.Kinds.{IsThinAirRead}
 use Rattle.causal_order.specs.Orders.{op}
-use Rattle.bad_patterns.specs.Found.{IsFirst, IsFirstOf}
+use Rattle.bad_patterns.specs.Steps.Found.{IsFirst, IsFirstOf}
 use Rattle.causal_order.proofs.OrdersLaws.{session-of_history}
 
 module _ (h : MemoryHistory) where

@@ -11,8 +11,8 @@ use Rattle.causal_order.specs.Memory.{MemoryHistory, initial, Reads}
 use Rattle.causal_order.proofs.MemoryLaws.{same_read}
 use Rattle.causal_order.specs.Orders.{op}
 use Rattle.causal_order.specs.Sources.{Sources}
-use Rattle.causal_order.specs.Written.{ListsWrites, IsLeastWrite}
-use Rattle.bad_patterns.specs.KnownSources.{IsKnownSourceOf, ListsKnownBelow, ListsKnownSoFar}
+use Rattle.causal_order.specs.Steps.Written.{ListsWrites, IsLeastWrite}
+use Rattle.bad_patterns.specs.Steps.KnownSources.{IsKnownSourceOf, ListsKnownBelow, ListsKnownSoFar}
 
 module _ (h : MemoryHistory) where
   module _ (r : OpId) (x v : ℕ) (reads : Reads h r x v) where

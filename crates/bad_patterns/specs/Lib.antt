@@ -2,6 +2,5 @@ pub mod Kinds
 pub mod Paths
 pub mod Derivations
 pub mod Patterns
-pub mod Found
 pub mod PatternForm
-pub mod KnownSources
+pub mod Steps

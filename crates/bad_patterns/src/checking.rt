@@ -1,7 +1,7 @@
 ghost use Rattle.std.specs.Prelude.{◌↔◌, IfOk, IsTrue};
 ghost use Rattle.bad_patterns.specs.Patterns.{IsBadPattern, IsShownBy, IsTrueNo, kind_of};
 ghost use Rattle.causal_order.specs.Memory.{IsDifferentiated};
-ghost use Rattle.causal_order.specs.Written.{AreInOrder, IsSorted, ListsWrites};
+ghost use Rattle.causal_order.specs.Steps.Written.{AreInOrder, IsSorted, ListsWrites};
 
 use crate::cycle::is_cycle;
 use crate::happened_before::{is_derivation_of_cycle, is_derivation_of_initial_read};

@@ -5,7 +5,7 @@ ghost use Rattle.history.specs.declared.op_id.OpId.{OpId};
 ghost use Rattle.causal_order.specs.Memory.{IsDifferentiated};
 ghost use Rattle.causal_order.specs.Orders.{program_past};
 ghost use Rattle.causal_order.specs.Relations.{AreRivalWrites};
-ghost use Rattle.causal_order.specs.Written.{AreInOrder, IsSorted, ListsWrites};
+ghost use Rattle.causal_order.specs.Steps.Written.{AreInOrder, IsSorted, ListsWrites};
 ghost use Rattle.bad_patterns.specs.Derivations.{Gives, GivesCausalPair, GivesJoinedPair, GivesRivalPair, IsDerivation};
 
 use crate::derivation::Line;

@@ -5,8 +5,8 @@ ghost use Rattle.bad_patterns.specs.declared.pattern.Pattern.TheVariants.{ThinAi
 ghost use Rattle.causal_order.specs.Memory.{IsDifferentiated};
 ghost use Rattle.causal_order.specs.SourceOrder.{CountsSourceOrder};
 ghost use Rattle.causal_order.specs.Orders.{op};
-ghost use Rattle.causal_order.specs.Written.{AreInOrder, IsSorted, ListsWrites};
-ghost use Rattle.bad_patterns.specs.Found.{IsFirst, IsFirstFound, IsFirstOf};
+ghost use Rattle.causal_order.specs.Steps.Written.{AreInOrder, IsSorted, ListsWrites};
+ghost use Rattle.bad_patterns.specs.Steps.Found.{IsFirst, IsFirstFound, IsFirstOf};
 
 use crate::checking::is_shown;
 use crate::finding_happened_before::find_happened_before;

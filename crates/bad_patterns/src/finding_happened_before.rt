@@ -1,11 +1,11 @@
 //! The search for patterns that happened-before relations show.
 
 ghost use Rattle.std.specs.Prelude.{IfOk, IfSome};
-ghost use Rattle.bad_patterns.specs.Found.{IsFirstFound};
+ghost use Rattle.bad_patterns.specs.Steps.Found.{IsFirstFound};
 ghost use Rattle.bad_patterns.specs.Patterns.{IsBadPattern};
 ghost use Rattle.causal_order.specs.Memory.{IsDifferentiated};
 ghost use Rattle.causal_order.specs.SourceOrder.{CountsSourceOrder};
-ghost use Rattle.causal_order.specs.Written.{AreInOrder, IsSorted, ListsWrites};
+ghost use Rattle.causal_order.specs.Steps.Written.{AreInOrder, IsSorted, ListsWrites};
 
 use crate::finding::tested;
 use crate::kind::Kind;

@@ -2,7 +2,7 @@
 
 ghost use Rattle.std.specs.Prelude.{◌↔◌, IfOk, IsTrue};
 ghost use Rattle.causal_order.specs.Memory.{IsDifferentiated};
-ghost use Rattle.causal_order.specs.Written.{AreInOrder, IsSorted, ListsWrites};
+ghost use Rattle.causal_order.specs.Steps.Written.{AreInOrder, IsSorted, ListsWrites};
 ghost use Rattle.bad_patterns.specs.Patterns.{IsDerivationOfCycle, IsDerivationOfInitialRead};
 
 use crate::derivation::Derivation;

@@ -1,6 +1,6 @@
 ghost use Rattle.std.specs.Prelude.{◌↔◌, IsTrue};
 ghost use Rattle.bad_patterns.specs.Kinds.{IsThinAirRead};
-ghost use Rattle.causal_order.specs.Written.{IsSorted, ListsWrites};
+ghost use Rattle.causal_order.specs.Steps.Written.{IsSorted, ListsWrites};
 
 use causal_order::{Write, initial_value, is_written, known_read};
 use history::{History, OpId};

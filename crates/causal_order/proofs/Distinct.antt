@@ -4,7 +4,7 @@ use Rattle.std.specs.Prelude.{◌≢◌, All}
 use Rattle.std.proofs.lemmas.List.Elements.{All-contains, Contains-get_or}
 use Rattle.causal_order.specs.declared.writes.Write.{Write}
 use Rattle.causal_order.specs.Memory.{MemoryHistory, initial, Writes, IsDifferentiated}
-use Rattle.causal_order.specs.Written.{ListsWrites, AreOnce}
+use Rattle.causal_order.specs.Steps.Written.{ListsWrites, AreOnce}
 
 module _ (h : MemoryHistory) (writes : List Write) (lists : ListsWrites h writes) where
   pub once-from_differentiated : IsDifferentiated h → AreOnce writes

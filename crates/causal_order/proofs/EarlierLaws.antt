@@ -8,7 +8,7 @@ use Rattle.std.proofs.lemmas.Bool.Decides.{nat_tests}
 use Rattle.history.specs.declared.op_id.OpId.{OpId}
 use Rattle.causal_order.specs.Orders.{op, IsEarlier}
 use Rattle.causal_order.proofs.OrdersLaws.{same_op}
-use Rattle.causal_order.specs.Written.{by_op}
+use Rattle.causal_order.specs.Steps.Written.{by_op}
 
 -- the operation before s.(i + 1) is one before s.i or s.i itself
 pub earlier_cases : (a : OpId) (s i : ℕ) → IsEarlier a (op s (i + 1)) → IsEarlier a (op s i) ⊎ (a ≡ op s i)

@@ -16,7 +16,7 @@ use Rattle.causal_order.proofs.RelationsLaws.{leads-wider, CO-of_history}
 use Rattle.causal_order.specs.SourceOrder.{LacksSource, CountsSourceOrder, IsSource, IsSourceEdge, SourceOrder, IsSourceOf, ListsSourcesBelow, ListsSourcesSoFar, ListsSources}
 use Rattle.causal_order.specs.Sources.{Sources, HasSource, IsListed, AreListed, IsStep, Comes, IsUnfinished, AreVectorsSoFar}
 use Rattle.causal_order.specs.Vectors.{Counts, IsCounted}
-use Rattle.causal_order.specs.Written.{ListsWrites, IsLeastWrite}
+use Rattle.causal_order.specs.Steps.Written.{ListsWrites, IsLeastWrite}
 use Rattle.causal_order.proofs.PushedLaws.{listed-length}
 
 module _ (h : MemoryHistory) where

@@ -4,7 +4,7 @@ use Rattle.std.specs.List.{slice_range}
 use Rattle.std.proofs.Common.{zero, suc, arith, get_or, set, take, drop, sym, ap, subst, ◌∙◌, refl, length-append, length-drop}
 use Rattle.std.proofs.lemmas.List.{take-append-le, drop-append-le, take_all, drop-set-lt, drop-set-add, take-set-le, length-take}
 use Rattle.std.proofs.Math.Seq.{drop-append_seam, take-set-lt}
-use Rattle.causal_order.specs.FlatRows.{cut, start_of, RisesTo}
+use Rattle.causal_order.specs.Steps.FlatRows.{cut, start_of, RisesTo}
 
 pub start-before : (from : ℕ) (ends : List ℕ) (i d : ℕ) → i < length ends → start_of from ends (suc i) ≡ get_or ends i d
 start-before from [] i d below = absurd (omega arith)

@@ -8,7 +8,7 @@ use Rattle.history.specs.History.{Record, IsOp, session}
 use Rattle.causal_order.specs.Orders.{op}
 use Rattle.causal_order.specs.Sources.{IsListed}
 use Rattle.causal_order.specs.Vectors.{ByOperation, list_of, HasOneEach}
-use Rattle.causal_order.specs.Gathered.{AreGatheredBefore, AreGatheredUpTo}
+use Rattle.causal_order.specs.Steps.Gathered.{AreGatheredBefore, AreGatheredUpTo}
 use Rattle.causal_order.proofs.PushedLaws.{pushed, listed-length, pushed-other, pushed-length, pushed-cases, pushed-value_old, pushed-value_next}
 
 module _ {S C R A : Type 0} (h : Record S C R) (holds : OpId → List A → Type 0) where

@@ -1,7 +1,7 @@
 -- Orders that grow, step by step.
 use Rattle.std.specs.Prelude.{ℕ, ◌<◌, ◌≤◌, IsTrue, false}
 use Rattle.std.proofs.Common.{arith, lt_of_not-le}
-use Rattle.causal_order.specs.GrowingOrders.{IsGrowing, Grows}
+use Rattle.causal_order.specs.Steps.GrowingOrders.{IsGrowing, Grows}
 use Rattle.causal_order.specs.Memory.{MemoryHistory}
 use Rattle.causal_order.specs.declared.growing_order.GrowingOrder.{GrowingOrder}
 

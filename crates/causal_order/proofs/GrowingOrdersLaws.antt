@@ -3,7 +3,7 @@ use Rattle.std.specs.Prelude.{◌≡◌, ◌+◌, ◌<◌, ◌≤◌, length}
 use Rattle.std.proofs.Common.{arith, sym, subst, ⊎_elim, lt_of_not-le}
 use Rattle.history.specs.declared.op_id.OpId.{OpId}
 use Rattle.history.specs.History.{IsOp, Precedes, session}
-use Rattle.causal_order.specs.GrowingOrders.{AreHeldVectors}
+use Rattle.causal_order.specs.Steps.GrowingOrders.{AreHeldVectors}
 use Rattle.causal_order.specs.Memory.{MemoryHistory}
 use Rattle.causal_order.proofs.MemoryLaws.{write-of_history}
 use Rattle.causal_order.specs.Orders.{op}

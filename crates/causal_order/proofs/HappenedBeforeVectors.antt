@@ -8,11 +8,11 @@ use Rattle.objects.specs.declared.register.RegisterCall.{RegisterCall}
 use Rattle.objects.specs.declared.register.RegisterCall.TheVariants.{Write, Read}
 use Rattle.history.specs.declared.op_id.OpId.{OpId}
 use Rattle.history.specs.History.{IsOp}
-use Rattle.causal_order.specs.GrowingOrders.{AreHeldVectors}
+use Rattle.causal_order.specs.Steps.GrowingOrders.{AreHeldVectors}
 use Rattle.causal_order.specs.Memory.{MemoryCall, MemoryHistory, IsDifferentiated, Writes}
 use Rattle.causal_order.specs.Orders.{op, Order, program_past}
 use Rattle.causal_order.specs.Relations.{ReadsFrom, IsEdge, CO, AreRivalWrites, IsPast, IsClosed, HB}
-use Rattle.causal_order.specs.HappenedBefores.{AreStrictOf}
+use Rattle.causal_order.specs.Steps.HappenedBefores.{AreStrictOf}
 use Rattle.causal_order.specs.SourceOrder.{CountsSourceOrder, SourceOrder}
 use Rattle.causal_order.specs.Sources.{IsListed}
 use Rattle.causal_order.specs.Vectors.{Counts, count, list_of, IsCounted, IsWithin, with_item}

@@ -5,7 +5,7 @@ use Rattle.std.proofs.lemmas.Bool.{cases_eq}
 use Rattle.std.proofs.lemmas.List.{get_or-set_same, get_or-set_other, length-set}
 use Rattle.history.specs.declared.op_id.OpId.{OpId}
 use Rattle.history.specs.History.{IsOp, session}
-use Rattle.causal_order.specs.GrowingOrders.{AreHeldVectors}
+use Rattle.causal_order.specs.Steps.GrowingOrders.{AreHeldVectors}
 use Rattle.causal_order.specs.Memory.{MemoryHistory}
 use Rattle.causal_order.proofs.OrdersLaws.{same_op}
 use Rattle.causal_order.proofs.PushedLaws.{listed-length}

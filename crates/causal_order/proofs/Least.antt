@@ -11,7 +11,7 @@ use Rattle.std.proofs.lemmas.List.Sorted.{searchable_from_sorted, sorted_far, ra
 use Rattle.history.specs.declared.op_id.OpId.{OpId}
 use Rattle.causal_order.specs.declared.writes.Write.{Write}
 use Rattle.causal_order.specs.Orders.{IsEarlier}
-use Rattle.causal_order.specs.Written.{by_op, by_variable, IsSorted, AreInOrder, IsLeastWrite}
+use Rattle.causal_order.specs.Steps.Written.{by_op, by_variable, IsSorted, AreInOrder, IsLeastWrite}
 use Rattle.causal_order.proofs.EarlierLaws.{by_op_total, earlier-less, equal-cmp, less-index}
 use Rattle.causal_order.proofs.Sorted.{by_variable_total, same_pairs, tied}
 

@@ -12,7 +12,7 @@ use Rattle.causal_order.specs.Memory.{MemoryCall, MemoryHistory, Writes}
 use Rattle.causal_order.proofs.MemoryLaws.{same_written, write-of_history}
 use Rattle.causal_order.specs.Orders.{op}
 use Rattle.causal_order.proofs.ListedLaws.{listed-item, listed-none, listed-session, listed-end}
-use Rattle.causal_order.specs.Written.{ListsWrites, ListsWritesBefore}
+use Rattle.causal_order.specs.Steps.Written.{ListsWrites, ListsWritesBefore}
 
 module _ (h : MemoryHistory) where
   -- the entry of a write

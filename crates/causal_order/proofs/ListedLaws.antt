@@ -5,7 +5,7 @@ use Rattle.std.proofs.lemmas.List.Elements.{Contains-append_left, Contains-push,
 use Rattle.history.specs.declared.op_id.OpId.{OpId}
 use Rattle.history.specs.History.{Record, IsOp, session}
 use Rattle.causal_order.proofs.EarlierLaws.{earlier_cases}
-use Rattle.causal_order.specs.Listed.{ListsBefore}
+use Rattle.causal_order.specs.Steps.Listed.{ListsBefore}
 use Rattle.causal_order.specs.Orders.{op, IsEarlier}
 use Rattle.causal_order.proofs.OrdersLaws.{session-of_history}
 

@@ -10,7 +10,7 @@ use Rattle.std.proofs.lemmas.List.Sorted.{searchable_from_sorted, sorted_far, ra
 use Rattle.history.specs.declared.op_id.OpId.{OpId}
 use Rattle.causal_order.specs.declared.writes.Write.{Write}
 use Rattle.causal_order.specs.Orders.{op, IsEarlier}
-use Rattle.causal_order.specs.Written.{by_op, by_place, AreByVariable, IsBelowWrite}
+use Rattle.causal_order.specs.Steps.Written.{by_op, by_place, AreByVariable, IsBelowWrite}
 use Rattle.causal_order.proofs.EarlierLaws.{by_op_total, less-cmp, equal-cmp, cmp-less, cmp-equal, then-left, then-right, then-cases, earlier-less, less-earlier, less-index}
 
 pub by_place_total : IsTotalOrder by_place

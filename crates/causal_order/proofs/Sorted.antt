@@ -13,7 +13,7 @@ use Rattle.std.proofs.lemmas.List.Sorted.{searchable_from_sorted, sorted_far, ra
 use Rattle.std.proofs.lemmas.List.Elements.{Contains-get_or}
 use Rattle.causal_order.specs.declared.writes.Write.{Write}
 use Rattle.causal_order.specs.Orders.{op}
-use Rattle.causal_order.specs.Written.{by_variable, IsSorted, IsOne, AreOnce}
+use Rattle.causal_order.specs.Steps.Written.{by_variable, IsSorted, IsOne, AreOnce}
 
 pub by_variable_total : IsTotalOrder by_variable
 by_variable_total = then_total (on_total (λ p. p.0) nat_cmp_total) (on_total (λ p. p.1) nat_cmp_total)

@@ -75,11 +75,15 @@ module _ (h : MemoryHistory) (x v : ℕ) where
   first_write = ⊎_elim
       (λ (found : (s : ℕ) × (s < length h.1) × IsFirstIn s × ((t : ℕ) → t < s → ¬ IsFirstIn t)).
       let first = found.2 in
-      inl (op found.0 first.0, first.2, λ a wrote earlier. ⊎_elim
-      (λ (below : a.session < found.0). no_first a wrote (found.3 a.session below))
-      (λ (before : (a.session ≡ found.0) × (a.index < first.0)).
-      first.3 a.index before.1 (subst (λ (s : ℕ). Writes h (op s a.index) x v) before.0 wrote))
-      earlier))
+      inl (
+        op found.0 first.0,
+        first.2,
+        λ a wrote earlier. ⊎_elim
+            (λ (below : a.session < found.0). no_first a wrote (found.3 a.session below))
+            (λ (before : (a.session ≡ found.0) × (a.index < first.0)).
+            first.3 a.index before.1 (subst (λ (s : ℕ). Writes h (op s a.index) x v) before.0 wrote))
+            earlier,
+      ))
       (λ (none : (s : ℕ) → s < length h.1 → ¬ IsFirstIn s).
       inr (λ a wrote. no_first a wrote (none a.session (session-of_history h a (write-of_history h a x v wrote)))))
       (least IsFirstIn some_write (length h.1))

@@ -5,10 +5,10 @@ use Rattle.std.proofs.lemmas.Bool.{cases_eq, cases_lt}
 use Rattle.std.proofs.lemmas.List.{get_or-set_same, get_or-set_other, get_or_past, length-set}
 use Rattle.history.specs.declared.op_id.OpId.{OpId}
 use Rattle.history.specs.History.{session}
-use Rattle.causal_order.specs.Gathered.{AreGatheredBefore}
+use Rattle.causal_order.specs.Steps.Gathered.{AreGatheredBefore}
 use Rattle.causal_order.proofs.GatheredLaws.{gathered-shape, gathered-each}
-use Rattle.causal_order.specs.GrowingOrders.{AreHeldVectors}
-use Rattle.causal_order.specs.HappenedBefores.{IsStrict, AreStrictOf}
+use Rattle.causal_order.specs.Steps.GrowingOrders.{AreHeldVectors}
+use Rattle.causal_order.specs.Steps.HappenedBefores.{IsStrict, AreStrictOf}
 use Rattle.causal_order.specs.Memory.{MemoryHistory}
 use Rattle.causal_order.specs.Vectors.{Counts, list_of}
 

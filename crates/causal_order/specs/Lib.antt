@@ -1,16 +1,11 @@
 pub mod Orders
 pub mod Memory
 pub mod Relations
-pub mod Listed
-pub mod Written
 pub mod Vectors
 pub mod Sources
 pub mod SourceOrder
-pub mod FlatRows
-pub mod Gathered
 pub mod ProgramOrder
 pub mod Topological
-pub mod GrowingOrders
-pub mod HappenedBefores
 pub mod OverwrittenReads
 pub mod MemoryHistories
+pub mod Steps

@@ -1,6 +1,6 @@
 ghost use Rattle.std.specs.Prelude.{◌≢◌, ◌↔◌, All, IfOk, IsTrue};
 ghost use Rattle.causal_order.specs.Memory.{initial, IsDifferentiated};
-ghost use Rattle.causal_order.specs.Written.{AreOnce, IsSorted, ListsWrites};
+ghost use Rattle.causal_order.specs.Steps.Written.{AreOnce, IsSorted, ListsWrites};
 
 use crate::reads::initial_value;
 use crate::writes::{Write, sorted_writes};

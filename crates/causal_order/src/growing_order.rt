@@ -2,8 +2,8 @@
 
 ghost use Rattle.std.specs.Prelude.{◌≡◌, ◌<◌, ◌≤◌, ◌↔◌, length, IfOk, IfSome, IsSome, IsTrue, OnOk, slice_index};
 ghost use Rattle.history.specs.History.{IsOp, session as operations_of};
-ghost use Rattle.causal_order.specs.GrowingOrders.{AreHeldVectors, Grows, IsGrowing, IsRaisedIn, left_of};
-ghost use Rattle.causal_order.specs.HappenedBefores.{AreStrictOf};
+ghost use Rattle.causal_order.specs.Steps.GrowingOrders.{AreHeldVectors, Grows, IsGrowing, IsRaisedIn, left_of};
+ghost use Rattle.causal_order.specs.Steps.HappenedBefores.{AreStrictOf};
 ghost use Rattle.causal_order.specs.Vectors.{count};
 
 use crate::by_operation::Vectors;

@@ -2,8 +2,8 @@
 
 ghost use Rattle.std.specs.Prelude.{◌≡◌, ◌+◌, ◌<◌, length, IfOk, IfSome, OnOk};
 ghost use Rattle.history.specs.History.{IsOp, session as operations_of};
-ghost use Rattle.causal_order.specs.GrowingOrders.{AreHeldVectors, IsRaisedIn};
-ghost use Rattle.causal_order.specs.HappenedBefores.{AreStrictOf, HasGrown, IsWellFormed, TakesNext, raises_of, session_of, taken_of, vectors_of};
+ghost use Rattle.causal_order.specs.Steps.GrowingOrders.{AreHeldVectors, IsRaisedIn};
+ghost use Rattle.causal_order.specs.Steps.HappenedBefores.{AreStrictOf, HasGrown, IsWellFormed, TakesNext, raises_of, session_of, taken_of, vectors_of};
 
 use crate::by_operation::Vectors;
 use crate::growing_order::{GrowingOrder, Raise, Raised};

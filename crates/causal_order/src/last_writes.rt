@@ -1,7 +1,7 @@
 //! The last writes of a variable.
 
 ghost use Rattle.std.specs.Prelude.{◌<◌, ◌↔◌, ℕ, IfOk, IsPermutation};
-ghost use Rattle.causal_order.specs.Written.{AreByVariable, IsBelowWrite, ListsWrites};
+ghost use Rattle.causal_order.specs.Steps.Written.{AreByVariable, IsBelowWrite, ListsWrites};
 
 use crate::writes::{Write, sorted_writes};
 use history::{History, OpId};

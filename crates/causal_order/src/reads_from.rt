@@ -1,8 +1,8 @@
 ghost use Rattle.std.specs.Prelude.{◌<◌, length, IfOk, IfNone, IfSome, MatchOption};
 ghost use Rattle.history.specs.History.{session as operations_of};
-ghost use Rattle.causal_order.specs.HappenedBefores.{AreOpsOrNone};
+ghost use Rattle.causal_order.specs.Steps.HappenedBefores.{AreOpsOrNone};
 ghost use Rattle.causal_order.specs.SourceOrder.{IsSourceOf, LacksSource, ListsSources, ListsSourcesBelow};
-ghost use Rattle.causal_order.specs.Written.{AreInOrder, IsSorted, ListsWrites};
+ghost use Rattle.causal_order.specs.Steps.Written.{AreInOrder, IsSorted, ListsWrites};
 
 use crate::placing::Sources;
 use crate::reads::{initial_value, known_read};

@@ -1,5 +1,5 @@
 ghost use Rattle.std.specs.Prelude.{◌≡◌, ◌∷◌, ◌++◌, ◌<◌, ◌≤◌, List, [], length, IfOk, OnOk, OnErr, slice_index, slice_index_or, slice_set};
-ghost use Rattle.causal_order.specs.FlatRows.{cut, start_of, RisesTo};
+ghost use Rattle.causal_order.specs.Steps.FlatRows.{cut, start_of, RisesTo};
 
 use std::alloc::{AllocError, Global};
 use std::marker::Model;

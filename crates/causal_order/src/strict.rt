@@ -2,9 +2,9 @@
 
 ghost use Rattle.std.specs.Prelude.{◌+◌, ◌<◌, ◌≤◌, ℕ, length, IfOk, OnOk};
 ghost use Rattle.history.specs.History.{session as operations_of};
-ghost use Rattle.causal_order.specs.Gathered.{AreGatheredBefore};
-ghost use Rattle.causal_order.specs.GrowingOrders.{AreHeldVectors};
-ghost use Rattle.causal_order.specs.HappenedBefores.{AreStrictOf, IsStrict};
+ghost use Rattle.causal_order.specs.Steps.Gathered.{AreGatheredBefore};
+ghost use Rattle.causal_order.specs.Steps.GrowingOrders.{AreHeldVectors};
+ghost use Rattle.causal_order.specs.Steps.HappenedBefores.{AreStrictOf, IsStrict};
 
 use crate::by_operation::Vectors;
 use history::{History, OpId};

@@ -1,6 +1,6 @@
 ghost use Rattle.std.specs.Prelude.{◌≡◌, ◌+◌, ◌<◌, ◌↔◌, length, Contains, IfOk, IsTrue, MatchOption, OnOk};
 ghost use Rattle.causal_order.specs.Orders.{op};
-ghost use Rattle.causal_order.specs.Written.{AreInOrder, IsLeastWrite, IsSorted, ListsWrites, ListsWritesBefore};
+ghost use Rattle.causal_order.specs.Steps.Written.{AreInOrder, IsLeastWrite, IsSorted, ListsWrites, ListsWritesBefore};
 
 use history::{History, OpId};
 use objects::{Memory, RegisterCall};

@@ -17,7 +17,7 @@ use Rattle.cert_check.specs.declared.criterion.Criterion.TheVariants as criteria
 use Rattle.cert_check.specs.declared.certificate.Certificate.{Certificate}
 use Rattle.cert_check.specs.declared.certificate.Certificate.TheVariants.{Cc, Cm, Ccv}
 use Rattle.cert_check.specs.CertificateForm.{number_form, list_form, lists_form, form_of, AreBelow, IsCertificate, IsRefusedFor}
-use Rattle.cert_check.specs.CertificateReading.{below, list_at, lists_at, criterion_at, parts_among, parts_at, certificate_with, certificate_by, certificate_at, IsRefusedAs}
+use Rattle.cert_check.specs.Steps.CertificateReading.{below, list_at, lists_at, criterion_at, parts_among, parts_at, certificate_with, certificate_by, certificate_at, IsRefusedAs}
 use Rattle.cert_check.proofs.ListForms.{list_read, list_again}
 
 -- ---- numbers and their lists

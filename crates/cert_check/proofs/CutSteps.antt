@@ -12,7 +12,7 @@ use Rattle.causal_order.proofs.OrdersLaws.{same_op}
 use Rattle.causal_order.specs.Vectors.{Counts, count, IsCounted, IsVectorOk}
 use Rattle.cert_check.specs.Certificates.{counted, IsArbitratedPiece}
 use Rattle.cert_check.specs.Schedules.{times, named, StandsBefore}
-use Rattle.cert_check.specs.Walks.{AreCountsAt, IsAnsweredAfter}
+use Rattle.cert_check.specs.Steps.Walks.{AreCountsAt, IsAnsweredAfter}
 use Rattle.cert_check.proofs.ConvergentLaws.{only-same}
 use Rattle.cert_check.proofs.FilteredLaws.{filter_in_order}
 use Rattle.cert_check.proofs.Named.{times-next, times-same, times-other, times-take-le, named_once}

@@ -7,7 +7,7 @@ use Rattle.serde_json.specs.Data.{Data}
 use Rattle.operations.specs.Json.{list, elements}
 use Rattle.operations.specs.JsonLaws.{elements-list, list_from_elements, and_then_from, map_from}
 use Rattle.cert_check.specs.CertificateForm.{list_form}
-use Rattle.cert_check.specs.CertificateReading.{all_at, list_at}
+use Rattle.cert_check.specs.Steps.CertificateReading.{all_at, list_at}
 
 module _ {A : Type 0} (at : Data → Option A) (form : A → Data) (IsGood : A → Type 0) where
   module _ (element_read : (d : Data) (x : A) → at d ≡ Some x → (d ≡ form x) × IsGood x) where

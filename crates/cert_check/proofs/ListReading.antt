@@ -9,7 +9,7 @@ use Rattle.operations.specs.JsonLaws.{map_from}
 use Rattle.operations.proofs.ListLaws.{rest_from, then_more}
 use Rattle.cert_check.specs.declared.cert_error.CertError.{CertError}
 use Rattle.cert_check.specs.declared.cert_error.CertError.TheVariants.{Memory, BadCertificate}
-use Rattle.cert_check.specs.CertificateReading.{all_at, list_at, IsRefusedAs}
+use Rattle.cert_check.specs.Steps.CertificateReading.{all_at, list_at, IsRefusedAs}
 
 nothing_before : {A : Type 0} (o : Option (List A)) → o ≡ option_map (λ xs. [] ++ xs) o
 nothing_before None = refl

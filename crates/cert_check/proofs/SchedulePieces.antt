@@ -8,7 +8,7 @@ use Rattle.causal_order.specs.Orders.{Ops, StandsAt}
 use Rattle.causal_order.specs.Vectors.{Counts, count, IsVectorOk}
 use Rattle.cert_check.specs.Certificates.{IsScheduledPiece}
 use Rattle.cert_check.specs.Schedules.{times, named}
-use Rattle.cert_check.specs.Walks.{AreCountsAt, AreStepsOk, IsStepOk}
+use Rattle.cert_check.specs.Steps.Walks.{AreCountsAt, AreStepsOk, IsStepOk}
 use Rattle.cert_check.proofs.Named.{length-named}
 
 nothing_past : (list : List ℕ) (i : ℕ) → length list ≤ i → (o : OpId) → StandsAt (named list) i o → ⊥

@@ -12,7 +12,7 @@ use Rattle.causal_order.specs.Orders.{Ops, op, StandsAt}
 use Rattle.causal_order.proofs.OrdersLaws.{same_op, session-of_history}
 use Rattle.causal_order.specs.Vectors.{Counts, count, IsCounted}
 use Rattle.cert_check.specs.Schedules.{times, named, StandsBefore}
-use Rattle.cert_check.specs.Walks.{AreCountsAt, IsAnsweredAfter, IsStepOk, IsWalkAt}
+use Rattle.cert_check.specs.Steps.Walks.{AreCountsAt, IsAnsweredAfter, IsStepOk, IsWalkAt}
 use Rattle.cert_check.proofs.Named.{times-next, times-same, times-other, times-take-le, named_at, named_is, take_next, counted_from_before, before_from_counted}
 
 -- one call more

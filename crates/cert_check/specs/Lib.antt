@@ -3,6 +3,5 @@ pub mod Schedules
 pub mod Certificates
 pub mod Witnesses
 pub mod DeskErrors
-pub mod Walks
 pub mod CertificateForm
-pub mod CertificateReading
+pub mod Steps

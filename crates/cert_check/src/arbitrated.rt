@@ -4,7 +4,7 @@ ghost use Rattle.causal_order.specs.Orders.{StandsAt};
 ghost use Rattle.causal_order.specs.Vectors.{AreVectorsOf};
 ghost use Rattle.cert_check.specs.Certificates.{counted, IsArbitratedPiece};
 ghost use Rattle.cert_check.specs.Schedules.{named, times};
-ghost use Rattle.cert_check.specs.Walks.{IsWalkAt};
+ghost use Rattle.cert_check.specs.Steps.Walks.{IsWalkAt};
 
 use crate::walk::Walk;
 use causal_order::{Vectors, vector_ok};

@@ -1,7 +1,7 @@
 ghost use Rattle.std.specs.Prelude.{◌≡◌, ◌^◌, Option};
 ghost use Rattle.serde_json.specs.Data.{Data};
 ghost use Rattle.serde_json.specs.View.{view};
-ghost use Rattle.cert_check.specs.CertificateReading.{below};
+ghost use Rattle.cert_check.specs.Steps.CertificateReading.{below};
 
 use serde_json::Value;
 

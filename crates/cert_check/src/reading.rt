@@ -3,7 +3,7 @@
 ghost use Rattle.std.specs.Prelude.{◌≡◌, Some, option_map, IfOk, IfErr, MatchResult};
 ghost use Rattle.serde_json.specs.View.{view};
 ghost use Rattle.cert_check.specs.CertificateForm.{form_of, IsCertificate, IsRefusedFor};
-ghost use Rattle.cert_check.specs.CertificateReading.{criterion_at, certificate_by, parts_at, IsRefusedAs};
+ghost use Rattle.cert_check.specs.Steps.CertificateReading.{criterion_at, certificate_by, parts_at, IsRefusedAs};
 
 use crate::arbitration::Arbitration;
 use crate::cert_error::CertError;

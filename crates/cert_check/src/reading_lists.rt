@@ -2,7 +2,7 @@
 
 ghost use Rattle.std.specs.Prelude.{◌≡◌, ◌++◌, ◌∷◌, [], Some, option_map, IfOk, IfErr, OnOk};
 ghost use Rattle.serde_json.specs.View.{view};
-ghost use Rattle.cert_check.specs.CertificateReading.{list_at, lists_at, IsRefusedAs};
+ghost use Rattle.cert_check.specs.Steps.CertificateReading.{list_at, lists_at, IsRefusedAs};
 
 use crate::cert_error::CertError;
 use crate::number::Number;

@@ -3,7 +3,7 @@ ghost use Rattle.history.specs.History.{IsOp};
 ghost use Rattle.causal_order.specs.Vectors.{count, AreVectorsOf};
 ghost use Rattle.cert_check.specs.Certificates.{IsScheduledPiece};
 ghost use Rattle.cert_check.specs.Schedules.{named, times};
-ghost use Rattle.cert_check.specs.Walks.{kept_of, AreStepsOk};
+ghost use Rattle.cert_check.specs.Steps.Walks.{kept_of, AreStepsOk};
 
 use crate::kept::Kept;
 use crate::walk::Walk;

@@ -6,7 +6,7 @@ ghost use Rattle.causal_order.specs.Vectors.{count, AreVectorsOf};
 ghost use Rattle.causal_order.specs.Vectors.{HasListOf};
 ghost use Rattle.cert_check.specs.Certificates.{counted};
 ghost use Rattle.cert_check.specs.Schedules.{named};
-ghost use Rattle.cert_check.specs.Walks.{kept_of, IsAnsweredAfter, IsStepOk, IsWalkAt};
+ghost use Rattle.cert_check.specs.Steps.Walks.{kept_of, IsAnsweredAfter, IsStepOk, IsWalkAt};
 
 use crate::kept::Kept;
 use causal_order::{Vectors, count_of, is_at_most};

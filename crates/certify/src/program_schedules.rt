@@ -1,5 +1,5 @@
 ghost use Rattle.std.specs.Prelude.{◌+◌, ◌<◌, ◌≤◌, length, IfOk, OnOk};
-ghost use Rattle.causal_order.specs.Gathered.{AreGatheredBefore};
+ghost use Rattle.causal_order.specs.Steps.Gathered.{AreGatheredBefore};
 ghost use Rattle.causal_order.specs.Vectors.{HasOneEach};
 ghost use Rattle.certify.specs.ByProgramOrder.{AreOwnSchedules, IsOwnSchedule};
 

@@ -3,10 +3,10 @@
 ghost use Rattle.std.specs.Prelude.{◌≡◌, ◌⊎◌, ◌+◌, ◌<◌, ◌≤◌, length, IfNone, IfOk, IfSome, OnOk};
 ghost use Rattle.history.specs.History.{IsOp};
 ghost use Rattle.history.specs.declared.op_id.OpId.{OpId as Operation};
-ghost use Rattle.causal_order.specs.Gathered.{AreGatheredBefore};
+ghost use Rattle.causal_order.specs.Steps.Gathered.{AreGatheredBefore};
 ghost use Rattle.causal_order.specs.SourceOrder.{CountsSourceOrder, LacksSource, SourceOrder};
 ghost use Rattle.causal_order.specs.Vectors.{HasOneEach, list_of};
-ghost use Rattle.causal_order.specs.Written.{AreInOrder, IsSorted, ListsWrites};
+ghost use Rattle.causal_order.specs.Steps.Written.{AreInOrder, IsSorted, ListsWrites};
 ghost use Rattle.cert_check.specs.Certificates.{criterion_of, HasShapeOf};
 ghost use Rattle.certify_cc.specs.BySources.{IsBySources, IsScheduleFor};
 

@@ -17,7 +17,7 @@ use Rattle.causal_order.specs.SourceOrder.{CountsSourceOrder, SourceOrder}
 use Rattle.causal_order.specs.Topological.{placed, next_of, CanGoOn}
 use Rattle.causal_order.specs.Vectors.{Counts, count, list_of, IsCounted, AreVectorsOf}
 use Rattle.cert_check.specs.Schedules.{times}
-use Rattle.certify_ccv.specs.Rows.{IsCountedRival, IsRow, IsLimit, AreLimits, IsWalkOver}
+use Rattle.certify_ccv.specs.Steps.Rows.{IsCountedRival, IsRow, IsLimit, AreLimits, IsWalkOver}
 use Rattle.certify_ccv.specs.ByConflicts.{SourceConflict, ComesFirst, CanStand, GoesByRule}
 use Rattle.certify_ccv.proofs.SourcedReads.{source-of_history}
 

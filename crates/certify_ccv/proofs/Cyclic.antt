@@ -16,7 +16,7 @@ use Rattle.causal_order.proofs.WaitingCycles.{waiting-cycle}
 use Rattle.causal_order.specs.SourceOrder.{CountsSourceOrder, IsSourceEdge, SourceOrder}
 use Rattle.causal_order.specs.Topological.{placed, next_of}
 use Rattle.causal_order.specs.Vectors.{Counts, count, list_of, AreVectorsOf}
-use Rattle.certify_ccv.specs.Rows.{IsRow, IsWalkOver}
+use Rattle.certify_ccv.specs.Steps.Rows.{IsRow, IsWalkOver}
 use Rattle.certify_ccv.specs.ByConflicts.{SourceConflict, ComesFirst}
 use Rattle.certify_ccv.proofs.ByRule.{part-first, limit}
 

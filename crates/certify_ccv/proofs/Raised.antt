@@ -16,9 +16,9 @@ use Rattle.causal_order.proofs.OrdersLaws.{same_op}
 use Rattle.causal_order.specs.SourceOrder.{IsSource}
 use Rattle.causal_order.specs.Vectors.{Counts, count}
 use Rattle.causal_order.proofs.EarlierLaws.{by_op_total, by_op-itself, earlier-less, less-index, neither_earlier}
-use Rattle.causal_order.specs.Written.{by_op, IsBelowWrite, ListsWrites}
+use Rattle.causal_order.specs.Steps.Written.{by_op, IsBelowWrite, ListsWrites}
 use Rattle.certify_ccv.specs.declared.sourced_reads.SourcedRead.{SourcedRead}
-use Rattle.certify_ccv.specs.Rows.{AreBySource, IsCountedRival, IsRow, ListsReads}
+use Rattle.certify_ccv.specs.Steps.Rows.{AreBySource, IsCountedRival, IsRow, ListsReads}
 
 not_no : (b : Bool) → not b ≡ false → b ≡ true
 not_no true is = refl

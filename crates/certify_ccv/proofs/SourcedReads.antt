@@ -11,7 +11,7 @@ use Rattle.causal_order.proofs.EarlierLaws.{neither_earlier}
 use Rattle.causal_order.proofs.ListedLaws.{listed-item, listed-none, listed-session, listed-end}
 use Rattle.causal_order.specs.SourceOrder.{IsSource, IsSourceOf}
 use Rattle.certify_ccv.specs.declared.sourced_reads.SourcedRead.{SourcedRead}
-use Rattle.certify_ccv.specs.Rows.{ListsReads, ListsReadsBefore}
+use Rattle.certify_ccv.specs.Steps.Rows.{ListsReads, ListsReadsBefore}
 
 module _ (h : MemoryHistory) where
   pub ListsReads-permutation : (before after : List SourcedRead) → IsPermutation before after → ListsReads h before → ListsReads h after

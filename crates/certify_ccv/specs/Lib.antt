@@ -1,2 +1,2 @@
 pub mod ByConflicts
-pub mod Rows
+pub mod Steps

@@ -10,7 +10,7 @@ ghost use Rattle.causal_order.specs.Vectors.{AreVectorsOf};
 ghost use Rattle.cert_check.specs.Certificates.{criterion_of, HasShapeOf};
 ghost use Rattle.cert_check.specs.Schedules.{times};
 ghost use Rattle.certify_ccv.specs.ByConflicts.{ComesFirst, IsByConflicts};
-ghost use Rattle.certify_ccv.specs.Rows.{IsWalkOver};
+ghost use Rattle.certify_ccv.specs.Steps.Rows.{IsWalkOver};
 
 use crate::limits::limits_of;
 use crate::rows::rows_of;

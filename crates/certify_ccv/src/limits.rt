@@ -2,7 +2,7 @@
 
 ghost use Rattle.std.specs.Prelude.{◌<◌, ◌≤◌, length, IfOk};
 ghost use Rattle.causal_order.specs.Vectors.{AreVectorsOf};
-ghost use Rattle.certify_ccv.specs.Rows.{AreLimits, IsLimit};
+ghost use Rattle.certify_ccv.specs.Steps.Rows.{AreLimits, IsLimit};
 
 use causal_order::Vectors;
 use history::{History, OpId};

@@ -3,12 +3,12 @@
 ghost use Rattle.std.specs.Prelude.{◌≡◌, ◌⊎◌, ◌↔◌, ◌+◌, ◌<◌, ◌≤◌, ℕ, length, slice_index_or, IfOk, OnOk};
 ghost use Rattle.history.specs.declared.op_id.OpId.{OpId as Operation};
 ghost use Rattle.history.specs.History.{IsOp};
-ghost use Rattle.causal_order.specs.Gathered.{AreGatheredBefore};
+ghost use Rattle.causal_order.specs.Steps.Gathered.{AreGatheredBefore};
 ghost use Rattle.causal_order.specs.Orders.{op as operation};
 ghost use Rattle.causal_order.specs.SourceOrder.{CountsSourceOrder};
 ghost use Rattle.causal_order.specs.Vectors.{AreVectorsOf, list_of};
-ghost use Rattle.causal_order.specs.Written.{AreByVariable, IsBelowWrite, ListsWrites};
-ghost use Rattle.certify_ccv.specs.Rows.{AreBySource, IsCountedRival, IsRow, ListsReads};
+ghost use Rattle.causal_order.specs.Steps.Written.{AreByVariable, IsBelowWrite, ListsWrites};
+ghost use Rattle.certify_ccv.specs.Steps.Rows.{AreBySource, IsCountedRival, IsRow, ListsReads};
 
 use crate::sourced_reads::{SourcedRead, sourced_reads};
 use causal_order::{Vectors, Write, end_of_writes, writes_by_variable};

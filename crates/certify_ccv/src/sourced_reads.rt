@@ -3,8 +3,8 @@
 ghost use Rattle.std.specs.Prelude.{◌+◌, ◌<◌, length, IfOk, OnOk};
 ghost use Rattle.causal_order.specs.Orders.{op};
 ghost use Rattle.causal_order.specs.SourceOrder.{LacksSource};
-ghost use Rattle.causal_order.specs.Written.{AreInOrder, IsSorted, ListsWrites};
-ghost use Rattle.certify_ccv.specs.Rows.{AreBySource, ListsReads, ListsReadsBefore};
+ghost use Rattle.causal_order.specs.Steps.Written.{AreInOrder, IsSorted, ListsWrites};
+ghost use Rattle.certify_ccv.specs.Steps.Rows.{AreBySource, ListsReads, ListsReadsBefore};
 
 use causal_order::{Write, sorted_writes, source_of};
 use history::{History, OpId};

@@ -1,8 +1,8 @@
 //! Certificates of memory histories by their happened-before relations.
 
 ghost use Rattle.std.specs.Prelude.{◌≡◌, ◌+◌, ◌<◌, ◌≤◌, length, IfOk, IfSome, IsTrue, OnOk};
-ghost use Rattle.causal_order.specs.Gathered.{AreGatheredBefore};
-ghost use Rattle.causal_order.specs.GrowingOrders.{AreHeldVectors};
+ghost use Rattle.causal_order.specs.Steps.Gathered.{AreGatheredBefore};
+ghost use Rattle.causal_order.specs.Steps.GrowingOrders.{AreHeldVectors};
 ghost use Rattle.causal_order.specs.SourceOrder.{CountsSourceOrder};
 ghost use Rattle.causal_order.specs.Vectors.{HasOneEach};
 ghost use Rattle.cert_check.specs.Certificates.{criterion_of, HasShapeOf, vectors_of};

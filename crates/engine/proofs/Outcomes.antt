@@ -12,7 +12,7 @@ use Rattle.operations.specs.Refusals.{IsFirst}
 use Rattle.operations.proofs.AnyForms.{any_forms_are_distinct}
 use Rattle.cert_check.specs.declared.certificate.Certificate.{Certificate}
 use Rattle.cert_check.specs.CertificateForm.{IsCertificate, form_of as certificate_form}
-use Rattle.cert_check.specs.CertificateReading.{certificate_at}
+use Rattle.cert_check.specs.Steps.CertificateReading.{certificate_at}
 use Rattle.cert_check.proofs.CertificateForms.{certificate_again}
 use Rattle.engine.specs.declared.command_line.Order.{Order}
 use Rattle.engine.specs.declared.command_line.Order.TheVariants.{Judge, Check}

@@ -4,4 +4,4 @@ pub mod Report
 pub mod Checking
 pub mod Running
 pub mod ReadCalls
-pub mod Transfer
+pub mod Steps

@@ -3,7 +3,7 @@ ghost use Rattle.std.specs.Prelude.{◌≡◌, ◌+◌, ◌++◌, ◌<◌, ◌�
 ghost use Rattle.std.specs.Io.KnownBytes.{IsAtEnd};
 ghost use Rattle.engine.specs.Failure.{IsInputError};
 ghost use Rattle.engine.specs.ReadCalls.{CallsAtMost, CameTo, EndsBy, FindsNoEnd, IsEnd, Outcome};
-ghost use Rattle.engine.specs.Transfer.{Gives, GivesPast, MovesTo};
+ghost use Rattle.engine.specs.Steps.Transfer.{Gives, GivesPast, MovesTo};
 
 use crate::failure::RunError;
 use crate::source::Source;

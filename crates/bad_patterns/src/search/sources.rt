@@ -1,7 +1,7 @@
 ghost use Rattle.std.specs.Prelude.{◌<◌, length, IfOk};
 ghost use Rattle.history.specs.History.{session as operations_of};
-ghost use Rattle.causal_order.specs.Written.{AreInOrder, IsSorted, ListsWrites};
-ghost use Rattle.bad_patterns.specs.KnownSources.{IsKnownSourceOf, ListsKnownBelow, ListsKnownSources};
+ghost use Rattle.causal_order.specs.Steps.Written.{AreInOrder, IsSorted, ListsWrites};
+ghost use Rattle.bad_patterns.specs.Steps.KnownSources.{IsKnownSourceOf, ListsKnownBelow, ListsKnownSources};
 
 use causal_order::{Rows, Sources, Write, initial_value, known_read, least_write};
 use history::{History, OpId};

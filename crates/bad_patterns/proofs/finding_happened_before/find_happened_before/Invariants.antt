@@ -1,5 +1,5 @@
 use Rattle.std.proofs.Common.{IfSome}
-use Rattle.bad_patterns.specs.Found.{IsFirstFound}
+use Rattle.bad_patterns.specs.Steps.Found.{IsFirstFound}
 use Rattle.bad_patterns.specs.Patterns.{IsBadPattern}
 use Rattle.bad_patterns.proofs.finding_happened_before.find_happened_before.Given as goal
 

@@ -1,5 +1,5 @@
 use Rattle.std.specs.List.{AllAdjacentBelow}
-use Rattle.causal_order.specs.Written.{IsOne}
+use Rattle.causal_order.specs.Steps.Written.{IsOne}
 use Rattle.causal_order.proofs.differentiation.are_once.Given as goal
 
 -- neighbours so far that write one value to one variable are one operation

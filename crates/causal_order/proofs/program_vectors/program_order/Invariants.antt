@@ -1,5 +1,5 @@
 use Rattle.std.proofs.Common.{length}
-use Rattle.causal_order.specs.Gathered.{AreGatheredBefore}
+use Rattle.causal_order.specs.Steps.Gathered.{AreGatheredBefore}
 use Rattle.causal_order.specs.ProgramOrder.{IsOwnVector}
 use Rattle.causal_order.proofs.program_vectors.program_order.Given as goal
 

@@ -1,5 +1,5 @@
 use Rattle.std.proofs.Common.{◌≡◌, ◌≢◌, ℕ, length, get_or}
-use Rattle.causal_order.specs.Gathered.{AreGatheredUpTo}
+use Rattle.causal_order.specs.Steps.Gathered.{AreGatheredUpTo}
 use Rattle.causal_order.specs.ProgramOrder.{IsOwnVector}
 use Rattle.causal_order.proofs.program_vectors.push_own_vectors.Given as goal
 

@@ -1,4 +1,4 @@
-use Rattle.causal_order.specs.HappenedBefores.{AreOpsOrNone}
+use Rattle.causal_order.specs.Steps.HappenedBefores.{AreOpsOrNone}
 use Rattle.causal_order.proofs.reads_from.known_sources.Given as goal
 
 -- the operations so far have their sources

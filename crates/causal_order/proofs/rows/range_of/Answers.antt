@@ -1,5 +1,5 @@
 use Rattle.std.proofs.Common.{◌∙◌, sym, ap, arith}
-use Rattle.causal_order.specs.FlatRows.{start_of}
+use Rattle.causal_order.specs.Steps.FlatRows.{start_of}
 use Rattle.causal_order.proofs.Flat.{start-later, rises-start, rises-end}
 use Rattle.causal_order.proofs.rows.range_of.Goals as goal
 use Rattle.causal_order.proofs.rows.range_of.Goals.{then-i-eq0, else-i-eq0}

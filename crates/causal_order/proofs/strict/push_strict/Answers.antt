@@ -1,6 +1,6 @@
 use Rattle.std.proofs.Common.{List, ℕ, length, sym, ap, subst, arith, ◌∙◌}
 use Rattle.causal_order.specs.Orders.{op}
-use Rattle.causal_order.specs.HappenedBefores.{IsStrict}
+use Rattle.causal_order.specs.Steps.HappenedBefores.{IsStrict}
 use Rattle.causal_order.proofs.GatheredLaws.{gathered-push}
 use Rattle.causal_order.proofs.StrictVectors.{strict-row}
 use Rattle.causal_order.proofs.strict.push_strict.Goals as goal

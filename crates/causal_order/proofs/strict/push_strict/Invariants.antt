@@ -1,6 +1,6 @@
 use Rattle.std.proofs.Common.{length}
-use Rattle.causal_order.specs.Gathered.{AreGatheredUpTo}
-use Rattle.causal_order.specs.HappenedBefores.{IsStrict}
+use Rattle.causal_order.specs.Steps.Gathered.{AreGatheredUpTo}
+use Rattle.causal_order.specs.Steps.HappenedBefores.{IsStrict}
 use Rattle.causal_order.proofs.strict.push_strict.Given as goal
 
 -- the operations so far have their vectors

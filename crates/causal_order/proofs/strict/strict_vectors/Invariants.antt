@@ -1,7 +1,7 @@
 use Rattle.std.proofs.Common.{◌<◌, ◌≤◌, ℕ, length}
 use Rattle.history.specs.History.{session}
-use Rattle.causal_order.specs.Gathered.{AreGatheredBefore}
-use Rattle.causal_order.specs.HappenedBefores.{IsStrict}
+use Rattle.causal_order.specs.Steps.Gathered.{AreGatheredBefore}
+use Rattle.causal_order.specs.Steps.HappenedBefores.{IsStrict}
 use Rattle.causal_order.proofs.strict.strict_vectors.Given as goal
 
 -- the sessions so far have their vectors

@@ -1,5 +1,5 @@
 use Rattle.causal_order.specs.Orders.{op}
-use Rattle.causal_order.specs.Written.{ListsWritesBefore}
+use Rattle.causal_order.specs.Steps.Written.{ListsWritesBefore}
 use Rattle.causal_order.proofs.writes.push_writes.Given as goal
 
 -- the writes so far are listed

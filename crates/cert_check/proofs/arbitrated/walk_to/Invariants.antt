@@ -1,7 +1,7 @@
 use Rattle.std.proofs.Common.{◌≤◌, filter, take}
 use Rattle.cert_check.specs.Certificates.{counted}
 use Rattle.cert_check.specs.Schedules.{named, times}
-use Rattle.cert_check.specs.Walks.{IsWalkAt}
+use Rattle.cert_check.specs.Steps.Walks.{IsWalkAt}
 use Rattle.cert_check.proofs.arbitrated.walk_to.Given as goal
 
 -- the walk has taken in what the vector counts of the operations named so far, and the operation was not named so far

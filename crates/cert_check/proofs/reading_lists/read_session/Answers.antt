@@ -2,7 +2,7 @@ use Rattle.std.proofs.Common.{map, sym}
 use Rattle.std.proofs.lemmas.Result.{err_from_is_err_and}
 use Rattle.serde_json.specs.View.{view}
 use Rattle.operations.proofs.ListLaws.{slice_get-mapped}
-use Rattle.cert_check.specs.CertificateReading.{list_at}
+use Rattle.cert_check.specs.Steps.CertificateReading.{list_at}
 use Rattle.cert_check.proofs.ListReading.{pushed, not_pushed, refused_too, list_of_none}
 use Rattle.cert_check.proofs.reading_lists.read_session.Goals as goal
 

@@ -1,6 +1,6 @@
 use Rattle.std.proofs.Common.{map}
 use Rattle.serde_json.specs.View.{view}
-use Rattle.cert_check.specs.CertificateReading.{list_at}
+use Rattle.cert_check.specs.Steps.CertificateReading.{list_at}
 use Rattle.cert_check.proofs.ListReading.{IsPushedUpTo}
 use Rattle.cert_check.proofs.reading_lists.read_session.Given as goal
 

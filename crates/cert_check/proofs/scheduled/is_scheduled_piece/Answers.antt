@@ -4,7 +4,7 @@ use Rattle.std.proofs.lemmas.Result.{IfOk-weaker}
 use Rattle.causal_order.specs.Vectors.{count}
 use Rattle.cert_check.specs.Certificates.{IsScheduledPiece}
 use Rattle.cert_check.specs.Schedules.{named, times}
-use Rattle.cert_check.specs.Walks.{kept_of, AreStepsOk}
+use Rattle.cert_check.specs.Steps.Walks.{kept_of, AreStepsOk}
 use Rattle.cert_check.proofs.SchedulePieces.{piece-from, piece-walked}
 use Rattle.cert_check.proofs.scheduled.is_scheduled_piece.Goals as goal
 

@@ -3,7 +3,7 @@ use borrow.Author.Count.{below_more}
 use Rattle.std.proofs.lemmas.Bool.{both_ways}
 use Rattle.std.proofs.lemmas.Option.{slice_get-get_or}
 use Rattle.cert_check.specs.Schedules.{named}
-use Rattle.cert_check.specs.Walks.{kept_of, IsStepOk}
+use Rattle.cert_check.specs.Steps.Walks.{kept_of, IsStepOk}
 use Rattle.cert_check.proofs.SchedulePieces.{counts_at_end, steps_all}
 use Rattle.cert_check.proofs.scheduled.is_walked.Goals as goal
 

@@ -1,6 +1,6 @@
 use Rattle.std.proofs.Common.{ℕ, ◌<◌, take}
 use Rattle.cert_check.specs.Schedules.{named}
-use Rattle.cert_check.specs.Walks.{kept_of, IsStepOk, IsWalkAt}
+use Rattle.cert_check.specs.Steps.Walks.{kept_of, IsStepOk, IsWalkAt}
 use Rattle.cert_check.proofs.scheduled.is_walked.Given as goal
 
 -- the walk has taken in what was named so far, and each step so far is good

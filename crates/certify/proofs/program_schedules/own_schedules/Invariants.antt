@@ -1,4 +1,4 @@
-use Rattle.causal_order.specs.Gathered.{AreGatheredBefore}
+use Rattle.causal_order.specs.Steps.Gathered.{AreGatheredBefore}
 use Rattle.certify.specs.ByProgramOrder.{IsOwnSchedule}
 use Rattle.certify.proofs.program_schedules.own_schedules.Given as goal
 

@@ -1,5 +1,5 @@
 use Rattle.std.proofs.Common.{◌≡◌, replicate}
-use Rattle.causal_order.specs.Gathered.{AreGatheredUpTo}
+use Rattle.causal_order.specs.Steps.Gathered.{AreGatheredUpTo}
 use Rattle.certify.specs.ByProgramOrder.{IsOwnSchedule}
 use Rattle.certify.proofs.program_schedules.push_own_schedules.Given as goal
 

@@ -1,4 +1,4 @@
-use Rattle.causal_order.specs.Gathered.{AreGatheredUpTo}
+use Rattle.causal_order.specs.Steps.Gathered.{AreGatheredUpTo}
 use Rattle.certify_cc.specs.BySources.{IsScheduleFor}
 use Rattle.certify_cc.proofs.by_sources.push_schedules.Given as goal
 

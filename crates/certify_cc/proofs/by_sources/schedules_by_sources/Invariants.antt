@@ -1,4 +1,4 @@
-use Rattle.causal_order.specs.Gathered.{AreGatheredBefore}
+use Rattle.causal_order.specs.Steps.Gathered.{AreGatheredBefore}
 use Rattle.certify_cc.specs.BySources.{IsScheduleFor}
 use Rattle.certify_cc.proofs.by_sources.schedules_by_sources.Given as goal
 

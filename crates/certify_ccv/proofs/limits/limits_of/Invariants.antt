@@ -1,5 +1,5 @@
 use Rattle.std.proofs.Common.{◌≡◌, ◌<◌, ℕ, length, get_or}
-use Rattle.certify_ccv.specs.Rows.{IsLimit}
+use Rattle.certify_ccv.specs.Steps.Rows.{IsLimit}
 use Rattle.certify_ccv.proofs.limits.limits_of.Given as goal
 
 -- the sessions so far have their limits

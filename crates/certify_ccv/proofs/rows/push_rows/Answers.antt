@@ -2,7 +2,7 @@ use Rattle.std.proofs.Common.{◌≡◌, ◌⊎◌, ◌↔◌, ◌<◌, ◌≤�
 use Rattle.causal_order.specs.Orders.{op}
 use Rattle.causal_order.specs.Vectors.{list_of}
 use Rattle.causal_order.proofs.GatheredLaws.{gathered-session, gathered-push}
-use Rattle.certify_ccv.specs.Rows.{IsRow, IsCountedRival}
+use Rattle.certify_ccv.specs.Steps.Rows.{IsRow, IsCountedRival}
 use Rattle.certify_ccv.proofs.Raised.{row-raised}
 use Rattle.certify_ccv.proofs.rows.push_rows.Goals as goal
 

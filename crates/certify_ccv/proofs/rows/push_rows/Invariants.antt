@@ -1,6 +1,6 @@
 use Rattle.std.proofs.Common.{length}
-use Rattle.causal_order.specs.Gathered.{AreGatheredUpTo}
-use Rattle.certify_ccv.specs.Rows.{IsRow}
+use Rattle.causal_order.specs.Steps.Gathered.{AreGatheredUpTo}
+use Rattle.certify_ccv.specs.Steps.Rows.{IsRow}
 use Rattle.certify_ccv.proofs.rows.push_rows.Given as goal
 
 -- the operations so far have their rows

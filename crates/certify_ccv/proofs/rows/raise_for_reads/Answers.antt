@@ -7,7 +7,7 @@ use Rattle.causal_order.proofs.OrdersLaws.{session-of_history}
 use Rattle.causal_order.specs.Orders.{op}
 use Rattle.causal_order.specs.Vectors.{list_of}
 use Rattle.certify_ccv.specs.declared.sourced_reads.SourcedRead.{SourcedRead}
-use Rattle.causal_order.specs.Written.{IsBelowWrite}
+use Rattle.causal_order.specs.Steps.Written.{IsBelowWrite}
 use Rattle.certify_ccv.proofs.SourcedReads.{source-of_history}
 use Rattle.certify_ccv.proofs.Raised.{same_operation, other_operation, is_before, before-partitioned, from-start, none-behind, raised_for-next, raised_for-all}
 use Rattle.certify_ccv.proofs.rows.raise_for_reads.Goals as goal

@@ -1,5 +1,5 @@
 use Rattle.std.proofs.Common.{◌≡◌, ◌⊎◌, ◌↔◌, ◌<◌, ◌≤◌, ℕ, length, get_or}
-use Rattle.causal_order.specs.Written.{IsBelowWrite}
+use Rattle.causal_order.specs.Steps.Written.{IsBelowWrite}
 use Rattle.certify_ccv.proofs.rows.raise_to_writes.Given as goal
 
 -- the counts of the sessions so far are raised, the others are as they were

@@ -1,6 +1,6 @@
 use Rattle.std.proofs.Common.{◌≡◌, length, arith}
 use Rattle.causal_order.proofs.GatheredLaws.{gathered-shape, gathered-each}
-use Rattle.certify_ccv.specs.Rows.{IsRow}
+use Rattle.certify_ccv.specs.Steps.Rows.{IsRow}
 use Rattle.certify_ccv.proofs.rows.rows_of.Goals as goal
 
 pub returns-clause-shape : goal.returns-clause-shape

@@ -1,6 +1,6 @@
 use Rattle.std.proofs.Common.{length}
-use Rattle.causal_order.specs.Gathered.{AreGatheredBefore}
-use Rattle.certify_ccv.specs.Rows.{IsRow}
+use Rattle.causal_order.specs.Steps.Gathered.{AreGatheredBefore}
+use Rattle.certify_ccv.specs.Steps.Rows.{IsRow}
 use Rattle.certify_ccv.proofs.rows.rows_of.Given as goal
 
 -- the sessions so far have their rows

@@ -1,5 +1,5 @@
 use Rattle.causal_order.specs.Orders.{op}
-use Rattle.certify_ccv.specs.Rows.{ListsReadsBefore}
+use Rattle.certify_ccv.specs.Steps.Rows.{ListsReadsBefore}
 use Rattle.certify_ccv.proofs.sourced_reads.push_sourced_reads.Given as goal
 
 -- the reads so far are listed

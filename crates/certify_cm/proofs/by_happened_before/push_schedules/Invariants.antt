@@ -1,6 +1,6 @@
 use Rattle.std.proofs.Common.{◌≡◌}
-use Rattle.causal_order.specs.Gathered.{AreGatheredUpTo}
-use Rattle.causal_order.specs.HappenedBefores.{IsWellFormed, session_of, taken_of}
+use Rattle.causal_order.specs.Steps.Gathered.{AreGatheredUpTo}
+use Rattle.causal_order.specs.Steps.HappenedBefores.{IsWellFormed, session_of, taken_of}
 use Rattle.certify_cm.specs.Turns.{TakesTurns}
 use Rattle.certify_cm.proofs.by_happened_before.push_schedules.Given as goal
 

@@ -1,4 +1,4 @@
-use Rattle.causal_order.specs.Gathered.{AreGatheredBefore}
+use Rattle.causal_order.specs.Steps.Gathered.{AreGatheredBefore}
 use Rattle.certify_cm.specs.Turns.{TakesTurns}
 use Rattle.certify_cm.proofs.by_happened_before.schedules_by_happened_before.Given as goal
 

@@ -1,4 +1,4 @@
-use Rattle.bad_patterns.specs.KnownSources.{ListsKnownBelow}
+use Rattle.bad_patterns.specs.Steps.KnownSources.{ListsKnownBelow}
 use Rattle.bad_patterns.proofs.search.sources.session_sources.Given as goal
 
 -- the sources so far are listed

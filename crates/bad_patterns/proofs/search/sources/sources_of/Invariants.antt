@@ -1,4 +1,4 @@
-use Rattle.bad_patterns.specs.KnownSources.{ListsKnownSoFar}
+use Rattle.bad_patterns.specs.Steps.KnownSources.{ListsKnownSoFar}
 use Rattle.bad_patterns.proofs.search.sources.sources_of.Given as goal
 
 -- the sources of the sessions so far are listed

@@ -1,4 +1,4 @@
-use Rattle.causal_order.specs.GrowingOrders.{Grows}
+use Rattle.causal_order.specs.Steps.GrowingOrders.{Grows}
 use Rattle.causal_order.proofs.growing_order.GrowingOrder.follow.Given as goal
 
 -- what was raised so far

@@ -1,6 +1,6 @@
 use Rattle.std.proofs.Common.{◌<◌, ◌≤◌, length}
 use Rattle.history.specs.History.{session}
-use Rattle.causal_order.specs.GrowingOrders.{Grows, left_of}
+use Rattle.causal_order.specs.Steps.GrowingOrders.{Grows, left_of}
 use Rattle.causal_order.proofs.growing_order.GrowingOrder.raise_up_to.Given as goal
 
 -- what was raised so far

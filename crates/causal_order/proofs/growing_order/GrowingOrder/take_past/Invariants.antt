@@ -1,4 +1,4 @@
-use Rattle.causal_order.specs.GrowingOrders.{Grows}
+use Rattle.causal_order.specs.Steps.GrowingOrders.{Grows}
 use Rattle.causal_order.proofs.growing_order.GrowingOrder.take_past.Given as goal
 
 -- the operations so far are taken in

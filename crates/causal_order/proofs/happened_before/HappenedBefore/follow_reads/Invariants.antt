@@ -1,4 +1,4 @@
-use Rattle.causal_order.specs.HappenedBefores.{HasGrown}
+use Rattle.causal_order.specs.Steps.HappenedBefores.{HasGrown}
 use Rattle.causal_order.proofs.happened_before.HappenedBefore.follow_reads.Given as goal
 
 -- the relation so far

@@ -4,7 +4,7 @@ use Rattle.causal_order.specs.declared.writes.Write.{Write}
 use Rattle.causal_order.specs.Memory.{MemoryHistory}
 use Rattle.causal_order.proofs.MemoryLaws.{write-of_history}
 use Rattle.causal_order.specs.Orders.{op}
-use Rattle.causal_order.specs.Written.{IsBelowWrite, ListsWrites}
+use Rattle.causal_order.specs.Steps.Written.{IsBelowWrite, ListsWrites}
 use Rattle.causal_order.proofs.happened_before.HappenedBefore.last_write.Goals as goal
 
 -- what is not after a write of the history is of the history

@@ -1,5 +1,5 @@
-use Rattle.causal_order.specs.GrowingOrders.{left_of}
-use Rattle.causal_order.specs.HappenedBefores.{HasGrown}
+use Rattle.causal_order.specs.Steps.GrowingOrders.{left_of}
+use Rattle.causal_order.specs.Steps.HappenedBefores.{HasGrown}
 use Rattle.causal_order.proofs.happened_before.HappenedBefore.saturate.Given as goal
 
 -- the relation so far

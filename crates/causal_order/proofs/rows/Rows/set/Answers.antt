@@ -1,5 +1,5 @@
 use Rattle.std.proofs.Common.{List, ℕ, ◌<◌, ◌≡◌, ◌+◌, ◌∙◌, length, get_or, set, ap, sym, subst, arith, []}
-use Rattle.causal_order.specs.FlatRows.{cut, start_of}
+use Rattle.causal_order.specs.Steps.FlatRows.{cut, start_of}
 use Rattle.causal_order.proofs.Flat.{cut-length, cut-set, inside-part, rises-end}
 use Rattle.causal_order.proofs.rows.Rows.set.Goals as goal
 

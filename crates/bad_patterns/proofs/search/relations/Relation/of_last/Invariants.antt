@@ -1,5 +1,5 @@
 use Rattle.std.proofs.Common.{◌≡◌}
-use Rattle.causal_order.specs.HappenedBefores.{IsWellFormed, session_of, taken_of}
+use Rattle.causal_order.specs.Steps.HappenedBefores.{IsWellFormed, session_of, taken_of}
 use Rattle.bad_patterns.proofs.search.relations.Relation.of_last.Given as goal
 
 -- the relation of the session's operation before the next one

@@ -7,10 +7,10 @@ use Rattle.history.specs.declared.op_id.OpId.{OpId}
 use Rattle.history.specs.History.{IsOp, session}
 use Rattle.causal_order.specs.declared.growing_order.Raise.{Raise}
 use Rattle.causal_order.specs.declared.happened_before.HappenedBefore.{HappenedBefore}
-use Rattle.causal_order.specs.GrowingOrders.{IsGrowing, Grows}
+use Rattle.causal_order.specs.Steps.GrowingOrders.{IsGrowing, Grows}
 use Rattle.causal_order.specs.Memory.{MemoryHistory}
 use Rattle.causal_order.specs.Vectors.{Counts, count}
-use Rattle.causal_order.specs.Written.{AreByVariable, ListsWrites}
+use Rattle.causal_order.specs.Steps.Written.{AreByVariable, ListsWrites}
 
 -- the session
 abbrev pub session_of : HappenedBefore → ℕ

@@ -1,13 +1,13 @@
 -- Rows of what has to stand before an operation, and what they are made from.
 use Rattle.std.specs.Prelude.{◌≡◌, ◌⊎◌, ◌↔◌, ℕ, ◌+◌, ◌<◌, ◌≤◌, List, [], length, slice_index_or, Contains, IsSortedByKey}
 use Rattle.history.specs.declared.op_id.OpId.{OpId}
-use Rattle.causal_order.specs.Listed.{ListsBefore}
+use Rattle.causal_order.specs.Steps.Listed.{ListsBefore}
 use Rattle.causal_order.specs.Memory.{MemoryHistory, Writes}
 use Rattle.causal_order.specs.Orders.{op}
 use Rattle.causal_order.specs.SourceOrder.{IsSource}
 use Rattle.causal_order.specs.Topological.{placed, IsFullWalk}
 use Rattle.causal_order.specs.Vectors.{Counts, count, IsCounted}
-use Rattle.causal_order.specs.Written.{by_op}
+use Rattle.causal_order.specs.Steps.Written.{by_op}
 use Rattle.certify_ccv.specs.declared.sourced_reads.SourcedRead.{SourcedRead}
 
 -- reads rise by source
