@@ -1,7 +1,7 @@
 -- Each known read of a value that is not the initial one has a source, where none lacks one.
 use Rattle.std.specs.Prelude.{◌≡◌, ◌≢◌, ◌⊎◌, ℕ, ◌<◌, ◌≤◌, length, Option, Some, None, option_map}
-use Rattle.std.proofs.Common.{zero, suc, arith, sym, ap, subst, ◌∙◌, inl, inr, ⊎_elim, eq-or-lt_of_le}
-use Rattle.std.proofs.lemmas.Bool.{cases_eq, cases_lt}
+use Rattle.std.proofs.Common.{zero, suc, arith, sym, ap, subst, inl, inr, ⊎_elim, eq-or-lt_of_le}
+use Rattle.std.proofs.lemmas.Bool.{cases_eq}
 use Rattle.std.proofs.lemmas.Option.{same_Some}
 use Rattle.objects.specs.declared.register.RegisterCall.{RegisterCall}
 use Rattle.objects.specs.declared.register.RegisterCall.TheVariants.{Write, Read}
@@ -10,7 +10,6 @@ use Rattle.history.specs.declared.op_id.OpId.{OpId}
 use Rattle.history.specs.History.{entry, session}
 use Rattle.causal_order.specs.Memory.{MemoryCall, MemoryHistory, initial, Writes, Reads}
 use Rattle.causal_order.specs.Orders.{op, IsEarlier}
-use Rattle.causal_order.specs.Relations.{ReadsFrom}
 use Rattle.causal_order.specs.SourceOrder.{IsSource, LacksSource}
 use Rattle.causal_order.proofs.MemoryLaws.{same_read, write-of_history}
 use Rattle.causal_order.proofs.OrdersLaws.{session-of_history}
@@ -75,11 +74,15 @@ module _ (h : MemoryHistory) (x v : ℕ) where
   first_write = ⊎_elim
       (λ (found : (s : ℕ) × (s < length h.1) × IsFirstIn s × ((t : ℕ) → t < s → ¬ IsFirstIn t)).
       let first = found.2 in
-      inl (op found.0 first.0, first.2, λ a wrote earlier. ⊎_elim
-      (λ (below : a.session < found.0). no_first a wrote (found.3 a.session below))
-      (λ (before : (a.session ≡ found.0) × (a.index < first.0)).
-      first.3 a.index before.1 (subst (λ (s : ℕ). Writes h (op s a.index) x v) before.0 wrote))
-      earlier))
+      inl (
+        op found.0 first.0,
+        first.2,
+        λ a wrote earlier. ⊎_elim
+            (λ (below : a.session < found.0). no_first a wrote (found.3 a.session below))
+            (λ (before : (a.session ≡ found.0) × (a.index < first.0)).
+            first.3 a.index before.1 (subst (λ (s : ℕ). Writes h (op s a.index) x v) before.0 wrote))
+            earlier,
+      ))
       (λ (none : (s : ℕ) → s < length h.1 → ¬ IsFirstIn s).
       inr (λ a wrote. no_first a wrote (none a.session (session-of_history h a (write-of_history h a x v wrote)))))
       (least IsFirstIn some_write (length h.1))
