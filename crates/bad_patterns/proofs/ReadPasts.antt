@@ -1,14 +1,12 @@
 -- The past of a known read, in a list that explains it.
-use Rattle.std.proofs.Common.{◌≡◌, ℕ, zero, suc, ◌<◌, ◌≤◌, ◌⊎◌, ⊎_elim, List, [], ◌∷◌, take, sym, ap, ◌∙◌, subst, refl, eq-eqb, arith}
-use Rattle.std.specs.Prelude.{◌≢◌, Option, Some, option_map, slice_get, IsTrue, ◌==◌}
-use Rattle.std.proofs.lemmas.Option.{same_Some}
+use Rattle.std.proofs.Common.{◌≡◌, ℕ, ◌<◌, ◌≤◌, ◌⊎◌, ⊎_elim, List, take, subst, refl, eq-eqb}
+use Rattle.std.specs.Prelude.{◌≢◌, IsTrue, ◌==◌}
 use Rattle.std.proofs.lemmas.Bool.{and_from, or_left, or_right, or_cases}
-use Rattle.objects.specs.declared.register.RegisterCall.TheVariants.{Write, Read}
-use Rattle.objects.specs.declared.register.RegisterRet.{RegisterRet}
+use Rattle.objects.specs.declared.register.RegisterCall.TheVariants.{Read}
 use Rattle.objects.specs.declared.register.RegisterRet.TheVariants.{Value}
 use Rattle.history.specs.declared.op_id.OpId.{OpId}
 use Rattle.causal_order.specs.Orders.{Order, Ops, only, past, StandsAt, IsLinearization}
-use Rattle.causal_order.specs.Memory.{MemoryCall, MemoryHistory, memory_answer, initial, Writes, Reads, IsDifferentiated}
+use Rattle.causal_order.specs.Memory.{MemoryHistory, memory_answer, initial, Writes, Reads, IsDifferentiated}
 use Rattle.cert_check.specs.Criteria.{Explains}
 use Rattle.cert_check.proofs.ConvergentLaws.{only-same}
 use Rattle.causal_order.proofs.Fronts.{take-from, take-stands}

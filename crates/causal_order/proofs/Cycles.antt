@@ -1,6 +1,6 @@
 -- Where no session can go on, the order is cyclic.
 use Rattle.std.specs.Prelude.{◌≡◌, ◌≢◌, ℕ, ◌<◌, ◌≤◌, [], length, Option, Some, None, slice_get}
-use Rattle.std.proofs.Common.{zero, suc, arith, get_or, sym, subst, ◌∙◌, inl, inr, ⊎_elim, refl}
+use Rattle.std.proofs.Common.{arith, get_or, sym, subst, ◌∙◌, inl, inr, ⊎_elim, refl}
 use Rattle.std.proofs.lemmas.Bool.{cases_eq, cases_lt}
 use Rattle.std.proofs.lemmas.Option.{same_Some, slice_get-get_or}
 use Rattle.history.specs.declared.op_id.OpId.{OpId}

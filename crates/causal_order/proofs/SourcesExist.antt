@@ -1,7 +1,7 @@
 -- Each known read of a value that is not the initial one has a source, where none lacks one.
 use Rattle.std.specs.Prelude.{◌≡◌, ◌≢◌, ◌⊎◌, ℕ, ◌<◌, ◌≤◌, length, Option, Some, None, option_map}
-use Rattle.std.proofs.Common.{zero, suc, arith, sym, ap, subst, ◌∙◌, inl, inr, ⊎_elim, eq-or-lt_of_le}
-use Rattle.std.proofs.lemmas.Bool.{cases_eq, cases_lt}
+use Rattle.std.proofs.Common.{zero, suc, arith, sym, ap, subst, inl, inr, ⊎_elim, eq-or-lt_of_le}
+use Rattle.std.proofs.lemmas.Bool.{cases_eq}
 use Rattle.std.proofs.lemmas.Option.{same_Some}
 use Rattle.objects.specs.declared.register.RegisterCall.{RegisterCall}
 use Rattle.objects.specs.declared.register.RegisterCall.TheVariants.{Write, Read}
@@ -10,7 +10,6 @@ use Rattle.history.specs.declared.op_id.OpId.{OpId}
 use Rattle.history.specs.History.{entry, session}
 use Rattle.causal_order.specs.Memory.{MemoryCall, MemoryHistory, initial, Writes, Reads}
 use Rattle.causal_order.specs.Orders.{op, IsEarlier}
-use Rattle.causal_order.specs.Relations.{ReadsFrom}
 use Rattle.causal_order.specs.SourceOrder.{IsSource, LacksSource}
 use Rattle.causal_order.proofs.MemoryLaws.{same_read, write-of_history}
 use Rattle.causal_order.proofs.OrdersLaws.{session-of_history}

@@ -1,5 +1,5 @@
 -- Where no read comes too late for what it returned, each piece of a certificate by sources explains its operation.
-use Rattle.std.proofs.Common.{◌≡◌, ℕ, ◌<◌, ◌≤◌, List, [], ◌∷◌, ◌++◌, length, inr, sym, ap, subst, subst₂, arith, ⊎_elim}
+use Rattle.std.proofs.Common.{◌≡◌, ℕ, ◌<◌, ◌≤◌, List, [], length, inr, sym, subst, subst₂, arith, ⊎_elim}
 use Rattle.std.specs.Prelude.{◌≢◌, Option, Some, None, MatchOption}
 use Rattle.std.proofs.lemmas.Bool.{cases_lt}
 use Rattle.history.specs.declared.op_id.OpId.{OpId}
@@ -24,7 +24,7 @@ use Rattle.cert_check.proofs.ConvergentLaws.{only-same}
 use Rattle.cert_check.proofs.Named.{named_within, named_once}
 use Rattle.cert_check.proofs.ReadPieces.{explains-reads}
 use Rattle.cert_check.proofs.WalkedSchedules.{plain-schedule}
-use Rattle.certify_cc.specs.BySources.{IsBySource, IsScheduleFor, AreBySources, IsBySources}
+use Rattle.certify_cc.specs.BySources.{IsBySource, IsBySources}
 use Rattle.certify_cc.proofs.SourceSchedules.{write-stands, source-schedule, behind-write}
 
 module _ (h : MemoryHistory) (fits : Fits h) (v : Counts) (order : CountsSourceOrder h v) (o : OpId) (is_op : IsOp h o) (schedule : List ℕ) where

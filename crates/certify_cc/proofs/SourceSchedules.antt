@@ -1,5 +1,5 @@
 -- The schedule of an operation that reads from a write: the write stands as late as the order lets it.
-use Rattle.std.proofs.Common.{◌≡◌, ◌⊎◌, ℕ, ◌+◌, ◌<◌, ◌≤◌, List, [], ◌∷◌, ◌++◌, length, take, arith, get_or, inl, inr, sym, ap, subst, ◌∙◌, ⊎_elim, refl, take_all}
+use Rattle.std.proofs.Common.{◌≡◌, ◌⊎◌, ℕ, ◌+◌, ◌<◌, ◌≤◌, List, [], ◌∷◌, ◌++◌, length, take, arith, get_or, inl, inr, sym, ap, subst, ◌∙◌, ⊎_elim, take_all}
 use Rattle.std.specs.Prelude.{◌≢◌, Some, slice_get}
 use Rattle.std.proofs.lemmas.Bool.{cases_eq, cases_lt}
 use Rattle.std.proofs.lemmas.List.{length_push, take-append-le}

@@ -1,5 +1,5 @@
 -- Where a walk over rows can't go on and misses an operation, what has to stand before what is a cycle.
-use Rattle.std.proofs.Common.{◌≡◌, ◌≢◌, ◌⊎◌, ℕ, ◌+◌, ◌<◌, ◌≤◌, inl, inr, ⊎_elim, List, length, get_or, arith, ap, sym, refl, subst, zero, suc}
+use Rattle.std.proofs.Common.{◌≡◌, ◌≢◌, ℕ, ◌+◌, ◌<◌, ◌≤◌, inl, ⊎_elim, List, length, get_or, arith, ap, sym, refl, subst}
 use Rattle.std.proofs.lemmas.Bool.{cases_lt, cases_eq}
 use Rattle.std.proofs.lemmas.List.{get_or_past}
 use Rattle.history.specs.declared.op_id.OpId.{OpId}

@@ -1,6 +1,6 @@
 -- Where no read of an initial value comes behind a write of its variable, each piece of a certificate by conflicts
 -- explains its operation.
-use Rattle.std.proofs.Common.{◌≡◌, ◌⊎◌, ℕ, ◌<◌, ◌≤◌, List, length, filter, take, inl, inr, sym, ap, subst, subst₂, ◌∙◌, arith, ⊎_elim, lt-ltb, ltb-true, eq-or-lt_of_le}
+use Rattle.std.proofs.Common.{◌≡◌, ℕ, ◌<◌, ◌≤◌, List, length, filter, inl, inr, sym, ap, subst, subst₂, ◌∙◌, arith, ⊎_elim, lt-ltb, ltb-true, eq-or-lt_of_le}
 use Rattle.std.specs.Prelude.{◌≢◌, slice_get}
 use Rattle.std.proofs.lemmas.Bool.{cases_eq, cases_lt}
 use Rattle.std.proofs.lemmas.Option.{same_Some}
@@ -20,14 +20,13 @@ use Rattle.causal_order.specs.Vectors.{Counts, count, IsCounted}
 use Rattle.cert_check.specs.declared.certificate.Certificate.{Certificate}
 use Rattle.cert_check.specs.declared.certificate.Certificate.TheVariants.{Cc, Cm, Ccv}
 use Rattle.cert_check.specs.Certificates.{counted, HasShapeOf, IsArbitratedPiece, IsExplainedThroughout}
-use Rattle.cert_check.specs.Criteria.{Explains}
 use Rattle.cert_check.specs.Schedules.{times, named, StandsBefore}
 use Rattle.cert_check.proofs.ConvergentLaws.{only-same}
 use Rattle.cert_check.proofs.FilteredLaws.{filter_keeps, filter_from, filter_in_order}
 use Rattle.cert_check.proofs.Named.{named_is, named_each, named_once, before_from_counted}
 use Rattle.cert_check.proofs.ReadPieces.{explains-reads}
 use Rattle.cert_check.proofs.WalkedSchedules.{next-is}
-use Rattle.certify_ccv.specs.ByConflicts.{ComesFirst, GoesByRule, AreByConflicts, IsByConflicts}
+use Rattle.certify_ccv.specs.ByConflicts.{ComesFirst, GoesByRule, IsByConflicts}
 
 module _ (h : MemoryHistory) (list : List ℕ) (by_rule : GoesByRule h list) where
   -- what has to stand before an operation stands before it
