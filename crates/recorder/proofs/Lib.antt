@@ -1,0 +1,4 @@
+pub mod Completed
+pub mod Kept
+pub mod NewLanes
+pub mod Told
