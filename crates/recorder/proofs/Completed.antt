@@ -4,7 +4,7 @@ use Rattle.std.specs.Prelude.{map, Option, Some, slice_get}
 use Rattle.history.specs.declared.advice.Advice.{Advice}
 use Rattle.recorder.specs.Lanes.{Entry, Tells, operation, operations}
 use Rattle.recorder.specs.Sessions.{Begun, ReceiptState, IsReceipt}
-use Rattle.recorder.proofs.Told.{receipt_pushed, cells_pushed, operations_pushed}
+use Rattle.recorder.proofs.Telling.{receipt_pushed, cells_pushed, operations_pushed}
 
 module _ {C R : Type 0} (cells : List ℕ) (self : Begun C R) (told : Tells operation cells self.notes (operations self.notes)) (call : C) (notes : List (ℕ × Option (Entry C R)))
     (view : ◌≡◌ {A = Begun C R} (record { call = call; notes = notes }) self) (x at : ℕ) (many : at ≡ length notes) (cell : slice_get cells at ≡ Some x) (r : R) (a : Advice)

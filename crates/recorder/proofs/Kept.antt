@@ -6,7 +6,7 @@ use Rattle.history.specs.declared.advice.Advice.{Advice}
 use Rattle.recorder.specs.Lanes.{Cells, Entry, Notes, Tells, IsLane, known, operation, operations}
 use Rattle.recorder.specs.Sessions.{SessionState, ReceiptState, CanReturn, HasFinished, begun, after_finish, receipt_of, Begun, IsSession}
 use Rattle.std.proofs.lemmas.Option.{slice_get_within}
-use Rattle.recorder.proofs.Told.{length_map, length_push, tells_many, tells_more, tells_none, operations_more, returned_more}
+use Rattle.recorder.proofs.Telling.{length_map, length_push, tells_many, tells_more, tells_none, operations_more, returned_more}
 
 module _ {C R : Type 0} where
   -- no call is pending where none is seen

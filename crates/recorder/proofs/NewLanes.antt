@@ -7,7 +7,7 @@ use Rattle.std.specs.Arc.{arc_value}
 use Rattle.std.specs.declared.sync.Arc.{Arc}
 use Rattle.std.proofs.lemmas.List.{map-append}
 use Rattle.recorder.specs.Recorders.{AreLanes, cells_of}
-use Rattle.recorder.proofs.Told.{length_map, length_push, get_pushed, get_push_cases, get_push_before}
+use Rattle.recorder.proofs.Telling.{length_map, length_push, get_pushed, get_push_cases, get_push_before}
 
 module _ {C R : Type 0} (cap : ℕ) where
   pub lanes_none : AreLanes {C = C} {R = R} cap [] []

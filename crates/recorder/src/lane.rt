@@ -1,5 +1,5 @@
-ghost use Rattle.std.specs.Prelude.{◌≡◌, ◌<◌, ◌≤◌, ℕ, length, map, IfOk, IfErr, MatchResult, Some, slice_get, Option};
-ghost use Rattle.once_cell.specs.Once.{cell_name};
+ghost use Rattle.std.specs.Prelude.{◌≡◌, ◌<◌, ◌≤◌, ℕ, length, map, IfOk, IfErr, MatchOption, None, Some, slice_get};
+ghost use Rattle.once_cell.specs.Once.{cell_name, Agrees};
 ghost use Rattle.recorder.specs.Lanes.{IsLane};
 
 use crate::recorded::Recorded;
@@ -73,6 +73,48 @@ impl<O: Recorded> Lane<O> {
         ensures back { IfErr result (λ b. b.value ≡ returned.value) }
     {
         set(&self.returns[at], returned)
+    }
+
+    /// A note of a call cell that knows nothing yet.
+    pub fn call_note(&self, at: usize) -> Note<O::Call>
+        requires { at < length self.now.calls }
+        ensures cell { slice_get self.now.calls at ≡ Some result.cell }
+        ensures known { result.known ≡ None }
+    {
+        self.calls[at].note()
+    }
+
+    /// A note of a return cell that knows nothing yet.
+    pub fn return_note(&self, at: usize) -> Note<ReturnRecord<O>>
+        requires { at < length self.now.returns }
+        ensures cell { slice_get self.now.returns at ≡ Some result.cell }
+        ensures known { result.known ≡ None }
+    {
+        self.returns[at].note()
+    }
+
+    /// What a call cell holds, which the note then knows. `None` only where the note knows nothing. One load.
+    pub fn call<'a>(&'a self, at: usize, note: &mut Note<O::Call>) -> Option<&'a O::Call>
+        requires place { at < length self.now.calls }
+        requires cell { slice_get self.now.calls at ≡ Some note.old.cell }
+        ensures cell { note.new.cell ≡ note.old.cell }
+        ensures value { MatchOption result ((note.old.known ≡ None) × (note.new.known ≡ None)) (λ r. (note.new.known ≡ Some r.now) × Agrees note.old.known r.now) }
+    {
+        self.calls[at].get_as(note)
+    }
+
+    /// What a return cell holds, which the note then knows. `None` only where the note knows nothing. One load.
+    pub fn return_record<'a>(
+        &'a self,
+        at: usize,
+        note: &mut Note<ReturnRecord<O>>,
+    ) -> Option<&'a ReturnRecord<O>>
+        requires place { at < length self.now.returns }
+        requires cell { slice_get self.now.returns at ≡ Some note.old.cell }
+        ensures cell { note.new.cell ≡ note.old.cell }
+        ensures value { MatchOption result ((note.old.known ≡ None) × (note.new.known ≡ None)) (λ r. (note.new.known ≡ Some r.now) × Agrees note.old.known r.now) }
+    {
+        self.returns[at].get_as(note)
     }
 }
 

@@ -1,4 +1,4 @@
-ghost use Rattle.std.specs.Prelude.{◌≡◌, ◌≤◌, ℕ, length, IfOk, IfErr};
+ghost use Rattle.std.specs.Prelude.{◌≡◌, ◌<◌, ◌≤◌, ℕ, length, slice_get, Some, IfOk, IfErr};
 ghost use Rattle.std.specs.Arc.{arc_value};
 ghost use Rattle.recorder.specs.Recorders.{AreLanes, IsRecorder, cells_of};
 ghost use Rattle.recorder.specs.Refusals.{RefusesLimits};
@@ -38,6 +38,14 @@ impl<O: Recorded> Lanes<O> {
         ensures few { result ≤ 16 }
     {
         self.lanes.len()
+    }
+
+    /// The lane of a session.
+    pub fn lane(&self, s: usize) -> &Lane<O>
+        requires { s < length self.now.cells }
+        ensures { slice_get self.now.cells s ≡ Some result.now }
+    {
+        &self.lanes[s]
     }
 
     /// What the object held before the first call.

@@ -3,6 +3,7 @@
 
 mod lane;
 mod lanes;
+mod note_copy;
 mod note_list;
 mod pending;
 mod receipt;
@@ -13,6 +14,7 @@ mod session;
 
 pub use lane::Lane;
 pub use lanes::{Lanes, new_recorder};
+pub use note_copy::told;
 pub use note_list::NoteList;
 pub use receipt::Receipt;
 pub use record_error::RecordError;

@@ -1,5 +1,6 @@
-ghost use Rattle.std.specs.Prelude.{◌≡◌, ◌∷◌, ◌++◌, ◌<◌, ◌≤◌, ℕ, List, [], Option, length, map, IfOk, vec_len, vec_capacity};
+ghost use Rattle.std.specs.Prelude.{◌≡◌, ◌∷◌, ◌++◌, ◌<◌, ◌≤◌, ℕ, List, [], Option, length, map, IfOk, Some, slice_get, vec_len, vec_capacity};
 
+use crate::note_copy::told;
 use once_cell::race::Note;
 use std::alloc::{AllocError, Global};
 use std::marker::Model;
@@ -50,6 +51,14 @@ impl<T> NoteList<T> {
         ensures { self.new.list ≡ self.old.list ++ (note.cell, note.known) ∷ [] }
     {
         self.notes.push_reserved(note);
+    }
+
+    /// A second note of what the note at this place knows. `blank` is a note of any cell.
+    pub(crate) fn told(&self, at: usize, blank: Note<T>) -> Note<T>
+        requires { at < length self.now.list }
+        ensures { slice_get self.now.list at ≡ Some (result.cell, result.known) }
+    {
+        told(blank, &self.notes[at])
     }
 
     /// A list that knows the same, with room for one more note.

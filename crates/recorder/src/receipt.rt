@@ -1,11 +1,12 @@
-ghost use Rattle.std.specs.Prelude.{◌≡◌, ◌-◌, ℕ, length, map, option_map, Some};
-ghost use Rattle.recorder.specs.Lanes.{operations};
+ghost use Rattle.std.specs.Prelude.{◌≡◌, ◌-◌, ◌<◌, ℕ, length, map, option_map, slice_get, Some};
+ghost use Rattle.recorder.specs.Lanes.{operations, shown};
 ghost use Rattle.recorder.specs.Sessions.{IsReceipt, last_of, op};
 
 use crate::note_list::NoteList;
 use crate::recorded::Recorded;
 use crate::return_record::ReturnRecord;
 use history::OpId;
+use once_cell::race::Note;
 use std::marker::Model;
 
 /// Shows that an operation has returned, and every earlier one of its session.
@@ -69,5 +70,14 @@ impl<O: Recorded> Receipt<O> {
         ensures { option_map (λ o. o.1) (last_of self.now) ≡ Some result }
     {
         self.ret
+    }
+
+    /// A note of the return cell of one of its operations. `blank` is a note of any cell.
+    pub fn told(&self, at: usize, blank: Note<ReturnRecord<O>>) -> Note<ReturnRecord<O>>
+        requires { at < length self.now.operations }
+        ensures cell { slice_get self.now.cells at ≡ Some result.cell }
+        ensures operation { shown result.known ≡ slice_get self.now.operations at }
+    {
+        self.notes.told(at, blank)
     }
 }

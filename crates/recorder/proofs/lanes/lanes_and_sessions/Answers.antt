@@ -1,5 +1,5 @@
 use Rattle.std.proofs.Common.{◌+◌, length, ap, ◌∙◌}
-use Rattle.recorder.proofs.Told.{length_push}
+use Rattle.recorder.proofs.Telling.{length_push}
 use Rattle.recorder.proofs.NewLanes.{lanes_pushed}
 use Rattle.recorder.proofs.lanes.lanes_and_sessions.Goals as goal
 

@@ -1,6 +1,6 @@
 -- Notes of the first cells of a lane: one more note tells one more value.
 use Rattle.std.proofs.Common.{◌≡◌, ℕ, suc, ◌+◌, ◌-◌, List, [], ◌∷◌, ◌++◌, length, take, refl, sym, ◌∙◌, ap, subst, arith, add-one, length-append, ◌⊎◌, inl, inr, zero}
-use Rattle.std.specs.Prelude.{map, Option, Some, slice_get}
+use Rattle.std.specs.Prelude.{map, Option, Some, None, option_map, slice_get}
 use Rattle.std.proofs.lemmas.List.{map-append}
 use Rattle.std.proofs.lemmas.List.Elements.{filter_map-append}
 use Rattle.std.proofs.lemmas.Option.{slice_get_within, get_or_from_slice_get}
@@ -89,3 +89,24 @@ module _ {C R : Type 0} where
 
       pub operations_pushed : operations notes' ≡ operations notes ++ (c, r) ∷ []
       operations_pushed = ap operations pushed ∙ operations_more notes x c r a
+
+-- what stands at a place of a list of images
+pub get_map : {A B : Type 0} (f : A → B) (xs : List A) (i : ℕ) → slice_get (map f xs) i ≡ option_map f (slice_get xs i)
+get_map f [] zero = refl
+get_map f [] (suc i) = refl
+get_map f (x ∷ xs) zero = refl
+get_map f (x ∷ xs) (suc i) = get_map f xs i
+
+module _ {C R : Type 0} (notes : List (ℕ × Option (Entry C R))) (i : ℕ) (n : ℕ × Option (Entry C R)) (at : slice_get notes i ≡ Some n) where
+  pub cell_told : slice_get (map (λ (m : ℕ × Option (Entry C R)). m.0) notes) i ≡ Some n.0
+  cell_told = get_map (λ (m : ℕ × Option (Entry C R)). m.0) notes i ∙ ap (option_map (λ (m : ℕ × Option (Entry C R)). m.0)) at
+
+  some_is : (v : Option (C × R)) → Some (operation n) ≡ option_map Some v → operation n ≡ v
+  some_is None e = absurd (cc)
+  some_is (Some x) e = cc
+
+  pub operation_told : map operation notes ≡ map Some (operations notes) → operation n ≡ slice_get (operations notes) i
+  operation_told e = some_is (slice_get (operations notes) i) (sym (get_map operation notes i ∙ ap (option_map operation) at) ∙ (ap (λ (l : List (Option (C × R))). slice_get l i) e ∙ get_map Some (operations notes) i))
+
+pub told_many : {C R : Type 0} (notes : List (ℕ × Option (Entry C R))) → map operation notes ≡ map Some (operations notes) → length notes ≡ length (operations notes)
+told_many notes e = sym (length_map operation notes) ∙ (ap length e ∙ length_map Some (operations notes))
