@@ -110,3 +110,21 @@ module _ {C R : Type 0} (notes : List (ℕ × Option (Entry C R))) (i : ℕ) (n 
 
 pub told_many : {C R : Type 0} (notes : List (ℕ × Option (Entry C R))) → map operation notes ≡ map Some (operations notes) → length notes ≡ length (operations notes)
 told_many notes e = sym (length_map operation notes) ∙ (ap length e ∙ length_map Some (operations notes))
+
+module _ {A B : Type 0} (show : ℕ × Option A → Option B) (cells : List ℕ) (notes : List (ℕ × Option A)) (values : List B) (t : Tells show cells notes values) (i : ℕ) (n : ℕ × Option A) (at : slice_get notes i ≡ Some n) where
+  front_at : (xs : List ℕ) (k j x : ℕ) → slice_get (take k xs) j ≡ Some x → slice_get xs j ≡ Some x
+  front_at xs zero zero x e = absurd (cc)
+  front_at xs zero (suc j) x e = absurd (cc)
+  front_at [] (suc k) j x e = e
+  front_at (y ∷ xs) (suc k) zero x e = e
+  front_at (y ∷ xs) (suc k) (suc j) x e = front_at xs k j x e
+
+  pub tells_cell : slice_get cells i ≡ Some n.0
+  tells_cell = front_at cells (length notes) i n.0 (ap (λ (l : List ℕ). slice_get l i) (sym t.named) ∙ (get_map (λ (m : ℕ × Option A). m.0) notes i ∙ ap (option_map (λ (m : ℕ × Option A). m.0)) at))
+
+  value_is : (x : Option B) (v : Option B) → Some x ≡ option_map Some v → x ≡ v
+  value_is x None e = absurd (cc)
+  value_is x (Some y) e = cc
+
+  pub tells_value : show n ≡ slice_get values i
+  tells_value = value_is (show n) (slice_get values i) (sym (get_map show notes i ∙ ap (option_map show) at) ∙ (ap (λ (l : List (Option B)). slice_get l i) t.shows ∙ get_map Some values i))

@@ -1,6 +1,7 @@
-ghost use Rattle.std.specs.Prelude.{◌≡◌, ◌<◌, ◌≤◌, ◌↔◌, ◌⊎◌, ℕ, [], length, IfOk, IfErr, OnErr, IsTrue, Some, None};
+ghost use Rattle.std.specs.Prelude.{◌≡◌, ◌<◌, ◌≤◌, ◌↔◌, ◌⊎◌, ℕ, [], length, IfOk, IfErr, OnErr, IsTrue, Some, None, slice_get};
+ghost use Rattle.recorder.specs.Lanes.{shown};
 ghost use Rattle.std.specs.Arc.{arc_value};
-ghost use Rattle.recorder.specs.Sessions.{op, fresh_session, after_begin, receipt_of, CanReturn, HasFinished};
+ghost use Rattle.recorder.specs.Sessions.{op, begun, fresh_session, after_begin, receipt_of, CanReturn, HasFinished};
 ghost use Rattle.recorder.specs.Refusals.{HasPlace, RefusesCall, RefusesReturn};
 
 use crate::lane::Lane;
@@ -12,6 +13,7 @@ use crate::recorded::Recorded;
 use crate::return_record::ReturnRecord;
 use history::{Advice, OpId};
 use object_trait::SeqObject;
+use once_cell::race::Note;
 use std::alloc::{AllocError, Global};
 use std::marker::Model;
 use std::sync::Arc;
@@ -71,6 +73,24 @@ impl<O: Recorded> Session<O> {
         ensures { IsTrue result ↔ (length self.now.cells.calls ≤ length self.now.done) }
     {
         self.returns.len() >= self.lane.places()
+    }
+
+    /// A note of the return cell of an operation that has returned. `blank` is a note of any cell.
+    pub fn told_return(&self, at: usize, blank: Note<ReturnRecord<O>>) -> Note<ReturnRecord<O>>
+        requires { at < length self.now.done }
+        ensures cell { slice_get self.now.cells.returns at ≡ Some result.cell }
+        ensures operation { shown result.known ≡ slice_get self.now.done at }
+    {
+        self.returns.told(at, blank)
+    }
+
+    /// A note of the call cell of an operation that was begun. `blank` is a note of any cell.
+    pub fn told_call(&self, at: usize, blank: Note<O::Call>) -> Note<O::Call>
+        requires { at < length (begun self.now.done self.now.pending) }
+        ensures cell { slice_get self.now.cells.calls at ≡ Some result.cell }
+        ensures call { result.known ≡ slice_get (begun self.now.done self.now.pending) at }
+    {
+        self.calls.told(at, blank)
     }
 
     /// Begins an operation: sets its call cell. It is pending until `finish`.
