@@ -24,6 +24,8 @@ mod many_pairs;
 #[cfg(test)]
 mod patterns;
 #[cfg(test)]
+mod recorder_tests;
+#[cfg(test)]
 mod refused;
 #[cfg(test)]
 mod runs;
