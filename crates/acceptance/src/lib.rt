@@ -33,6 +33,8 @@ mod objects_alone;
 #[cfg(test)]
 mod patterns;
 #[cfg(test)]
+mod recorder_tests;
+#[cfg(test)]
 mod refused;
 #[cfg(test)]
 mod running;

@@ -24,7 +24,7 @@ mod words;
 mod writing;
 
 pub use any_history::AnyHistory;
-pub use history::{History, OpId};
+pub use history::{Advice, History, OpId, TakenIn};
 pub use json::elements_of;
 pub use named::Named;
 pub use plain_history::PlainHistory;

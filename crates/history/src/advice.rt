@@ -1,0 +1,67 @@
+ghost use Rattle.std.specs.Prelude.{◌≡◌, IfOk};
+
+use std::alloc::{AllocError, Global};
+use std::marker::Model;
+
+/// The sessions whose operations a store had taken in, in its order, each number for that session's next operation.
+#[derive(Debug, Drop)]
+pub struct TakenIn {
+    sessions: Vec<u8>,
+}
+
+impl Model for TakenIn {
+    ghost use Rattle.std.specs.Prelude.{List, ℕ};
+
+    ghost Value = { List ℕ };
+
+    ghost view = { λ o. o.sessions.items };
+}
+
+impl TakenIn {
+    /// These sessions, in this order.
+    pub fn of(sessions: Vec<u8>) -> TakenIn
+        ensures { result ≡ sessions.items }
+    {
+        TakenIn { sessions }
+    }
+
+    /// The sessions, in order.
+    pub fn sessions(&self) -> &[u8]
+        ensures { result.now ≡ self.now }
+    {
+        &self.sessions
+    }
+
+    /// An equal order. Fails for want of memory alone.
+    pub fn copy(&self, alloc: Global) -> Result<TakenIn, AllocError>
+        ensures { IfOk result (λ o. o ≡ self.now) }
+    {
+        let sessions = Vec::from_slice(alloc, &self.sessions)?;
+        Ok(TakenIn { sessions })
+    }
+}
+
+/// What a store tells of one operation. Nobody trusts it: whoever uses it checks what follows.
+#[derive(Debug, Drop)]
+pub struct Advice {
+    /// For each session, how many of its operations the store had taken in, the operation itself included.
+    pub counts: [u16; 16],
+    /// The store's clock.
+    pub stamp: u64,
+    /// What the store had taken in, in its order.
+    pub order: TakenIn,
+}
+
+impl Advice {
+    /// Equal advice. Fails for want of memory alone.
+    pub fn copy(&self, alloc: Global) -> Result<Advice, AllocError>
+        ensures { IfOk result (λ a. a ≡ self.now) }
+    {
+        let order = self.order.copy(alloc)?;
+        Ok(Advice {
+            counts: self.counts,
+            stamp: self.stamp,
+            order,
+        })
+    }
+}

@@ -1,0 +1,5 @@
+pub mod Completed
+pub mod Kept
+pub mod NewLanes
+pub mod NoteCopies
+pub mod Telling

@@ -1,0 +1,23 @@
+//! A recorder: each session writes what it calls, and what is answered, into cells that are set once.
+#![tactic(auto)]
+
+mod lane;
+mod lanes;
+mod note_copy;
+mod note_list;
+mod pending;
+mod receipt;
+mod record_error;
+mod recorded;
+mod return_record;
+mod session;
+
+pub use lane::Lane;
+pub use lanes::{Lanes, new_recorder};
+pub use note_copy::told;
+pub use note_list::NoteList;
+pub use receipt::Receipt;
+pub use record_error::RecordError;
+pub use recorded::Recorded;
+pub use return_record::ReturnRecord;
+pub use session::Session;
