@@ -12,7 +12,8 @@ ghost use Rattle.engine.specs.Report.{IsFounded, IsTrueOf, IsUnexplainedOf, Name
 use crate::checking::answer_of_pieces;
 use crate::failure::RunError;
 use crate::report::{Answer, Report};
-use bad_patterns::{Kind, Pattern, check_pattern, find_in_order, find_without_order};
+use bad_patterns::laws::bad_patterns_exclude_criteria;
+use bad_patterns::{Kind, Pattern, find_in_order, find_without_order};
 use causal_order::{Vectors, memory_order};
 use cert_check::{Certificate, Criterion};
 use object_trait::SeqObject;
@@ -22,7 +23,8 @@ use std::alloc::{AllocError, Global};
 
 /// What is known of a history, for each criterion.
 ///
-/// `No` where the history is one of a memory, and a bad pattern is found and checked. Else a certificate is made: `Yes`
+/// `No` where the history is one of a memory, and a bad pattern is found: what the search finds has passed the test of
+/// `check_pattern`. Else a certificate is made: `Yes`
 /// where every piece of it explains its operation, and `Unknown` with the first operation whose piece does not. `Unknown`
 /// with no operation where no certificate is made. The causal order of a memory history is made once for all criteria.
 ///
@@ -107,7 +109,7 @@ fn answer_of_object<O: SeqObject>(
     answer_by(alloc, history, made, criterion)
 }
 
-// The kind of a pattern that excludes the criterion, where one is found and checked.
+// The kind of a pattern that excludes the criterion, where one is found.
 fn excluding_kind(
     alloc: Global,
     history: &History<Memory>,
@@ -118,14 +120,11 @@ fn excluding_kind(
     ensures found { IfOk result (λ found. IfSome found (IsTrueNo history.now criterion)) }
     ensures none { IfOk result (λ found. IfNone found (¬ IsPresent history.now Kind.ThinAirRead)) }
 {
+    bad_patterns_exclude_criteria();
     let Some(pattern) = pattern_against(alloc, history, order, criterion)? else {
         return Ok(None);
     };
-    if check_pattern(alloc, history, criterion, &pattern)? {
-        Ok(Some(pattern.kind()))
-    } else {
-        Ok(None)
-    }
+    Ok(Some(pattern.kind()))
 }
 
 // A pattern against the criterion, where the search finds one.
