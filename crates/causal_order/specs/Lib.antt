@@ -7,5 +7,7 @@ pub mod SourceOrder
 pub mod ProgramOrder
 pub mod Topological
 pub mod OverwrittenReads
+pub mod HappenedBeforePatterns
+pub mod HappenedBeforeVectors
 pub mod MemoryHistories
 pub mod Steps
