@@ -1,0 +1,4 @@
+pub mod TurnPlaces
+pub mod TurnSchedules
+pub mod TurnPieces
+pub mod Explained
