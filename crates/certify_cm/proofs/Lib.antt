@@ -2,3 +2,4 @@ pub mod TurnPlaces
 pub mod TurnSchedules
 pub mod TurnPieces
 pub mod Explained
+pub mod MemoryMet
