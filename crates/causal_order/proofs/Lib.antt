@@ -36,3 +36,5 @@ pub mod LastWrites
 pub mod Fronts
 pub mod ReadAnswers
 pub mod SourcesExist
+pub mod IndexedLaws
+pub mod CausalOrders
