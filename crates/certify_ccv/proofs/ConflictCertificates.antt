@@ -49,12 +49,12 @@ module _ (h : MemoryHistory) (v : Counts) (order : CountsSourceOrder h v) where
       (source-decided h v order b r)
 
   conflict-decided : (a b : OpId) → IsDecided (SourceConflict h a b)
-  conflict-decided a b = both-decided (AreRivalWrites h a b) ((r : OpId) × IsBetween a b r) (rivals-decided h a b)
+  conflict-decided a b = both-decided (AreRivalWrites h a b) ((r : OpId) × SourceOrder h a r × IsSource h b r) (rivals-decided h a b)
       (⊎_elim
-      (λ (found : (r : OpId) × IsOp h r × IsBetween a b r). inl (found.0, found.2))
+      (λ (found : (r : OpId) × IsOp h r × IsBetween a b r). inl (found.0, found.2.0, found.2.1))
       (λ (none : (r : OpId) → IsOp h r → ¬ IsBetween a b r). inr (λ found.
-      let source = found.1.1 in
-      none found.0 (read-of_history h found.0 source.0.0 source.0.1 source.0.3) found.1))
+      let source = found.2 in
+      none found.0 (read-of_history h found.0 source.0.0 source.0.1 source.0.3) (found.1, source)))
       (some_operation h (IsBetween a b) (between-decided a b)))
 
   first-decided : (a b : OpId) → IsOp h b → IsDecided (ComesFirst h a b)
