@@ -36,3 +36,9 @@ pub mod LastWrites
 pub mod Fronts
 pub mod ReadAnswers
 pub mod SourcesExist
+pub mod Searches
+pub mod EachOperation
+pub mod WalksExist
+pub mod VectorsPlaced
+pub mod VectorsExist
+pub mod OrderDecisions
