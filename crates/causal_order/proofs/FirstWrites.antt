@@ -74,7 +74,7 @@ module _ (h : MemoryHistory) where
       })
 
   -- a read has one source
-  source-unique : (u w r : OpId) → IsSource h u r → IsSource h w r → u ≡ w
+  pub source-unique : (u w r : OpId) → IsSource h u r → IsSource h w r → u ≡ w
   source-unique u w r first second =
       let not_first = second.1 u first.0 in
       let not_second = first.1 w second.0 in
@@ -93,7 +93,7 @@ module _ (h : MemoryHistory) where
       (cases_order u.session w.session)
 
   -- where values are distinct, what may be read from is the source
-  distinct-source : IsDifferentiated h → (w r : OpId) → ReadsFrom h w r → IsSource h w r
+  pub distinct-source : IsDifferentiated h → (w r : OpId) → ReadsFrom h w r → IsSource h w r
   distinct-source distinct w r reads = (
     reads,
     λ u other earlier.

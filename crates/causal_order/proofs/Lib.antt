@@ -35,3 +35,5 @@ pub mod LastWrites
 pub mod Fronts
 pub mod ReadAnswers
 pub mod SourcesExist
+pub mod CountSumsLaws
+pub mod HappenedBeforeExists

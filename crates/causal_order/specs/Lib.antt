@@ -8,4 +8,6 @@ pub mod ProgramOrder
 pub mod Topological
 pub mod OverwrittenReads
 pub mod MemoryHistories
+pub mod CountSums
+pub mod HappenedBeforeVectors
 pub mod Steps
