@@ -17,6 +17,7 @@ pub mod EarlierLaws
 pub mod GatheredLaws
 pub mod GrowingOrdersLaws
 pub mod HappenedBeforeLaws
+pub mod HappenedBeforeCounts
 pub mod HappenedBeforeVectors
 pub mod ListedLaws
 pub mod MemoryLaws

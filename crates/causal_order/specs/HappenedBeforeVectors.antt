@@ -6,7 +6,7 @@ use Rattle.causal_order.specs.Relations.{IsPast, HB}
 use Rattle.causal_order.specs.Steps.GrowingOrders.{AreHeldVectors}
 use Rattle.causal_order.specs.Vectors.{Counts, IsCounted}
 
--- the vectors are those of the happened-before relation of o, on the past of o
+-- the vectors count, of each operation of the past of o, what is before it in the happened-before relation of o
 pub record IsHBVectors (h : MemoryHistory) (o : OpId) (now : Counts) : Type 0 where
   pub held : AreHeldVectors h now
   pub exact : (a b : OpId) → IsPast h o b → IsCounted now b a ↔ HB h o a b
