@@ -42,3 +42,5 @@ pub mod WalksExist
 pub mod VectorsPlaced
 pub mod VectorsExist
 pub mod OrderDecisions
+pub mod CountSumsLaws
+pub mod HappenedBeforeExists
