@@ -14,12 +14,12 @@ use Rattle.causal_order.proofs.OrdersLaws.{same_op}
 use Rattle.causal_order.proofs.RelationsLaws.{leads-edge, leads-leads, CO-of_history}
 
 -- what an operation has before it in program order is a session and an index
-program_past-parts : (o a : OpId) → IsTrue (program_past o a) → (a.session ≡ o.session) × (a.index ≤ o.index)
+pub program_past-parts : (o a : OpId) → IsTrue (program_past o a) → (a.session ≡ o.session) × (a.index ≤ o.index)
 program_past-parts o a before =
     let parts = and_parts (eqb a.session o.session) (leb a.index o.index) before in
     (eqb-true a.session o.session parts.0, leb-true a.index o.index parts.1)
 
-program_past-from : (o a : OpId) → a.session ≡ o.session → a.index ≤ o.index → IsTrue (program_past o a)
+pub program_past-from : (o a : OpId) → a.session ≡ o.session → a.index ≤ o.index → IsTrue (program_past o a)
 program_past-from o a same up_to =
     and_from (eqb a.session o.session) (leb a.index o.index) (eq-eqb a.session o.session same) (le-leb a.index o.index up_to)
 

@@ -1,7 +1,7 @@
 -- When vectors are those of the happened-before relation of an operation: what they count has a cause, and nothing is left
 -- to be added.
 use Rattle.std.proofs.Common.{◌≡◌, ℕ, zero, suc, ◌+◌, ◌-◌, ◌<◌, ◌≤◌, ⊎_elim, inl, inr, ◌&&◌, arith, ap, refl, sym, subst, subst₂, length, ltb, lt-ltb, ltb-true}
-use Rattle.std.specs.Prelude.{◌≢◌, ◌⊎◌, ◌↔◌, IsTrue, Option, Some, None}
+use Rattle.std.specs.Prelude.{◌≢◌, ◌⊎◌, IsTrue, Option, Some, None}
 use Rattle.std.proofs.lemmas.Bool.{and_parts, and_from, cases_eq, cases_lt}
 use Rattle.std.proofs.lemmas.Option.{same_Some}
 use Rattle.objects.specs.declared.register.RegisterCall.{RegisterCall}
@@ -9,6 +9,7 @@ use Rattle.objects.specs.declared.register.RegisterCall.TheVariants.{Write, Read
 use Rattle.history.specs.declared.op_id.OpId.{OpId}
 use Rattle.history.specs.History.{IsOp}
 use Rattle.causal_order.specs.Steps.GrowingOrders.{AreHeldVectors}
+use Rattle.causal_order.specs.HappenedBeforeVectors.{IsHBVectors}
 use Rattle.causal_order.specs.Memory.{MemoryCall, MemoryHistory, IsDifferentiated, Writes}
 use Rattle.causal_order.specs.Orders.{op, Order, program_past}
 use Rattle.causal_order.specs.Relations.{ReadsFrom, IsEdge, CO, AreRivalWrites, IsPast, IsClosed, HB}
@@ -29,11 +30,6 @@ pub record IsLastBelow (h : MemoryHistory) (x u n m : ℕ) : Type 0 where
   pub writes : Writes h (op u m) x value
   pub last : (j y : ℕ) → m < j → j < n → ¬ Writes h (op u j) x y
 
--- the vectors are those of the happened-before relation of o, on the past of o
-pub record IsHBVectors (h : MemoryHistory) (o : OpId) (now : Counts) : Type 0 where
-  pub held : AreHeldVectors h now
-  pub exact : (a b : OpId) → IsPast h o b → IsCounted now b a ↔ HB h o a b
-
 -- what they count there is in the relation
 abbrev pub IsSupported : MemoryHistory → OpId → Counts → Type 0
 IsSupported h o now = (a b : OpId) → IsPast h o b → IsCounted now b a → HB h o a b
@@ -51,7 +47,7 @@ pub record IsFixed (h : MemoryHistory) (v : Counts) (o : OpId) (now : Counts) : 
   pub read : (w r : OpId) (x t u m : ℕ) → IsTrue (program_past o r) → ReadsFrom h w r → Writes h w x t → IsLastBelow h x u (count now r u) m → op u m ≢ w → m < count now w u
 
 -- a call writes a variable, or it doesn't
-call-cases : (x : ℕ) (c : Option MemoryCall)
+pub call-cases : (x : ℕ) (c : Option MemoryCall)
     → ((y : ℕ) × (c ≡ Some (record { key = x; call = Write y }))) ⊎ ((y : ℕ) → c ≡ Some (record { key = x; call = Write y }) → ⊥)
 call-cases x None = inr (λ y e. absurd cc)
 call-cases x (Some c) = ⊎_elim
@@ -104,7 +100,7 @@ module _ (h : MemoryHistory) (v : Counts) (counts : CountsSourceOrder h v) (dist
   leads-session : (u i j : ℕ) → i < j → IsOp h (op u j) → CO h (op u i) (op u j)
   leads-session u i j below of_history = leads-edge (IsEdge h) (op u i) (op u j) (inl ((refl, below), of_history))
 
-  past-session : (u i j : ℕ) → i ≤ j → IsPast h o (op u j) → IsPast h o (op u i)
+  pub past-session : (u i j : ℕ) → i ≤ j → IsPast h o (op u j) → IsPast h o (op u i)
   past-session u i j up_to in_j = ⊎_elim
       (λ (same : i ≡ j). subst (λ (k : ℕ). IsPast h o (op u k)) (sym same) in_j)
       (λ (other : i ≡ j → ⊥).

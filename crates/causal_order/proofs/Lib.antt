@@ -17,6 +17,7 @@ pub mod EarlierLaws
 pub mod GatheredLaws
 pub mod GrowingOrdersLaws
 pub mod HappenedBeforeLaws
+pub mod HappenedBeforeCounts
 pub mod HappenedBeforeVectors
 pub mod ListedLaws
 pub mod MemoryLaws
@@ -41,3 +42,5 @@ pub mod WalksExist
 pub mod VectorsPlaced
 pub mod VectorsExist
 pub mod OrderDecisions
+pub mod CountSumsLaws
+pub mod HappenedBeforeExists

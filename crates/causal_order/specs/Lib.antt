@@ -7,5 +7,8 @@ pub mod SourceOrder
 pub mod ProgramOrder
 pub mod Topological
 pub mod OverwrittenReads
+pub mod HappenedBeforePatterns
+pub mod HappenedBeforeVectors
 pub mod MemoryHistories
+pub mod CountSums
 pub mod Steps

@@ -18,7 +18,7 @@ use Rattle.cert_check.proofs.Pasts.{every-op, op-every, counted_before-parts, co
 
 module _ {S C R : Type 0} (h : Record S C R) (v : Counts) (good : (o : OpId) → IsOp h o → IsVectorOk h v o) where
   -- what a schedule of an operation names is a linearization of its past
-  scheduled_past : (o : OpId) (schedule : List ℕ) → IsOp h o → IsSchedule h v o schedule
+  pub scheduled_past : (o : OpId) (schedule : List ℕ) → IsOp h o → IsSchedule h v o schedule
       → IsLinearization (past (counted_before h v) o) (counted_before h v) (named schedule)
   scheduled_past o schedule is_op scheduled = record {
     each = λ a inside.

@@ -1,0 +1,29 @@
+-- The certificate of causal memory of a memory history by its happened-before relations (this project's profile).
+use Rattle.std.specs.Prelude.{ℕ, ◌+◌, List}
+use Rattle.history.specs.declared.op_id.OpId.{OpId}
+use Rattle.history.specs.History.{IsOp}
+use Rattle.causal_order.specs.HappenedBeforeVectors.{IsHBVectors}
+use Rattle.causal_order.specs.Memory.{MemoryHistory}
+use Rattle.causal_order.specs.SourceOrder.{CountsSourceOrder}
+use Rattle.causal_order.specs.Vectors.{Counts, list_of}
+use Rattle.cert_check.specs.declared.certificate.Certificate.{Certificate}
+use Rattle.cert_check.specs.declared.certificate.Certificate.TheVariants.{Cc, Cm, Ccv}
+use Rattle.certify_cm.specs.Turns.{AreTurns}
+
+module _ (h : MemoryHistory) where
+  -- the operations of the session of o take turns in the schedule, up to o, by vectors that count happened-before of o
+  pub record TakesHBTurns (o : OpId) (schedule : List ℕ) : Type 0 where
+    pub vectors : Counts
+    pub happened : IsHBVectors h o vectors
+    pub turns : AreTurns vectors o.session (o.index + 1) schedule
+
+  -- the vectors are those of the order of program order and sources, and the schedules go by turns of happened-before
+  pub record AreByTurns (v : Counts) (schedules : List (List (List ℕ))) : Type 0 where
+    pub order : CountsSourceOrder h v
+    pub each : (o : OpId) → IsOp h o → TakesHBTurns o (list_of schedules o)
+
+-- such a certificate
+abbrev pub IsByTurns : MemoryHistory → Certificate → Type 0
+IsByTurns h (Cc vectors schedules) = ⊥
+IsByTurns h (Cm vectors schedules) = AreByTurns h vectors schedules
+IsByTurns h (Ccv vectors arbitration) = ⊥

@@ -1,0 +1,20 @@
+//! What holds of these certificates. The functions do nothing: what they ensure is the law.
+
+ghost use Rattle.causal_order.specs.HappenedBeforePatterns.{HasHBCycle, HasStartOverwrittenInHB};
+ghost use Rattle.causal_order.specs.Memory.{MemoryHistory, memory_answer, IsDifferentiated};
+ghost use Rattle.causal_order.specs.MemoryHistories.{IsMemoryHistory};
+ghost use Rattle.cert_check.specs.Certificates.{IsExplainedThroughout};
+ghost use Rattle.certify_cm.specs.ByTurns.{IsByTurns};
+
+use cert_check::Certificate;
+
+/// On distinct values, where no bad pattern against causal memory is present, every piece of the certificate made by turns
+/// explains its operation and what is before it in program order.
+///
+/// Its vectors count the order of program order and sources, and the schedule of each operation goes by turns of vectors that
+/// count exactly its happened-before relation. Of these patterns the law asks for the two of happened-before alone: a cycle of
+/// the causal order and a read from thin air leave no such certificate, and the others are not needed.
+pub fn certificates_by_turns_explain()
+    ensures { (h : MemoryHistory) (c : Certificate) → IsMemoryHistory h → IsDifferentiated h → ¬ HasHBCycle h → ¬ HasStartOverwrittenInHB h
+        → IsByTurns h c → IsExplainedThroughout memory_answer h c }
+{}
