@@ -47,7 +47,7 @@ pub record IsFixed (h : MemoryHistory) (v : Counts) (o : OpId) (now : Counts) : 
   pub read : (w r : OpId) (x t u m : ℕ) → IsTrue (program_past o r) → ReadsFrom h w r → Writes h w x t → IsLastBelow h x u (count now r u) m → op u m ≢ w → m < count now w u
 
 -- a call writes a variable, or it doesn't
-call-cases : (x : ℕ) (c : Option MemoryCall)
+pub call-cases : (x : ℕ) (c : Option MemoryCall)
     → ((y : ℕ) × (c ≡ Some (record { key = x; call = Write y }))) ⊎ ((y : ℕ) → c ≡ Some (record { key = x; call = Write y }) → ⊥)
 call-cases x None = inr (λ y e. absurd cc)
 call-cases x (Some c) = ⊎_elim
@@ -100,7 +100,7 @@ module _ (h : MemoryHistory) (v : Counts) (counts : CountsSourceOrder h v) (dist
   leads-session : (u i j : ℕ) → i < j → IsOp h (op u j) → CO h (op u i) (op u j)
   leads-session u i j below of_history = leads-edge (IsEdge h) (op u i) (op u j) (inl ((refl, below), of_history))
 
-  past-session : (u i j : ℕ) → i ≤ j → IsPast h o (op u j) → IsPast h o (op u i)
+  pub past-session : (u i j : ℕ) → i ≤ j → IsPast h o (op u j) → IsPast h o (op u i)
   past-session u i j up_to in_j = ⊎_elim
       (λ (same : i ≡ j). subst (λ (k : ℕ). IsPast h o (op u k)) (sym same) in_j)
       (λ (other : i ≡ j → ⊥).

@@ -38,3 +38,11 @@ pub mod ReadAnswers
 pub mod SourcesExist
 pub mod IndexedLaws
 pub mod CausalOrders
+pub mod Searches
+pub mod EachOperation
+pub mod WalksExist
+pub mod VectorsPlaced
+pub mod VectorsExist
+pub mod OrderDecisions
+pub mod CountSumsLaws
+pub mod HappenedBeforeExists

@@ -10,4 +10,5 @@ pub mod OverwrittenReads
 pub mod HappenedBeforePatterns
 pub mod HappenedBeforeVectors
 pub mod MemoryHistories
+pub mod CountSums
 pub mod Steps

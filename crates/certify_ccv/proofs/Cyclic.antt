@@ -22,7 +22,7 @@ use Rattle.certify_ccv.proofs.ByRule.{part-first, limit}
 
 module _ (h : MemoryHistory) where
   -- what has to stand before an operation is of the history
-  first-of_history : (a b : OpId) → ComesFirst h a b → IsOp h a
+  pub first-of_history : (a b : OpId) → ComesFirst h a b → IsOp h a
   first-of_history a b = ⊎_elim
       (λ (before : SourceOrder h a b). SourceOrder-of_history h a b before)
       (λ (conflict : SourceConflict h a b). let wrote = conflict.0.1 in write-of_history h a wrote.0 wrote.1 wrote.3)
@@ -43,7 +43,7 @@ module _ (h : MemoryHistory) where
     abbrev Waits : ℕ → Type 0
     Waits s = (t : ℕ) × IsOpen t × Leads (ComesFirst h) (next_of list t) (next_of list s)
 
-    waits-for : (s t j : ℕ) → placed list t ≤ j → ComesFirst h (op t j) (next_of list s) → Waits s
+    pub waits-for : (s t j : ℕ) → placed list t ≤ j → ComesFirst h (op t j) (next_of list s) → Waits s
     waits-for s t j up_to first =
         let is_op : j < length (session h t) = first-of_history (op t j) (next_of list s) first in (
           t,

@@ -3,3 +3,4 @@ pub mod Raised
 pub mod ByRule
 pub mod Cyclic
 pub mod Explained
+pub mod ConflictCertificates
