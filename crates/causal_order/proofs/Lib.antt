@@ -35,3 +35,9 @@ pub mod LastWrites
 pub mod Fronts
 pub mod ReadAnswers
 pub mod SourcesExist
+pub mod WaitsLaws
+pub mod Placed
+pub mod TopologicalOrders
+pub mod WaitRoutes
+pub mod WaitsLead
+pub mod SourceWaits

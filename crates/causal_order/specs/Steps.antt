@@ -5,3 +5,4 @@ pub mod Gathered
 pub mod Listed
 pub mod GrowingOrders
 pub mod HappenedBefores
+pub mod Waiting
