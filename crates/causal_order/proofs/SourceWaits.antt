@@ -1,21 +1,20 @@
 -- Operations that wait for their sources.
-use Rattle.std.specs.Prelude.{◌≡◌, ◌≢◌, ◌⊎◌, ℕ, ◌+◌, ◌<◌, ◌≤◌, List, [], ◌∷◌, ◌++◌, length, take, Option, Some, None, slice_get}
+use Rattle.std.specs.Prelude.{◌≡◌, ◌≢◌, ◌⊎◌, ℕ, ◌+◌, ◌<◌, ◌≤◌, List, [], ◌∷◌, ◌++◌, length, take, Some, slice_get}
 use Rattle.std.proofs.Common.{arith, get_or, sym, ap, subst, ◌∙◌, inl, inr, ⊎_elim, refl}
-use Rattle.std.proofs.lemmas.Bool.{cases_eq, cases_lt}
+use Rattle.std.proofs.lemmas.Bool.{cases_eq}
 use Rattle.std.proofs.lemmas.List.{take_more}
-use Rattle.std.proofs.lemmas.Option.{same_Some, slice_get_within, slice_get-get_or, get_or_from_slice_get}
+use Rattle.std.proofs.lemmas.Option.{same_Some, slice_get_within, get_or_from_slice_get}
 use Rattle.history.specs.declared.op_id.OpId.{OpId}
 use Rattle.history.specs.History.{Precedes}
 use Rattle.causal_order.specs.Memory.{MemoryHistory}
 use Rattle.causal_order.specs.Orders.{op, IsEarlier}
-use Rattle.causal_order.specs.Relations.{Leads}
 use Rattle.causal_order.specs.SourceOrder.{ListsSources}
 use Rattle.causal_order.specs.Sources.{Sources, HasSource, IsListed, Comes, IsStep, IsReady, IsUnfinished, next}
 use Rattle.causal_order.specs.Steps.Waiting.{AddsWait, FollowsSources, IsSourceBefore}
 use Rattle.causal_order.specs.Topological.{placed, next_of}
 use Rattle.causal_order.specs.Vectors.{Counts, count}
 use Rattle.causal_order.specs.Waits.{AreAlike, AreWaitsFor, IsAwaited, IsWaitEdge, IsWaitingCycle, IsTopologicalOrder}
-use Rattle.causal_order.proofs.EarlierLaws.{earlier_cases}
+use Rattle.causal_order.proofs.EarlierLaws.{earlier_cases, earlier_later}
 use Rattle.causal_order.proofs.FirstWrites.{source-listed, sources-length}
 use Rattle.causal_order.proofs.MemoryLaws.{write-or_read}
 use Rattle.causal_order.proofs.PushedLaws.{listed-length, pushed, pushed-other, pushed-length}
@@ -26,12 +25,6 @@ use Rattle.causal_order.proofs.WaitsLead.{cycle-leads}
 use Rattle.causal_order.proofs.Walked.{placed-other}
 
 module _ (sources : Sources) where
-  -- an operation is earlier than the one behind it
-  earlier-later : (a : OpId) (s i : ℕ) → IsEarlier a (op s i) → IsEarlier a (op s (i + 1))
-  earlier-later a s i = ⊎_elim
-      (λ (below : a.session < s). inl below)
-      (λ (same : (a.session ≡ s) × (a.index < i)). let below = same.1 in inr (same.0, omega arith))
-
   -- the sources of none
   pub sources-none : (waits : Counts) → ((o : OpId) (s : ℕ) → count waits o s ≡ 0) → AreWaitsFor (IsSourceBefore sources (op 0 0)) waits
   sources-none waits zero = waits_for-none (IsSourceBefore sources (op 0 0)) waits zero
@@ -44,7 +37,7 @@ module _ (sources : Sources) where
     sources-more w after has adds = waits_for-same
         (λ b p. IsSourceBefore sources (op s i) b p ⊎ ((b ≡ w) × (p ≡ op s i))) (IsSourceBefore sources (op s (i + 1))) after
         (λ b p. ⊎_elim
-        (λ (old : IsSourceBefore sources (op s i) b p). (old.0, earlier-later p s i old.1))
+        (λ (old : IsSourceBefore sources (op s i) b p). (old.0, earlier_later p s i old.1))
         (λ (new : (b ≡ w) × (p ≡ op s i)).
         let here : IsSourceBefore sources (op s (i + 1)) w (op s i) = (has, inr (refl, omega arith)) in
         subst (λ (q : OpId). IsSourceBefore sources (op s (i + 1)) b q) (sym new.1)
@@ -60,7 +53,7 @@ module _ (sources : Sources) where
     -- or that has none
     pub sources-other : ((w : OpId) → ¬ HasSource sources (op s i) w) → AreWaitsFor (IsSourceBefore sources (op s (i + 1))) before
     sources-other none = waits_for-same (IsSourceBefore sources (op s i)) (IsSourceBefore sources (op s (i + 1))) before
-        (λ b p old. (old.0, earlier-later p s i old.1))
+        (λ b p old. (old.0, earlier_later p s i old.1))
         (λ b p is. ⊎_elim
         (λ (old : IsEarlier p (op s i)). (is.0, old))
         (λ (here : p ≡ op s i). absurd (none b (subst (λ (q : OpId). HasSource sources q b) here is.0)))

@@ -1,17 +1,15 @@
 -- Operations that wait for one another, and the way round them.
-use Rattle.std.specs.Prelude.{◌≡◌, ◌≢◌, ◌⊎◌, ℕ, ◌+◌, ◌-◌, ◌<◌, ◌≤◌, List, [], ◌∷◌, ◌++◌, length, take, Some, slice_get}
-use Rattle.std.proofs.Common.{zero, suc, arith, get_or, sym, ap, subst, subst₂, ◌∙◌, inl, inr, ⊎_elim, refl}
+use Rattle.std.specs.Prelude.{◌≡◌, ◌≢◌, ◌⊎◌, ℕ, ◌+◌, ◌-◌, ◌<◌, ◌≤◌, List, [], ◌∷◌, ◌++◌, length, Some, slice_get}
+use Rattle.std.proofs.Common.{arith, get_or, sym, ap, subst, subst₂, ◌∙◌, inl, inr, ⊎_elim, refl}
 use Rattle.std.proofs.lemmas.Bool.{cases_eq, cases_lt}
 use Rattle.std.proofs.lemmas.List.{length_push, get_or_append_left, get_or_push, get_or_past}
 use Rattle.std.proofs.lemmas.Option.{same_Some, slice_get_within, slice_get-get_or, get_or_from_slice_get}
 use Rattle.history.specs.declared.op_id.OpId.{OpId}
 use Rattle.causal_order.specs.Orders.{op, StandsAt}
-use Rattle.causal_order.specs.Relations.{IsPath}
-use Rattle.causal_order.specs.Sources.{IsListed}
-use Rattle.causal_order.specs.Steps.Waiting.{AreOfOthers, IsChain, IsOpen, IsRepetition, IsRoute, IsStuck, IsUnplaced}
+use Rattle.causal_order.specs.Steps.Waiting.{AreOfOthers, IsChain, IsOpen, IsRoute, IsStuck, IsUnplaced}
 use Rattle.causal_order.specs.Topological.{placed, next_of}
-use Rattle.causal_order.specs.Vectors.{Counts, count, list_of, IsCounted}
-use Rattle.causal_order.specs.Waits.{AreWaits, IsAwaited, IsWaitEdge, WaitsFor, IsWaitingCycle}
+use Rattle.causal_order.specs.Vectors.{Counts, count, list_of}
+use Rattle.causal_order.specs.Waits.{AreWaits, IsAwaited, IsWaitEdge, IsWaitingCycle}
 use Rattle.causal_order.proofs.Fronts.{push-at, push-last}
 use Rattle.causal_order.proofs.OrdersLaws.{same_op}
 use Rattle.causal_order.proofs.PushedLaws.{listed-length}

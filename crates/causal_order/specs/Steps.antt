@@ -6,3 +6,4 @@ pub mod Listed
 pub mod GrowingOrders
 pub mod HappenedBefores
 pub mod Waiting
+pub mod Conflicts

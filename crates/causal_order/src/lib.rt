@@ -2,6 +2,7 @@
 #![tactic(auto)]
 
 mod by_operation;
+mod conflicts;
 mod differentiation;
 mod growing_order;
 mod happened_before;
@@ -24,12 +25,13 @@ mod waits;
 mod writes;
 
 pub use by_operation::{ByOperation, Vectors};
+pub use conflicts::waits_with_conflicts;
 pub use differentiation::{are_distinct, is_differentiated};
 pub use growing_order::{Cause, Raise};
 pub use happened_before::{HappenedBefore, Saturation};
 pub use last_writes::{end_of_writes, writes_by_variable};
 pub use order::memory_order;
-pub use placing::{Sources, order_of};
+pub use placing::Sources;
 pub use program_vectors::program_order;
 pub use reads::{initial_value, known_read};
 pub use reads_from::source_of;

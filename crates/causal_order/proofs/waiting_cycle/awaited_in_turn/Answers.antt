@@ -1,8 +1,5 @@
-use Rattle.std.proofs.Common.{◌≡◌, ◌+◌, ◌<◌, ℕ, arith, ap, sym, subst, ◌∙◌, length, refl, List, ◌++◌, ◌∷◌, []}
+use Rattle.std.proofs.Common.{ℕ, arith, sym, subst, length, refl}
 use Rattle.std.proofs.lemmas.List.{length_push}
-use Rattle.history.specs.declared.op_id.OpId.{OpId}
-use Rattle.causal_order.specs.Orders.{StandsAt}
-use Rattle.causal_order.specs.Steps.Waiting.{IsChain}
 use Rattle.causal_order.specs.Topological.{next_of}
 use Rattle.causal_order.specs.Waits.{IsAwaited}
 use Rattle.causal_order.proofs.WaitRoutes.{chain-none, chain-push, unplaced-open, last-pushed}

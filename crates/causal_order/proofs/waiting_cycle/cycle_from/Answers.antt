@@ -1,4 +1,4 @@
-use Rattle.std.proofs.Common.{◌<◌, ℕ, List, subst, arith, length}
+use Rattle.std.proofs.Common.{List, subst, arith}
 use Rattle.history.specs.declared.op_id.OpId.{OpId}
 use Rattle.causal_order.specs.Orders.{StandsAt}
 use Rattle.causal_order.proofs.WaitRoutes.{unplaced-exists}
