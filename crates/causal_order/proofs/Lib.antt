@@ -6,7 +6,6 @@ pub mod Outcomes
 pub mod Least
 pub mod Places
 pub mod NextVector
-pub mod Cycles
 pub mod Flat
 pub mod Items
 pub mod Growing
@@ -46,3 +45,10 @@ pub mod VectorsExist
 pub mod OrderDecisions
 pub mod CountSumsLaws
 pub mod HappenedBeforeExists
+pub mod WaitsLaws
+pub mod Placed
+pub mod TopologicalOrders
+pub mod WaitRoutes
+pub mod WaitsLead
+pub mod SourceWaits
+pub mod Conflicting

@@ -6,3 +6,5 @@ pub mod Listed
 pub mod GrowingOrders
 pub mod HappenedBefores
 pub mod Indexed
+pub mod Waiting
+pub mod Conflicts
