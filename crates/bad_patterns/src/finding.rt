@@ -70,7 +70,7 @@ pub fn find_without_order(
         return Ok(None);
     }
     let sources = sources_of(alloc, h, &writes)?;
-    if let Some(path) = cyclic_order(alloc, &sources)? {
+    if let Some(path) = cyclic_order(alloc, h, &sources)? {
         let found = tested(alloc, h, &writes, criterion, Pattern::CyclicCO(path))?;
         if found.is_some() {
             return Ok(found);
@@ -115,7 +115,7 @@ pub fn find_in_order(
     if let Some(pattern) = find_happened_before(alloc, h, &writes, criterion, vectors, &known)? {
         return Ok(Some(pattern));
     }
-    find_conflicts(alloc, h, &writes, criterion, &known)
+    find_conflicts(alloc, h, &writes, criterion, vectors, &known)
 }
 
 /// A read of the initial value after a write, or a read from an overwritten write.
@@ -154,19 +154,21 @@ fn find_conflicts(
     h: &History<Memory>,
     writes: &[Write],
     criterion: Criterion,
+    vectors: &Vectors,
     known: &KnownReads,
 ) -> Result<Option<Pattern>, AllocError>
     requires writes { ListsWrites h.now writes.now }
     requires sorted { IsSorted writes.now }
     requires in_order { AreInOrder writes.now }
     requires differentiated { IsDifferentiated h.now }
+    requires order { CountsSourceOrder h.now vectors.now }
     ensures found { IfOk result (λ found. IfSome found (IsBadPattern h.now criterion)) }
     ensures first { IfOk result (λ found. IfSome found (IsFirstFound h.now)) }
 {
     if !Kind::CyclicCF.is_against(criterion) {
         return Ok(None);
     }
-    match cycle_with_conflicts(alloc, known)? {
+    match cycle_with_conflicts(alloc, h, vectors, known)? {
         Some(links) => tested(alloc, h, writes, criterion, Pattern::CyclicCF(links)),
         None => Ok(None),
     }

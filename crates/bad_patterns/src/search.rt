@@ -2,7 +2,6 @@
 //!
 //! What it answers is a candidate: who asks tests it.
 
-mod chains;
 mod conflicts;
 mod counts;
 mod cycles;
@@ -14,7 +13,6 @@ mod reasons;
 mod relations;
 mod routes_back;
 mod sources;
-mod waits;
 mod writes_of;
 
 pub use conflicts::cycle_with_conflicts;

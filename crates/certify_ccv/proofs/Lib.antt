@@ -1,5 +1,3 @@
-pub mod SourcedReads
-pub mod Raised
 pub mod ByRule
 pub mod Cyclic
 pub mod Explained

@@ -1,21 +1,15 @@
 //! Certificates of memory histories by the writes that their reads read from, and the conflicts of the other writes with
 //! these.
 
-ghost use Rattle.std.specs.Prelude.{◌≡◌, ◌⊎◌, ℕ, List, length, IfNone, IfOk, IfSome};
+ghost use Rattle.std.specs.Prelude.{◌≡◌, ◌⊎◌, IfNone, IfOk, IfSome};
 ghost use Rattle.history.specs.declared.op_id.OpId.{OpId as Operation};
-ghost use Rattle.history.specs.History.{session};
 ghost use Rattle.causal_order.specs.Relations.{Leads};
 ghost use Rattle.causal_order.specs.SourceOrder.{CountsSourceOrder, LacksSource};
-ghost use Rattle.causal_order.specs.Vectors.{AreVectorsOf};
 ghost use Rattle.cert_check.specs.Certificates.{criterion_of, HasShapeOf};
-ghost use Rattle.cert_check.specs.Schedules.{times};
 ghost use Rattle.certify_ccv.specs.ByConflicts.{ComesFirst, IsByConflicts};
-ghost use Rattle.certify_ccv.specs.Steps.Rows.{IsWalkOver};
 
-use crate::limits::limits_of;
-use crate::rows::rows_of;
-use causal_order::{Vectors, Walk, memory_order};
-use cert_check::{Arbitration, Certificate, Criterion, names_all};
+use causal_order::{OrderOrCycle, Vectors, memory_order, topological_sort, waits_with_conflicts};
+use cert_check::{Arbitration, Certificate, Criterion};
 use history::History;
 use objects::Memory;
 use std::alloc::{AllocError, Global};
@@ -55,30 +49,9 @@ pub fn make_by_order(
     ensures exact { IfOk result (λ made. IfSome made (IsByConflicts h.now)) }
     ensures none { IfOk result (λ made. IfNone made ((a : Operation) × Leads (ComesFirst h.now) a a)) }
 {
-    let rows = rows_of(alloc, h, &vectors)?;
-    let Some(arbitration) = arbitration_of(alloc, h, &rows)? else {
-        return Ok(None);
-    };
-    Ok(Some(Certificate::Ccv(vectors, arbitration)))
-}
-
-/// A list of all operations by the topological rule, or `None` where some can't be placed.
-fn arbitration_of(
-    alloc: Global,
-    h: &History<Memory>,
-    rows: &Vectors,
-) -> Result<Option<Arbitration>, AllocError>
-    requires rows { AreVectorsOf h.now rows.now }
-    ensures whole { IfOk result (λ made. IfSome made (λ list. (s : ℕ) → times s list ≡ length (session h.now s))) }
-    ensures exact { IfOk result (λ made. IfSome made (IsWalkOver rows.now)) }
-    ensures none { IfOk result (λ made. IfNone made ((list : List ℕ) × IsWalkOver rows.now list × ¬ ((s : ℕ) → times s list ≡ length (session h.now s)))) }
-{
-    let limits = limits_of(alloc, h, rows)?;
-    let mut walk = Walk::new(alloc);
-    walk.run_to(rows, &limits)?;
-    if !names_all(h, walk.schedule()) {
-        return Ok(None);
+    let waits = waits_with_conflicts(alloc, h, &vectors)?;
+    match topological_sort(alloc, &waits)? {
+        OrderOrCycle::Order(list) => { Ok(Some(Certificate::Ccv(vectors, Arbitration::of(list)))) }
+        OrderOrCycle::Cycle(_) => Ok(None),
     }
-    let list = Vec::from_slice(alloc, walk.schedule())?;
-    Ok(Some(Arbitration::of(list)))
 }
