@@ -6,7 +6,6 @@ pub mod Outcomes
 pub mod Least
 pub mod Places
 pub mod NextVector
-pub mod Cycles
 pub mod Flat
 pub mod Items
 pub mod Growing

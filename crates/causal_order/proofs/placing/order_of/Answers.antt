@@ -1,6 +1,6 @@
 use Rattle.std.proofs.Common.{arith, length, ap, ◌∙◌, List, ℕ}
 use Rattle.std.specs.List.{sum_by}
-use Rattle.causal_order.proofs.Cycles.{stuck-cycle}
+use Rattle.causal_order.proofs.VectorsPlaced.{stuck-cycle}
 use Rattle.causal_order.proofs.PushedLaws.{listed-length, pushed-sum, sum-within}
 use Rattle.causal_order.proofs.placing.order_of.Goals as goal
 
