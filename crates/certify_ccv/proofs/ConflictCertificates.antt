@@ -31,7 +31,7 @@ use Rattle.cert_check.specs.Criteria.{IsCausallyConvergent}
 use Rattle.cert_check.specs.Schedules.{times}
 use Rattle.cert_check.proofs.Sound.{explained-meets}
 use Rattle.certify_ccv.specs.ByConflicts.{SourceConflict, ComesFirst, CanStand, GoesByRule}
-use Rattle.certify_ccv.proofs.Cyclic.{first-of_history, waits-for}
+use Rattle.certify_ccv.proofs.FirstOperations.{IsOpen, first-of_history, waits-for}
 use Rattle.certify_ccv.proofs.Explained.{conflicts-explain}
 
 module _ (h : MemoryHistory) (v : Counts) (order : CountsSourceOrder h v) where
@@ -100,7 +100,7 @@ module _ (h : MemoryHistory) (v : Counts) (order : CountsSourceOrder h v) where
 
     -- where none can stand and one isn't placed, one has to stand before itself
     stuck-cycle : ((s : ℕ) → ¬ CanStand h list s) → (s : ℕ) → placed list s < length (session h s) → (a : OpId) × Leads (ComesFirst h) a a
-    stuck-cycle none = waiting-cycle (λ s. placed list s < length (session h s)) (next_of list) (Leads (ComesFirst h)) (length h.1)
+    stuck-cycle none = waiting-cycle (IsOpen h list) (next_of list) (Leads (ComesFirst h)) (length h.1)
         (λ t open_t. session-of_history h (next_of list t) open_t)
         (λ s open_s. ⊎_elim
         (λ (can : CanStand h list s). absurd (none s can))
