@@ -1,4 +1,5 @@
-ghost use Rattle.std.specs.Prelude.{◌≡◌, ◌+◌, ◌≤◌, ◌↔◌, ℕ, List, [], ◌∷◌, ◌++◌, filter, length, IfOk, IsTrue, MatchOption, slice_get, slice_index_or, slice_set, take, Some};
+ghost use Rattle.std.specs.Prelude.{◌≡◌, ◌+◌, ◌≤◌, ◌↔◌, ℕ, List, [], ◌∷◌, ◌++◌, filter, length, IfOk, IsTrue};
+ghost use Rattle.std.specs.Prelude.{MatchOption, slice_get, slice_index_or, slice_set, take, Some};
 ghost use Rattle.history.specs.declared.op_id.OpId.{OpId};
 ghost use Rattle.history.specs.History.{IsOp, calls};
 ghost use Rattle.causal_order.specs.Orders.{op};
@@ -6,7 +7,7 @@ ghost use Rattle.causal_order.specs.Vectors.{count, AreVectorsOf};
 ghost use Rattle.causal_order.specs.Vectors.{HasListOf};
 ghost use Rattle.cert_check.specs.Certificates.{counted};
 ghost use Rattle.cert_check.specs.Schedules.{named};
-ghost use Rattle.cert_check.specs.Steps.Walks.{kept_of, IsAnsweredAfter, IsStepOk, IsWalkAt};
+ghost use Rattle.cert_check.specs.Steps.Replays.{kept_of, IsAnsweredAfter, IsStepOk, IsReplayAt};
 
 use crate::kept::Kept;
 use causal_order::{Vectors, count_of, is_at_most};
@@ -14,23 +15,23 @@ use history::{History, OpId};
 use object_trait::SeqObject;
 use std::alloc::{AllocError, Global};
 
-/// How far a walk over a list of session numbers has come.
+/// How far a replay over a list of session numbers has come.
 #[derive(Drop)]
-pub struct Walk<O: SeqObject> {
+pub struct Replay<O: SeqObject> {
     /// For each session, how many of its operations were named.
     counts: Vec<u16>,
     /// The object after the calls that were taken in.
     object: O,
 }
 
-impl<O: SeqObject> Walk<O> {
-    /// A walk that has come nowhere.
-    pub fn new(alloc: Global, h: &History<O>) -> Result<Walk<O>, AllocError>
-        ensures { IfOk result (λ walk. (list : List ℕ) → IsWalkAt O.stands h.now list 0 [] walk.counts.items walk.object) }
+impl<O: SeqObject> Replay<O> {
+    /// A replay that has come nowhere.
+    pub fn new(alloc: Global, h: &History<O>) -> Result<Replay<O>, AllocError>
+        ensures { IfOk result (λ replay. (list : List ℕ) → IsReplayAt O.stands h.now list 0 [] replay.counts.items replay.object) }
     {
         let counts = vec![in alloc; 0; h.sessions()]?;
         let object = O::fresh(alloc, h.start())?;
-        Ok(Walk { counts, object })
+        Ok(Replay { counts, object })
     }
 
     /// Names the next operation of a session and counts it, or gives none where the history has no more.
@@ -93,7 +94,7 @@ impl<O: SeqObject> Walk<O> {
         Ok(())
     }
 
-    /// Whether the walk has named all operations that the vector of an operation counts.
+    /// Whether the replay has named all operations that the vector of an operation counts.
     pub fn has_named_all(&self, v: &Vectors, of: OpId) -> bool
         requires { HasListOf v.now of }
         ensures { IsTrue result ↔ ((s : ℕ) → count v.now of s ≤ slice_index_or self.now.counts.items s 0) }
@@ -101,7 +102,7 @@ impl<O: SeqObject> Walk<O> {
         is_at_most(v.get(of), &self.counts)
     }
 
-    /// Whether the walk has named as many operations of each session as a vector counts.
+    /// Whether the replay has named as many operations of each session as a vector counts.
     pub fn ends_at(&self, vector: &[u16]) -> bool
         ensures { IsTrue result ↔ ((s : ℕ) → slice_index_or self.now.counts.items s 0 ≡ slice_index_or vector.now s 0) }
     {
@@ -119,12 +120,15 @@ impl<O: SeqObject> Walk<O> {
     ) -> Result<bool, AllocError>
         requires shape { AreVectorsOf h.now v.now }
         requires width { length self.old.counts.items ≡ length h.now.1 }
-        ensures exact { (list : List ℕ) (i : ℕ) → IsWalkAt O.stands h.now list i (take i (named list)) self.old.counts.items self.old.object
+        ensures exact { (list : List ℕ) (i : ℕ)
+            → IsReplayAt O.stands h.now list i (take i (named list)) self.old.counts.items self.old.object
             → slice_get list i ≡ Some session
             → IfOk result (λ yes. IsTrue yes ↔ IsStepOk O.answer h.now v.now (kept_of kept) (named list) i) }
-        ensures on { (list : List ℕ) (i : ℕ) → IsWalkAt O.stands h.now list i (take i (named list)) self.old.counts.items self.old.object
+        ensures on { (list : List ℕ) (i : ℕ)
+            → IsReplayAt O.stands h.now list i (take i (named list)) self.old.counts.items self.old.object
             → slice_get list i ≡ Some session
-            → IfOk result (λ yes. IsTrue yes → IsWalkAt O.stands h.now list (i + 1) (take (i + 1) (named list)) self.new.counts.items self.new.object) }
+            → IfOk result (λ yes. IsTrue yes
+            → IsReplayAt O.stands h.now list (i + 1) (take (i + 1) (named list)) self.new.counts.items self.new.object) }
     {
         let Some(next) = self.name_next(h, session) else {
             return Ok(false);

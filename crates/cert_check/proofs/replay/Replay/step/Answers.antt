@@ -2,9 +2,9 @@ use Rattle.std.proofs.Common.{sym, subst, take, ◌∙◌}
 use Rattle.std.proofs.lemmas.Bool.{both_ways, not_from_false, not-true, false_from_ne_true}
 use Rattle.history.specs.History.{calls}
 use Rattle.cert_check.specs.Schedules.{named}
-use Rattle.cert_check.specs.Steps.Walks.{kept_of}
-use Rattle.cert_check.proofs.WalkSteps.{step-absent, step-early, step-ok, step-on, named_here}
-use Rattle.cert_check.proofs.walk.Walk.step.Goals as goal
+use Rattle.cert_check.specs.Steps.Replays.{kept_of}
+use Rattle.cert_check.proofs.ReplaySteps.{step-absent, step-early, step-ok, step-on, named_here}
+use Rattle.cert_check.proofs.replay.Replay.step.Goals as goal
 
 pub returns-in_default-clause-exact : goal.returns-in_default-clause-exact
 returns-in_default-clause-exact g c = λ list i at here. (

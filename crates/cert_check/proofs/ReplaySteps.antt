@@ -1,4 +1,4 @@
--- One step of a walk over a list of session numbers: what the running counts say of the operation that is named next.
+-- One step of a replay over a list of session numbers: what the running counts say of the operation that is named next.
 use Rattle.std.proofs.Common.{◌≡◌, ◌≢◌, ℕ, ◌+◌, ◌<◌, ◌≤◌, List, [], ◌∷◌, ◌++◌, length, take, get_or, set, sym, ap, ◌∙◌, subst, arith, ⊎_elim, get_or-set_same, get_or-set_other}
 use Rattle.std.specs.Prelude.{Option, Some, IsTrue, slice_get, option_map}
 use Rattle.std.specs.List.{filter_map, cons_option}
@@ -12,7 +12,7 @@ use Rattle.causal_order.specs.Orders.{Ops, op, StandsAt}
 use Rattle.causal_order.proofs.OrdersLaws.{same_op, session-of_history}
 use Rattle.causal_order.specs.Vectors.{Counts, count, IsCounted}
 use Rattle.cert_check.specs.Schedules.{times, named, StandsBefore}
-use Rattle.cert_check.specs.Steps.Walks.{AreCountsAt, IsAnsweredAfter, IsStepOk, IsWalkAt}
+use Rattle.cert_check.specs.Steps.Replays.{AreCountsAt, IsAnsweredAfter, IsStepOk, IsReplayAt}
 use Rattle.cert_check.proofs.Named.{times-next, times-same, times-other, times-take-le, named_at, named_is, take_next, counted_from_before, before_from_counted}
 
 -- one call more
@@ -97,7 +97,7 @@ module _ (v : Counts) (list : List ℕ) (i n : ℕ) (o : OpId) (stands : StandsA
       (λ (most : count v o s ≤ get_or counts s 0). most)
       (cases_lt (get_or counts s 0) (count v o s))
 
--- one step of a walk that takes in what it names
+-- one step of a replay that takes in what it names
 module _ {S C R X : Type 0} (stands : X → S → List C → Type 0) (answer : S → List C → C → R) (h : Record S C R) (v : Counts) (kept : Ops)
     (list : List ℕ) (i s : ℕ) (here : slice_get list i ≡ Some s) (counts : List ℕ) (at : AreCountsAt list i (length h.1) counts) where
   pub step-absent : ¬ IsOp h (op s (get_or counts s 0)) → ¬ IsStepOk answer h v kept (named list) i
@@ -133,7 +133,7 @@ module _ {S C R X : Type 0} (stands : X → S → List C → Type 0) (answer : S
     }
 
     pub step-on : (object : X) → stands object h.0 (calls h (take i (named list) ++ o ∷ []))
-        → IsWalkAt stands h list (i + 1) (take (i + 1) (named list)) later object
+        → IsReplayAt stands h list (i + 1) (take (i + 1) (named list)) later object
     step-on object state = record {
       counting = counting;
       state = subst (λ (ops : List OpId). stands object h.0 (calls h ops)) (sym (take_next (named list) i o named_here)) state;

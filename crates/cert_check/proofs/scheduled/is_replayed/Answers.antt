@@ -3,12 +3,12 @@ use borrow.Author.Count.{below_more}
 use Rattle.std.proofs.lemmas.Bool.{both_ways}
 use Rattle.std.proofs.lemmas.Option.{slice_get-get_or}
 use Rattle.cert_check.specs.Schedules.{named}
-use Rattle.cert_check.specs.Steps.Walks.{kept_of, IsStepOk}
+use Rattle.cert_check.specs.Steps.Replays.{kept_of, IsStepOk}
 use Rattle.cert_check.proofs.SchedulePieces.{counts_at_end, steps_all}
-use Rattle.cert_check.proofs.scheduled.is_walked.Goals as goal
+use Rattle.cert_check.proofs.scheduled.is_replayed.Goals as goal
 
 pub loop-session-init : goal.loop-session-init
-loop-session-init g c = (c.in_ok-walk.ensures c.args.schedule.now, λ i below. absurd (omega arith))
+loop-session-init g c = (c.in_ok-replay.ensures c.args.schedule.now, λ i below. absurd (omega arith))
 
 pub returns-then-not-branch : goal.returns-then-not-branch
 returns-then-not-branch g c = (
@@ -34,7 +34,7 @@ pub returns : goal.returns
 returns g c =
     let i = c.loop-session.session-index in
     let schedule = c.args.schedule.now in
-    let end = counts_at_end schedule i (length c.args.h.now.1) c.loop-session.walk.counts.items c.loop-session.invariant.0.counting c.loop-session-test.false in (
+    let end = counts_at_end schedule i (length c.args.h.now.1) c.loop-session.replay.counts.items c.loop-session.invariant.0.counting c.loop-session-test.false in (
       (λ ended. (
         steps_all g.O.SeqObject.answer c.args.h.now c.args.v.now (kept_of c.args.kept) schedule i c.loop-session-test.false c.loop-session.invariant.1,
         λ s. sym (end s) ∙ c.ends_at.ensures.0 ended s ∙ ap (λ (xs : List ℕ). get_or xs s 0) c.get.ensures,

@@ -11,8 +11,8 @@ use Rattle.cert_check.proofs.ConvergentLaws.{only-same}
 use Rattle.cert_check.proofs.CutSteps.{next_is_op, not_named_yet}
 use Rattle.cert_check.proofs.Named.{take_next}
 use Rattle.cert_check.proofs.Pasts.{only-itself}
-use Rattle.cert_check.proofs.WalkSteps.{counting, named_here}
-use Rattle.cert_check.proofs.arbitrated.walk_to.Goals as goal
+use Rattle.cert_check.proofs.ReplaySteps.{counting, named_here}
+use Rattle.cert_check.proofs.arbitrated.replay_to.Goals as goal
 
 pub unwrap-next-requires : goal.unwrap-next-requires
 unwrap-next-requires g c =
@@ -21,14 +21,14 @@ unwrap-next-requires g c =
     let here = slice_get-get_or list i 0 c.loop-session-test.true in
     some_since c.name_next.result _ _ c.name_next.ensures.next (λ none. none.0
     (next_is_op c.args.h.now list c.requires.whole i (length c.args.h.now.1) (get_or list i 0) here
-    c.loop-session.walk.counts.items c.loop-session.invariant.0.counting))
+    c.loop-session.replay.counts.items c.loop-session.invariant.0.counting))
 
 pub returns-then-eq : goal.returns-then-eq
 returns-then-eq g c =
     let i = c.loop-session.session-index in
     let list = c.args.list.now in
     let here = slice_get-get_or list i 0 c.loop-session-test.true in
-    let counts = c.loop-session.walk.counts.items in
+    let counts = c.loop-session.replay.counts.items in
     let at = c.loop-session.invariant.0 in
     let next = MatchOption-at_some _ _ c.unwrap-next.result c.unwrap-next.ensures c.name_next.ensures.next in
     let is : c.unwrap-next.result ≡ c.args.op = only-same c.args.op c.unwrap-next.result (sym c.eq.ensures ∙ c.if-eq.true) in (
@@ -49,7 +49,7 @@ loop-session-preserved g c =
     let i = c.loop-session.session-index in
     let list = c.args.list.now in
     let here = slice_get-get_or list i 0 c.loop-session-test.true in
-    let counts = c.loop-session.walk.counts.items in
+    let counts = c.loop-session.replay.counts.items in
     let at = c.loop-session.invariant.0 in
     let next = MatchOption-at_some _ _ c.unwrap-next.result c.unwrap-next.ensures c.name_next.ensures.next in
     let stands = named_here g.O.SeqObject.stands g.O.SeqObject.answer c.args.h.now c.args.v.now (only c.args.op) list i (get_or list i 0) here

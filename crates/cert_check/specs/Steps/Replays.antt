@@ -1,4 +1,4 @@
--- Walks over a list of session numbers, which the functions of the checker speak of among themselves.
+-- Replays over a list of session numbers, which the functions of the checker speak of among themselves.
 use Rattle.std.specs.Prelude.{◌≡◌, ◌≢◌, ℕ, IsTrue, List, Some, length, slice_index_or, take}
 use Rattle.history.specs.declared.op_id.OpId.{OpId}
 use Rattle.history.specs.History.{Record, IsOp, calls, entry}
@@ -18,8 +18,8 @@ pub record AreCountsAt (list : List ℕ) (i n : ℕ) (counts : List ℕ) : Type 
   pub width : length counts ≡ n
   pub each : (s : ℕ) → slice_index_or counts s 0 ≡ times s (take i list)
 
--- a walk has counted the first i numbers of a list, and its object stands for the calls of some operations
-pub record IsWalkAt {S C R X : Type 0} (stands : X → S → List C → Type 0) (h : Record S C R) (list : List ℕ) (i : ℕ) (taken : List OpId) (counts : List ℕ) (object : X) : Type 0 where
+-- a replay has counted the first i numbers of a list, and its object stands for the calls of some operations
+pub record IsReplayAt {S C R X : Type 0} (stands : X → S → List C → Type 0) (h : Record S C R) (list : List ℕ) (i : ℕ) (taken : List OpId) (counts : List ℕ) (object : X) : Type 0 where
   pub counting : AreCountsAt list i (length h.1) counts
   pub state : stands object h.0 (calls h taken)
 
