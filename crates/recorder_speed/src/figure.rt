@@ -75,9 +75,9 @@ impl Figure {
         let (name, threads, done) = (self.measure.name(), self.threads, self.done);
         if timed {
             let each = nanoseconds(self.least).checked_div(done).unwrap_or(0);
-            println!(rt; "{name}, {threads} threads: {done}, {each} ns each")
+            println!(rt; "{name}, threads {threads}: {done}, {each} ns each")
         } else {
-            println!(rt; "{name}, {threads} threads: {done}")
+            println!(rt; "{name}, threads {threads}: {done}")
         }
     }
 }
