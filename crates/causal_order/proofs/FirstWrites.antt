@@ -93,7 +93,7 @@ module _ (h : MemoryHistory) where
       (cases_order u.session w.session)
 
   -- where values are distinct, what may be read from is the source
-  distinct-source : IsDifferentiated h → (w r : OpId) → ReadsFrom h w r → IsSource h w r
+  pub distinct-source : IsDifferentiated h → (w r : OpId) → ReadsFrom h w r → IsSource h w r
   distinct-source distinct w r reads = (
     reads,
     λ u other earlier.

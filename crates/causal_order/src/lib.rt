@@ -26,6 +26,7 @@ mod writes;
 pub use by_operation::{ByOperation, Vectors};
 pub use causal::CausalOrder;
 pub use differentiation::{are_distinct, is_differentiated};
+pub use found_sources::found_source;
 pub use growing_order::{Cause, Raise};
 pub use happened_before::{HappenedBefore, Saturation};
 pub use indexed::IndexedMemory;
