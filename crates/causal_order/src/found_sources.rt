@@ -55,8 +55,8 @@ fn sources_of_session(
     Ok(sources)
 }
 
-/// The source of an operation.
-fn found_source(h: &History<Memory>, writes: &[Write], op: OpId) -> Option<OpId>
+/// The source of an operation, where it has one. O(log n) for n writes, besides the look-up of the initial value.
+pub fn found_source(h: &History<Memory>, writes: &[Write], op: OpId) -> Option<OpId>
     requires writes { ListsWrites h.now writes.now }
     requires sorted { IsSorted writes.now }
     requires in_order { AreInOrder writes.now }

@@ -1,8 +1,8 @@
 //! What is known of a memory history.
 
-ghost use Rattle.std.specs.Prelude.{◌≡◌, ◌↔◌, IfOk, IsTrue, MatchOption};
+ghost use Rattle.std.specs.Prelude.{◌≡◌, ◌↔◌, IfOk, IfSome, IsTrue, MatchOption};
 ghost use Rattle.causal_order.specs.Memory.{IsDifferentiated};
-ghost use Rattle.causal_order.specs.Steps.Indexed.{HasNoWriteBefore, IsLastWriteBefore, IsSourceIfAny, IsUnordered, ListsReads, ListsSourcesIfAny, listed_source};
+ghost use Rattle.causal_order.specs.Steps.Indexed.{HasNoWriteBefore, IsLastWriteBefore, IsOrdered, IsSourceIfAny, IsUnordered, ListsReads, ListsSourcesIfAny, listed_source};
 ghost use Rattle.causal_order.specs.Steps.Written.{AreByVariable, AreInOrder, IsSorted, ListsWrites};
 
 use crate::by_operation::Vectors;
@@ -134,7 +134,8 @@ impl<'a> IndexedMemory<'a> {
     /// Its causal order, which is that of program order and sources: `None` where that has a cycle, or where a known read
     /// returned a value that is not the initial one and that nobody writes.
     pub fn order(&self) -> Option<CausalOrder<'_>>
-        ensures { MatchOption result (IsUnordered self.now) (λ order. order ≡ self.now) }
+        ensures order { MatchOption result (IsUnordered self.now) (λ order. order ≡ self.now) }
+        ensures ordered { IfSome result (λ _. IsOrdered self.now) }
     {
         match &self.order {
             Some(vectors) => Some(CausalOrder::of(self, vectors)),

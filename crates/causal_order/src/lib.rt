@@ -32,6 +32,7 @@ pub use by_operation::{ByOperation, Vectors};
 pub use causal::CausalOrder;
 pub use conflicts::waits_with_conflicts;
 pub use differentiation::{are_distinct, is_differentiated};
+pub use found_sources::found_source;
 pub use growing_order::{Cause, Raise};
 pub use happened_before::{HappenedBefore, Saturation};
 pub use indexed::IndexedMemory;

@@ -89,6 +89,11 @@ module _ (h : MemoryHistory) where
   abbrev pub IsUnordered : Type 0
   IsUnordered = ((a : OpId) × SourceOrder h a a) ⊎ LacksSource h
 
+  -- that order has no cycle, and each known read has the source that it needs
+  pub record IsOrdered : Type 0 where
+    pub acyclic : (a : OpId) → ¬ SourceOrder h a a
+    pub sources : ¬ LacksSource h
+
   -- what is kept of a history beside it
   pub record IsIndex (ws vs : List Write) (es : Sources) (ks : List KnownRead) (b : Bool) (order : Option Counts) : Type 0 where
     pub writes : ListsWrites h ws
