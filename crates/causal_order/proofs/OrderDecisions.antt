@@ -1,5 +1,5 @@
 -- What comes before what by program order and sources can be decided, and what is whose source.
-use Rattle.std.specs.Prelude.{◌≡◌, ◌≢◌, ◌⊎◌, ℕ, ◌<◌, Option, Some, None, option_map}
+use Rattle.std.specs.Prelude.{◌≡◌, ◌≢◌, ℕ, ◌<◌, Option, Some, None, option_map}
 use Rattle.std.proofs.Common.{sym, ap, subst, ◌∙◌, inl, inr, ⊎_elim, refl}
 use Rattle.std.proofs.lemmas.Bool.{cases_eq}
 use Rattle.std.proofs.lemmas.Option.{same_Some}
@@ -8,13 +8,13 @@ use Rattle.objects.specs.declared.register.RegisterCall.TheVariants.{Write, Read
 use Rattle.objects.specs.declared.register.RegisterRet.{RegisterRet}
 use Rattle.history.specs.declared.op_id.OpId.{OpId}
 use Rattle.history.specs.History.{IsOp, entry}
-use Rattle.causal_order.specs.Memory.{MemoryCall, MemoryHistory, Writes, Reads}
+use Rattle.causal_order.specs.Memory.{MemoryCall, MemoryHistory, Writes}
 use Rattle.causal_order.specs.Relations.{AreRivalWrites}
 use Rattle.causal_order.specs.SourceOrder.{CountsSourceOrder, IsSource, IsSourceOf, SourceOrder}
 use Rattle.causal_order.specs.Vectors.{Counts, count}
 use Rattle.causal_order.proofs.FirstWrites.{source-unique}
 use Rattle.causal_order.proofs.MemoryLaws.{same_written}
-use Rattle.causal_order.proofs.Searches.{IsDecided, both-decided, below-decided, op-decided}
+use Rattle.causal_order.proofs.Searches.{IsDecided, below-decided, op-decided}
 use Rattle.causal_order.proofs.SourceVectors.{before-counted, counts-before}
 use Rattle.causal_order.proofs.VectorsExist.{source-known}
 

@@ -1,6 +1,6 @@
 -- Each known read of a value that is not the initial one has a source, where none lacks one.
-use Rattle.std.specs.Prelude.{◌≡◌, ◌≢◌, ◌⊎◌, ℕ, ◌<◌, ◌≤◌, length, Option, Some, None, option_map}
-use Rattle.std.proofs.Common.{zero, suc, arith, sym, ap, subst, inl, inr, ⊎_elim, eq-or-lt_of_le}
+use Rattle.std.specs.Prelude.{◌≡◌, ◌≢◌, ◌⊎◌, ℕ, ◌<◌, length, Option, Some, None, option_map}
+use Rattle.std.proofs.Common.{ap, subst, inl, inr, ⊎_elim}
 use Rattle.std.proofs.lemmas.Bool.{cases_eq}
 use Rattle.std.proofs.lemmas.Option.{same_Some}
 use Rattle.objects.specs.declared.register.RegisterCall.{RegisterCall}

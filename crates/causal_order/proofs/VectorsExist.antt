@@ -1,6 +1,6 @@
 -- Where no source is missing and no operation comes before itself, there are vectors of the order of program order and
 -- sources.
-use Rattle.std.specs.Prelude.{◌≡◌, ◌≢◌, ◌⊎◌, ℕ, ◌<◌, ◌≤◌, List, [], length, Option, Some, None, slice_get}
+use Rattle.std.specs.Prelude.{◌≡◌, ◌≢◌, ℕ, ◌≤◌, [], length, Option, Some, None}
 use Rattle.std.proofs.Common.{arith, get_or, sym, ap, subst, ◌∙◌, inl, inr, ⊎_elim, refl}
 use Rattle.std.proofs.lemmas.Bool.{cases_eq}
 use Rattle.std.proofs.lemmas.Option.{same_Some, slice_get-get_or, slice_get_within}
@@ -13,7 +13,7 @@ use Rattle.history.specs.History.{IsOp, entry, session}
 use Rattle.causal_order.specs.Memory.{MemoryCall, MemoryHistory, initial, Reads}
 use Rattle.causal_order.specs.MemoryHistories.{IsMemoryHistory}
 use Rattle.causal_order.specs.Orders.{op}
-use Rattle.causal_order.specs.SourceOrder.{CountsSourceOrder, IsCyclic, IsSource, IsSourceOf, LacksSource, ListsSources, SourceOrder}
+use Rattle.causal_order.specs.SourceOrder.{CountsSourceOrder, IsCyclic, IsSourceOf, LacksSource, ListsSources, SourceOrder}
 use Rattle.causal_order.specs.Sources.{Sources, Comes, IsUnfinished, AreVectorsSoFar}
 use Rattle.causal_order.specs.Vectors.{Counts}
 use Rattle.causal_order.proofs.EachOperation.{by_operation, by_operation-sessions, by_operation-length, by_operation-entry}

@@ -9,7 +9,7 @@ use Rattle.history.specs.declared.op_id.OpId.{OpId}
 use Rattle.history.specs.History.{Record, IsOp, session}
 use Rattle.causal_order.specs.Orders.{op, Order, only, past}
 use Rattle.causal_order.proofs.EachOperation.{by_operation, by_operation-one_each, list_of-by_operation}
-use Rattle.causal_order.specs.Vectors.{ByOperation, Counts, list_of, count, IsCounted, HasOneEach, AreVectorsOf}
+use Rattle.causal_order.specs.Vectors.{Counts, count, IsCounted, AreVectorsOf}
 use Rattle.cert_check.specs.Criteria.{IsCausalOrder}
 use Rattle.cert_check.proofs.ConvergentLaws.{only-same}
 

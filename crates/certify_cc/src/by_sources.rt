@@ -34,7 +34,8 @@ pub fn make_memory(alloc: Global, h: &History<Memory>) -> Result<Option<Certific
     ensures exact { IfOk result (λ made. IfSome made (IsBySources h.now)) }
     ensures none { IfOk result (λ made. IfNone made (((a : Operation) × SourceOrder h.now a a) ⊎ LacksSource h.now)) }
     ensures made { ¬ IsCyclic h.now → ¬ LacksSource h.now → IfOk result (λ made. IsSome made) }
-    ensures explained { ¬ HasOverwrittenStart h.now → ¬ HasOverwrittenRead h.now → IfOk result (λ made. IfSome made (IsExplainedThroughout memory_answer h.now)) }
+    ensures explained { ¬ HasOverwrittenStart h.now → ¬ HasOverwrittenRead h.now
+        → IfOk result (λ made. IfSome made (IsExplainedThroughout memory_answer h.now)) }
 {
     let Some(vectors) = memory_order(alloc, h)? else {
         return Ok(None);

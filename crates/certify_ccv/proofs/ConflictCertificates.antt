@@ -1,7 +1,7 @@
 -- There is a certificate by conflicts, where nothing has to stand before itself.
-use Rattle.std.specs.Prelude.{◌≡◌, ◌≢◌, ◌⊎◌, ℕ, ◌+◌, ◌<◌, ◌≤◌, List, [], ◌∷◌, ◌++◌, length, take, Some, slice_get}
+use Rattle.std.specs.Prelude.{◌≡◌, ◌≢◌, ◌⊎◌, ℕ, ◌+◌, ◌<◌, ◌≤◌, List, [], ◌∷◌, ◌++◌, length, take, Option, Some, None, IfOk, IfNone, IsSome, slice_get}
 use Rattle.std.specs.List.{range_with_len}
-use Rattle.std.proofs.Common.{zero, suc, arith, get_or, map, sym, ap, subst, ◌∙◌, inl, inr, ⊎_elim}
+use Rattle.std.proofs.Common.{zero, suc, arith, get_or, map, sym, ap, subst, ◌∙◌, inl, inr, ⊎_elim, refl, Result, Ok, Err}
 use Rattle.std.proofs.lemmas.Bool.{cases_eq, cases_lt}
 use Rattle.std.proofs.lemmas.List.{get_or_past}
 use Rattle.std.proofs.lemmas.List.FromFn.{length-map-range_with_len, get_or-map-range_with_len}
@@ -58,7 +58,8 @@ module _ (h : MemoryHistory) (v : Counts) (order : CountsSourceOrder h v) where
       (some_operation h (IsBetween a b) (between-decided a b)))
 
   first-decided : (a b : OpId) → IsOp h b → IsDecided (ComesFirst h a b)
-  first-decided a b is_op = either-decided (SourceOrder h a b) (SourceConflict h a b) (before-decided h v order a b is_op) (conflict-decided a b)
+  first-decided a b is_op =
+      either-decided (SourceOrder h a b) (SourceConflict h a b) (before-decided h v order a b is_op) (conflict-decided a b)
 
   module _ (list : List ℕ) where
     -- an operation that isn't placed and has to stand before the next one of the session s
@@ -122,7 +123,8 @@ module _ (h : MemoryHistory) (v : Counts) (order : CountsSourceOrder h v) where
       → GoesByRule h (list ++ s ∷ [])
   rule-push list s rule can least_one = record {
     can = each-push (CanStand h) list s rule.can can;
-    least = λ k r t here below. each-push (λ xs q. (u : ℕ) → u < q → ¬ CanStand h xs u) list s (λ j q at u less. rule.least j q u at less) least_one k r here t below;
+    least = λ k r t here below. each-push (λ xs q. (u : ℕ) → u < q → ¬ CanStand h xs u) list s
+        (λ j q at u less. rule.least j q u at less) least_one k r here t below;
   }
 
   within-push : (list : List ℕ) (s : ℕ) → ((t : ℕ) → placed list t ≤ length (session h t)) → placed list s < length (session h s)
@@ -197,3 +199,9 @@ convergence-met h history present start acyclic =
     λ cyclic. acyclic cyclic.0 (leads-edge (λ b c. CO h b c ⊎ CF h b c) cyclic.0 cyclic.0 (inl cyclic.1)) in
     let vectors = vectors-exist h history no_cycle present in
     certificate-meets h vectors.0 vectors.1 none history start
+
+-- there is something where what has to be so of nothing is not
+pub some-unless : {A E : Type 0} (r : Result (Option A) E) (P : Type 0) → ¬ P → IfOk r (λ o. IfNone o P) → IfOk r (λ o. IsSome o)
+some-unless (Ok None) P unless p = absurd (unless p)
+some-unless (Ok (Some x)) P unless p = refl
+some-unless (Err e) P unless p = p
