@@ -1,0 +1,5 @@
+pub mod Answers
+pub mod Columns
+pub mod LanePlans
+pub mod Standing
+pub mod Walked
