@@ -14,6 +14,7 @@ mod looker;
 mod meeting;
 mod sealed;
 mod sealed_lane;
+mod sealing;
 mod sealing_lane;
 mod walking;
 
@@ -23,4 +24,5 @@ pub use lane_looker::LaneLooker;
 pub use looker::Looker;
 pub use meeting::{Met, meet};
 pub use sealed::Sealed;
+pub use sealing::seal;
 pub use walking::walk;
