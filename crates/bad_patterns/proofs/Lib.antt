@@ -11,3 +11,5 @@ pub mod ReadPasts
 pub mod Shown
 pub mod PatternReading
 pub mod KnownSources
+pub mod RoutesBack
+pub mod ReadPatterns

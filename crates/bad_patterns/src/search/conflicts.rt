@@ -1,8 +1,7 @@
 use crate::link::{Link, Links};
 use crate::search::cycles::cycle_of;
-use crate::search::pasts::CausalOrder;
-use crate::search::reads::{KnownRead, KnownReads};
 use crate::search::routes_back::path_between;
+use causal_order::{CausalOrder, KnownRead};
 use history::OpId;
 use std::alloc::{AllocError, Global};
 
@@ -17,10 +16,10 @@ pub struct Conflict {
 /// The conflicts that stand for all, by rival and write: for each read and each session, that of the last write.
 ///
 /// Fails for want of memory alone. O(n k log n) for n operations of k sessions.
-fn sorted_conflicts(alloc: Global, known: &KnownReads) -> Result<Vec<Conflict>, AllocError> {
+fn sorted_conflicts(alloc: Global, order: &CausalOrder) -> Result<Vec<Conflict>, AllocError> {
     let mut conflicts = Vec::new(alloc);
-    for read in known.reads() {
-        push_conflicts(known, read, &mut conflicts)?;
+    for read in order.reads() {
+        push_conflicts(order, read, &mut conflicts)?;
     }
     conflicts.sort_unstable_by_key(|conflict| (conflict.rival, conflict.write));
     Ok(conflicts)
@@ -28,15 +27,15 @@ fn sorted_conflicts(alloc: Global, known: &KnownReads) -> Result<Vec<Conflict>, 
 
 /// Puts the conflicts by a read behind those by the reads before it.
 fn push_conflicts(
-    known: &KnownReads,
+    order: &CausalOrder,
     read: &KnownRead,
     conflicts: &mut Vec<Conflict>,
 ) -> Result<(), AllocError> {
     let Some(rival) = read.source else {
         return Ok(());
     };
-    for session in 0..known.order().sessions() {
-        if let Some(write) = known.last_write(read, session) {
+    for session in 0..order.sessions() {
+        if let Some(write) = order.last_write(read, session) {
             if write != rival {
                 conflicts.push(Conflict {
                     write,
@@ -74,11 +73,11 @@ fn conflict_of(conflicts: &[Conflict], write: OpId, rival: OpId) -> Option<Confl
 /// Fails for want of memory alone. O(n k (k + log n)) for n operations of k sessions.
 pub fn cycle_with_conflicts(
     alloc: Global,
-    known: &KnownReads,
+    order: &CausalOrder,
 ) -> Result<Option<Links>, AllocError> {
-    let conflicts = sorted_conflicts(alloc, known)?;
-    match cycle_of(alloc, known.order().sources(), &conflicts)? {
-        Some(ops) => Ok(Some(links_of(alloc, known.order(), &conflicts, &ops)?)),
+    let conflicts = sorted_conflicts(alloc, order)?;
+    match cycle_of(alloc, order.memory().sources(), &conflicts)? {
+        Some(ops) => Ok(Some(links_of(alloc, order, &conflicts, &ops)?)),
         None => Ok(None),
     }
 }

@@ -1,8 +1,7 @@
 ghost use Rattle.std.specs.Prelude.{◌≡◌, ◌<◌, length, OnOk};
 
 use crate::search::conflicts::{Conflict, conflicts_with};
-use crate::search::counts::count_of;
-use causal_order::{ByOperation, Sources};
+use causal_order::{ByOperation, Sources, count_at};
 use history::OpId;
 use std::alloc::{AllocError, Global};
 
@@ -78,7 +77,7 @@ fn wait_for(counts: &mut Vec<u16>, op: OpId) {
 /// The last operation of the first session of which an operation waits for more operations than are placed.
 pub fn awaited(waits: &Waits, placed: &[u64], op: OpId) -> Option<OpId> {
     for (session, count) in placed.iter().enumerate() {
-        let wanted = count_of(waits, op, session as u64);
+        let wanted = count_at(waits, op, session as u64);
         if wanted > *count {
             return Some(OpId {
                 session: session as u64,
