@@ -13,3 +13,5 @@ pub mod PatternReading
 pub mod KnownSources
 pub mod KnownCycles
 pub mod KnownConflicts
+pub mod RoutesBack
+pub mod ReadPatterns

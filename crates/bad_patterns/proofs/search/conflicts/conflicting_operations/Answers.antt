@@ -1,5 +1,5 @@
 use Rattle.bad_patterns.proofs.KnownConflicts.{acyclic-conflicts}
-use Rattle.bad_patterns.proofs.search.conflicts.cycle_with_conflicts.Goals as goal
+use Rattle.bad_patterns.proofs.search.conflicts.conflicting_operations.Goals as goal
 
 pub returns-in-Order : goal.returns-in-Order
 returns-in-Order c =
