@@ -9,7 +9,6 @@ pub mod NextVector
 pub mod Cycles
 pub mod Flat
 pub mod Items
-pub mod Growing
 pub mod StrictVectors
 pub mod OwnVectors
 pub mod Walked
@@ -38,3 +37,13 @@ pub mod ReadAnswers
 pub mod SourcesExist
 pub mod CountSumsLaws
 pub mod HappenedBeforeExists
+pub mod GrowthLaws
+pub mod Raises
+pub mod Ranges
+pub mod RaisesMade
+pub mod Released
+pub mod GrowingSteps
+pub mod FollowedReads
+pub mod StrictLaws
+pub mod RelationsMade
+pub mod Saturating

@@ -4,4 +4,5 @@ pub mod FlatRows
 pub mod Gathered
 pub mod Listed
 pub mod GrowingOrders
+pub mod GrowthSteps
 pub mod HappenedBefores

@@ -22,7 +22,7 @@ mod writes;
 pub use by_operation::{ByOperation, Vectors};
 pub use differentiation::{are_distinct, is_differentiated};
 pub use growing_order::{Cause, Raise};
-pub use happened_before::{HappenedBefore, Saturation};
+pub use happened_before::{HappenedBefore, MOST_PAIRS, Saturation};
 pub use last_writes::{end_of_writes, writes_by_variable};
 pub use order::memory_order;
 pub use placing::{Sources, order_of};
