@@ -2,7 +2,7 @@ ghost use Rattle.std.specs.Prelude.{◌<◌, length};
 ghost use Rattle.causal_order.specs.SourceOrder.{CountsSourceOrder};
 
 use crate::search::counts::count_of;
-use causal_order::{HappenedBefore, Raise, Saturation, Vectors};
+use causal_order::{HappenedBefore, MOST_PAIRS, Raise, Saturation, Vectors};
 use history::{History, OpId};
 use objects::Memory;
 use std::alloc::{AllocError, Global};
@@ -31,7 +31,7 @@ impl Relation {
         requires order { CountsSourceOrder h.now vectors.now }
         requires exists { session < length h.now.1 }
     {
-        let mut happened = HappenedBefore::of(alloc, h, vectors, session)?;
+        let mut happened = HappenedBefore::of(alloc, h, vectors, session, Some(MOST_PAIRS))?;
         let mut last = None;
         for index in 0..h.len(session as u64) {
             happened = happened.take_next(h)?;
