@@ -11,3 +11,7 @@ pub mod ReadPasts
 pub mod Shown
 pub mod PatternReading
 pub mod KnownSources
+pub mod KnownCycles
+pub mod KnownConflicts
+pub mod RoutesBack
+pub mod ReadPatterns

@@ -1,21 +1,22 @@
 -- What a pattern names shows its kind, and so excludes the criteria that the kind is against.
 use Rattle.std.proofs.Common.{◌≡◌, ℕ, zero, suc, ◌+◌, ◌-◌, ◌⊎◌, inl, inr, List, ◌∷◌, length, map, sym, ap, ◌∙◌, subst, refl, arith, add-one}
-use Rattle.std.specs.Prelude.{Some, slice_get, option_map}
+use Rattle.std.specs.Prelude.{IsTrue, Some, slice_get, option_map}
 use Rattle.std.proofs.lemmas.Option.{same_Some, slice_get_within, get_or_from_slice_get, slice_get-map}
 use Rattle.history.specs.declared.op_id.OpId.{OpId}
 use Rattle.operations.specs.JsonLaws.{map_from}
 use Rattle.causal_order.specs.Orders.{StandsAt}
-use Rattle.causal_order.specs.Memory.{MemoryHistory, memory_answer}
+use Rattle.causal_order.specs.Memory.{MemoryHistory, memory_answer, IsDifferentiated}
 use Rattle.causal_order.specs.Relations.{CO, CF}
 use Rattle.cert_check.specs.declared.criterion.Criterion.{Criterion}
 use Rattle.cert_check.specs.declared.criterion.Criterion.TheVariants.{Cc, Cm, Ccv}
 use Rattle.cert_check.specs.Criteria.{Meets}
+use Rattle.bad_patterns.specs.declared.kind.Kind.{Kind}
 use Rattle.bad_patterns.specs.declared.kind.Kind.TheVariants as kinds
 use Rattle.bad_patterns.specs.declared.link.Link.{Link}
 use Rattle.bad_patterns.specs.declared.link.Link.TheVariants.{Co, Cf}
 use Rattle.bad_patterns.specs.declared.pattern.Pattern.{Pattern}
 use Rattle.bad_patterns.specs.declared.pattern.Pattern.TheVariants.{CyclicCO, ThinAirRead, WriteCOInitRead, WriteCORead, WriteHBInitRead, CyclicHB, CyclicCF}
-use Rattle.bad_patterns.specs.Kinds.{Shows}
+use Rattle.bad_patterns.specs.Kinds.{is_against, Shows}
 use Rattle.bad_patterns.specs.Paths.{begin_of, end_of, IsLink, IsCycle}
 use Rattle.bad_patterns.specs.Patterns.{kind_of, IsShownBy, IsBadPattern, IsTrueNo}
 use Rattle.bad_patterns.proofs.Derived.{derivation-sound}
@@ -105,30 +106,31 @@ module _ (h : MemoryHistory) where
     to_consistency Cm met = of_cm met
     to_consistency Ccv met = of_ccv met
 
-    not_met : (criterion : Criterion) (pattern : Pattern) → IsBadPattern h criterion pattern → ¬ Meets memory_answer h criterion
-    not_met criterion (CyclicCO path) bad met =
-        consistency-excluded h bad.differentiated kinds.CyclicCO refl (pattern-shows (CyclicCO path) bad.shown) (to_consistency criterion met)
-    not_met criterion (ThinAirRead r) bad met =
-        consistency-excluded h bad.differentiated kinds.ThinAirRead refl (pattern-shows (ThinAirRead r) bad.shown) (to_consistency criterion met)
-    not_met criterion (WriteCOInitRead path) bad met =
-        consistency-excluded h bad.differentiated kinds.WriteCOInitRead refl (pattern-shows (WriteCOInitRead path) bad.shown) (to_consistency criterion met)
-    not_met criterion (WriteCORead first second) bad met =
-        consistency-excluded h bad.differentiated kinds.WriteCORead refl (pattern-shows (WriteCORead first second) bad.shown) (to_consistency criterion met)
-    not_met Cc (WriteHBInitRead o lines) bad met = let against = bad.against in absurd cc
-    not_met Cm (WriteHBInitRead o lines) bad met =
-        initial_read_HB-excluded h bad.differentiated (pattern-shows (WriteHBInitRead o lines) bad.shown) met
-    not_met Ccv (WriteHBInitRead o lines) bad met = let against = bad.against in absurd cc
-    not_met Cc (CyclicHB o lines) bad met = let against = bad.against in absurd cc
-    not_met Cm (CyclicHB o lines) bad met = cyclic_HB-excluded h bad.differentiated (pattern-shows (CyclicHB o lines) bad.shown) met
-    not_met Ccv (CyclicHB o lines) bad met = let against = bad.against in absurd cc
-    not_met Cc (CyclicCF links) bad met = let against = bad.against in absurd cc
-    not_met Cm (CyclicCF links) bad met = let against = bad.against in absurd cc
-    not_met Ccv (CyclicCF links) bad met = convergence-excluded h bad.differentiated (pattern-shows (CyclicCF links) bad.shown) met
+    -- a kind that is shown excludes the criteria that it is against, where each criterion contains causal consistency
+    pub kind-excludes : IsDifferentiated h → (criterion : Criterion) (kind : Kind) → IsTrue (is_against kind criterion) → Shows h kind
+        → ¬ Meets memory_answer h criterion
+    kind-excludes distinct criterion kinds.CyclicCO against shown met =
+        consistency-excluded h distinct kinds.CyclicCO refl shown (to_consistency criterion met)
+    kind-excludes distinct criterion kinds.ThinAirRead against shown met =
+        consistency-excluded h distinct kinds.ThinAirRead refl shown (to_consistency criterion met)
+    kind-excludes distinct criterion kinds.WriteCOInitRead against shown met =
+        consistency-excluded h distinct kinds.WriteCOInitRead refl shown (to_consistency criterion met)
+    kind-excludes distinct criterion kinds.WriteCORead against shown met =
+        consistency-excluded h distinct kinds.WriteCORead refl shown (to_consistency criterion met)
+    kind-excludes distinct Cc kinds.WriteHBInitRead against shown met = absurd cc
+    kind-excludes distinct Cm kinds.WriteHBInitRead against shown met = initial_read_HB-excluded h distinct shown met
+    kind-excludes distinct Ccv kinds.WriteHBInitRead against shown met = absurd cc
+    kind-excludes distinct Cc kinds.CyclicHB against shown met = absurd cc
+    kind-excludes distinct Cm kinds.CyclicHB against shown met = cyclic_HB-excluded h distinct shown met
+    kind-excludes distinct Ccv kinds.CyclicHB against shown met = absurd cc
+    kind-excludes distinct Cc kinds.CyclicCF against shown met = absurd cc
+    kind-excludes distinct Cm kinds.CyclicCF against shown met = absurd cc
+    kind-excludes distinct Ccv kinds.CyclicCF against shown met = convergence-excluded h distinct shown met
 
-    -- a bad pattern excludes its criterion, where each criterion contains causal consistency
+    -- so does a bad pattern
     pub pattern-excludes : (criterion : Criterion) (pattern : Pattern) → IsBadPattern h criterion pattern → IsTrueNo h criterion (kind_of pattern)
     pattern-excludes criterion pattern bad = record {
       against = bad.against;
       present = (bad.differentiated, pattern-shows pattern bad.shown);
-      not_met = not_met criterion pattern bad;
+      not_met = kind-excludes bad.differentiated criterion (kind_of pattern) bad.against (pattern-shows pattern bad.shown);
     }

@@ -1,15 +1,15 @@
 -- The bad patterns of Bouajjani, Enea, Guerraoui and Hamza ("On Verifying Causal Consistency", POPL 2017, the table of bad
 -- patterns), where the value 0 of the paper is the initial value of a variable.
-use Rattle.std.specs.Prelude.{◌≢◌, ◌⊎◌, ℕ, Bool, true, false, IsTrue}
+use Rattle.std.specs.Prelude.{◌≢◌, ◌⊎◌, ℕ, Bool, true, false}
 use Rattle.history.specs.declared.op_id.OpId.{OpId}
 use Rattle.cert_check.specs.declared.criterion.Criterion.{Criterion}
 use Rattle.cert_check.specs.declared.criterion.Criterion.TheVariants.{Cc, Cm, Ccv}
-use Rattle.causal_order.specs.Orders.{program_past}
 use Rattle.bad_patterns.specs.declared.kind.Kind.{Kind}
 use Rattle.bad_patterns.specs.declared.kind.Kind.TheVariants.{CyclicCO, ThinAirRead, WriteCOInitRead, WriteCORead, WriteHBInitRead, CyclicHB, CyclicCF}
 use Rattle.causal_order.specs.Memory.{MemoryHistory, initial, Writes, Reads, IsDifferentiated}
-use Rattle.causal_order.specs.Relations.{Leads, CO, CF, HB}
+use Rattle.causal_order.specs.Relations.{Leads, CO, CF}
 use Rattle.causal_order.specs.OverwrittenReads.{HasOverwrittenRead, HasOverwrittenStart}
+use Rattle.causal_order.specs.HappenedBeforePatterns.{HasHBCycle, HasStartOverwrittenInHB}
 
 -- which kinds exclude which criterion
 abbrev pub is_against : Kind → Criterion → Bool
@@ -38,9 +38,8 @@ module _ (h : MemoryHistory) where
   Shows ThinAirRead = (r : OpId) × IsThinAirRead r
   Shows WriteCOInitRead = HasOverwrittenStart h
   Shows WriteCORead = HasOverwrittenRead h
-  Shows WriteHBInitRead =
-      (o w r : OpId) × (x v : ℕ) × Writes h w x v × Reads h r x (initial h x) × IsTrue (program_past o r) × HB h o w r
-  Shows CyclicHB = (o a : OpId) × HB h o a a
+  Shows WriteHBInitRead = HasStartOverwrittenInHB h
+  Shows CyclicHB = HasHBCycle h
   Shows CyclicCF = (a : OpId) × Leads (λ b c. CO h b c ⊎ CF h b c) a a
 
   -- a kind is present in a history of distinct values that shows it

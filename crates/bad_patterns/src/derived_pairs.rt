@@ -12,8 +12,7 @@ use crate::derivation::Line;
 use crate::edges::are_rival_writes;
 use crate::path::Path;
 use crate::routes::ends_of;
-use crate::search::source_of;
-use causal_order::Write;
+use causal_order::{Write, found_source};
 use history::{History, OpId};
 use objects::Memory;
 use std::alloc::{AllocError, Global};
@@ -123,7 +122,7 @@ fn rival_pair(
     ensures { MatchOption result ((a b : OpId) → ¬ GivesRivalPair h.now op pairs.now i read a b)
         (λ pair. GivesRivalPair h.now op pairs.now i read pair.0 pair.1) }
 {
-    let (Some(pair), Some(source)) = (pair_at(pairs, i), source_of(h, writes, read)) else {
+    let (Some(pair), Some(source)) = (pair_at(pairs, i), found_source(h, writes, read)) else {
         return None;
     };
     if pair.1 == read && comes_before_source(h, op, pair.0, read, source) {

@@ -1,23 +1,21 @@
 ghost use Rattle.std.specs.Prelude.{◌↔◌, ℕ, IfNone, IfOk, IfSome, IsTrue, MatchOption};
-ghost use Rattle.bad_patterns.specs.Kinds.{IsThinAirRead};
-ghost use Rattle.bad_patterns.specs.Patterns.{IsBadPattern};
+ghost use Rattle.bad_patterns.specs.Kinds.{IsThinAirRead, is_against};
+ghost use Rattle.bad_patterns.specs.Patterns.{IsBadPattern, IsShownBy, kind_of};
 ghost use Rattle.bad_patterns.specs.declared.pattern.Pattern.TheVariants.{ThinAirRead};
+ghost use Rattle.cert_check.specs.declared.criterion.Criterion.{Criterion as AnyCriterion};
 ghost use Rattle.causal_order.specs.Memory.{IsDifferentiated};
-ghost use Rattle.causal_order.specs.SourceOrder.{CountsSourceOrder};
 ghost use Rattle.causal_order.specs.Orders.{op};
-ghost use Rattle.causal_order.specs.Steps.Written.{AreInOrder, IsSorted, ListsWrites};
+ghost use Rattle.causal_order.specs.OverwrittenReads.{HasOverwrittenRead, HasOverwrittenStart};
+ghost use Rattle.causal_order.specs.Steps.Written.{IsSorted, ListsWrites};
 ghost use Rattle.bad_patterns.specs.Steps.Found.{IsFirst, IsFirstFound, IsFirstOf};
 
 use crate::checking::is_shown;
 use crate::finding_happened_before::find_happened_before;
 use crate::kind::Kind;
 use crate::pattern::Pattern;
-use crate::search::{
-    CausalOrder, KnownReads, cycle_with_conflicts, cyclic_order, overwritten_read,
-    overwritten_start, sources_of,
-};
+use crate::search::{cycle_with_conflicts, cyclic_order, overwritten_read, overwritten_start};
 use crate::thin_air::is_thin_air_read;
-use causal_order::{Vectors, Write, are_distinct, memory_order, sorted_writes};
+use causal_order::{CausalOrder, IndexedMemory, Write};
 use cert_check::Criterion;
 use history::{History, OpId};
 use objects::Memory;
@@ -33,8 +31,7 @@ use std::alloc::{AllocError, Global};
 /// and so is a pattern whose derivation would have more than 100,000 lines. There is none where the history does not have
 /// distinct values.
 ///
-/// Fails for want of memory alone. O(n log n + n k) for n operations of k sessions, besides what `find_in_order` or
-/// `find_without_order` costs.
+/// Fails for want of memory alone. O(n log n + n k) for n operations of k sessions, besides what `find_in` costs.
 pub fn find(
     alloc: Global,
     h: &History<Memory>,
@@ -44,106 +41,97 @@ pub fn find(
     ensures first { IfOk result (λ found. IfSome found (IsFirstFound h.now)) }
     ensures none { IfOk result (λ found. IfNone found ((r : OpId) → ¬ IsBadPattern h.now criterion (ThinAirRead r))) }
 {
-    match memory_order(alloc, h)? {
-        Some(vectors) => find_in_order(alloc, h, criterion, &vectors),
-        None => find_without_order(alloc, h, criterion),
+    let memory = IndexedMemory::of(alloc, h)?;
+    find_in(alloc, &memory, criterion)
+}
+
+/// What `find` answers, for a caller that knows of the history already what it asks.
+///
+/// Fails for want of memory alone. O(n k (k + log n)) for n operations of k sessions, and against causal memory for each
+/// session what its happened-before relations cost, and O(m log m + l n) for m pairs that they have more than the causal
+/// order and l lines of a derivation.
+pub fn find_in(
+    alloc: Global,
+    memory: &IndexedMemory,
+    criterion: Criterion,
+) -> Result<Option<Pattern>, AllocError>
+    ensures found { IfOk result (λ found. IfSome found (IsBadPattern memory.now criterion)) }
+    ensures first { IfOk result (λ found. IfSome found (IsFirstFound memory.now)) }
+    ensures none { IfOk result (λ found. IfNone found ((r : OpId) → ¬ IsBadPattern memory.now criterion (ThinAirRead r))) }
+{
+    if !memory.is_differentiated() {
+        return Ok(None);
+    }
+    match memory.order() {
+        Some(order) => find_in_order(alloc, &order, criterion),
+        None => find_without_order(alloc, memory, criterion),
     }
 }
 
-/// A pattern of a history that has no causal order without a cycle, or a thin-air read: what `find` answers there.
+/// A pattern of a history that has no causal order without a cycle, or a thin-air read.
 ///
-/// A cycle of the causal order is tried, and then a thin-air read, of which the first one is found. There is none where
-/// the history does not have distinct values.
+/// A cycle of the causal order is tried, and then a thin-air read, of which the first one is found.
 ///
 /// Fails for want of memory alone. O(n k^2 + n log n) for n operations of k sessions.
-pub fn find_without_order(
+fn find_without_order(
     alloc: Global,
-    h: &History<Memory>,
+    memory: &IndexedMemory,
     criterion: Criterion,
 ) -> Result<Option<Pattern>, AllocError>
-    ensures found { IfOk result (λ found. IfSome found (IsBadPattern h.now criterion)) }
-    ensures first { IfOk result (λ found. IfSome found (IsFirstFound h.now)) }
-    ensures none { IfOk result (λ found. IfNone found ((r : OpId) → ¬ IsBadPattern h.now criterion (ThinAirRead r))) }
+    requires { IsDifferentiated memory.now }
+    ensures found { IfOk result (λ found. IfSome found (IsBadPattern memory.now criterion)) }
+    ensures first { IfOk result (λ found. IfSome found (IsFirstFound memory.now)) }
+    ensures none { IfOk result (λ found. IfNone found ((r : OpId) → ¬ IsThinAirRead memory.now r)) }
 {
-    let writes = sorted_writes(alloc, h)?;
-    if !are_distinct(h, &writes) {
-        return Ok(None);
-    }
-    let sources = sources_of(alloc, h, &writes)?;
-    if let Some(path) = cyclic_order(alloc, &sources)? {
-        let found = tested(alloc, h, &writes, criterion, Pattern::CyclicCO(path))?;
+    if let Some(path) = cyclic_order(alloc, memory.history(), memory.sources())? {
+        let found = tested(alloc, memory, criterion, Pattern::CyclicCO(path))?;
         if found.is_some() {
             return Ok(found);
         }
     }
-    if let Some(read) = first_thin_air_read(h, &writes) {
+    if let Some(read) = first_thin_air_read(memory.history(), memory.writes()) {
         return Ok(Some(Pattern::ThinAirRead(read)));
     }
     Ok(None)
 }
 
-/// A pattern of a history whose causal order the vectors count, as `memory_order` makes them: what `find` answers there.
+/// A pattern of a history that has a causal order without a cycle, and no thin-air read.
 ///
-/// Neither a cycle of the causal order nor a thin-air read can be there. The other kinds are tried in the order that
-/// `find` names, those alone that are against the criterion. There is none where the history does not have distinct
-/// values.
-///
-/// Fails for want of memory alone. O(n k (k + log n)) for n operations of k sessions, and against causal memory for each
-/// session what its happened-before relations cost, and O(m log m + l n) for m pairs that they have more than the causal
-/// order and l lines of a derivation.
-pub fn find_in_order(
+/// The other kinds are tried in the order that `find` names, those alone that are against the criterion.
+fn find_in_order(
     alloc: Global,
-    h: &History<Memory>,
+    order: &CausalOrder,
     criterion: Criterion,
-    vectors: &Vectors,
 ) -> Result<Option<Pattern>, AllocError>
-    requires order { CountsSourceOrder h.now vectors.now }
-    ensures found { IfOk result (λ found. IfSome found (IsBadPattern h.now criterion)) }
-    ensures first { IfOk result (λ found. IfSome found (IsFirstFound h.now)) }
-    ensures none { IfOk result (λ found. IfNone found ((r : OpId) → ¬ IsBadPattern h.now criterion (ThinAirRead r))) }
+    requires { IsDifferentiated order.now }
+    ensures found { IfOk result (λ found. IfSome found (IsBadPattern order.now criterion)) }
+    ensures first { IfOk result (λ found. IfSome found (IsFirstFound order.now)) }
+    ensures start { IfOk result (λ found. IfNone found (¬ HasOverwrittenStart order.now)) }
+    ensures read { IfOk result (λ found. IfNone found (¬ HasOverwrittenRead order.now)) }
 {
-    let writes = sorted_writes(alloc, h)?;
-    if !are_distinct(h, &writes) {
-        return Ok(None);
-    }
-    let sources = sources_of(alloc, h, &writes)?;
-    let order = CausalOrder::of(sources, vectors.copy(alloc)?);
-    let known = KnownReads::of(alloc, h, &writes, order)?;
-    if let Some(pattern) = find_overwritten(alloc, h, &writes, criterion, &known)? {
+    if let Some(pattern) = find_overwritten(alloc, order)? {
         return Ok(Some(pattern));
     }
-    if let Some(pattern) = find_happened_before(alloc, h, &writes, criterion, vectors, &known)? {
+    if let Some(pattern) = find_happened_before(alloc, order, criterion)? {
         return Ok(Some(pattern));
     }
-    find_conflicts(alloc, h, &writes, criterion, &known)
+    find_conflicts(alloc, order, criterion)
 }
 
-/// A read of the initial value after a write, or a read from an overwritten write.
-fn find_overwritten(
-    alloc: Global,
-    h: &History<Memory>,
-    writes: &[Write],
-    criterion: Criterion,
-    known: &KnownReads,
-) -> Result<Option<Pattern>, AllocError>
-    requires writes { ListsWrites h.now writes.now }
-    requires sorted { IsSorted writes.now }
-    requires in_order { AreInOrder writes.now }
-    requires differentiated { IsDifferentiated h.now }
-    ensures found { IfOk result (λ found. IfSome found (IsBadPattern h.now criterion)) }
-    ensures first { IfOk result (λ found. IfSome found (IsFirstFound h.now)) }
+/// A read of the initial value after a write, or a read from an overwritten write, where there is one. They are against
+/// every criterion.
+fn find_overwritten(alloc: Global, order: &CausalOrder) -> Result<Option<Pattern>, AllocError>
+    requires { IsDifferentiated order.now }
+    ensures found { IfOk result (λ found. IfSome found (λ pattern. (criterion : AnyCriterion) → IsBadPattern order.now criterion pattern)) }
+    ensures first { IfOk result (λ found. IfSome found (IsFirstFound order.now)) }
+    ensures start { IfOk result (λ found. IfNone found (¬ HasOverwrittenStart order.now)) }
+    ensures read { IfOk result (λ found. IfNone found (¬ HasOverwrittenRead order.now)) }
 {
-    if let Some(path) = overwritten_start(alloc, known)? {
-        let found = tested(alloc, h, writes, criterion, Pattern::WriteCOInitRead(path))?;
-        if found.is_some() {
-            return Ok(found);
-        }
+    if let Some(path) = overwritten_start(alloc, order)? {
+        return Ok(Some(Pattern::WriteCOInitRead(path)));
     }
-    match overwritten_read(alloc, known)? {
-        Some(paths) => {
-            let pattern = Pattern::WriteCORead(paths.0, paths.1);
-            tested(alloc, h, writes, criterion, pattern)
-        }
+    match overwritten_read(alloc, order)? {
+        Some((above, below)) => Ok(Some(Pattern::WriteCORead(above, below))),
         None => Ok(None),
     }
 }
@@ -151,23 +139,18 @@ fn find_overwritten(
 /// A cycle of the causal order and of conflicts, where such cycles are against the criterion.
 fn find_conflicts(
     alloc: Global,
-    h: &History<Memory>,
-    writes: &[Write],
+    order: &CausalOrder,
     criterion: Criterion,
-    known: &KnownReads,
 ) -> Result<Option<Pattern>, AllocError>
-    requires writes { ListsWrites h.now writes.now }
-    requires sorted { IsSorted writes.now }
-    requires in_order { AreInOrder writes.now }
-    requires differentiated { IsDifferentiated h.now }
-    ensures found { IfOk result (λ found. IfSome found (IsBadPattern h.now criterion)) }
-    ensures first { IfOk result (λ found. IfSome found (IsFirstFound h.now)) }
+    requires { IsDifferentiated order.now }
+    ensures found { IfOk result (λ found. IfSome found (IsBadPattern order.now criterion)) }
+    ensures first { IfOk result (λ found. IfSome found (IsFirstFound order.now)) }
 {
     if !Kind::CyclicCF.is_against(criterion) {
         return Ok(None);
     }
-    match cycle_with_conflicts(alloc, known)? {
-        Some(links) => tested(alloc, h, writes, criterion, Pattern::CyclicCF(links)),
+    match cycle_with_conflicts(alloc, order)? {
+        Some(links) => tested(alloc, order.memory(), criterion, Pattern::CyclicCF(links)),
         None => Ok(None),
     }
 }
@@ -175,20 +158,20 @@ fn find_conflicts(
 /// The pattern, where it shows that a history of distinct values does not meet the criterion: the test of `check_pattern`.
 pub fn tested(
     alloc: Global,
-    h: &History<Memory>,
-    writes: &[Write],
+    memory: &IndexedMemory,
     criterion: Criterion,
     pattern: Pattern,
 ) -> Result<Option<Pattern>, AllocError>
-    requires writes { ListsWrites h.now writes.now }
-    requires sorted { IsSorted writes.now }
-    requires in_order { AreInOrder writes.now }
-    requires differentiated { IsDifferentiated h.now }
-    requires first { IsFirstFound h.now pattern }
-    ensures found { IfOk result (λ found. IfSome found (IsBadPattern h.now criterion)) }
-    ensures first { IfOk result (λ found. IfSome found (IsFirstFound h.now)) }
+    requires differentiated { IsDifferentiated memory.now }
+    requires first { IsFirstFound memory.now pattern }
+    ensures found { IfOk result (λ found. IfSome found (IsBadPattern memory.now criterion)) }
+    ensures first { IfOk result (λ found. IfSome found (IsFirstFound memory.now)) }
+    ensures none { IfOk result (λ found. IfNone found (IsTrue (is_against (kind_of pattern) criterion) → ¬ IsShownBy memory.now pattern)) }
 {
-    if pattern.kind().is_against(criterion) && is_shown(alloc, h, writes, &pattern)? {
+    if !pattern.kind().is_against(criterion) {
+        return Ok(None);
+    }
+    if is_shown(alloc, memory.history(), memory.writes(), &pattern)? {
         Ok(Some(pattern))
     } else {
         Ok(None)

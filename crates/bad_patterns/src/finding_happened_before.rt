@@ -4,17 +4,13 @@ ghost use Rattle.std.specs.Prelude.{IfOk, IfSome};
 ghost use Rattle.bad_patterns.specs.Steps.Found.{IsFirstFound};
 ghost use Rattle.bad_patterns.specs.Patterns.{IsBadPattern};
 ghost use Rattle.causal_order.specs.Memory.{IsDifferentiated};
-ghost use Rattle.causal_order.specs.SourceOrder.{CountsSourceOrder};
-ghost use Rattle.causal_order.specs.Steps.Written.{AreInOrder, IsSorted, ListsWrites};
 
 use crate::finding::tested;
 use crate::kind::Kind;
 use crate::pattern::Pattern;
-use crate::search::{KnownReads, Relation, cycle_in, derivation_of, overwritten_start_in};
-use causal_order::{Vectors, Write};
+use crate::search::{Relation, cycle_in, derivation_of, overwritten_start_in};
+use causal_order::CausalOrder;
 use cert_check::Criterion;
-use history::History;
-use objects::Memory;
 use std::alloc::{AllocError, Global};
 
 /// A pattern of one of the kinds that rest on happened-before relations, where those are against the criterion.
@@ -24,34 +20,28 @@ use std::alloc::{AllocError, Global};
 /// answered where no session has a read of the initial value after a write.
 pub fn find_happened_before(
     alloc: Global,
-    h: &History<Memory>,
-    writes: &[Write],
+    order: &CausalOrder,
     criterion: Criterion,
-    vectors: &Vectors,
-    known: &KnownReads,
 ) -> Result<Option<Pattern>, AllocError>
-    requires writes { ListsWrites h.now writes.now }
-    requires sorted { IsSorted writes.now }
-    requires in_order { AreInOrder writes.now }
-    requires differentiated { IsDifferentiated h.now }
-    requires order { CountsSourceOrder h.now vectors.now }
-    ensures found { IfOk result (λ found. IfSome found (IsBadPattern h.now criterion)) }
-    ensures first { IfOk result (λ found. IfSome found (IsFirstFound h.now)) }
+    requires { IsDifferentiated order.now }
+    ensures found { IfOk result (λ found. IfSome found (IsBadPattern order.now criterion)) }
+    ensures first { IfOk result (λ found. IfSome found (IsFirstFound order.now)) }
 {
     let mut cyclic = None;
     if !Kind::CyclicHB.is_against(criterion) {
         return Ok(cyclic);
     }
+    let h = order.memory().history();
     for session in 0..h.sessions() {
-        let Some(relation) = Relation::of_last(alloc, h, vectors, session)? else {
+        let Some(relation) = Relation::of_last(alloc, h, order.vectors(), session)? else {
             continue;
         };
-        let start = find_start(alloc, h, writes, criterion, known, &relation)?;
+        let start = find_start(alloc, order, criterion, &relation)?;
         if start.is_some() {
             return Ok(start);
         }
         if cyclic.is_none() {
-            cyclic = find_cycle(alloc, h, writes, criterion, known, &relation)?;
+            cyclic = find_cycle(alloc, order, criterion, &relation)?;
         }
     }
     Ok(cyclic)
@@ -60,47 +50,37 @@ pub fn find_happened_before(
 /// A read of the initial value that a relation puts after a write.
 fn find_start(
     alloc: Global,
-    h: &History<Memory>,
-    writes: &[Write],
+    order: &CausalOrder,
     criterion: Criterion,
-    known: &KnownReads,
     relation: &Relation,
 ) -> Result<Option<Pattern>, AllocError>
-    requires writes { ListsWrites h.now writes.now }
-    requires sorted { IsSorted writes.now }
-    requires in_order { AreInOrder writes.now }
-    requires differentiated { IsDifferentiated h.now }
-    ensures found { IfOk result (λ found. IfSome found (IsBadPattern h.now criterion)) }
-    ensures first { IfOk result (λ found. IfSome found (IsFirstFound h.now)) }
+    requires { IsDifferentiated order.now }
+    ensures found { IfOk result (λ found. IfSome found (IsBadPattern order.now criterion)) }
+    ensures first { IfOk result (λ found. IfSome found (IsFirstFound order.now)) }
 {
-    let Some(pair) = overwritten_start_in(known, relation) else {
+    let Some(pair) = overwritten_start_in(order, relation) else {
         return Ok(None);
     };
-    let derivation = derivation_of(alloc, known.order(), relation, pair)?;
+    let derivation = derivation_of(alloc, order, relation, pair)?;
     let pattern = Pattern::WriteHBInitRead(relation.op(), derivation);
-    tested(alloc, h, writes, criterion, pattern)
+    tested(alloc, order.memory(), criterion, pattern)
 }
 
 /// An operation that a relation puts before itself.
 fn find_cycle(
     alloc: Global,
-    h: &History<Memory>,
-    writes: &[Write],
+    order: &CausalOrder,
     criterion: Criterion,
-    known: &KnownReads,
     relation: &Relation,
 ) -> Result<Option<Pattern>, AllocError>
-    requires writes { ListsWrites h.now writes.now }
-    requires sorted { IsSorted writes.now }
-    requires in_order { AreInOrder writes.now }
-    requires differentiated { IsDifferentiated h.now }
-    ensures found { IfOk result (λ found. IfSome found (IsBadPattern h.now criterion)) }
-    ensures first { IfOk result (λ found. IfSome found (IsFirstFound h.now)) }
+    requires { IsDifferentiated order.now }
+    ensures found { IfOk result (λ found. IfSome found (IsBadPattern order.now criterion)) }
+    ensures first { IfOk result (λ found. IfSome found (IsFirstFound order.now)) }
 {
     let Some(pair) = cycle_in(relation) else {
         return Ok(None);
     };
-    let derivation = derivation_of(alloc, known.order(), relation, pair)?;
+    let derivation = derivation_of(alloc, order, relation, pair)?;
     let pattern = Pattern::CyclicHB(relation.op(), derivation);
-    tested(alloc, h, writes, criterion, pattern)
+    tested(alloc, order.memory(), criterion, pattern)
 }

@@ -1,8 +1,12 @@
 //! What holds of bad patterns. The functions do nothing: what they ensure is the law.
 
-ghost use Rattle.causal_order.specs.Memory.{MemoryHistory};
+ghost use Rattle.std.specs.Prelude.{IsTrue};
+ghost use Rattle.causal_order.specs.Memory.{MemoryHistory, memory_answer};
+ghost use Rattle.cert_check.specs.Criteria.{Meets};
+ghost use Rattle.bad_patterns.specs.Kinds.{is_against, IsPresent};
 ghost use Rattle.bad_patterns.specs.Patterns.{IsBadPattern, IsTrueNo, kind_of};
 
+use crate::kind::Kind;
 use crate::pattern::Pattern;
 use cert_check::Criterion;
 use cert_check::laws::{
@@ -14,6 +18,15 @@ use objects::Memory;
 pub fn bad_patterns_exclude_criteria()
     ensures { (h : MemoryHistory) (criterion : Criterion) (pattern : Pattern)
         → IsBadPattern h criterion pattern → IsTrueNo h criterion (kind_of pattern) }
+{
+    causal_memory_is_causally_consistent::<Memory>();
+    causal_convergence_is_causally_consistent::<Memory>();
+}
+
+/// A kind that is against a criterion and present in a history excludes the criterion.
+pub fn present_kinds_exclude_criteria()
+    ensures { (h : MemoryHistory) (criterion : Criterion) (kind : Kind)
+        → IsTrue (is_against kind criterion) → IsPresent h kind → ¬ Meets memory_answer h criterion }
 {
     causal_memory_is_causally_consistent::<Memory>();
     causal_convergence_is_causally_consistent::<Memory>();

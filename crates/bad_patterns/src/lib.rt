@@ -23,7 +23,7 @@ mod thin_air;
 pub use causal_order::is_differentiated;
 pub use checking::check_pattern;
 pub use derivation::{Derivation, Line};
-pub use finding::{find, find_in_order, find_without_order};
+pub use finding::{find, find_in};
 pub use kind::Kind;
 pub use link::{Link, Links};
 pub use path::Path;

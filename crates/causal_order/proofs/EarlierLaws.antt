@@ -21,6 +21,13 @@ earlier_cases a s i earlier =
     (let up_to : a.index ≤ i = let below = same.1 in omega arith in eq-or-lt_of_le up_to))
     earlier
 
+-- what is earlier than an operation is earlier than the one behind it
+pub earlier_later : (a : OpId) (s i : ℕ) → IsEarlier a (op s i) → IsEarlier a (op s (i + 1))
+earlier_later a s i earlier = ⊎_elim
+    (λ (below : a.session < s). inl below)
+    (λ (same : (a.session ≡ s) × (a.index < i)). let below = same.1 in inr (same.0, omega arith))
+    earlier
+
 -- two operations of which neither is earlier are one
 pub neither_earlier : (a b : OpId) → ¬ IsEarlier a b → ¬ IsEarlier b a → a ≡ b
 neither_earlier a b not_before not_after = ⊎_elim

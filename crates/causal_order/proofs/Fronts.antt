@@ -1,7 +1,9 @@
 -- What stands in the front of a list.
-use Rattle.std.proofs.Common.{◌≡◌, ℕ, zero, suc, ◌<◌, ◌≤◌, List, [], ◌∷◌, ◌++◌, length, take, arith, ap, sym, ◌∙◌, take-take}
+use Rattle.std.proofs.Common.{◌≡◌, ℕ, zero, suc, ◌<◌, ◌≤◌, List, [], ◌∷◌, ◌++◌, length, take, arith, ap, sym, subst, ◌∙◌, ⊎_elim, take-take}
 use Rattle.std.specs.Prelude.{Some, slice_get}
-use Rattle.std.proofs.lemmas.Option.{same_Some}
+use Rattle.std.proofs.lemmas.Bool.{cases_lt}
+use Rattle.std.proofs.lemmas.List.{length_push, take-append-le, take_at}
+use Rattle.std.proofs.lemmas.Option.{same_Some, slice_get_within}
 
 module _ {X : Type 0} where
   -- what stands in the front of a list stands in the list
@@ -36,3 +38,18 @@ module _ {X : Type 0} where
   pub push-last : (xs : List X) (y : X) (a : X) → slice_get (xs ++ y ∷ []) (length xs) ≡ Some a → y ≡ a
   push-last [] y a at = same_Some y a at
   push-last (x ∷ xs) y a at = push-last xs y a at
+
+  -- what holds at each place of a list, behind the front before it, holds at each place of the list with one element more
+  pub each-push : (holds : List X → X → Type 0) (xs : List X) (y : X)
+      → ((k : ℕ) (a : X) → slice_get xs k ≡ Some a → holds (take k xs) a) → holds xs y
+      → (k : ℕ) (a : X) → slice_get (xs ++ y ∷ []) k ≡ Some a → holds (take k (xs ++ y ∷ [])) a
+  each-push holds xs y each last k a at = ⊎_elim
+      (λ (inside : k < length xs).
+      subst (λ (ys : List X). holds ys a) (sym (take-append-le k xs (y ∷ []) (omega arith))) (each k a (push-at xs y k a inside at)))
+      (λ (end : length xs ≤ k).
+      let within = slice_get_within (xs ++ y ∷ []) k a at in
+      let more = length_push xs y in
+      let here : length xs ≡ k = omega arith in
+      let same : y ≡ a = push-last xs y a (subst (λ (j : ℕ). slice_get (xs ++ y ∷ []) j ≡ Some a) (sym here) at) in
+      subst (λ (ys : List X). holds ys a) (sym (take_at xs (y ∷ []) k here)) (subst (λ (b : X). holds xs b) same last))
+      (cases_lt k (length xs))

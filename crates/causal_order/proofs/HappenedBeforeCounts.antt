@@ -48,7 +48,8 @@ module _ (h : MemoryHistory) (v : Counts) (order : CountsSourceOrder h v) (disti
   happened-within b a in_b counted = λ u. ⊎_elim
       (λ (above : count now b u < count now a u).
       let c : OpId = op u (count now b u) in
-      let before = HB-transitive h o c a b (counted-happened c a (counted-in_past a b in_b counted) above) (counted-happened a b in_b counted) in
+      let first = counted-happened c a (counted-in_past a b in_b counted) above in
+      let before = HB-transitive h o c a b first (counted-happened a b in_b counted) in
       let again : count now b u < count now b u = happened-counted c b in_b before in
       absurd (omega arith))
       (λ (up_to : count now a u ≤ count now b u). up_to)

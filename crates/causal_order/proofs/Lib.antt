@@ -6,7 +6,6 @@ pub mod Outcomes
 pub mod Least
 pub mod Places
 pub mod NextVector
-pub mod Cycles
 pub mod Flat
 pub mod Items
 pub mod StrictVectors
@@ -35,6 +34,14 @@ pub mod LastWrites
 pub mod Fronts
 pub mod ReadAnswers
 pub mod SourcesExist
+pub mod IndexedLaws
+pub mod CausalOrders
+pub mod Searches
+pub mod EachOperation
+pub mod WalksExist
+pub mod VectorsPlaced
+pub mod VectorsExist
+pub mod OrderDecisions
 pub mod CountSumsLaws
 pub mod HappenedBeforeExists
 pub mod GrowthLaws
@@ -47,3 +54,10 @@ pub mod FollowedReads
 pub mod StrictLaws
 pub mod RelationsMade
 pub mod Saturating
+pub mod WaitsLaws
+pub mod Placed
+pub mod TopologicalOrders
+pub mod WaitRoutes
+pub mod WaitsLead
+pub mod SourceWaits
+pub mod Conflicting

@@ -14,7 +14,7 @@ use Rattle.causal_order.specs.Vectors.{Counts, list_of, count, IsCounted}
 use Rattle.causal_order.proofs.PushedLaws.{pushed, listed-length, pushed-other, pushed-length, pushed-old, pushed-cases, pushed-value_old, pushed-value_next}
 
 -- what has no vector counts nothing
-counted-listed : (v : Counts) (o a : OpId) → IsCounted v o a → IsListed v o
+pub counted-listed : (v : Counts) (o a : OpId) → IsCounted v o a → IsListed v o
 counted-listed v o a counted = lt_of_not-le (λ (past : length (get_or v o.session []) ≤ o.index).
     let none = get_or_past (get_or v o.session []) o.index [] past in
     let nothing = subst (λ (xs : List ℕ). a.index < get_or xs a.session 0) none counted in

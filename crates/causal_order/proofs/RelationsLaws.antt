@@ -19,7 +19,7 @@ module _ (related : OpId → OpId → Type 0) where
   pub leads-edge : (a b : OpId) → related a b → Leads related a b
   leads-edge a b edge = (a ∷ b ∷ [], 0, path-edge a b edge, refl, refl)
 
-  path-first : (a b : OpId) (path : List OpId) → related a b → IsPath related path → StandsAt path 0 b → IsPath related (a ∷ path)
+  pub path-first : (a b : OpId) (path : List OpId) → related a b → IsPath related path → StandsAt path 0 b → IsPath related (a ∷ path)
   path-first a b path edge is_path starts zero x y first second =
       subst₂ related (same_Some _ _ first) (same_Some _ _ (sym starts ∙ second)) edge
   path-first a b path edge is_path starts (suc k) x y first second =

@@ -1,12 +1,12 @@
 -- The sources of operations, and their vectors.
 use Rattle.std.specs.Prelude.{◌≡◌, Option, Some, None, MatchOption}
 use Rattle.std.specs.Option.{option_flatten}
-use Rattle.std.proofs.Common.{arith, sym, subst}
+use Rattle.std.proofs.Common.{arith, sym, subst, refl}
 use Rattle.history.specs.declared.op_id.OpId.{OpId}
 use Rattle.history.specs.History.{Record, IsOp}
 use Rattle.causal_order.specs.Memory.{MemoryHistory}
 use Rattle.causal_order.proofs.MemoryLaws.{write-of_history}
-use Rattle.causal_order.specs.SourceOrder.{IsSourceOf, LacksSource}
+use Rattle.causal_order.specs.SourceOrder.{IsSource, IsSourceOf, LacksSource}
 use Rattle.causal_order.specs.Sources.{IsListed}
 use Rattle.causal_order.specs.Topological.{AreSquare}
 use Rattle.causal_order.specs.Vectors.{Counts, AreVectorsOf}
@@ -31,6 +31,15 @@ module _ (h : MemoryHistory) (o : OpId) where
       → MatchOption found (LacksSource h) (IsSourceOf h o) → source ≡ option_flatten found → IsSourceOf h o source
   found-source None source sources lacks same = absurd (sources lacks)
   found-source (Some e) source sources is_source same = subst (λ (s : Option OpId). IsSourceOf h o s) (sym same) is_source
+
+module _ (h : MemoryHistory) where
+  -- the source that an operation has, or that it has none
+  pub source-some : (o w : OpId) (e : Option OpId) → IsSourceOf h o e → e ≡ Some w → IsSource h w o
+  source-some o w e is same = subst (λ (s : Option OpId). IsSourceOf h o s) same is
+
+  pub source-none : (o : OpId) (e : Option OpId) → IsSourceOf h o e → ((w : OpId) → e ≡ Some w → ⊥) → (w : OpId) → ¬ IsSource h w o
+  source-none o None initial other w is = is.0.4 (initial is.0.0 is.0.1 is.0.3)
+  source-none o (Some a) initial other w is = other a refl
 
 -- a source has a vector
 pub listed-source : (h : MemoryHistory) (v : Counts) → AreVectorsOf h v → (o : OpId) (source : Option OpId) → IsSourceOf h o source → (w : OpId) → source ≡ Some w → IsListed v w

@@ -1,6 +1,6 @@
 -- Each known read of a value that is not the initial one has a source, where none lacks one.
-use Rattle.std.specs.Prelude.{◌≡◌, ◌≢◌, ◌⊎◌, ℕ, ◌<◌, ◌≤◌, length, Option, Some, None, option_map}
-use Rattle.std.proofs.Common.{zero, suc, arith, sym, ap, subst, inl, inr, ⊎_elim, eq-or-lt_of_le}
+use Rattle.std.specs.Prelude.{◌≡◌, ◌≢◌, ◌⊎◌, ℕ, ◌<◌, length, Option, Some, None, option_map}
+use Rattle.std.proofs.Common.{ap, subst, inl, inr, ⊎_elim}
 use Rattle.std.proofs.lemmas.Bool.{cases_eq}
 use Rattle.std.proofs.lemmas.Option.{same_Some}
 use Rattle.objects.specs.declared.register.RegisterCall.{RegisterCall}
@@ -13,21 +13,7 @@ use Rattle.causal_order.specs.Orders.{op, IsEarlier}
 use Rattle.causal_order.specs.SourceOrder.{IsSource, LacksSource}
 use Rattle.causal_order.proofs.MemoryLaws.{same_read, write-of_history}
 use Rattle.causal_order.proofs.OrdersLaws.{session-of_history}
-
-module _ (P : ℕ → Type 0) (decide : (i : ℕ) → P i ⊎ ¬ P i) where
-  -- the least number below n that has a property, or none has it
-  least : (n : ℕ) → ((i : ℕ) × (i < n) × P i × ((j : ℕ) → j < i → ¬ P j)) ⊎ ((j : ℕ) → j < n → ¬ P j)
-  least zero = inr (λ j below. absurd (omega arith))
-  least (suc n) = ⊎_elim
-      (λ (found : (i : ℕ) × (i < n) × P i × ((j : ℕ) → j < i → ¬ P j)). let below = found.1 in inl (found.0, omega arith, found.2, found.3))
-      (λ (none : (j : ℕ) → j < n → ¬ P j). ⊎_elim
-      (λ (last : P n). inl (n, omega arith, last, none))
-      (λ (not_last : ¬ P n). inr (λ j below. ⊎_elim
-      (λ (here : j ≡ n). subst (λ (i : ℕ). ¬ P i) (sym here) not_last)
-      (λ (before : j < n). none j before)
-      (let up_to : j ≤ n = omega arith in eq-or-lt_of_le up_to)))
-      (decide n))
-      (least n)
+use Rattle.causal_order.proofs.Searches.{least}
 
 -- a call is a write of v, or it isn't
 is_write : (call : RegisterCall) (v : ℕ) → (call ≡ Write v) ⊎ ¬ (call ≡ Write v)

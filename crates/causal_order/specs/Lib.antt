@@ -6,6 +6,7 @@ pub mod Sources
 pub mod SourceOrder
 pub mod ProgramOrder
 pub mod Topological
+pub mod Waits
 pub mod OverwrittenReads
 pub mod HappenedBeforePatterns
 pub mod HappenedBeforeVectors

@@ -6,3 +6,6 @@ pub mod Listed
 pub mod GrowingOrders
 pub mod GrowthSteps
 pub mod HappenedBefores
+pub mod Indexed
+pub mod Waiting
+pub mod Conflicts

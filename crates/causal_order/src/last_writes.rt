@@ -1,6 +1,7 @@
 //! The last writes of a variable.
 
-ghost use Rattle.std.specs.Prelude.{◌<◌, ◌↔◌, ℕ, IfOk, IsPermutation};
+ghost use Rattle.std.specs.Prelude.{◌≡◌, ◌<◌, ◌↔◌, ℕ, IfOk, IfSome, IsPermutation};
+ghost use Rattle.causal_order.specs.Steps.Indexed.{end_of};
 ghost use Rattle.causal_order.specs.Steps.Written.{AreByVariable, IsBelowWrite, ListsWrites};
 
 use crate::writes::{Write, sorted_writes};
@@ -28,6 +29,26 @@ pub(crate) fn sort_by_variable(writes: &mut Vec<Write>)
     writes.sort_unstable_by_key(|write| (write.key, write.op));
 }
 
+/// The last write of a variable in the session of `end` that stands before `end`.
+///
+/// The writes are those of a history, by variable and operation. O(log n) for n writes.
+pub(crate) fn last_write_before(writes: &[Write], key: u32, end: OpId) -> Option<OpId>
+    requires { AreByVariable writes.now }
+    ensures session { IfSome result (λ w. w.session ≡ end.session) }
+    ensures last { (i : ℕ) → (i < end_of result) ↔ IsBelowWrite writes.now key end.session end.index i }
+{
+    let at = writes.partition_point(|write| (write.key, write.op) < (key, end));
+    if at == 0 {
+        return None;
+    }
+    let last = &writes[at - 1];
+    if last.key == key && last.op.session == end.session {
+        Some(last.op)
+    } else {
+        None
+    }
+}
+
 /// How many operations of a session come up to the last write of a variable among the first `count` of them: 0 where none
 /// of these writes it.
 ///
@@ -40,14 +61,8 @@ pub fn end_of_writes(writes: &[Write], key: u32, session: u64, count: u16) -> u1
         session,
         index: count as u64,
     };
-    let at = writes.partition_point(|write| (write.key, write.op) < (key, end));
-    if at == 0 {
-        return 0;
-    }
-    let last = &writes[at - 1];
-    if last.key == key && last.op.session == session {
-        last.op.index as u16 + 1
-    } else {
-        0
+    match last_write_before(writes, key, end) {
+        Some(last) => last.index as u16 + 1,
+        None => 0,
     }
 }

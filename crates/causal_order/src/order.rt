@@ -28,5 +28,5 @@ pub fn memory_order(alloc: Global, h: &History<Memory>) -> Result<Option<Vectors
     let Some(sources) = sources_of(alloc, h)? else {
         return Ok(None);
     };
-    order_of(alloc, &sources)
+    order_of(alloc, h, &sources)
 }

@@ -1,11 +1,17 @@
-ghost use Rattle.std.specs.Prelude.{◌≡◌, ◌∷◌, ◌++◌, ◌<◌, ◌≢◌, ◌+◌, ◌-◌, ℕ, List, [], length, max, option_map, unwrap_or, slice_set, slice_index, slice_index_or, IfOk, IfNone, IfSome, MatchOption, OnOk, Some, IsTrue, ◌↔◌};
+ghost use Rattle.std.specs.Prelude.{◌≡◌, ◌∷◌, ◌++◌, ◌<◌, ◌≢◌, ◌+◌, ◌-◌, ℕ, List, [], length, max, option_map, unwrap_or, slice_set, slice_index, slice_index_or, IfOk, IfNone, IfSome, OnOk, Some};
 ghost use Rattle.history.specs.declared.op_id.OpId.{OpId as Operation};
-ghost use Rattle.causal_order.specs.Sources.{AreListed, AreShort, AreVectorsSoFar, Comes, IsListed, IsReady, IsUnfinished};
+ghost use Rattle.causal_order.specs.Sources.{AreListed, AreShort, AreVectorsSoFar, Comes, HasSource, IsListed, IsReady, IsUnfinished};
+ghost use Rattle.causal_order.specs.Steps.Waiting.{FollowsSources};
+ghost use Rattle.causal_order.specs.Topological.{placed};
 ghost use Rattle.causal_order.specs.Vectors.{count, list_of};
+ghost use Rattle.causal_order.specs.Waits.{AreAlike};
 
 use crate::by_operation::Vectors;
 use crate::rows::Rows;
-use history::OpId;
+use crate::sorting::{OrderOrCycle, topological_sort};
+use crate::waits::waits_for_sources;
+use history::{History, OpId};
+use objects::Memory;
 use std::alloc::{AllocError, Global};
 
 /// For each session, for each of its operations, its source: the operation that it waits for besides the one before it.
@@ -13,22 +19,41 @@ pub type Sources = Rows<Option<OpId>>;
 
 /// The vectors of the order that program order and the sources make, or `None` where it is cyclic.
 ///
-/// Fails for want of memory alone. O(n k) for n operations of k sessions.
-pub fn order_of(alloc: Global, sources: &Sources) -> Result<Option<Vectors>, AllocError>
+/// The sources are those of the operations of the history, and no operation is its own. Fails for want of memory alone.
+/// O(n k) for n operations of k sessions.
+pub(crate) fn order_of(
+    alloc: Global,
+    h: &History<Memory>,
+    sources: &Sources,
+) -> Result<Option<Vectors>, AllocError>
+    requires alike { AreAlike sources.now h.now.1 }
     requires listed { AreListed sources.now }
     requires short { AreShort sources.now }
+    requires apart { (o : Operation) → ¬ HasSource sources.now o o }
     ensures exact { IfOk result (λ order. IfSome order (AreVectorsSoFar sources.now)) }
     ensures finished { IfOk result (λ order. IfSome order (λ v. (s : ℕ) → ¬ IsUnfinished sources.now v s)) }
     ensures cyclic { IfOk result (λ order. IfNone order ((a : Operation) × Comes sources.now a a)) }
 {
+    let waits = waits_for_sources(alloc, h, sources)?;
+    match topological_sort(alloc, &waits)? {
+        OrderOrCycle::Order(schedule) => Ok(Some(vectors_along(alloc, sources, &schedule)?)),
+        OrderOrCycle::Cycle(_) => Ok(None),
+    }
+}
+
+/// The vectors, made along a schedule that names each operation behind its source.
+fn vectors_along(alloc: Global, sources: &Sources, schedule: &[u8]) -> Result<Vectors, AllocError>
+    requires listed { AreListed sources.now }
+    requires short { AreShort sources.now }
+    requires follows { FollowsSources sources.now schedule.now }
+    ensures exact { IfOk result (AreVectorsSoFar sources.now) }
+    ensures placed { IfOk result (λ v. (s : ℕ) → length (slice_index_or v s []) ≡ placed schedule.now s) }
+{
     let mut vectors = no_vectors(alloc, sources.len())?;
-    while let Some(session) = ready(sources, &vectors) {
-        place(alloc, sources, session, &mut vectors)?;
+    for session in schedule {
+        place(alloc, sources, usize::from(*session), &mut vectors)?;
     }
-    match unfinished(sources, &vectors) {
-        Some(_) => Ok(None),
-        None => Ok(Some(vectors)),
-    }
+    Ok(vectors)
 }
 
 /// As many sessions, with no vectors.
@@ -41,45 +66,6 @@ fn no_vectors(alloc: Global, sessions: usize) -> Result<Vectors, AllocError>
         vectors.push_session()?;
     }
     Ok(vectors)
-}
-
-/// The first session that has an operation without a vector.
-fn unfinished(sources: &Sources, vectors: &Vectors) -> Option<usize>
-    requires { length vectors.now ≡ length sources.now }
-    ensures { MatchOption result ((s : ℕ) → ¬ IsUnfinished sources.now vectors.now s) (IsUnfinished sources.now vectors.now) }
-{
-    for session in 0..sources.len() {
-        if vectors.operations(session) < sources.get(session).len() {
-            return Some(session);
-        }
-    }
-    None
-}
-
-/// The first session whose next operation has a source with a vector, or no source.
-fn ready(sources: &Sources, vectors: &Vectors) -> Option<usize>
-    requires { length vectors.now ≡ length sources.now }
-    ensures { MatchOption result ((s : ℕ) → ¬ IsReady sources.now vectors.now s) (IsReady sources.now vectors.now) }
-{
-    for session in 0..sources.len() {
-        if is_ready(sources, vectors, session) {
-            return Some(session);
-        }
-    }
-    None
-}
-
-/// Whether a session has a next operation, and this a source with a vector, or no source.
-fn is_ready(sources: &Sources, vectors: &Vectors, session: usize) -> bool
-    requires sessions { length vectors.now ≡ length sources.now }
-    requires exists { session < length sources.now }
-    ensures { IsTrue result ↔ IsReady sources.now vectors.now session }
-{
-    match sources.get(session).get(vectors.operations(session)) {
-        None => false,
-        Some(None) => true,
-        Some(Some(source)) => vectors.contains(*source),
-    }
 }
 
 /// Gives the next operation of a session that is ready its vector.

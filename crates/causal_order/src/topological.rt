@@ -44,6 +44,21 @@ impl Walk {
         self.schedule.as_slice()
     }
 
+    /// For each placed operation its session, in order.
+    pub(crate) fn into_schedule(self) -> Vec<u8>
+        ensures { result.items ≡ self }
+    {
+        self.schedule
+    }
+
+    /// How many operations of a session are placed.
+    pub(crate) fn placed(&self, session: usize) -> usize
+        requires { session < 16 }
+        ensures { result ≡ placed self.now session }
+    {
+        self.placed[session] as usize
+    }
+
     /// Places the next operation of a session, whether it can follow or not.
     ///
     /// Fails for want of memory alone, and the walk is then as it was.
@@ -135,7 +150,7 @@ impl Walk {
 
     /// The first session from `start` on, other than `own`, of which a vector counts more than is placed, or how many
     /// sessions there are.
-    fn first_missing(&self, counts: &[u16], own: usize, start: usize) -> usize
+    pub(crate) fn first_missing(&self, counts: &[u16], own: usize, start: usize) -> usize
         requires { length counts.now ≤ 16 }
         ensures bound { result ≤ length counts.now }
         ensures seen { (s : ℕ) → start ≤ s → s < result → s ≢ own → slice_index_or counts.now s 0 ≤ placed self.now s }

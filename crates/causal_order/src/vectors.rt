@@ -1,6 +1,6 @@
 ghost use Rattle.std.specs.Prelude.{◌≡◌, ◌≢◌, ℕ, ◌+◌, ◌≤◌, ◌↔◌, IsTrue, slice_index_or, length};
 ghost use Rattle.history.specs.History.{IsOp, session};
-ghost use Rattle.causal_order.specs.Vectors.{count, AreVectorsOf, IsVectorOk};
+ghost use Rattle.causal_order.specs.Vectors.{count, AreVectorsOf, IsCounted, IsVectorOk};
 ghost use Rattle.causal_order.specs.Vectors.{CountsHeld, HasListOf, IsPastLastOf, IsPastPredecessor};
 
 use crate::by_operation::Vectors;
@@ -29,6 +29,33 @@ pub fn count_of(v: &Vectors, op: OpId, session: u64) -> u16
     ensures { result ≡ count v.now op session }
 {
     v.get(op).get(session as usize).copied().unwrap_or(0)
+}
+
+/// How many operations of a session the vector of an operation counts: 0 where the operation has no vector. O(1).
+pub fn count_at(v: &Vectors, op: OpId, session: u64) -> u64
+    ensures { result ≡ count v.now op session }
+{
+    if !v.contains(op) {
+        return 0;
+    }
+    match v.get(op).get(session as usize) {
+        Some(count) => u64::from(*count),
+        None => 0,
+    }
+}
+
+/// Whether the vector of an operation counts another: not where it has none. O(1).
+pub fn has_counted(v: &Vectors, op: OpId, earlier: OpId) -> bool
+    ensures { IsTrue result ↔ IsCounted v.now op earlier }
+{
+    earlier.index < count_at(v, op, earlier.session)
+}
+
+/// Whether the vector of an operation counts another operation. O(1).
+pub(crate) fn has_counted_other(v: &Vectors, op: OpId, earlier: OpId) -> bool
+    ensures { IsTrue result ↔ ((earlier ≢ op) × IsCounted v.now op earlier) }
+{
+    earlier != op && has_counted(v, op, earlier)
 }
 
 /// Whether each of some counts is at most the one at its place, where a place past the end has 0.

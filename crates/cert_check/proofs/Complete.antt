@@ -3,6 +3,7 @@ use Rattle.std.proofs.Common.{ℕ, ◌<◌, ◌≤◌, ⊎_elim, List, [], lengt
 use Rattle.std.proofs.lemmas.Bool.{cases_lt}
 use Rattle.history.specs.declared.op_id.OpId.{OpId}
 use Rattle.history.specs.History.{Record, IsOp, session}
+use Rattle.causal_order.proofs.EachOperation.{by_operation, by_operation-one_each, list_of-by_operation}
 use Rattle.causal_order.specs.Orders.{Ops, Order, only, program_past, past, IsLinearization}
 use Rattle.causal_order.specs.Vectors.{list_of}
 use Rattle.cert_check.specs.declared.criterion.Criterion.{Criterion}
@@ -12,7 +13,7 @@ use Rattle.cert_check.specs.declared.certificate.Certificate.TheVariants.{Cc, Cm
 use Rattle.cert_check.specs.Criteria.{every, IsCausalOrder, Explains, Meets}
 use Rattle.cert_check.specs.Schedules.{named}
 use Rattle.cert_check.specs.Certificates.{HasShapeOf, IsScheduledPiece, IsArbitratedPiece, Certifies}
-use Rattle.cert_check.proofs.Counting.{by_operation, by_operation-one_each, list_of-by_operation, past_vectors, past_vectors-shape, past_vectors-count}
+use Rattle.cert_check.proofs.Counting.{past_vectors, past_vectors-shape, past_vectors-count}
 use Rattle.cert_check.proofs.Sessions.{sessions_of}
 use Rattle.cert_check.proofs.Sound.{explained-meets}
 use Rattle.cert_check.proofs.PastPieces.{named_past, named_whole, whole-ends, past_vector-ok, past-schedule, whole-piece}

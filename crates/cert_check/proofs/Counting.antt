@@ -8,8 +8,8 @@ use Rattle.std.proofs.lemmas.List.FromFn.{length-map-range_with_len, get_or-map-
 use Rattle.history.specs.declared.op_id.OpId.{OpId}
 use Rattle.history.specs.History.{Record, IsOp, session}
 use Rattle.causal_order.specs.Orders.{op, Order, only, past}
-use Rattle.causal_order.proofs.OrdersLaws.{session-of_history}
-use Rattle.causal_order.specs.Vectors.{ByOperation, Counts, list_of, count, IsCounted, HasOneEach, AreVectorsOf}
+use Rattle.causal_order.proofs.EachOperation.{by_operation, by_operation-one_each, list_of-by_operation}
+use Rattle.causal_order.specs.Vectors.{Counts, count, IsCounted, AreVectorsOf}
 use Rattle.cert_check.specs.Criteria.{IsCausalOrder}
 use Rattle.cert_check.proofs.ConvergentLaws.{only-same}
 
@@ -41,34 +41,6 @@ below_reach-passes p closed (suc n) i below = ⊎_elim
     (λ (no_here : p n ≡ false). below_reach-passes p closed n i (subst (λ (b : Bool). i < cond b (suc n) (reach p n)) no_here below))
     (cases_Bool (p n))
 
-module _ {S C R : Type 0} (h : Record S C R) where
-  -- a list for each operation of the history
-  abbrev pub by_operation : {A : Type 0} → (OpId → List A) → ByOperation A
-  by_operation list = map (λ s. map (λ i. list (op s i)) (range_with_len 0 (length (session h s)))) (range_with_len 0 (length h.1))
-
-  none_past : (s : ℕ) → length h.1 ≤ s → session h s ≡ []
-  none_past s past_end = get_or_past h.1 s [] past_end
-
-  pub by_operation-one_each : {A : Type 0} (list : OpId → List A) → HasOneEach h (by_operation list)
-  by_operation-one_each {A} list = record {
-    sessions = length-map-range_with_len (λ s. map (λ i. list (op s i)) (range_with_len 0 (length (session h s)))) 0 (length h.1);
-    operations = λ s. ⊎_elim
-        (λ (below : s < length h.1).
-        ap length (get_or-map-range_with_len (λ s. map (λ i. list (op s i)) (range_with_len 0 (length (session h s)))) 0 (length h.1) s s [] below (omega arith))
-        ∙ length-map-range_with_len (λ i. list (op s i)) 0 (length (session h s)))
-        (λ (past_end : length h.1 ≤ s).
-        let long = length-map-range_with_len (λ s. map (λ i. list (op s i)) (range_with_len 0 (length (session h s)))) 0 (length h.1) in
-        ap length (get_or_past (by_operation list) s [] (omega arith)) ∙ sym (ap length (none_past s past_end)))
-        (cases_lt s (length h.1));
-  }
-
-  pub list_of-by_operation : {A : Type 0} (list : OpId → List A) (o : OpId) → IsOp h o → list_of (by_operation list) o ≡ list o
-  list_of-by_operation {A} list o is_op =
-      let below = session-of_history h o is_op in
-      ap (λ (lists : List (List A)). slice_index_or lists o.index [])
-      (get_or-map-range_with_len (λ s. map (λ i. list (op s i)) (range_with_len 0 (length (session h s)))) 0 (length h.1) o.session o.session [] below (omega arith))
-      ∙ get_or-map-range_with_len (λ i. list (op o.session i)) 0 (length (session h o.session)) o.index o.index [] is_op (omega arith)
-
 module _ {S C R : Type 0} (h : Record S C R) (co : Order) (causal : IsCausalOrder h co) where
   -- for each session, how many of its operations are in the past of o
   past_counts : OpId → List ℕ
@@ -94,7 +66,7 @@ module _ {S C R : Type 0} (h : Record S C R) (co : Order) (causal : IsCausalOrde
       (λ (below : s < length h.1). get_or-map-range_with_len (λ s. reach (λ i. past co o (op s i)) (length (session h s))) 0 (length h.1) s s 0 below (omega arith))
       (λ (past_end : length h.1 ≤ s).
       let long = length-map-range_with_len (λ s. reach (λ i. past co o (op s i)) (length (session h s))) 0 (length h.1) in
-      get_or_past (past_counts o) s 0 (omega arith) ∙ ap (λ (es : List (C × Option R)). reach (λ i. past co o (op s i)) (length es)) (sym (none_past h s past_end)))
+      get_or_past (past_counts o) s 0 (omega arith) ∙ ap (λ (es : List (C × Option R)). reach (λ i. past co o (op s i)) (length es)) (sym (get_or_past h.1 s [] past_end)))
       (cases_lt s (length h.1))
 
   pub past-of_history : (o a : OpId) → IsOp h o → IsTrue (past co o a) → IsOp h a

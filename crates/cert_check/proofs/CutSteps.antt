@@ -1,4 +1,4 @@
--- A walk over the one list up to an operation: what it takes in, and that it comes to the operation.
+-- A replay over the one list up to an operation: what it takes in, and that it comes to the operation.
 use Rattle.std.proofs.Common.{◌≡◌, ◌≢◌, ℕ, ◌+◌, ◌<◌, ◌≤◌, ◌↔◌, Bool, false, List, [], ◌∷◌, ◌++◌, length, take, drop, get_or, refl, sym, ap, ◌∙◌, subst, arith, ⊎_elim, lt-ltb, take_all, append-nil}
 use Rattle.std.specs.Prelude.{IsTrue, Some, filter, slice_get}
 use Rattle.std.proofs.lemmas.Bool.{cases_eq, cases_lt, cond-true, cond-false}
@@ -12,12 +12,12 @@ use Rattle.causal_order.proofs.OrdersLaws.{same_op}
 use Rattle.causal_order.specs.Vectors.{Counts, count, IsCounted, IsVectorOk}
 use Rattle.cert_check.specs.Certificates.{counted, IsArbitratedPiece}
 use Rattle.cert_check.specs.Schedules.{times, named, StandsBefore}
-use Rattle.cert_check.specs.Steps.Walks.{AreCountsAt, IsAnsweredAfter}
+use Rattle.cert_check.specs.Steps.Replays.{AreCountsAt, IsAnsweredAfter}
 use Rattle.cert_check.proofs.ConvergentLaws.{only-same}
 use Rattle.cert_check.proofs.FilteredLaws.{filter_in_order}
 use Rattle.cert_check.proofs.Named.{times-next, times-same, times-other, times-take-le, named_once}
 use Rattle.cert_check.proofs.Pasts.{only-itself}
-use Rattle.cert_check.proofs.WalkSteps.{after_from_within, within_from_after}
+use Rattle.cert_check.proofs.ReplaySteps.{after_from_within, within_from_after}
 
 module _ {X : Type 0} (p : X → Bool) where
   -- one element more, where it passes and where it doesn't

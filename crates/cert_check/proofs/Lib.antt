@@ -7,7 +7,7 @@ pub mod PastPieces
 pub mod Complete
 pub mod Ranges
 pub mod Shapes
-pub mod WalkSteps
+pub mod ReplaySteps
 pub mod SchedulePieces
 pub mod CutSteps
 pub mod ListForms

@@ -1,4 +1,4 @@
--- A walk that has come to the end of a schedule, and the piece that it tested.
+-- A replay that has come to the end of a schedule, and the piece that it tested.
 use Rattle.std.proofs.Common.{◌≡◌, ℕ, ◌<◌, ◌≤◌, List, length, get_or, ap, ◌∙◌, arith, ⊎_elim, take_all}
 use Rattle.std.proofs.lemmas.Bool.{cases_lt}
 use Rattle.std.proofs.lemmas.Option.{slice_get_within}
@@ -8,7 +8,7 @@ use Rattle.causal_order.specs.Orders.{Ops, StandsAt}
 use Rattle.causal_order.specs.Vectors.{Counts, count, IsVectorOk}
 use Rattle.cert_check.specs.Certificates.{IsScheduledPiece}
 use Rattle.cert_check.specs.Schedules.{times, named}
-use Rattle.cert_check.specs.Steps.Walks.{AreCountsAt, AreStepsOk, IsStepOk}
+use Rattle.cert_check.specs.Steps.Replays.{AreCountsAt, AreStepsOk, IsStepOk}
 use Rattle.cert_check.proofs.Named.{length-named}
 
 nothing_past : (list : List ℕ) (i : ℕ) → length list ≤ i → (o : OpId) → StandsAt (named list) i o → ⊥

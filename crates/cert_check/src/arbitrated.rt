@@ -4,9 +4,9 @@ ghost use Rattle.causal_order.specs.Orders.{StandsAt};
 ghost use Rattle.causal_order.specs.Vectors.{AreVectorsOf};
 ghost use Rattle.cert_check.specs.Certificates.{counted, IsArbitratedPiece};
 ghost use Rattle.cert_check.specs.Schedules.{named, times};
-ghost use Rattle.cert_check.specs.Steps.Walks.{IsWalkAt};
+ghost use Rattle.cert_check.specs.Steps.Replays.{IsReplayAt};
 
-use crate::walk::Walk;
+use crate::replay::Replay;
 use causal_order::{Vectors, vector_ok};
 use history::{History, OpId};
 use object_trait::SeqObject;
@@ -31,33 +31,34 @@ pub fn is_arbitrated_piece<O: SeqObject>(
     if !vector_ok(h, v, op) {
         return Ok(false);
     }
-    let mut walk = walk_to(alloc, h, v, list, op)?;
-    let complete = walk.has_named_all(v, op);
-    let answered = walk.take_in(h, op)?;
+    let mut replay = replay_to(alloc, h, v, list, op)?;
+    let complete = replay.has_named_all(v, op);
+    let answered = replay.take_in(h, op)?;
     Ok(complete && answered)
 }
 
-/// Walks over the list until it names an operation, and takes in the operations before it that its vector counts.
-fn walk_to<O: SeqObject>(
+/// Replays over the list until it names an operation, and takes in the operations before it that its vector counts.
+fn replay_to<O: SeqObject>(
     alloc: Global,
     h: &History<O>,
     v: &Vectors,
     list: &[u8],
     op: OpId,
-) -> Result<Walk<O>, AllocError>
+) -> Result<Replay<O>, AllocError>
     requires shape { AreVectorsOf h.now v.now }
     requires whole { (s : ℕ) → times s list.now ≡ length (session h.now s) }
     requires is_op { IsOp h.now op }
-    ensures { IfOk result (λ walk. (i : ℕ) × StandsAt (named list.now) i op
-        × IsWalkAt O.stands h.now list.now (i + 1) (filter (counted v.now op) (take i (named list.now))) walk.counts.items walk.object) }
+    ensures { IfOk result (λ replay. (i : ℕ) × StandsAt (named list.now) i op
+        × IsReplayAt O.stands h.now list.now (i + 1) (filter (counted v.now op) (take i (named list.now)))
+        replay.counts.items replay.object) }
 {
-    let mut walk = Walk::new(alloc, h)?;
+    let mut replay = Replay::new(alloc, h)?;
     for session in list {
-        let next = walk.name_next(h, *session).unwrap();
+        let next = replay.name_next(h, *session).unwrap();
         if next == op {
-            return Ok(walk);
+            return Ok(replay);
         }
-        walk.take_in_counted(h, v, op, next)?;
+        replay.take_in_counted(h, v, op, next)?;
     }
     unreachable!()
 }

@@ -3,7 +3,8 @@ ghost use Rattle.history.specs.History.{IsOp};
 ghost use Rattle.causal_order.specs.Orders.{op};
 ghost use Rattle.cert_check.specs.Criteria.{Meets};
 ghost use Rattle.cert_check.specs.declared.certificate.Certificate.{Certificate};
-ghost use Rattle.cert_check.specs.Certificates.{HasShapeOf, IsExplainedIn, IsExplainedPiece, IsExplainedThroughout, IsFirstUnexplained};
+ghost use Rattle.cert_check.specs.Certificates.{HasShapeOf, IsExplainedIn, IsExplainedPiece, IsExplainedThroughout};
+ghost use Rattle.cert_check.specs.Certificates.{IsFirstUnexplained};
 
 use crate::arbitrated::is_arbitrated_piece;
 use crate::case_file::CaseFile;

@@ -1,5 +1,5 @@
 ghost use Rattle.std.specs.Prelude.{◌≡◌};
-ghost use Rattle.cert_check.specs.Steps.Walks.{kept_of};
+ghost use Rattle.cert_check.specs.Steps.Replays.{kept_of};
 
 use history::OpId;
 

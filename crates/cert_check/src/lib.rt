@@ -15,9 +15,9 @@ pub mod laws;
 mod number;
 mod reading;
 mod reading_lists;
+mod replay;
 mod scheduled;
 mod shape;
-mod walk;
 
 pub use arbitration::Arbitration;
 pub use case_file::CaseFile;

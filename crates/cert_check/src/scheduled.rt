@@ -3,10 +3,10 @@ ghost use Rattle.history.specs.History.{IsOp};
 ghost use Rattle.causal_order.specs.Vectors.{count, AreVectorsOf};
 ghost use Rattle.cert_check.specs.Certificates.{IsScheduledPiece};
 ghost use Rattle.cert_check.specs.Schedules.{named, times};
-ghost use Rattle.cert_check.specs.Steps.Walks.{kept_of, AreStepsOk};
+ghost use Rattle.cert_check.specs.Steps.Replays.{kept_of, AreStepsOk};
 
 use crate::kept::Kept;
-use crate::walk::Walk;
+use crate::replay::Replay;
 use causal_order::{Vectors, vector_ok};
 use history::{History, OpId};
 use object_trait::SeqObject;
@@ -30,11 +30,11 @@ pub fn is_scheduled_piece<O: SeqObject>(
     if !vector_ok(h, v, op) {
         return Ok(false);
     }
-    is_walked(alloc, h, v, schedule, op, kept)
+    is_replayed(alloc, h, v, schedule, op, kept)
 }
 
 /// Whether each step of a schedule is good, and it names as many operations of each session as the vector counts.
-fn is_walked<O: SeqObject>(
+fn is_replayed<O: SeqObject>(
     alloc: Global,
     h: &History<O>,
     v: &Vectors,
@@ -47,11 +47,11 @@ fn is_walked<O: SeqObject>(
     ensures { IfOk result (λ yes. IsTrue yes ↔ (AreStepsOk O.answer h.now v.now (kept_of kept) (named schedule.now)
         × ((s : ℕ) → times s schedule.now ≡ count v.now op s))) }
 {
-    let mut walk = Walk::new(alloc, h)?;
+    let mut replay = Replay::new(alloc, h)?;
     for session in schedule {
-        if !walk.step(h, v, kept, *session)? {
+        if !replay.step(h, v, kept, *session)? {
             return Ok(false);
         }
     }
-    Ok(walk.ends_at(v.get(op)))
+    Ok(replay.ends_at(v.get(op)))
 }

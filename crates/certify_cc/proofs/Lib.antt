@@ -1,3 +1,4 @@
 pub mod SourceLimits
 pub mod SourceSchedules
 pub mod Explained
+pub mod SourceCertificates

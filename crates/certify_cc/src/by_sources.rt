@@ -1,13 +1,15 @@
 //! Certificates of memory histories by the writes that their reads read from.
 
-ghost use Rattle.std.specs.Prelude.{◌≡◌, ◌⊎◌, ◌+◌, ◌<◌, ◌≤◌, length, IfNone, IfOk, IfSome, OnOk};
+ghost use Rattle.std.specs.Prelude.{◌≡◌, ◌⊎◌, ◌+◌, ◌<◌, ◌≤◌, length, IfNone, IfOk, IfSome, IsSome, OnOk};
 ghost use Rattle.history.specs.History.{IsOp};
 ghost use Rattle.history.specs.declared.op_id.OpId.{OpId as Operation};
 ghost use Rattle.causal_order.specs.Steps.Gathered.{AreGatheredBefore};
-ghost use Rattle.causal_order.specs.SourceOrder.{CountsSourceOrder, LacksSource, SourceOrder};
+ghost use Rattle.causal_order.specs.Memory.{memory_answer};
+ghost use Rattle.causal_order.specs.OverwrittenReads.{HasOverwrittenRead, HasOverwrittenStart};
+ghost use Rattle.causal_order.specs.SourceOrder.{CountsSourceOrder, IsCyclic, LacksSource, SourceOrder};
 ghost use Rattle.causal_order.specs.Vectors.{HasOneEach, list_of};
 ghost use Rattle.causal_order.specs.Steps.Written.{AreInOrder, IsSorted, ListsWrites};
-ghost use Rattle.cert_check.specs.Certificates.{criterion_of, HasShapeOf};
+ghost use Rattle.cert_check.specs.Certificates.{criterion_of, HasShapeOf, IsExplainedThroughout};
 ghost use Rattle.certify_cc.specs.BySources.{IsBySources, IsScheduleFor};
 
 use crate::schedule::schedule_of;
@@ -22,14 +24,18 @@ use std::alloc::{AllocError, Global};
 /// order lets it.
 ///
 /// The source of a known read of a value that is not the initial one is the first write of that value. `None` where the
-/// order is cyclic, or where a read has no source. Whether the certificate explains the known returns is for the checker
-/// of certificates to say. Fails for want of memory alone. O(n p k) for n operations of k sessions and pasts of at most p
-/// operations.
+/// order is cyclic, or where a read has no source. The certificate explains all known returns where none of them is an
+/// overwritten value; else that is for the checker of certificates to say. So on distinct values, where no bad pattern
+/// against causal consistency is present, there is one and it shows the criterion. Fails for want of memory alone.
+/// O(n p k) for n operations of k sessions and pasts of at most p operations.
 pub fn make_memory(alloc: Global, h: &History<Memory>) -> Result<Option<Certificate>, AllocError>
     ensures criterion { IfOk result (λ made. IfSome made (λ c. criterion_of c ≡ Criterion.Cc)) }
     ensures shape { IfOk result (λ made. IfSome made (HasShapeOf h.now)) }
     ensures exact { IfOk result (λ made. IfSome made (IsBySources h.now)) }
     ensures none { IfOk result (λ made. IfNone made (((a : Operation) × SourceOrder h.now a a) ⊎ LacksSource h.now)) }
+    ensures made { ¬ IsCyclic h.now → ¬ LacksSource h.now → IfOk result (λ made. IsSome made) }
+    ensures explained { ¬ HasOverwrittenStart h.now → ¬ HasOverwrittenRead h.now
+        → IfOk result (λ made. IfSome made (IsExplainedThroughout memory_answer h.now)) }
 {
     let Some(vectors) = memory_order(alloc, h)? else {
         return Ok(None);
@@ -49,7 +55,9 @@ pub fn make_by_order(
     ensures criterion { IfOk result (λ c. criterion_of c ≡ Criterion.Cc) }
     ensures shape { IfOk result (HasShapeOf h.now) }
     ensures exact { IfOk result (IsBySources h.now) }
+    ensures explained { ¬ HasOverwrittenStart h.now → ¬ HasOverwrittenRead h.now → IfOk result (IsExplainedThroughout memory_answer h.now) }
 {
+    h.value_is_history();
     let schedules = schedules_by_sources(alloc, h, &vectors)?;
     Ok(Certificate::Cc(vectors, schedules))
 }

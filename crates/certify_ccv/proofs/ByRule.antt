@@ -1,196 +1,157 @@
--- Walks over rows go by the topological rule.
-use Rattle.std.proofs.Common.{◌≡◌, ◌≢◌, ◌⊎◌, ℕ, ◌+◌, ◌<◌, ◌≤◌, inl, inr, ⊎_elim, List, [], length, take, get_or, arith, ap, sym, refl, ◌∙◌, subst, zero, suc, eq-or-lt_of_le}
-use Rattle.std.specs.Prelude.{◌==◌, cond, Option}
-use Rattle.std.proofs.lemmas.Bool.{cases_lt, cases_eq}
-use Rattle.std.proofs.lemmas.List.{get_or_past}
-use Rattle.std.proofs.lemmas.List.Sums.{sum_by-take-le}
-use Rattle.std.proofs.lemmas.Option.{same_Some}
-use Rattle.objects.specs.declared.register.RegisterCall.TheVariants.{Write, Read}
-use Rattle.objects.specs.declared.register.RegisterRet.{RegisterRet}
+-- Orders in which operations follow those that they wait for by the reads of a history go by the rule, and cycles of such
+-- operations are cycles of what has to stand before what.
+use Rattle.std.proofs.Common.{◌≡◌, ◌≢◌, ◌⊎◌, ℕ, ◌+◌, ◌-◌, ◌<◌, ◌≤◌, inl, inr, ⊎_elim, List, length, take, arith, ap, sym, refl, subst}
+use Rattle.std.specs.Prelude.{slice_get}
+use Rattle.std.proofs.lemmas.Option.{slice_get_within}
 use Rattle.history.specs.declared.op_id.OpId.{OpId}
-use Rattle.history.specs.History.{IsOp, entry, session}
-use Rattle.causal_order.specs.Memory.{MemoryCall, MemoryHistory, Writes, Reads}
-use Rattle.causal_order.proofs.MemoryLaws.{entry-call}
+use Rattle.history.specs.History.{IsOp, Precedes, session}
+use Rattle.causal_order.specs.Memory.{MemoryHistory, Writes, Reads}
 use Rattle.causal_order.specs.Orders.{op}
-use Rattle.causal_order.proofs.OrdersLaws.{same_op, session-of_history}
-use Rattle.causal_order.specs.SourceOrder.{CountsSourceOrder, SourceOrder}
-use Rattle.causal_order.specs.Topological.{placed, next_of, CanGoOn}
-use Rattle.causal_order.specs.Vectors.{Counts, count, list_of, IsCounted, AreVectorsOf}
-use Rattle.cert_check.specs.Schedules.{times}
-use Rattle.certify_ccv.specs.Steps.Rows.{IsCountedRival, IsRow, IsLimit, AreLimits, IsWalkOver}
+use Rattle.causal_order.specs.Relations.{Leads}
+use Rattle.causal_order.specs.SourceOrder.{CountsSourceOrder, IsSource, IsSourceEdge, SourceOrder}
+use Rattle.causal_order.specs.Sources.{IsListed}
+use Rattle.causal_order.specs.Steps.Conflicts.{IsCountedWrite, IsDue}
+use Rattle.causal_order.specs.Topological.{placed, next_of}
+use Rattle.causal_order.specs.Vectors.{Counts, count, IsCounted}
+use Rattle.causal_order.specs.Waits.{AreAlike, AreWaitsFor, CanFollow, IsAwaited, IsTopologicalOrder, IsWaitEdge, IsWaitingCycle, WaitsFor}
+use Rattle.causal_order.proofs.Items.{cases-op}
+use Rattle.causal_order.proofs.MemoryLaws.{read-of_history, same_read, same_written, write-or_read}
+use Rattle.causal_order.proofs.OrdersLaws.{same_op}
+use Rattle.causal_order.proofs.Placed.{front-places, placed-up}
+use Rattle.causal_order.proofs.RelationsLaws.{last-edge, leads-back, leads-edge, leads-wider}
+use Rattle.causal_order.proofs.SourceVectors.{before-counted, counts-before}
+use Rattle.causal_order.proofs.WaitsLead.{cycle-leads}
 use Rattle.certify_ccv.specs.ByConflicts.{SourceConflict, ComesFirst, CanStand, GoesByRule}
-use Rattle.certify_ccv.proofs.SourcedReads.{source-of_history}
 
-module _ (h : MemoryHistory) where
-  -- a write is no read
-  write-no_read : (a : OpId) (x u y t : ℕ) → Writes h a x u → Reads h a y t → ⊥
-  write-no_read a x u y t wrote read =
-      let e = entry-call (entry h a) _ wrote in
-      let same = same_Some _ _ (sym e.1 ∙ read) in
-      let calls : Write u ≡ Read = ap (λ (p : MemoryCall × Option RegisterRet). p.0.call) same in
-      absurd cc
+module _ (h : MemoryHistory) (v : Counts) (order : CountsSourceOrder h v) where
+  -- what is due before another operation has to stand before it
+  due-first : (a o : OpId) → IsDue h v a o → a ≢ o → ComesFirst h a o
+  due-first a o due apart = ⊎_elim
+      (λ (is : IsSource h a due.0 × (o ≡ due.0)).
+      inl (leads-edge (IsSourceEdge h) a o (inr (subst (λ (r : OpId). IsSource h a r) (sym is.1) is.0))))
+      (λ (is : IsSource h o due.0 × IsCountedWrite h v due.0 a).
+      let r : OpId = due.0 in
+      let reads = is.0.0 in
+      let wrote = is.1 in
+      let is_op = read-of_history h r reads.0 reads.1 reads.3 in
+      let before = before-counted h v order r a is_op wrote.counted (write-or_read h a r wrote.x wrote.u wrote.x wrote.y wrote.writes wrote.reads) in
+      let variable : reads.0 ≡ wrote.x = (same_read h r reads.0 reads.1 wrote.x wrote.y reads.3 wrote.reads).0 in
+      inr ((apart, (wrote.x, wrote.u, reads.1, wrote.writes, subst (λ (x : ℕ). Writes h o x reads.1) variable reads.2)), (r, before, is.0)))
+      due.1
 
-  module _ (v : Counts) (order : CountsSourceOrder h v) where
-    -- what the row of o is made of, apart from o, has to stand before o
-    rival-first : (o b : OpId) → b ≢ o → IsCountedRival h v o b → ComesFirst h b o
-    rival-first o b apart rival =
-        let before : SourceOrder h b rival.r = ⊎_elim
-        (λ (same : b ≡ rival.r). absurd (write-no_read rival.r rival.x rival.u rival.source.0.0 rival.source.0.1
-        (subst (λ (a : OpId). Writes h a rival.x rival.u) same rival.writes) rival.source.0.3))
-        (λ (first : SourceOrder h b rival.r). first)
-        ((order.counted rival.r b (source-of_history h o rival.r rival.source)).0 rival.counted) in
-        inr ((apart, (rival.x, rival.u, rival.w, rival.writes, rival.own)), (rival.r, before, rival.source))
+  -- a source, and a write that conflicts with one, is due
+  source-due : (a o : OpId) → IsSource h a o → IsDue h v a o
+  source-due a o source = (o, inl (source, refl))
 
-    pub part-first : (o b : OpId) → IsOp h o → b ≢ o → IsCounted v o b ⊎ IsCountedRival h v o b → ComesFirst h b o
-    part-first o b is_op apart = ⊎_elim
-        (λ (is : IsCounted v o b). ⊎_elim
-        (λ (same : b ≡ o). absurd (apart same))
-        (λ (before : SourceOrder h b o). inl before)
-        ((order.counted o b is_op).0 is))
-        (λ (rival : IsCountedRival h v o b). rival-first o b apart rival)
-
-    -- what has to stand before o is a part of its row
-    first-part : (o b : OpId) → IsOp h o → ComesFirst h b o → IsCounted v o b ⊎ IsCountedRival h v o b
-    first-part o b is_op = ⊎_elim
-        (λ (before : SourceOrder h b o). inl ((order.counted o b is_op).1 (inr before)))
-        (λ (conflict : SourceConflict h b o).
-        let wrote = conflict.0.1 in
-        let r = conflict.1 in
-        inr (record {
-          x = wrote.0;
-          u = wrote.1;
-          w = wrote.2;
-          writes = wrote.3;
-          own = wrote.4;
-          r = r.0;
-          source = r.2;
-          counted = (order.counted r.0 b (source-of_history h o r.0 r.2)).1 (inr r.1);
-        }))
-
-    -- an operation doesn't have to stand before itself
-    not_itself : (o : OpId) → ¬ ComesFirst h o o
-    not_itself o = ⊎_elim
-        (λ (before : SourceOrder h o o). order.acyclic o before)
-        (λ (conflict : SourceConflict h o o). conflict.0.0 refl)
-
-    module _ (rows : Counts) (shape : AreVectorsOf h rows) (each : (o : OpId) → IsOp h o → IsRow h v (length h.1) o (list_of rows o))
-        (limits : List ℕ) (are_limits : AreLimits rows limits) where
-      pub limit : (s : ℕ) → s < length h.1 → IsLimit rows s (get_or limits s 0)
-      limit s below = are_limits.each s (let sessions = shape.one_each.sessions in omega arith)
-
-      -- where a session can go on by the rows, its next operation can stand
-      pub can-stand : (list : List ℕ) (s : ℕ) → CanGoOn rows limits list s → CanStand h list s
-      can-stand list s can =
-          let o = next_of list s in
-          let operations = shape.one_each.operations s in
-          let there = can.there in
-          let is_op : IsOp h o = omega arith in
-          let below = can.below in
-          let own = (limit s (session-of_history h o is_op)).before (placed list s) below in
+  conflict-due : (a o : OpId) → SourceConflict h a o → IsDue h v a o
+  conflict-due a o conflict =
+      let wrote = conflict.0.1 in
+      let r : OpId = conflict.1.0 in
+      let source = conflict.1.2 in
+      let reads = source.0 in
+      let variable : reads.0 ≡ wrote.0 = (same_written h o reads.0 reads.1 wrote.0 wrote.2 reads.2 wrote.4).0 in (
+        r,
+        inr (
+          source,
           record {
-            there = is_op;
-            ready = λ a first.
-                let reached : a.index < count rows o a.session = ((each o is_op).each a.session a.index).1 (a.index, omega arith, first-part o a is_op first) in
-                ⊎_elim
-                (λ (same : a.session ≡ s).
-                let here : a.index < count rows o s = subst (λ (t : ℕ). a.index < count rows o t) same reached in
-                let other : a.index ≢ placed list s = λ index. not_itself o (subst (λ (b : OpId). ComesFirst h b o) (same_op a o same index) first) in
-                subst (λ (t : ℕ). a.index < placed list t) (sym same) (omega arith))
-                (λ (apart : a.session ≢ s). let ready = can.ready a.session apart in omega arith)
-                (cases_eq a.session s);
-          }
+            x = wrote.0;
+            u = wrote.1;
+            y = reads.1;
+            writes = wrote.3;
+            reads = subst (λ (x : ℕ). Reads h r x reads.1) variable reads.3;
+            counted = counts-before h v order r a (read-of_history h r reads.0 reads.1 reads.3) conflict.1.1;
+          },
+        ),
+      )
 
-      -- and the other way round, where the list is within the limits
-      pub stand-can : (list : List ℕ) (s : ℕ) → placed list s ≤ get_or limits s 0 → CanStand h list s → CanGoOn rows limits list s
-      stand-can list s within stand =
-          let o = next_of list s in
-          let operations = shape.one_each.operations s in
-          let is_op = stand.there in
-          let row = each o is_op in
-          let inside = session-of_history h o is_op in
-          record {
-            there = omega arith;
-            below = ⊎_elim
-                (λ (last : placed list s ≡ get_or limits s 0).
-                let later : get_or limits s 0 + 1 < count rows (op s (get_or limits s 0)) s = (limit s inside).first (omega arith) in
-                let here : placed list s + 1 < count rows o s = subst (λ (n : ℕ). n + 1 < count rows (op s n) s) (sym last) later in
-                let part = (row.each s (placed list s + 1)).0 here in
-                let up_to = part.1 in
-                let apart : op s part.0 ≢ o = λ same. let index = ap (λ (a : OpId). a.index) same in omega arith in
-                let ready = stand.ready (op s part.0) (part-first o (op s part.0) is_op apart part.2) in
-                absurd (omega arith))
-                (λ (below : placed list s < get_or limits s 0). below)
-                (eq-or-lt_of_le within);
-            ready = λ t other. ⊎_elim
-                (λ (missing : placed list t < count rows o t).
-                let part = (row.each t (placed list t)).0 missing in
-                let up_to = part.1 in
-                let apart : op t part.0 ≢ o = λ same. other (ap (λ (a : OpId). a.session) same) in
-                let ready = stand.ready (op t part.0) (part-first o (op t part.0) is_op apart part.2) in
-                absurd (omega arith))
-                (λ (up_to : count rows o t ≤ placed list t). up_to)
-                (cases_lt (placed list t) (count rows o t));
-          }
+  module _ (waits : Counts) (alike : AreAlike waits h.1) (are : AreWaitsFor (IsDue h v) waits) where
+    -- a cycle of operations that wait for one another is one of what has to stand before what
+    pub cycle-first : (ops : List OpId) → IsWaitingCycle waits ops → (a : OpId) × Leads (ComesFirst h) a a
+    cycle-first ops cycle =
+        let leads = cycle-leads waits ops cycle in (
+          leads.0,
+          leads-wider (IsWaitEdge waits) (ComesFirst h) (λ a b. ⊎_elim
+              (λ (before : Precedes a b × IsListed waits b).
+              let same = alike.operations b.session in
+              let listed = before.1 in
+              inl (leads-edge (IsSourceEdge h) a b (inl (before.0, omega arith))))
+              (λ (awaited : IsAwaited waits b a). due-first a b (are.last a b awaited.0) awaited.1))
+              leads.0 leads.0 leads.1,
+        )
 
-    module _ (rows : Counts) (shape : AreVectorsOf h rows) (each : (o : OpId) → IsOp h o → IsRow h v (length h.1) o (list_of rows o))
-        (list : List ℕ) (over : IsWalkOver rows list) where
-      -- so is its first part
-      part-within : (k s : ℕ) → placed (take k list) s ≤ get_or over.limits s 0
-      part-within k s =
-          let less = sum_by-take-le (λ t. cond (t == s) 1 0) list k in
-          let whole = over.within s in
+    module _ (list : List ℕ) (sorted : IsTopologicalOrder waits list) where
+      abbrev IsPlaced : ℕ → OpId → Type 0
+      IsPlaced k a = a.index < placed (take k list) a.session
+
+      -- what is due before an operation that can follow is placed
+      due-placed : (k s : ℕ) → CanFollow waits (take k list) s → (a : OpId) → IsDue h v a (next_of (take k list) s) → a ≢ next_of (take k list) s → IsPlaced k a
+      due-placed k s can a due apart = can.ready a (are.each a (next_of (take k list) s) due, apart)
+
+      -- so is what an edge of the order puts before it
+      edge-placed : (k s : ℕ) → CanFollow waits (take k list) s → (a : OpId) → IsSourceEdge h a (next_of (take k list) s) → IsPlaced k a
+      edge-placed k s can a edge = ⊎_elim
+          (λ (before : Precedes a (next_of (take k list) s) × IsOp h (next_of (take k list) s)).
+          subst (λ (t : ℕ). a.index < placed (take k list) t) (sym before.0.0) before.0.1)
+          (λ (source : IsSource h a (next_of (take k list) s)).
+          let reads = source.0 in
+          due-placed k s can a (source-due a (next_of (take k list) s) source)
+          (write-or_read h a (next_of (take k list) s) reads.0 reads.1 reads.0 reads.1 reads.2 reads.3))
+          edge
+
+      -- what has an edge to something placed is placed
+      placed-back : (k : ℕ) → k ≤ length list → (a b : OpId) → IsSourceEdge h a b → IsPlaced k b → IsPlaced k a
+      placed-back k inside a b edge is_placed =
+          let found = front-places list k b.session b.index inside is_placed in
+          let j : ℕ = found.0 in
+          let earlier = found.1 in
+          let is_next : b ≡ next_of (take j list) b.session = same_op b (next_of (take j list) b.session) refl (sym found.3) in
+          let there = edge-placed j b.session (sorted.can j b.session found.2) a (subst (λ (o : OpId). IsSourceEdge h a o) is_next edge) in
+          let more = placed-up list j k a.session (omega arith) in
           omega arith
 
-      -- a walk over the rows goes by the rule
-      pub walk-by_rule : GoesByRule h list
-      walk-by_rule = record {
-        can = λ k s here. can-stand rows shape each over.limits over.are_limits (take k list) s (over.walk.walk.each k s (omega arith) here).can;
-        least = λ k s t here below stand. (over.walk.walk.each k s (omega arith) here).least t below
-            (stand-can rows shape each over.limits over.are_limits (take k list) t (part-within k t) stand);
+      -- all that has to stand before an operation that can follow is placed
+      first-placed : (k s : ℕ) → k ≤ length list → CanFollow waits (take k list) s → (a : OpId) → ComesFirst h a (next_of (take k list) s) → IsPlaced k a
+      first-placed k s inside can a first = ⊎_elim
+          (λ (before : SourceOrder h a (next_of (take k list) s)).
+          let last = last-edge (IsSourceEdge h) a (next_of (take k list) s) before in
+          let p : OpId = last.0 in
+          let there = edge-placed k s can p last.2 in
+          ⊎_elim
+          (λ (same : a ≡ p). subst (λ (o : OpId). IsPlaced k o) (sym same) there)
+          (λ (leads : SourceOrder h a p). leads-back (IsSourceEdge h) (IsPlaced k) (placed-back k inside) a p leads there)
+          last.1)
+          (λ (conflict : SourceConflict h a (next_of (take k list) s)).
+          due-placed k s can a (conflict-due a (next_of (take k list) s) conflict) conflict.0.0)
+          first
+
+      follow-stand : (k s : ℕ) → k ≤ length list → CanFollow waits (take k list) s → CanStand h (take k list) s
+      follow-stand k s inside can = record {
+        there = let same = alike.operations s in let there = can.there in omega arith;
+        ready = λ a first. first-placed k s inside can a first;
       }
 
-      limit-most : (s : ℕ) → get_or over.limits s 0 ≤ length (session h s)
-      limit-most s = ⊎_elim
-          (λ (below : s < length h.1).
-          let operations = shape.one_each.operations s in
-          let within = (limit rows shape each over.limits over.are_limits s below).within in
-          omega arith)
-          (λ (past : length h.1 ≤ s).
-          let size = over.are_limits.size in
-          let sessions = shape.one_each.sessions in
-          let none = get_or_past over.limits s 0 (omega arith) in
-          omega arith)
-          (cases_lt s (length h.1))
+      -- and the other way round
+      stand-follow : (part : List ℕ) (s : ℕ) → CanStand h part s → CanFollow waits part s
+      stand-follow part s stand = record {
+        there = let same = alike.operations s in let there = stand.there in omega arith;
+        ready = λ a waits_for.
+            let o : OpId = next_of part s in
+            let counted = waits_for.0 in
+            let c : OpId = op a.session (count waits o a.session - 1) in
+            let due = are.last c o (let some : count waits o a.session ≡ count waits o a.session - 1 + 1 = omega arith in some) in
+            ⊎_elim
+            (λ (same : c ≡ o).
+            let session : a.session ≡ s = ap (λ (b : OpId). b.session) same in
+            let index : count waits o a.session - 1 ≡ placed part s = ap (λ (b : OpId). b.index) same in
+            let other : a.index ≢ placed part s = λ equal. waits_for.1 (same_op a o session equal) in
+            subst (λ (t : ℕ). a.index < placed part t) (sym session) (omega arith))
+            (λ (apart : c ≢ o). let ready = stand.ready c (due-first c o due apart) in omega arith)
+            (cases-op c o);
+      }
 
-      -- a session with an operation that a list doesn't place, where the list doesn't place each
-      first_missing : (n : ℕ) → ((s : ℕ) → s < n → times s list ≡ length (session h s)) ⊎ ((s : ℕ) × (s < n) × (times s list < length (session h s)))
-      first_missing zero = inl (λ s below. absurd (omega arith))
-      first_missing (suc n) = ⊎_elim
-          (λ (all : (s : ℕ) → s < n → times s list ≡ length (session h s)). ⊎_elim
-          (λ (less : times n list < length (session h n)). inr (n, omega arith, less))
-          (λ (enough : length (session h n) ≤ times n list). inl (λ s below. ⊎_elim
-          (λ (last : s ≡ n).
-          let within = over.within n in
-          let here : times n list ≡ length (session h n) = let most = limit-most n in omega arith in
-          subst (λ (t : ℕ). times t list ≡ length (session h t)) (sym last) here)
-          (λ (apart : s ≢ n). all s (omega arith))
-          (cases_eq s n)))
-          (cases_lt (times n list) (length (session h n))))
-          (λ (some : (s : ℕ) × (s < n) × (times s list < length (session h s))). let below = some.1 in inr (some.0, omega arith, some.2))
-          (first_missing n)
-
-      -- a walk that doesn't place all leaves an operation of some session
-      pub walk-open : ¬ ((s : ℕ) → times s list ≡ length (session h s)) → (s : ℕ) × (times s list < length (session h s))
-      walk-open not_all = ⊎_elim
-          (λ (all : (s : ℕ) → s < length h.1 → times s list ≡ length (session h s)). absurd (not_all (λ s. ⊎_elim
-          (λ (below : s < length h.1). all s below)
-          (λ (past : length h.1 ≤ s).
-          let size = over.are_limits.size in
-          let sessions = shape.one_each.sessions in
-          let none = get_or_past over.limits s 0 (omega arith) in
-          let within = over.within s in
-          let no_session = ap (λ (es : List (MemoryCall × Option RegisterRet)). length es) (get_or_past h.1 s [] past) in
-          omega arith)
-          (cases_lt s (length h.1)))))
-          (λ (some : (s : ℕ) × (s < length h.1) × (times s list < length (session h s))). (some.0, some.2))
-          (first_missing (length h.1))
+      -- the order goes by the rule
+      pub sorted-by_rule : GoesByRule h list
+      sorted-by_rule = record {
+        can = λ k s at. let inside = slice_get_within list k s at in follow-stand k s (omega arith) (sorted.can k s at);
+        least = λ k s t at below stand. sorted.least k s t at below (stand-follow (take k list) t stand);
+      }

@@ -1,5 +1,5 @@
-pub mod SourcedReads
-pub mod Raised
 pub mod ByRule
 pub mod Cyclic
 pub mod Explained
+pub mod ConflictCertificates
+pub mod FirstOperations

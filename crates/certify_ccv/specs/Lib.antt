@@ -1,2 +1,1 @@
 pub mod ByConflicts
-pub mod Steps

@@ -1,21 +1,20 @@
 //! Certificates of memory histories by the writes that their reads read from, and the conflicts of the other writes with
 //! these.
 
-ghost use Rattle.std.specs.Prelude.{◌≡◌, ◌⊎◌, ℕ, List, length, IfNone, IfOk, IfSome};
+ghost use Rattle.std.specs.Prelude.{◌≡◌, ◌⊎◌, IfNone, IfOk, IfSome};
 ghost use Rattle.history.specs.declared.op_id.OpId.{OpId as Operation};
-ghost use Rattle.history.specs.History.{session};
 ghost use Rattle.causal_order.specs.Relations.{Leads};
+ghost use Rattle.std.specs.Prelude.{IsSome};
+ghost use Rattle.causal_order.specs.Memory.{memory_answer};
+ghost use Rattle.causal_order.specs.OverwrittenReads.{HasOverwrittenStart};
+ghost use Rattle.causal_order.specs.Relations.{CF, CO};
+ghost use Rattle.cert_check.specs.Certificates.{IsExplainedThroughout};
 ghost use Rattle.causal_order.specs.SourceOrder.{CountsSourceOrder, LacksSource};
-ghost use Rattle.causal_order.specs.Vectors.{AreVectorsOf};
 ghost use Rattle.cert_check.specs.Certificates.{criterion_of, HasShapeOf};
-ghost use Rattle.cert_check.specs.Schedules.{times};
 ghost use Rattle.certify_ccv.specs.ByConflicts.{ComesFirst, IsByConflicts};
-ghost use Rattle.certify_ccv.specs.Steps.Rows.{IsWalkOver};
 
-use crate::limits::limits_of;
-use crate::rows::rows_of;
-use causal_order::{Vectors, Walk, memory_order};
-use cert_check::{Arbitration, Certificate, Criterion, names_all};
+use causal_order::{OrderOrCycle, Vectors, memory_order, topological_sort, waits_with_conflicts};
+use cert_check::{Arbitration, Certificate, Criterion};
 use history::History;
 use objects::Memory;
 use std::alloc::{AllocError, Global};
@@ -25,15 +24,20 @@ use std::alloc::{AllocError, Global};
 /// write that is before a read comes before the read's source, if that is another write of its variable.
 ///
 /// The source of a known read of a value that is not the initial one is the first write of that value. `None` where a
-/// read has no source, or where that order and these conflicts are cyclic. Whether the certificate explains the known
-/// returns is for the checker of certificates to say. Fails for want of memory alone. O(n k log n) for n operations of k
-/// sessions.
+/// read has no source, or where that order and these conflicts are cyclic. The certificate explains all known returns
+/// where none of them is an overwritten initial value; else that is for the checker of certificates to say. So on distinct
+/// values, where no bad pattern against causal convergence is present, there is one and it shows the criterion. Fails for
+/// want of memory alone. O(n k log n) for n operations of k sessions.
 pub fn make_memory(alloc: Global, h: &History<Memory>) -> Result<Option<Certificate>, AllocError>
     ensures criterion { IfOk result (λ made. IfSome made (λ c. criterion_of c ≡ Criterion.Ccv)) }
     ensures shape { IfOk result (λ made. IfSome made (HasShapeOf h.now)) }
     ensures exact { IfOk result (λ made. IfSome made (IsByConflicts h.now)) }
     ensures none { IfOk result (λ made. IfNone made (LacksSource h.now ⊎ ((a : Operation) × Leads (ComesFirst h.now) a a))) }
+    ensures made { ¬ LacksSource h.now → ((a : Operation) → ¬ Leads (λ b c. CO h.now b c ⊎ CF h.now b c) a a)
+        → IfOk result (λ made. IsSome made) }
+    ensures explained { ¬ HasOverwrittenStart h.now → IfOk result (λ made. IfSome made (IsExplainedThroughout memory_answer h.now)) }
 {
+    h.value_is_history();
     let Some(vectors) = memory_order(alloc, h)? else {
         return Ok(None);
     };
@@ -55,30 +59,9 @@ pub fn make_by_order(
     ensures exact { IfOk result (λ made. IfSome made (IsByConflicts h.now)) }
     ensures none { IfOk result (λ made. IfNone made ((a : Operation) × Leads (ComesFirst h.now) a a)) }
 {
-    let rows = rows_of(alloc, h, &vectors)?;
-    let Some(arbitration) = arbitration_of(alloc, h, &rows)? else {
-        return Ok(None);
-    };
-    Ok(Some(Certificate::Ccv(vectors, arbitration)))
-}
-
-/// A list of all operations by the topological rule, or `None` where some can't be placed.
-fn arbitration_of(
-    alloc: Global,
-    h: &History<Memory>,
-    rows: &Vectors,
-) -> Result<Option<Arbitration>, AllocError>
-    requires rows { AreVectorsOf h.now rows.now }
-    ensures whole { IfOk result (λ made. IfSome made (λ list. (s : ℕ) → times s list ≡ length (session h.now s))) }
-    ensures exact { IfOk result (λ made. IfSome made (IsWalkOver rows.now)) }
-    ensures none { IfOk result (λ made. IfNone made ((list : List ℕ) × IsWalkOver rows.now list × ¬ ((s : ℕ) → times s list ≡ length (session h.now s)))) }
-{
-    let limits = limits_of(alloc, h, rows)?;
-    let mut walk = Walk::new(alloc);
-    walk.run_to(rows, &limits)?;
-    if !names_all(h, walk.schedule()) {
-        return Ok(None);
+    let waits = waits_with_conflicts(alloc, h, &vectors)?;
+    match topological_sort(alloc, &waits)? {
+        OrderOrCycle::Order(list) => { Ok(Some(Certificate::Ccv(vectors, Arbitration::of(list)))) }
+        OrderOrCycle::Cycle(_) => Ok(None),
     }
-    let list = Vec::from_slice(alloc, walk.schedule())?;
-    Ok(Some(Arbitration::of(list)))
 }

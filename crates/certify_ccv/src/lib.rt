@@ -4,9 +4,6 @@
 mod by_conflicts;
 mod by_program_order;
 pub mod laws;
-mod limits;
-mod rows;
-mod sourced_reads;
 
 pub use by_conflicts::{make_by_order, make_memory};
 pub use by_program_order::make;

@@ -28,14 +28,16 @@ use Rattle.certify_cm.specs.ByTurns.{IsByTurns}
 use Rattle.certify_cm.specs.Turns.{AreTurns}
 use Rattle.certify_cm.proofs.TurnPieces.{happened-stands, stands-happened, causal-stands, turns-schedule}
 
-module _ (h : MemoryHistory) (fits : Fits h) (v : Counts) (order : CountsSourceOrder h v) (distinct : IsDifferentiated h) (o : OpId) (is_op : IsOp h o)
-    (now : Counts) (happened : IsHBVectors h o now) (acyclic : (a : OpId) → ¬ HB h o a a)
+module _ (h : MemoryHistory) (fits : Fits h) (v : Counts) (order : CountsSourceOrder h v) (distinct : IsDifferentiated h)
+    (o : OpId) (is_op : IsOp h o) (now : Counts) (happened : IsHBVectors h o now) (acyclic : (a : OpId) → ¬ HB h o a a)
     (schedule : List ℕ) (turns : AreTurns now o.session (o.index + 1) schedule) where
-  module _ (k : ℕ) (r : OpId) (x u : ℕ) (stands : StandsAt (named schedule) k r) (inside : IsTrue (program_past o r)) (reads : Reads h r x u) where
+  module _ (k : ℕ) (r : OpId) (x u : ℕ) (stands : StandsAt (named schedule) k r) (inside : IsTrue (program_past o r))
+      (reads : Reads h r x u) where
     -- what stands before a read that is the operation or before it in its session is before it in the relation
     before-read : (i : ℕ) (b : OpId) → i < k → StandsAt (named schedule) i b → HB h o b r
     before-read i b below at =
-        stands-happened h v order distinct o is_op now happened acyclic schedule turns k b r stands (program_past-parts o r inside).0 (i, below, at)
+        stands-happened h v order distinct o is_op now happened acyclic schedule turns k b r stands
+        (program_past-parts o r inside).0 (i, below, at)
 
     module _ (w : OpId) (from : ReadsFrom h w r) where
       wrote : Writes h w x u
@@ -44,10 +46,12 @@ module _ (h : MemoryHistory) (fits : Fits h) (v : Counts) (order : CountsSourceO
           subst₂ (λ (y t : ℕ). Writes h w y t) (sym same.0) (sym same.1) from.2
 
       source-stands : StandsBefore (named schedule) k w
-      source-stands = causal-stands h v order distinct o is_op now happened acyclic schedule turns k w r stands (leads-edge (IsEdge h) w r (inr from))
+      source-stands = causal-stands h v order distinct o is_op now happened acyclic schedule turns k w r stands
+          (leads-edge (IsEdge h) w r (inr from))
 
       -- no other write of the variable stands between its source and the read
-      none_between : (p i : ℕ) (b : OpId) (t : ℕ) → StandsAt (named schedule) p w → i < k → StandsAt (named schedule) i b → Writes h b x t → ¬ (p < i)
+      none_between : (p i : ℕ) (b : OpId) (t : ℕ) → StandsAt (named schedule) p w → i < k → StandsAt (named schedule) i b
+          → Writes h b x t → ¬ (p < i)
       none_between p i b t at_w below at writes behind =
           let other : b ≢ w = λ same.
           let place = named_once schedule p i w at_w (subst (λ (a : OpId). StandsAt (named schedule) i a) same at) in
@@ -95,6 +99,7 @@ pub turns-explain : (h : MemoryHistory) → Fits h → IsDifferentiated h → ¬
 turns-explain h fits distinct cycle start (Cc v schedules) by = absurd by
 turns-explain h fits distinct cycle start (Cm v schedules) by = λ o is_op.
     let scheduled = by.each o is_op in
-    turns-piece h fits v by.order distinct o is_op scheduled.vectors scheduled.happened (λ a before. cycle (o, a, before)) (list_of schedules o) scheduled.turns
+    turns-piece h fits v by.order distinct o is_op scheduled.vectors scheduled.happened (λ a before. cycle (o, a, before))
+    (list_of schedules o) scheduled.turns
     (λ w r x t writes reads inside before. start (o, w, r, x, t, writes, reads, inside, before))
 turns-explain h fits distinct cycle start (Ccv v arbitration) by = absurd by

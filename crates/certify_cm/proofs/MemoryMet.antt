@@ -1,16 +1,19 @@
--- A memory history is one of causal memory where its happened-before relations show nothing bad and have vectors.
+-- A memory history of distinct values with no bad pattern against causal memory meets it.
 use Rattle.std.proofs.Common.{ℕ, zero, suc, ◌+◌, List, [], ◌∷◌, ◌++◌, refl}
 use Rattle.history.specs.declared.op_id.OpId.{OpId}
 use Rattle.history.specs.History.{IsOp}
-use Rattle.causal_order.proofs.ReadAnswers.{Fits}
+use Rattle.causal_order.proofs.HappenedBeforeExists.{HB-vectors}
+use Rattle.causal_order.proofs.ReadAnswers.{history-fits}
 use Rattle.causal_order.proofs.SourceVectors.{order-vector_ok}
+use Rattle.causal_order.proofs.VectorsExist.{vectors-exist}
+use Rattle.causal_order.proofs.WalksExist.{full-walk}
 use Rattle.causal_order.specs.HappenedBeforePatterns.{HasHBCycle, HasStartOverwrittenInHB}
-use Rattle.causal_order.specs.HappenedBeforeVectors.{IsHBVectors}
 use Rattle.causal_order.specs.Memory.{MemoryHistory, memory_answer, IsDifferentiated}
-use Rattle.causal_order.specs.Orders.{op}
-use Rattle.causal_order.specs.SourceOrder.{CountsSourceOrder}
-use Rattle.causal_order.specs.Topological.{IsFullWalk}
+use Rattle.causal_order.specs.MemoryHistories.{IsMemoryHistory}
+use Rattle.causal_order.specs.Orders.{op, program_past}
+use Rattle.causal_order.specs.SourceOrder.{CountsSourceOrder, IsCyclic, LacksSource}
 use Rattle.causal_order.specs.Vectors.{Counts, list_of}
+use Rattle.cert_check.specs.Certificates.{IsScheduledPiece}
 use Rattle.cert_check.specs.Criteria.{IsCausalMemory}
 use Rattle.cert_check.specs.Schedules.{named}
 use Rattle.cert_check.specs.Witnesses.{counted_before}
@@ -19,27 +22,38 @@ use Rattle.cert_check.proofs.Sound.{scheduled_past}
 use Rattle.certify_cm.specs.Turns.{AreTurns}
 use Rattle.certify_cm.proofs.Explained.{turns-piece}
 
-module _ (walks : (v : Counts) (limits before : List ℕ) → (whole : List ℕ) × IsFullWalk v limits before whole) where
-  -- any operations of a session can take turns
-  turns-exist : (now : Counts) (s n : ℕ) → (schedule : List ℕ) × AreTurns now s n schedule
-  turns-exist now s zero = ([], refl)
-  turns-exist now s (suc n) =
-      let earlier = turns-exist now s n in
-      let walk = walks now (list_of now (op s n)) earlier.0 in
-      (walk.0 ++ s ∷ [], (earlier.0, earlier.1, record { counted = walk.0; walk = walk.1; last = refl }))
+-- by any vectors the first operations of a session can take turns
+turns-exist : (now : Counts) (s n : ℕ) → (schedule : List ℕ) × AreTurns now s n schedule
+turns-exist now s zero = ([], refl)
+turns-exist now s (suc n) =
+    let earlier = turns-exist now s n in
+    let walk = full-walk now (list_of now (op s n)) earlier.0 in
+    (walk.0 ++ s ∷ [], (earlier.0, earlier.1, record { counted = walk.0; walk = walk.1; last = refl }))
 
-  -- the happened-before relations show that a history is one of causal memory
-  pub memory-met : (h : MemoryHistory) → Fits h → IsDifferentiated h → (v : Counts) → CountsSourceOrder h v
-      → ((o : OpId) → IsOp h o → (now : Counts) × IsHBVectors h o now) → ¬ HasHBCycle h → ¬ HasStartOverwrittenInHB h
-      → IsCausalMemory memory_answer h
-  memory-met h fits distinct v order vectors cycle start =
+module _ (h : MemoryHistory) (history : IsMemoryHistory h) (distinct : IsDifferentiated h) (v : Counts) (order : CountsSourceOrder h v)
+    (cycle : ¬ HasHBCycle h) (start : ¬ HasStartOverwrittenInHB h) where
+  -- each operation has a piece by turns of its happened-before relation
+  piece-exists : (o : OpId) → IsOp h o → (schedule : List ℕ) × IsScheduledPiece memory_answer h v schedule o (program_past o)
+  piece-exists o is_op =
+      let now = HB-vectors h v order distinct o is_op in
+      let turns = turns-exist now.0 o.session (o.index + 1) in (
+        turns.0,
+        turns-piece h (history-fits h _ history) v order distinct o is_op now.0 now.1 (λ a before. cycle (o, a, before)) turns.0 turns.1
+            (λ w r x t writes reads inside before. start (o, w, r, x, t, writes, reads, inside, before)),
+      )
+
+  pieces-meet : IsCausalMemory memory_answer h
+  pieces-meet =
       let good = order-vector_ok h v order in (
         counted_before h v,
         counted_before-causal h v good,
         λ o is_op.
-            let now = vectors o is_op in
-            let turns = turns-exist now.0 o.session (o.index + 1) in
-            let piece = turns-piece h fits v order distinct o is_op now.0 now.1 (λ a before. cycle (o, a, before)) turns.0 turns.1
-            (λ w r x t writes reads inside before. start (o, w, r, x, t, writes, reads, inside, before)) in
-            (named turns.0, scheduled_past h v good o turns.0 is_op piece.schedules, piece.explains),
+            let piece = piece-exists o is_op in
+            (named piece.0, scheduled_past h v good o piece.0 is_op piece.1.schedules, piece.1.explains),
       )
+
+-- so a history with no bad pattern against causal memory meets it
+pub memory-met : (h : MemoryHistory) → IsMemoryHistory h → IsDifferentiated h → ¬ IsCyclic h → ¬ LacksSource h
+    → ¬ HasHBCycle h → ¬ HasStartOverwrittenInHB h → IsCausalMemory memory_answer h
+memory-met h history distinct acyclic present cycle start =
+    let vectors = vectors-exist h history acyclic present in pieces-meet h history distinct vectors.0 vectors.1 cycle start

@@ -27,7 +27,8 @@ module _ (h : MemoryHistory) (v : Counts) (order : CountsSourceOrder h v) (disti
     (schedule : List ℕ) (turns : AreTurns now o.session (o.index + 1) schedule) where
   reached : (k : ℕ) (b : OpId) → StandsAt (named schedule) k b → IsReached h o now (take k schedule) b.session
   reached k b stands =
-      turns-reached h v order distinct o is_op now happened acyclic (o.index + 1) (omega arith) schedule turns k b.session (named_is schedule k b stands).0
+      turns-reached h v order distinct o is_op now happened acyclic (o.index + 1) (omega arith) schedule turns k b.session
+      (named_is schedule k b stands).0
 
   -- what stands in the schedule is in the past of the operation
   pub stands-past : (k : ℕ) (b : OpId) → StandsAt (named schedule) k b → IsPast h o b
@@ -38,15 +39,18 @@ module _ (h : MemoryHistory) (v : Counts) (order : CountsSourceOrder h v) (disti
   happened-stands k a b stands before =
       let counted = happened-counted h v order distinct o is_op now happened acyclic a b (stands-past k b stands) before in
       let all : count now b a.session ≤ placed (take k schedule) a.session =
-      subst (λ (x : OpId). count now x a.session ≤ placed (take k schedule) a.session) (next-is schedule k b stands) ((reached k b stands).counted a.session) in
+      subst (λ (x : OpId). count now x a.session ≤ placed (take k schedule) a.session) (next-is schedule k b stands)
+      ((reached k b stands).counted a.session) in
       before_from_counted schedule k a (omega arith)
 
   -- and before an operation of the session of the operation stands nothing else
-  pub stands-happened : (k : ℕ) (a r : OpId) → StandsAt (named schedule) k r → r.session ≡ o.session → StandsBefore (named schedule) k a → HB h o a r
+  pub stands-happened : (k : ℕ) (a r : OpId) → StandsAt (named schedule) k r → r.session ≡ o.session
+      → StandsBefore (named schedule) k a → HB h o a r
   stands-happened k a r stands same before =
       let within = counted_from_before schedule k a before in
       let none : placed (take k schedule) a.session ≤ count now r a.session =
-      subst (λ (x : OpId). placed (take k schedule) a.session ≤ count now x a.session) (next-is schedule k r stands) ((reached k r stands).exact same a.session) in
+      subst (λ (x : OpId). placed (take k schedule) a.session ≤ count now x a.session) (next-is schedule k r stands)
+      ((reached k r stands).exact same a.session) in
       counted-happened h v order distinct o is_op now happened acyclic a r (stands-past k r stands) (omega arith)
 
   -- what is before it in the causal order stands before it

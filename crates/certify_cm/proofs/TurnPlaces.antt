@@ -29,7 +29,8 @@ module _ (h : MemoryHistory) (v : Counts) (order : CountsSourceOrder h v) (disti
       (begun : (u : ℕ) → placed before u ≤ count now (op o.session m) u) where
     open-past : (u : ℕ) → placed turn.counted u < count now (op o.session m) u → IsPast h o (next_of turn.counted u)
     open-past u open_u =
-        counted-in_past h v order distinct o is_op now happened acyclic (next_of turn.counted u) (op o.session m) (turn-past m up_to) open_u
+        counted-in_past h v order distinct o is_op now happened acyclic (next_of turn.counted u) (op o.session m)
+        (turn-past m up_to) open_u
 
     -- before a turn just what its operation counts is placed
     pub turn-counted : (u : ℕ) → placed turn.counted u ≡ count now (op o.session m) u
@@ -39,7 +40,9 @@ module _ (h : MemoryHistory) (v : Counts) (order : CountsSourceOrder h v) (disti
         let most = walk-within now (list_of now q) before turn.counted turn.walk.walk u in
         let start = begun u in
         let least = full-walk_reaches now (list_of now q) before turn.counted turn.walk (HB h o) acyclic (HB-transitive h o)
-        (λ s open_s. listed-op h now happened.held.vectors (next_of turn.counted s) (past-of_history h o (next_of turn.counted s) is_op (open-past s open_s)))
+        (λ s open_s.
+        let b : OpId = next_of turn.counted s in
+        listed-op h now happened.held.vectors b (past-of_history h o b is_op (open-past s open_s)))
         (λ s t open_s apart missing.
         let a : OpId = next_of turn.counted t in
         let b : OpId = next_of turn.counted s in
@@ -73,7 +76,8 @@ module _ (h : MemoryHistory) (v : Counts) (order : CountsSourceOrder h v) (disti
         subst (λ (s : ℕ). placed whole s ≤ count now (op o.session n) s) (sym same) (omega arith))
         (λ (apart : u ≢ o.session).
         let places = turn-other u apart in
-        let within = happened-within h v order distinct o is_op now happened acyclic (op o.session n) (op o.session m) in_n (omega arith) u in
+        let within = happened-within h v order distinct o is_op now happened acyclic (op o.session n) (op o.session m) in_n
+        (omega arith) u in
         omega arith)
         (cases_eq u o.session)
 

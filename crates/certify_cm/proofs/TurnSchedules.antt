@@ -98,7 +98,8 @@ module _ (h : MemoryHistory) (v : Counts) (order : CountsSourceOrder h v) (disti
         (cases_lt k (length before))))
         (λ (past : length turn.counted ≤ k).
         let last : k ≡ length turn.counted = omega arith in
-        let same : o.session ≡ t = push-last turn.counted o.session t (ap (λ (n : ℕ). slice_get (turn.counted ++ o.session ∷ []) n) (sym last) ∙ there) in
+        let same : o.session ≡ t =
+        push-last turn.counted o.session t (ap (λ (n : ℕ). slice_get (turn.counted ++ o.session ∷ []) n) (sym last) ∙ there) in
         let all : take k whole ≡ turn.counted = front k (omega arith) ∙ take_all k turn.counted past in
         subst (λ (xs : List ℕ). IsReached h o now xs t) (sym all) (subst (λ (s : ℕ). IsReached h o now turn.counted s) same reached-turn))
         (cases_lt k (length turn.counted))

@@ -1,4 +1,3 @@
-pub mod FirstWord
 pub mod Usages
 pub mod Pairs
 pub mod Founded

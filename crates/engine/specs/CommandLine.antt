@@ -1,9 +1,7 @@
--- The command line that the program takes, and what is made of one. Text is bytes, and the first word is the program's
--- name. How a command line is read is `clap`'s: `fault_of` says which kinds of fault it finds, and `subcommand_of` which
--- subcommand with which options it meets.
-use Rattle.std.specs.Prelude.{◌≡◌, ◌≢◌, ◌⊎◌, ℕ, List, Option, Some, None, true, codes, if◌then◌else◌, option_and_then}
-use Rattle.std.specs.Str.{bytes_eq}
-use Rattle.clap.specs.Words.{App, IsAmong, Kinds, Row, Text, new_app, subcommand_of, with_subcommand}
+-- The command lines that the program takes, and what is said of other words. Text is bytes, and the first word is the
+-- program's name. What is wrong with other words is `clap`'s to say: `fault_of` tells which kinds of fault it finds.
+use Rattle.std.specs.Prelude.{◌≡◌, ◌≢◌, ◌⊎◌, ℕ, List, [], Some, true, codes, length, slice_get}
+use Rattle.clap.specs.Words.{App, IsAmong, Kinds, Text, new_app, with_subcommand}
 use Rattle.clap.specs.declared.error.kind.ErrorKind.{ErrorKind}
 use Rattle.clap.specs.declared.error.kind.ErrorKind.TheVariants.{DisplayHelp, OutOfMemory}
 use Rattle.engine.specs.declared.command_line.Order.{Order}
@@ -11,7 +9,20 @@ use Rattle.engine.specs.declared.command_line.Order.TheVariants.{Judge, Check}
 use Rattle.engine.specs.declared.command_line.Usage.{Usage}
 use Rattle.engine.specs.declared.command_line.Usage.TheVariants.{Fault, Help, Memory}
 
--- `causal_judge COMMAND`, where the command can't be left out
+-- the word that names an order's command
+abbrev pub command_word : Order → Text
+command_word Judge = codes "judge"
+command_word Check = codes "check"
+
+-- the command line of an order: the program's name, and the order's word
+abbrev pub IsCommandLine : Order → List Text → Type 0
+IsCommandLine order words = (length words ≡ 2) × (slice_get words 1 ≡ Some (command_word order))
+
+-- words that are no command line
+abbrev pub GivesNoOrder : List Text → Type 0
+GivesNoOrder words = (order : Order) → ¬ IsCommandLine order words
+
+-- `causal_judge COMMAND`, where the command can't be left out, as `clap` is told of it
 abbrev pub top : App
 top =
     let app = new_app (codes "causal_judge") in
@@ -27,31 +38,16 @@ check = new_app (codes "check")
 abbrev pub command_line : App
 command_line = with_subcommand (with_subcommand top judge.top) check.top
 
--- the word that names an order's command
-abbrev pub command_word : Order → Text
-command_word Judge = codes "judge"
-command_word Check = codes "check"
-
--- the order of a subcommand, from its name and its options
-abbrev pub order_of : Text × List Row → Option Order
-order_of subcommand =
-    if bytes_eq subcommand.0 (codes "judge") then Some Judge
-    else (if bytes_eq subcommand.0 (codes "check") then Some Check else None)
-
--- the order that a command line gives, where it has no fault
-abbrev pub order_in : List Text → Option Order
-order_in words = option_and_then order_of (subcommand_of command_line words)
-
 -- what is said of one fault, or in its place that memory ran out: help is no fault but a request
 abbrev pub IsUsageOf : ErrorKind → Usage → Type 0
 IsUsageOf kind (Help text) = kind ≡ DisplayHelp
 IsUsageOf kind (Fault text) = (kind ≢ DisplayHelp) × (kind ≢ OutOfMemory)
 IsUsageOf kind Memory = Unit {0}
 
--- what is said of a command line in which `clap` finds some of these kinds
+-- what is said of words that give no order, where `clap` finds some of these kinds of fault in them, or none
 abbrev pub IsUsageFor : Kinds → Usage → Type 0
 IsUsageFor kinds (Help text) = IsAmong DisplayHelp kinds
-IsUsageFor kinds (Fault text) = (kind : ErrorKind) × IsAmong kind kinds × (kind ≢ DisplayHelp)
+IsUsageFor kinds (Fault text) = (kinds ≡ []) ⊎ ((kind : ErrorKind) × IsAmong kind kinds × (kind ≢ DisplayHelp))
 IsUsageFor kinds Memory = Unit {0}
 
 -- the exit status where there is no order: 2 for a fault, and for the help 0, or 3 where it couldn't be written (4 where

@@ -1,8 +1,8 @@
 //! The command line.
-ghost use Rattle.std.specs.Prelude.{◌≡◌, ℕ, List, [], ◌∷◌, IfErr, IfOk, MatchResult, Some, codes, false, map, slice_get};
-ghost use Rattle.clap.specs.Words.{HasKind, app_of, fault_of, kind_of, subcommand_of, subcommand_rows_of};
+ghost use Rattle.std.specs.Prelude.{◌≡◌, ◌≢◌, [], false, IfErr, IfOk, MatchOption, MatchResult, map};
+ghost use Rattle.clap.specs.Words.{HasKind, app_of, fault_of, kind_of};
 ghost use Rattle.clap.specs.declared.builder.Command.TheViews.{out-Command};
-ghost use Rattle.engine.specs.CommandLine.{IsUsageFor, IsUsageOf, check, command_line, command_word, judge, order_in};
+ghost use Rattle.engine.specs.CommandLine.{GivesNoOrder, IsCommandLine, IsUsageFor, IsUsageOf, check, command_line, command_word, judge};
 
 use clap::error::ErrorKind;
 use clap::{ArgMatches, Command, Error};
@@ -29,50 +29,67 @@ pub enum Usage {
     Memory,
 }
 
-/// The order that a command line gives. The first word is the program's name.
+/// The order that a command line gives: the program's name, and the one word `judge` or `check`.
 ///
-/// Where `clap` finds no fault in the words there is an order, or memory ran out. `Help` answers a request for help, and
-/// `Fault` any other words: an unknown command, option or further word, or no command. `Memory` may come at any words.
+/// Any other words give none. `Help` answers those in which `clap` finds a request for help, and `Fault` all others: an
+/// unknown command, option or further word, or no command. `Memory` comes in the place of either where memory ran out.
 pub fn command_of<S: AsStr>(alloc: Global, words: &[S]) -> Result<Order, Usage>
-    ensures order { IfOk result (λ order. order_in (map S.text words.now) ≡ Some order) }
-    ensures accepted { IfOk result (λ _. fault_of command_line (map S.text words.now) ≡ []) }
-
-    // The word behind the program's name is the order's command.
-    ensures named { IfOk result (λ order. slice_get (map S.text words.now) 1 ≡ Some (command_word order)) }
+    ensures order { MatchResult result (λ order. IsCommandLine order (map S.text words.now))
+        (λ _. GivesNoOrder (map S.text words.now)) }
     ensures usage { IfErr result (IsUsageFor (fault_of command_line (map S.text words.now))) }
-
-    // In plain words, of the command lines `causal_judge judge` and `causal_judge check`.
-    ensures judge { (program : List ℕ) → map S.text words.now ≡ program ∷ codes "judge" ∷ []
-        → MatchResult result (λ order. order ≡ Order.Judge) (λ usage. usage ≡ Usage.Memory) }
-    ensures check { (program : List ℕ) → map S.text words.now ≡ program ∷ codes "check" ∷ []
-        → MatchResult result (λ order. order ≡ Order.Check) (λ usage. usage ≡ Usage.Memory) }
 {
-    let matches = match matches_of(alloc, words) {
-        Ok(matches) => matches,
-        Err(error) => return Err(usage_of(alloc, &error)),
-    };
-    match matches.subcommand_name() {
-        Some(word) => Ok(order_of_word(word)),
-        None => unreachable!(),
+    match order_in(words) {
+        Some(order) => Ok(order),
+        None => Err(usage_of(alloc, words)),
+    }
+}
+
+// The order of a command line, where it is one.
+fn order_in<S: AsStr>(words: &[S]) -> Option<Order>
+    ensures { MatchOption result (GivesNoOrder (map S.text words.now)) (λ order. IsCommandLine order (map S.text words.now)) }
+{
+    match words {
+        [_, word] => order_of_word(word.as_str()),
+        _ => None,
     }
 }
 
 // The order whose command a word names.
-fn order_of_word(word: &str) -> Order
-    requires { (order : Order) × (word.now ≡ command_word order) }
-    ensures { word.now ≡ command_word result }
+fn order_of_word(word: &str) -> Option<Order>
+    ensures { MatchOption result ((order : Order) → word.now ≢ command_word order) (λ order. word.now ≡ command_word order) }
 {
     match word {
-        "judge" => Order::Judge,
-        "check" => Order::Check,
-        _ => unreachable!(),
+        "judge" => Some(Order::Judge),
+        "check" => Some(Order::Check),
+        _ => None,
+    }
+}
+
+// What is said of words that give no order. A few that `clap` would take are none either, as `judge --`.
+fn usage_of<S: AsStr>(alloc: Global, words: &[S]) -> Usage
+    ensures { IsUsageFor (fault_of command_line (map S.text words.now)) result }
+{
+    match matches_of(alloc, words) {
+        Ok(_) => fault_with(alloc, UNEXPECTED_WORDS),
+        Err(error) => usage_by(alloc, &error),
+    }
+}
+
+const UNEXPECTED_WORDS: &str =
+    "error: unexpected words\n\nUsage: causal_judge <COMMAND>\n\nFor more information, try '--help'.\n";
+
+/// The fault that this text tells of, or `Memory`.
+pub fn fault_with(alloc: Global, text: &str) -> Usage
+    ensures { IsUsageFor [] result }
+{
+    match String::from_str(alloc, text) {
+        Ok(text) => Usage::Fault(text),
+        Err(_) => Usage::Memory,
     }
 }
 
 // What `clap` makes of the words.
 fn matches_of<'a, S: AsStr>(alloc: Global, words: &'a [S]) -> Result<ArgMatches<'a>, Error>
-    ensures matched { IfOk result (λ matches. subcommand_rows_of matches
-        ≡ subcommand_of command_line (map S.text words.entry.now)) }
     ensures accepted { IfOk result (λ _. fault_of command_line (map S.text words.entry.now) ≡ []) }
     ensures refused { IfErr result (HasKind (fault_of command_line (map S.text words.entry.now))) }
 {
@@ -106,8 +123,8 @@ fn check_command<'a>(alloc: Global) -> Command<'a>
     Command::new(alloc, "check").about("Reads a history and a certificate of it, and checks it")
 }
 
-// What the program says where there are no matches.
-fn usage_of(alloc: Global, error: &Error) -> Usage
+// What the program says of an error of `clap`.
+fn usage_by(alloc: Global, error: &Error) -> Usage
     ensures { IsUsageOf (kind_of error.now) result }
 {
     match (error.kind(), error.to_string(alloc)) {

@@ -2,18 +2,17 @@
 
 ghost use Rattle.std.specs.Prelude.{◌≡◌, IfErr, IfNone, IfOk, IfSome, option_copied};
 ghost use Rattle.bad_patterns.specs.Kinds.{IsPresent};
-ghost use Rattle.bad_patterns.specs.Patterns.{IsBadPattern, IsTrueNo};
+ghost use Rattle.bad_patterns.specs.Patterns.{IsTrueNo};
 ghost use Rattle.causal_order.specs.SourceOrder.{CountsSourceOrder};
 ghost use Rattle.cert_check.specs.Certificates.{HasShapeOf, criterion_of};
 ghost use Rattle.cert_check.specs.Criteria.{Meets};
-ghost use Rattle.history.specs.declared.op_id.OpId.{OpId};
 ghost use Rattle.engine.specs.Report.{IsFounded, IsTrueOf, IsUnexplainedOf, NamesUnexplained, OnlyWithoutThinAir, answer_for};
 
 use crate::checking::answer_of_pieces;
 use crate::failure::RunError;
 use crate::report::{Answer, Report};
 use bad_patterns::laws::bad_patterns_exclude_criteria;
-use bad_patterns::{Kind, Pattern, find_in_order, find_without_order};
+use bad_patterns::{Kind, find};
 use causal_order::{Vectors, memory_order};
 use cert_check::{Certificate, Criterion};
 use object_trait::SeqObject;
@@ -89,7 +88,7 @@ fn answer_of_memory(
     ensures unexplained { IfOk result (NamesUnexplained (AnyHistory.Memory history) criterion) }
     ensures error { IfErr result (λ e. e ≡ RunError.Memory) }
 {
-    if let Some(kind) = excluding_kind(alloc, &history, order, criterion)? {
+    if let Some(kind) = excluding_kind(alloc, &history, criterion)? {
         return Ok(Answer::No(kind));
     }
     let made = certificate_by_causal_order(alloc, &history, order, criterion)?;
@@ -113,35 +112,16 @@ fn answer_of_object<O: SeqObject>(
 fn excluding_kind(
     alloc: Global,
     history: &History<Memory>,
-    order: Option<&Vectors>,
     criterion: Criterion,
 ) -> Result<Option<Kind>, AllocError>
-    requires order { IfSome (option_copied order) (CountsSourceOrder history.now) }
     ensures found { IfOk result (λ found. IfSome found (IsTrueNo history.now criterion)) }
     ensures none { IfOk result (λ found. IfNone found (¬ IsPresent history.now Kind.ThinAirRead)) }
 {
     bad_patterns_exclude_criteria();
-    let Some(pattern) = pattern_against(alloc, history, order, criterion)? else {
+    let Some(pattern) = find(alloc, history, criterion)? else {
         return Ok(None);
     };
     Ok(Some(pattern.kind()))
-}
-
-// A pattern against the criterion, where the search finds one.
-fn pattern_against(
-    alloc: Global,
-    history: &History<Memory>,
-    order: Option<&Vectors>,
-    criterion: Criterion,
-) -> Result<Option<Pattern>, AllocError>
-    requires order { IfSome (option_copied order) (CountsSourceOrder history.now) }
-    ensures found { IfOk result (λ found. IfSome found (IsBadPattern history.now criterion)) }
-    ensures none { IfOk result (λ found. IfNone found ((r : OpId) → ¬ IsBadPattern history.now criterion (Pattern.ThinAirRead r))) }
-{
-    match order {
-        Some(vectors) => find_in_order(alloc, history, criterion, vectors),
-        None => find_without_order(alloc, history, criterion),
-    }
 }
 
 // The certificate of a history of a memory by its causal order, where it has one and a certificate is made by it.

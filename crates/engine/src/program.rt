@@ -3,10 +3,9 @@ ghost use Rattle.std.specs.Prelude.{◌≡◌, ◌≤◌, ◌⊎◌};
 ghost use Rattle.engine.specs.Failure.{status_for};
 ghost use Rattle.engine.specs.CommandLine.{IsUsageStatus};
 
-use crate::command_line::{Order, Usage, command_of};
+use crate::command_line::{Order, Usage, command_of, fault_with};
 use crate::failure::{RunError, fault_line, status_of};
 use crate::running::run;
-use std::alloc::Global;
 use std::rt::Env;
 use std::{env, io};
 
@@ -51,19 +50,13 @@ fn words_of_process<P: Env + AllocGlobal>(rt: &P) -> Result<Vec<String>, Usage> 
     match env::args(rt) {
         Ok(words) => words.collect(rt.alloc()).map_err(|_| Usage::Memory),
         Err(error) if error.kind() == io::ErrorKind::OutOfMemory => Err(Usage::Memory),
-        Err(_) => Err(bad_words(rt.alloc())),
+        Err(_) => Err(fault_with(rt.alloc(), BAD_WORDS)),
     }
 }
 
 // The fault of words that are no text.
-fn bad_words(alloc: Global) -> Usage {
-    let text =
-        "error: invalid UTF-8 was detected in one or more arguments\n\nFor more information, try '--help'.\n";
-    match String::from_str(alloc, text) {
-        Ok(text) => Usage::Fault(text),
-        Err(_) => Usage::Memory,
-    }
-}
+const BAD_WORDS: &str =
+    "error: invalid UTF-8 was detected in one or more arguments\n\nFor more information, try '--help'.\n";
 
 // Writes the line of a run that failed, and returns the exit status. Where there is no memory for the line, that is
 // what the process ends with.

@@ -44,6 +44,13 @@ impl<O: SeqObject> History<O> {
         &self.start
     }
 
+    /// What the type keeps: the value is a history. The method does nothing: what it ensures is the law.
+    pub fn value_is_history(&self)
+        ensures { IsHistory O.is_start O.matches self.now }
+    {
+        let _sessions = &self.sessions;
+    }
+
     /// How many sessions there are: at most 16.
     pub fn sessions(&self) -> usize
         ensures count { result ≡ length self.now.1 }

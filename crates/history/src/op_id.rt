@@ -1,3 +1,5 @@
+ghost use Rattle.std.specs.Prelude.{◌≡◌, ◌==◌, ◌&&◌, ◌+◌, MatchOption, nat_le};
+
 /// Names an operation of a history: the operation at `index` of `session`, both counted from 0.
 ///
 /// Operations are ordered by session, then by index.
@@ -5,4 +7,37 @@
 pub struct OpId {
     pub session: u64,
     pub index: u64,
+}
+
+impl OpId {
+    /// The operation at an index of a session.
+    pub fn at(session: usize, index: usize) -> OpId
+        ensures { result ≡ record { session = session; index = index } }
+    {
+        OpId {
+            session: session as u64,
+            index: index as u64,
+        }
+    }
+
+    /// The operation before it in its session, where it is not the first.
+    pub fn before(self) -> Option<OpId>
+        ensures { MatchOption result (self.index ≡ 0)
+            (λ before. (before.session ≡ self.session) × (before.index + 1 ≡ self.index)) }
+    {
+        if self.index == 0 {
+            return None;
+        }
+        Some(OpId {
+            session: self.session,
+            index: self.index - 1,
+        })
+    }
+
+    /// Whether it is the other operation, or before it in program order.
+    pub fn is_in_program_past_of(self, other: OpId) -> bool
+        ensures { result ≡ ((self.session == other.session) && nat_le self.index other.index) }
+    {
+        self.session == other.session && self.index <= other.index
+    }
 }

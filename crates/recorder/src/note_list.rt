@@ -22,7 +22,7 @@ impl<T> Model for NoteList<T> {
 
 impl<T> NoteList<T> {
     /// No notes, and no room for one.
-    pub(crate) fn new(alloc: Global) -> NoteList<T>
+    pub fn new(alloc: Global) -> NoteList<T>
         ensures { result.list ≡ [] }
     {
         NoteList {
@@ -31,14 +31,14 @@ impl<T> NoteList<T> {
     }
 
     /// How many notes there are.
-    pub(crate) fn len(&self) -> usize
+    pub fn len(&self) -> usize
         ensures { result ≡ length self.now.list }
     {
         self.notes.len()
     }
 
     /// Makes room for one more note.
-    pub(crate) fn reserve(&mut self) -> Result<(), AllocError>
+    pub fn reserve(&mut self) -> Result<(), AllocError>
         ensures list { self.new.list ≡ self.old.list }
         ensures room { IfOk result (λ _. 0 < self.new.room) }
     {
@@ -46,7 +46,7 @@ impl<T> NoteList<T> {
     }
 
     /// Puts a note behind the others.
-    pub(crate) fn push(&mut self, note: Note<T>)
+    pub fn push(&mut self, note: Note<T>)
         requires { 0 < self.old.room }
         ensures { self.new.list ≡ self.old.list ++ (note.cell, note.known) ∷ [] }
     {
@@ -54,7 +54,7 @@ impl<T> NoteList<T> {
     }
 
     /// A second note of what the note at this place knows. `blank` is a note of any cell.
-    pub(crate) fn told(&self, at: usize, blank: Note<T>) -> Note<T>
+    pub fn told(&self, at: usize, blank: Note<T>) -> Note<T>
         requires { at < length self.now.list }
         ensures { slice_get self.now.list at ≡ Some (result.cell, result.known) }
     {

@@ -72,6 +72,14 @@ impl<O: Recorded> Receipt<O> {
         self.ret
     }
 
+    /// How many operations it stands for.
+    pub fn len(&self) -> usize
+        ensures operations { result ≡ length self.now.operations }
+        ensures cells { result ≡ length self.now.cells }
+    {
+        self.notes.len()
+    }
+
     /// A note of the return cell of one of its operations. `blank` is a note of any cell.
     pub fn told(&self, at: usize, blank: Note<ReturnRecord<O>>) -> Note<ReturnRecord<O>>
         requires { at < length self.now.operations }

@@ -75,6 +75,27 @@ impl<O: Recorded> Session<O> {
         self.returns.len() >= self.lane.places()
     }
 
+    /// The lane that it writes.
+    pub fn lane(&self) -> u64
+        ensures { result ≡ self.now.lane }
+    {
+        self.index
+    }
+
+    /// How many operations have returned.
+    pub fn returned(&self) -> usize
+        ensures { result ≡ length self.now.done }
+    {
+        self.returns.len()
+    }
+
+    /// How many operations were begun.
+    pub fn called(&self) -> usize
+        ensures { result ≡ length (begun self.now.done self.now.pending) }
+    {
+        self.calls.len()
+    }
+
     /// A note of the return cell of an operation that has returned. `blank` is a note of any cell.
     pub fn told_return(&self, at: usize, blank: Note<ReturnRecord<O>>) -> Note<ReturnRecord<O>>
         requires { at < length self.now.done }

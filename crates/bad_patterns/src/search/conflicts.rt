@@ -1,112 +1,78 @@
+ghost use Rattle.std.specs.Prelude.{IfNone, IfOk};
+ghost use Rattle.bad_patterns.specs.Kinds.{Shows};
+ghost use Rattle.bad_patterns.specs.declared.kind.Kind.TheVariants.{CyclicCF};
+ghost use Rattle.causal_order.specs.Memory.{IsDifferentiated};
+ghost use Rattle.causal_order.specs.SourceOrder.{CountsSourceOrder};
+
 use crate::link::{Link, Links};
-use crate::search::cycles::cycle_of;
-use crate::search::pasts::CausalOrder;
-use crate::search::reads::{KnownRead, KnownReads};
 use crate::search::routes_back::path_between;
-use history::OpId;
+use causal_order::{CausalOrder, OrderOrCycle, Vectors, topological_sort, waits_with_conflicts};
+use history::{History, OpId};
+use objects::Memory;
 use std::alloc::{AllocError, Global};
 
-/// A write in the past of a read that reads from another write of its variable, the rival.
-#[derive(Clone, Copy)]
-pub struct Conflict {
-    pub write: OpId,
-    pub read: OpId,
-    pub rival: OpId,
-}
-
-/// The conflicts that stand for all, by rival and write: for each read and each session, that of the last write.
+/// A cycle of the causal order and of conflicts: a write that is in the past of a read of another write of its variable
+/// comes before that write, the rival.
 ///
-/// Fails for want of memory alone. O(n k log n) for n operations of k sessions.
-fn sorted_conflicts(alloc: Global, known: &KnownReads) -> Result<Vec<Conflict>, AllocError> {
-    let mut conflicts = Vec::new(alloc);
-    for read in known.reads() {
-        push_conflicts(known, read, &mut conflicts)?;
-    }
-    conflicts.sort_unstable_by_key(|conflict| (conflict.rival, conflict.write));
-    Ok(conflicts)
-}
-
-/// Puts the conflicts by a read behind those by the reads before it.
-fn push_conflicts(
-    known: &KnownReads,
-    read: &KnownRead,
-    conflicts: &mut Vec<Conflict>,
-) -> Result<(), AllocError> {
-    let Some(rival) = read.source else {
-        return Ok(());
-    };
-    for session in 0..known.order().sessions() {
-        if let Some(write) = known.last_write(read, session) {
-            if write != rival {
-                conflicts.push(Conflict {
-                    write,
-                    read: read.op,
-                    rival,
-                })?;
-            }
-        }
-    }
-    Ok(())
-}
-
-/// The conflicts with this rival, among those that are sorted. O(log n + m) for n conflicts, and m of them with this rival.
-pub fn conflicts_with(conflicts: &[Conflict], rival: OpId) -> &[Conflict] {
-    let begin = conflicts.partition_point(|conflict| conflict.rival < rival);
-    let behind = &conflicts[begin..];
-    let count = behind.partition_point(|conflict| conflict.rival == rival);
-    &behind[..count]
-}
-
-/// A conflict of a write with a rival, among those that are sorted. O(log n) for n conflicts.
-fn conflict_of(conflicts: &[Conflict], write: OpId, rival: OpId) -> Option<Conflict> {
-    let at = conflicts.partition_point(|conflict| (conflict.rival, conflict.write)
-        < (rival, write));
-    let conflict = *conflicts.get(at)?;
-    if conflict.rival == rival && conflict.write == write {
-        Some(conflict)
-    } else {
-        None
-    }
-}
-
-/// A cycle of the causal order and of conflicts.
-///
-/// Fails for want of memory alone. O(n k (k + log n)) for n operations of k sessions.
+/// The history has distinct values. There is none only where there is no such cycle. Fails for want of memory alone.
+/// O(n k log n) for n operations of k sessions.
 pub fn cycle_with_conflicts(
     alloc: Global,
-    known: &KnownReads,
-) -> Result<Option<Links>, AllocError> {
-    let conflicts = sorted_conflicts(alloc, known)?;
-    match cycle_of(alloc, known.order().sources(), &conflicts)? {
-        Some(ops) => Ok(Some(links_of(alloc, known.order(), &conflicts, &ops)?)),
+    order: &CausalOrder,
+) -> Result<Option<Links>, AllocError>
+    requires differentiated { IsDifferentiated order.now }
+    ensures { IfOk result (λ found. IfNone found (¬ Shows order.now CyclicCF)) }
+{
+    match conflicting_operations(alloc, order.memory().history(), order.vectors())? {
+        Some(ops) => Ok(Some(links_of(alloc, order, &ops)?)),
         None => Ok(None),
     }
 }
 
-/// The links from each operation to the next.
-fn links_of(
+/// Operations of a cycle of the causal order, which the vectors count, and of conflicts.
+fn conflicting_operations(
     alloc: Global,
-    order: &CausalOrder,
-    conflicts: &[Conflict],
-    ops: &[OpId],
-) -> Result<Links, AllocError> {
+    h: &History<Memory>,
+    vectors: &Vectors,
+) -> Result<Option<Vec<OpId>>, AllocError>
+    requires order { CountsSourceOrder h.now vectors.now }
+    requires differentiated { IsDifferentiated h.now }
+    ensures { IfOk result (λ found. IfNone found (¬ Shows h.now CyclicCF)) }
+{
+    let waits = waits_with_conflicts(alloc, h, vectors)?;
+    match topological_sort(alloc, &waits)? {
+        OrderOrCycle::Order(_) => Ok(None),
+        OrderOrCycle::Cycle(ops) => Ok(Some(ops)),
+    }
+}
+
+/// The links from each operation to the next.
+fn links_of(alloc: Global, order: &CausalOrder, ops: &[OpId]) -> Result<Links, AllocError> {
     let mut links = Vec::new(alloc);
     for i in 1..ops.len() {
-        links.push(link_of(alloc, order, conflicts, ops[i - 1], ops[i])?)?;
+        links.push(link_of(alloc, order, ops[i - 1], ops[i])?)?;
     }
     Ok(Links::of(links))
 }
 
 /// The link from one operation to another: their conflict, where they have one, and else an edge of the causal order.
-fn link_of(
-    alloc: Global,
-    order: &CausalOrder,
-    conflicts: &[Conflict],
-    from: OpId,
-    to: OpId,
-) -> Result<Link, AllocError> {
-    match conflict_of(conflicts, from, to) {
-        Some(conflict) => Ok(Link::Cf(path_between(alloc, order, from, conflict.read)?, to)),
+fn link_of(alloc: Global, order: &CausalOrder, from: OpId, to: OpId) -> Result<Link, AllocError> {
+    match conflicting_read(order, from, to) {
+        Some(read) => Ok(Link::Cf(path_between(alloc, order, from, read)?, to)),
         None => Ok(Link::Co(from, to)),
     }
+}
+
+/// The first read of a rival that has a write in its past with which the rival is in conflict by the read, the last such
+/// write of its session. O(n) for n reads, and O(log n) for each read of the rival.
+fn conflicting_read(order: &CausalOrder, write: OpId, rival: OpId) -> Option<OpId> {
+    for read in order.reads() {
+        if write != rival
+            && read.source == Some(rival)
+            && order.last_write(read, write.session) == Some(write)
+        {
+            return Some(read.op);
+        }
+    }
+    None
 }

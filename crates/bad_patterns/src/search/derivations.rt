@@ -1,10 +1,9 @@
 use crate::derivation::{Derivation, Line};
 use crate::derived_pairs::{MOST_LINES, Pair};
-use crate::search::pasts::CausalOrder;
 use crate::search::reasons::{Premises, Reasons, last_counted, premises_of};
 use crate::search::relations::Relation;
 use crate::search::routes_back::path_between;
-use causal_order::Raise;
+use causal_order::{CausalOrder, Raise};
 use std::alloc::{AllocError, Global};
 use std::collections::BTreeMap;
 
@@ -77,7 +76,7 @@ fn need(order: &CausalOrder, reasons: &Reasons, pair: Pair, needed: &mut Vec<boo
 #[derive(Drop)]
 struct Draft<'a> {
     alloc: Global,
-    order: &'a CausalOrder,
+    order: &'a CausalOrder<'a>,
     relation: &'a Relation,
     reasons: &'a Reasons,
     lines: Vec<Line>,
@@ -89,7 +88,7 @@ impl<'a> Draft<'a> {
     /// No lines.
     fn of(
         alloc: Global,
-        order: &'a CausalOrder,
+        order: &'a CausalOrder<'a>,
         relation: &'a Relation,
         reasons: &'a Reasons,
     ) -> Draft<'a> {

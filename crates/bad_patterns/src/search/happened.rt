@@ -1,16 +1,16 @@
 use crate::derived_pairs::Pair;
-use crate::search::reads::{KnownRead, KnownReads};
 use crate::search::relations::Relation;
+use causal_order::{CausalOrder, KnownRead};
 use history::OpId;
 
 /// A write, and a read of the initial value of its variable that the relation puts after it: the first such read of the
 /// session.
 ///
 /// O(n k log n) for n operations of k sessions.
-pub fn overwritten_start_in(known: &KnownReads, relation: &Relation) -> Option<Pair> {
-    for read in known.reads() {
+pub fn overwritten_start_in(order: &CausalOrder, relation: &Relation) -> Option<Pair> {
+    for read in order.reads() {
         if read.op.session == relation.op().session && read.source.is_none() {
-            if let Some(write) = write_before(known, relation, read) {
+            if let Some(write) = write_before(order, relation, read) {
                 return Some((write, read.op));
             }
         }
@@ -19,10 +19,13 @@ pub fn overwritten_start_in(known: &KnownReads, relation: &Relation) -> Option<P
 }
 
 /// A write of the variable of a read that the relation puts before the read.
-fn write_before(known: &KnownReads, relation: &Relation, read: &KnownRead) -> Option<OpId> {
-    for session in 0..known.order().sessions() {
-        let count = relation.count(read.op, session);
-        if let Some(write) = known.last_write_among(read, session, count) {
+fn write_before(order: &CausalOrder, relation: &Relation, read: &KnownRead) -> Option<OpId> {
+    for session in 0..order.sessions() {
+        let end = OpId {
+            session,
+            index: relation.count(read.op, session),
+        };
+        if let Some(write) = order.memory().last_write_before(read.key, end) {
             return Some(write);
         }
     }

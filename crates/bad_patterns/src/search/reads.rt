@@ -1,114 +1,44 @@
+ghost use Rattle.std.specs.Prelude.{IfNone, IfOk, IfSome, MatchOption};
+ghost use Rattle.bad_patterns.specs.Patterns.{ArePathsToOverwrittenRead, IsPathToInitialRead};
+ghost use Rattle.bad_patterns.specs.Steps.Routes.{AreWritesBefore, IsWriteBefore};
+ghost use Rattle.causal_order.specs.Memory.{IsDifferentiated};
+ghost use Rattle.causal_order.specs.OverwrittenReads.{HasOverwrittenRead, HasOverwrittenStart};
+ghost use Rattle.causal_order.specs.Steps.Indexed.{IsKnownRead};
+ghost use Rattle.history.specs.declared.op_id.OpId.{OpId as Operation};
+
 use crate::path::Path;
-use crate::search::pasts::CausalOrder;
 use crate::search::routes_back::path_between;
-use crate::search::writes_of::WritesByVariable;
-use causal_order::{Write, known_read};
-use history::{History, OpId};
-use objects::Memory;
+use causal_order::{CausalOrder, KnownRead};
+use history::OpId;
 use std::alloc::{AllocError, Global};
 
-/// A read whose return is known.
-#[derive(Clone, Copy)]
-pub struct KnownRead {
-    pub op: OpId,
-    pub key: u32,
-    /// The write that it reads from: none where it reads the initial value.
-    pub source: Option<OpId>,
-}
-
-/// The known reads of a history of which the causal order is known, and the writes in their pasts.
-#[derive(Drop)]
-pub struct KnownReads {
-    order: CausalOrder,
-    writes: WritesByVariable,
-    reads: Vec<KnownRead>,
-}
-
-impl KnownReads {
-    /// The known reads of a history, whose writes these are. O(n log n) for n operations.
-    pub fn of(
-        alloc: Global,
-        h: &History<Memory>,
-        writes: &[Write],
-        order: CausalOrder,
-    ) -> Result<KnownReads, AllocError> {
-        let mut reads = Vec::new(alloc);
-        for session in 0..h.sessions() as u64 {
-            push_reads(h, &order, session, &mut reads)?;
-        }
-        let writes = WritesByVariable::of(alloc, writes)?;
-        Ok(KnownReads {
-            order,
-            writes,
-            reads,
-        })
-    }
-
-    /// The causal order.
-    pub fn order(&self) -> &CausalOrder {
-        &self.order
-    }
-
-    /// The reads, in the order of operations.
-    pub fn reads(&self) -> &[KnownRead] {
-        self.reads.as_slice()
-    }
-
-    /// The last write of the variable of a read in a session, among those in the past of the read. O(log n) for n writes.
-    pub fn last_write(&self, read: &KnownRead, session: u64) -> Option<OpId> {
-        self.last_write_among(read, session, self.order.count(read.op, session))
-    }
-
-    /// The last write of the variable of a read among the first operations of a session, of which there are so many.
-    /// O(log n) for n writes.
-    pub fn last_write_among(&self, read: &KnownRead, session: u64, count: u64) -> Option<OpId> {
-        let end = OpId {
-            session,
-            index: count,
-        };
-        self.writes.last_before(read.key, end)
-    }
-}
-
-/// Puts the known reads of a session behind those of the sessions before it.
-fn push_reads(
-    h: &History<Memory>,
-    order: &CausalOrder,
-    session: u64,
-    reads: &mut Vec<KnownRead>,
-) -> Result<(), AllocError> {
-    for index in 0..h.len(session) as u64 {
-        let op = OpId { session, index };
-        if let Some(read) = known_read(h, op) {
-            reads.push(KnownRead {
-                op,
-                key: read.0,
-                source: order.source(op),
-            })?;
-        }
-    }
-    Ok(())
-}
-
-/// A path from a write to a read of the initial value of its variable.
+/// A path from a write to a read of the initial value of its variable: there is none exactly where values are distinct and
+/// there is no such read.
 ///
 /// Fails for want of memory alone. O(n k log n) for n operations of k sessions.
-pub fn overwritten_start(alloc: Global, known: &KnownReads) -> Result<Option<Path>, AllocError> {
-    for read in known.reads() {
-        if let Some(write) = write_before(known, read) {
-            return Ok(Some(path_between(alloc, known.order(), write, read.op)?));
+pub fn overwritten_start(alloc: Global, order: &CausalOrder) -> Result<Option<Path>, AllocError>
+    ensures found { IfOk result (λ found. IfSome found (IsPathToInitialRead order.now)) }
+    ensures none { IsDifferentiated order.now → IfOk result (λ found. IfNone found (¬ HasOverwrittenStart order.now)) }
+{
+    let reads = order.reads();
+    for read in reads {
+        if let Some(write) = write_before(order, read) {
+            return Ok(Some(path_between(alloc, order, write, read.op)?));
         }
     }
     Ok(None)
 }
 
 /// A write in the past of a read of the initial value of its variable.
-fn write_before(known: &KnownReads, read: &KnownRead) -> Option<OpId> {
+fn write_before(order: &CausalOrder, read: &KnownRead) -> Option<OpId>
+    requires { IsKnownRead order.now read.now }
+    ensures { MatchOption result ((w : Operation) → ¬ IsWriteBefore order.now read.now w) (IsWriteBefore order.now read.now) }
+{
     if read.source.is_some() {
         return None;
     }
-    for session in 0..known.order().sessions() {
-        if let Some(write) = known.last_write(read, session) {
+    for session in 0..order.sessions() {
+        if let Some(write) = order.last_write(read, session) {
             return Some(write);
         }
     }
@@ -120,11 +50,14 @@ fn write_before(known: &KnownReads, read: &KnownRead) -> Option<OpId> {
 /// Fails for want of memory alone. O(n k log n) for n operations of k sessions.
 pub fn overwritten_read(
     alloc: Global,
-    known: &KnownReads,
-) -> Result<Option<(Path, Path)>, AllocError> {
-    let order = known.order();
-    for read in known.reads() {
-        if let Some(writes) = writes_before(known, read) {
+    order: &CausalOrder,
+) -> Result<Option<(Path, Path)>, AllocError>
+    ensures found { IfOk result (λ found. IfSome found (λ paths. ArePathsToOverwrittenRead order.now paths.0 paths.1)) }
+    ensures none { IsDifferentiated order.now → IfOk result (λ found. IfNone found (¬ HasOverwrittenRead order.now)) }
+{
+    let reads = order.reads();
+    for read in reads {
+        if let Some(writes) = writes_before(order, read) {
             let above = path_between(alloc, order, writes.0, writes.1)?;
             let below = path_between(alloc, order, writes.1, read.op)?;
             return Ok(Some((above, below)));
@@ -135,11 +68,14 @@ pub fn overwritten_read(
 
 /// The write that a read reads from, and another write of its variable that has this one in its past and is in the past of
 /// the read.
-fn writes_before(known: &KnownReads, read: &KnownRead) -> Option<(OpId, OpId)> {
+fn writes_before(order: &CausalOrder, read: &KnownRead) -> Option<(OpId, OpId)>
+    requires { IsKnownRead order.now read.now }
+    ensures { MatchOption result ((a b : Operation) → ¬ AreWritesBefore order.now read.now a b) (λ writes. AreWritesBefore order.now read.now writes.0 writes.1) }
+{
     let source = read.source?;
-    for session in 0..known.order().sessions() {
-        if let Some(write) = known.last_write(read, session) {
-            if write != source && known.order().has_in_past(write, source) {
+    for session in 0..order.sessions() {
+        if let Some(write) = order.last_write(read, session) {
+            if order.has_before((source, write)) {
                 return Some((source, write));
             }
         }

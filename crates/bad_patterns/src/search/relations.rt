@@ -1,8 +1,7 @@
 ghost use Rattle.std.specs.Prelude.{◌<◌, length};
 ghost use Rattle.causal_order.specs.SourceOrder.{CountsSourceOrder};
 
-use crate::search::counts::count_of;
-use causal_order::{HappenedBefore, MOST_PAIRS, Raise, Saturation, Vectors};
+use causal_order::{HappenedBefore, MOST_PAIRS, Raise, Saturation, Vectors, count_at};
 use history::{History, OpId};
 use objects::Memory;
 use std::alloc::{AllocError, Global};
@@ -53,7 +52,7 @@ impl Relation {
 
     /// How many operations of a session are before an operation.
     pub fn count(&self, op: OpId, session: u64) -> u64 {
-        count_of(self.happened.vectors(), op, session)
+        count_at(self.happened.vectors(), op, session)
     }
 
     /// What was raised above the vectors of the causal order, in turn.

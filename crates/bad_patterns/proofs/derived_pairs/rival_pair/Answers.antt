@@ -17,14 +17,14 @@ returns-then-comes_before_source c = record {
   before_read = ends-with c.args.pairs.now c.args.i c.in-Some-Some.pair (sym c.pair_at.ensures ∙ c.in-Some-Some.is-0) c.args.read
       (only-same c.args.read c.in-Some-Some.pair.1 (sym c.eq.ensures ∙ c.if-eq.true));
   of_session = (c.comes_before_source.ensures.0 c.if-comes_before_source.true).0;
-  reads = c.in-Some-Some.ensures';
+  reads = c.in-Some-Some.ensures'.0;
   rivals = (c.comes_before_source.ensures.0 c.if-comes_before_source.true).1;
 }
 
 pub returns-else-eq : goal.returns-else-eq
 returns-else-eq c = λ a b gives.
     let parts = rival-parts c.args.h.now c.args.op c.requires.differentiated c.args.pairs.now c.args.i c.args.read c.in-Some-Some.source c.in-Some-Some.pair
-    (sym c.pair_at.ensures ∙ c.in-Some-Some.is-0) c.in-Some-Some.ensures' a b gives in
+    (sym c.pair_at.ensures ∙ c.in-Some-Some.is-0) c.in-Some-Some.ensures'.0 a b gives in
     elim c.else-eq.branch [
       | else-eq-via-then-eq+else-comes_before_source w ↦
           let no : false ≡ true = sym w.if-comes_before_source.false ∙ w.comes_before_source.ensures.1 (parts.1, parts.2) in absurd cc

@@ -5,4 +5,4 @@ use Rattle.bad_patterns.proofs.finding_happened_before.find_happened_before.Give
 
 -- what is found so far is a bad pattern
 abbrev pub invariant-loop-session : goal.invariant-loop-session
-invariant-loop-session l = IfSome l.cyclic (IsBadPattern l.h l.criterion) × IfSome l.cyclic (IsFirstFound l.h)
+invariant-loop-session l = IfSome l.cyclic (IsBadPattern l.order l.criterion) × IfSome l.cyclic (IsFirstFound l.order)

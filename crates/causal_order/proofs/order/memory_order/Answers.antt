@@ -2,6 +2,7 @@ use Rattle.std.proofs.Common.{inl}
 use Rattle.history.specs.declared.op_id.OpId.{OpId}
 use Rattle.causal_order.specs.Sources.{Comes}
 use Rattle.causal_order.proofs.FirstWrites.{sources-exist, counts-order, counts-past, order-acyclic, order-from_steps, CO-from_sources, CO-by_sources}
+use Rattle.causal_order.proofs.SourceWaits.{lists-alike, source-apart}
 use Rattle.causal_order.proofs.Outcomes.{some-weaker, none-weaker}
 use Rattle.causal_order.proofs.order.memory_order.Goals as goal
 
@@ -42,3 +43,9 @@ returns-clause-none c =
     none-weaker c.order_of.result _ _
     (λ (cycle : (a : OpId) × Comes c.in-Some.sources a a). inl (cycle.0, order-from_steps c.args.h.now c.in-Some.sources lists _ _ cycle.1))
     c.order_of.ensures.cyclic
+
+pub order_of-requires-clause-alike : goal.order_of-requires-clause-alike
+order_of-requires-clause-alike c = lists-alike c.args.h.now c.in-Some.sources (rw c.in-Some.is at c.in_ok-sources.ensures.listed)
+
+pub order_of-requires-clause-apart : goal.order_of-requires-clause-apart
+order_of-requires-clause-apart c = source-apart c.args.h.now c.in-Some.sources (rw c.in-Some.is at c.in_ok-sources.ensures.listed)

@@ -1,21 +1,32 @@
-use Rattle.std.proofs.Common.{arith, length, ap, ◌∙◌, List, ℕ}
-use Rattle.std.specs.List.{sum_by}
-use Rattle.causal_order.proofs.Cycles.{stuck-cycle}
-use Rattle.causal_order.proofs.PushedLaws.{listed-length, pushed-sum, sum-within}
+use Rattle.std.proofs.Common.{List, ℕ, sym, subst}
+use Rattle.causal_order.specs.Steps.Waiting.{FollowsSources}
+use Rattle.causal_order.specs.Waits.{IsTopologicalOrder}
+use Rattle.causal_order.proofs.SourceWaits.{cycle-comes, order-finished, order-follows}
+use Rattle.causal_order.proofs.WaitsLaws.{alike-sym, alike-trans}
 use Rattle.causal_order.proofs.placing.order_of.Goals as goal
 
-pub loop-session-smaller : goal.loop-session-smaller
-loop-session-smaller c =
-    let unfinished = c.in-Some.ensures.unfinished in
-    let before = c.loop-session.invariant.sessions in
-    let inside = listed-length c.args.sources.now c.in-Some.session _ unfinished in
-    let placed = c.in_ok-place.ensures.placed in
-    let more = pushed-sum c.loop-session.vectors c.in-Some.session placed.0 (omega arith) in
-    let sum = ap (λ (v : List (List (List ℕ))). sum_by (λ (xs : List (List ℕ)). length xs) v) placed.1 ∙ more in
-    let after = c.in_ok-place.ensures.so_far in
-    let up_to = sum-within c.place.new.vectors c.args.sources.now after.sessions after.within in
-    omega arith
+pub vectors_along-requires-clause-follows : goal.vectors_along-requires-clause-follows
+vectors_along-requires-clause-follows c =
+    let sources = c.args.sources.now in
+    let waits = c.in_ok-waits.waits in
+    let alike = alike-trans waits c.args.h.now.1 sources c.in_ok-waits.ensures.alike (alike-sym sources c.args.h.now.1 c.requires.alike) in
+    let sorted = rw c.in-Order.is at c.in_ok-schedule.ensures.sorted in
+    subst (λ (xs : List ℕ). FollowsSources sources xs) (sym c.deref.ensures.value)
+    (order-follows sources waits alike c.in_ok-waits.ensures.exact c.requires.apart c.in-Order.schedule.items sorted.0)
 
-pub returns-in-Some-unfinished-clause-cyclic : goal.returns-in-Some-unfinished-clause-cyclic
-returns-in-Some-unfinished-clause-cyclic c =
-    stuck-cycle c.args.sources.now c.loop-session.vectors c.requires.listed c.in_default.ensures c.in-Some-unfinished.field-0 c.in-Some-unfinished.ensures
+pub returns-in-Order-clause-finished : goal.returns-in-Order-clause-finished
+returns-in-Order-clause-finished c =
+    let sources = c.args.sources.now in
+    let waits = c.in_ok-waits.waits in
+    let alike = alike-trans waits c.args.h.now.1 sources c.in_ok-waits.ensures.alike (alike-sym sources c.args.h.now.1 c.requires.alike) in
+    let sorted = rw c.in-Order.is at c.in_ok-schedule.ensures.sorted in
+    let whole = subst (λ (xs : List ℕ). IsTopologicalOrder waits xs) (sym c.deref.ensures.value) sorted.0 in
+    order-finished sources waits alike c.in_ok-waits.ensures.exact c.deref.result.now whole c.in_ok-vectors_along-in-Order.field-0 c.in_ok-vectors_along-in-Order.ensures.placed
+
+pub returns-clause-cyclic : goal.returns-clause-cyclic
+returns-clause-cyclic c =
+    let sources = c.args.sources.now in
+    let waits = c.in_ok-waits.waits in
+    let alike = alike-trans waits c.args.h.now.1 sources c.in_ok-waits.ensures.alike (alike-sym sources c.args.h.now.1 c.requires.alike) in
+    let sorted = rw c.in-Cycle.is at c.in_ok-schedule.ensures.sorted in
+    cycle-comes sources waits alike c.in_ok-waits.ensures.exact _ sorted

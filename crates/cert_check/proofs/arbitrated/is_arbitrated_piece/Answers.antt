@@ -11,9 +11,9 @@ returns g c =
     let v = c.args.v.now in
     let list = c.args.list.now in
     let good = c.vector_ok.ensures.0 c.if-not-vector_ok.false in
-    let reached = c.in_ok-walk.ensures in
+    let reached = c.in_ok-replay.ensures in
     let taken = filter (counted v c.args.op) (take reached.0 (named list)) in
-    let tests = arbitrated-tests g.O.SeqObject.answer h v list c.args.op good reached.0 reached.1 c.in_ok-walk.walk.counts.items reached.2.counting
+    let tests = arbitrated-tests g.O.SeqObject.answer h v list c.args.op good reached.0 reached.1 c.in_ok-replay.replay.counts.items reached.2.counting
     c.has_named_all-complete.result c.in_ok-answered.answered
     c.has_named_all-complete.ensures (c.in_ok-answered.ensures.answer taken reached.2.state) in
     search rules

@@ -1,22 +1,22 @@
-use Rattle.certify_ccv.proofs.ByRule.{walk-by_rule, walk-open}
-use Rattle.certify_ccv.proofs.Cyclic.{open-cycle}
+use Rattle.std.proofs.Common.{◌∙◌}
+use Rattle.certify_ccv.proofs.ByRule.{cycle-first, sorted-by_rule}
 use Rattle.certify_ccv.proofs.by_conflicts.make_by_order.Goals as goal
 
-pub returns-in_default-clause-none : goal.returns-in_default-clause-none
-returns-in_default-clause-none c =
-    let h = c.args.h.now in
-    let v = c.args.vectors in
-    let stuck = rw c.in_default.is at c.in_ok-arbitration.ensures.none in
-    let rows = c.in_ok-rows.rows in
-    let shape = c.in_ok-rows.ensures.shape in
-    let each = c.in_ok-rows.ensures.exact in
-    let open_at = walk-open h v c.requires.order rows shape each stuck.0 stuck.1 stuck.2 in
-    open-cycle h stuck.0 v c.requires.order rows shape each stuck.1 open_at.0 open_at.1
+pub returns-in-Cycle-clause-none : goal.returns-in-Cycle-clause-none
+returns-in-Cycle-clause-none c =
+    let sorted = rw c.in-Cycle.is at c.in_ok-list.ensures.sorted in
+    cycle-first c.args.h.now c.args.vectors c.requires.order c.in_ok-waits.waits c.in_ok-waits.ensures.alike c.in_ok-waits.ensures.exact _ sorted
 
-pub returns-clause-exact : goal.returns-clause-exact
-returns-clause-exact c =
-    let over = rw c.in-Some.is at c.in_ok-arbitration.ensures.exact in
-    record {
+pub returns-in-Order-clause-shape : goal.returns-in-Order-clause-shape
+returns-in-Order-clause-shape c =
+    let sorted = rw c.in-Order.is at c.in_ok-list.ensures.sorted in
+    rw c.of.ensures (c.requires.order.vectors, λ s. sorted.0.whole s ∙ c.in_ok-waits.ensures.alike.operations s)
+
+pub returns-in-Order-clause-exact : goal.returns-in-Order-clause-exact
+returns-in-Order-clause-exact c =
+    let sorted = rw c.in-Order.is at c.in_ok-list.ensures.sorted in
+    rw c.of.ensures (record {
       order = c.requires.order;
-      by_rule = walk-by_rule c.args.h.now c.args.vectors c.requires.order c.in_ok-rows.rows c.in_ok-rows.ensures.shape c.in_ok-rows.ensures.exact c.in-Some.arbitration over;
-    }
+      by_rule = sorted-by_rule c.args.h.now c.args.vectors c.requires.order c.in_ok-waits.waits c.in_ok-waits.ensures.alike c.in_ok-waits.ensures.exact
+          c.in-Order.list.items sorted.0;
+    })

@@ -1,7 +1,17 @@
-use Rattle.std.proofs.Common.{inl, inr, ⊎_elim}
+use Rattle.std.proofs.Common.{◌⊎◌, inl, inr, ⊎_elim}
 use Rattle.history.specs.declared.op_id.OpId.{OpId}
 use Rattle.causal_order.specs.SourceOrder.{LacksSource, SourceOrder}
+use Rattle.causal_order.specs.Memory.{memory_answer}
+use Rattle.causal_order.specs.Relations.{Leads, CO, CF}
+use Rattle.causal_order.proofs.FirstWrites.{CO-from_sources}
+use Rattle.causal_order.proofs.Outcomes.{some-weaker}
+use Rattle.causal_order.proofs.ReadAnswers.{history-fits}
+use Rattle.causal_order.proofs.RelationsLaws.{leads-edge, leads-wider}
+use Rattle.cert_check.specs.Certificates.{HasShapeOf, IsExplainedThroughout}
+use Rattle.certify_ccv.specs.ByConflicts.{ComesFirst, IsByConflicts}
+use Rattle.certify_ccv.proofs.ConflictCertificates.{first-conflict, some-unless}
 use Rattle.certify_ccv.proofs.Cyclic.{order-cycle}
+use Rattle.certify_ccv.proofs.Explained.{conflicts-explain}
 use Rattle.certify_ccv.proofs.by_conflicts.make_memory.Goals as goal
 
 pub returns-in_default-clause-none : goal.returns-in_default-clause-none
@@ -11,3 +21,27 @@ returns-in_default-clause-none c =
     (λ (cycle : (a : OpId) × SourceOrder c.args.h.now a a). inr (cycle.0, order-cycle c.args.h.now cycle.0 cycle.1))
     (λ (lacks : LacksSource c.args.h.now). inl lacks)
     cases
+
+pub returns-in_default-clause-made : goal.returns-in_default-clause-made
+returns-in_default-clause-made c = λ present acyclic.
+    let h = c.args.h.now in
+    let cases = rw c.in_default.is at c.in_ok-vectors.ensures.none in
+    absurd (⊎_elim
+    (λ (cycle : (a : OpId) × SourceOrder h a a).
+    acyclic cycle.0 (leads-edge (λ b c. CO h b c ⊎ CF h b c) cycle.0 cycle.0 (inl (CO-from_sources h cycle.0 cycle.0 cycle.1))))
+    (λ (lacks : LacksSource h). present lacks)
+    cases)
+
+pub returns-clause-made : goal.returns-clause-made
+returns-clause-made c = λ present acyclic.
+    let h = c.args.h.now in
+    some-unless c.make_by_order.result ((a : OpId) × Leads (ComesFirst h) a a)
+    (λ cycle. acyclic cycle.0 (leads-wider (ComesFirst h) (λ b c. CO h b c ⊎ CF h b c) (first-conflict h) cycle.0 cycle.0 cycle.1))
+    c.make_by_order.ensures.none
+
+pub returns-clause-explained : goal.returns-clause-explained
+returns-clause-explained c = λ start.
+    let h = c.args.h.now in
+    some-weaker c.make_by_order.result (HasShapeOf h) (IsByConflicts h) (IsExplainedThroughout memory_answer h)
+    (conflicts-explain h (history-fits h _ c.value_is_history.ensures) start)
+    c.make_by_order.ensures.shape c.make_by_order.ensures.exact

@@ -1,0 +1,136 @@
+//! What operations wait for.
+
+ghost use Rattle.std.specs.Prelude.{◌≡◌, ◌+◌, ◌<◌, ◌≤◌, ℕ, length, slice_index_or, IfOk, OnOk};
+ghost use Rattle.history.specs.declared.op_id.OpId.{OpId as Operation};
+ghost use Rattle.history.specs.History.{session as operations_of};
+ghost use Rattle.causal_order.specs.Orders.{op as operation};
+ghost use Rattle.causal_order.specs.Sources.{AreListed, HasSource, IsListed};
+ghost use Rattle.causal_order.specs.Steps.Gathered.{AreGatheredBefore};
+ghost use Rattle.causal_order.specs.Steps.Waiting.{AddsWait, AreZeros, IsSourceBefore};
+ghost use Rattle.causal_order.specs.Vectors.{count, list_of};
+ghost use Rattle.causal_order.specs.Waits.{AreAlike, AreWaits, AreWaitsFor};
+
+use crate::by_operation::Vectors;
+use crate::placing::Sources;
+use history::{History, OpId};
+use object_trait::SeqObject;
+use std::alloc::{AllocError, Global};
+use std::marker::Model;
+
+/// For each operation, how many operations of each session have to come before it, besides those before it in its session.
+///
+/// An operation that is counted for itself doesn't wait for itself. There are at most 16 sessions of at most 256
+/// operations, and none waits for an operation that is not there.
+#[derive(Debug, Drop)]
+pub struct Waits {
+    counts: Vectors,
+}
+
+impl Model for Waits {
+    ghost use Rattle.causal_order.specs.Vectors.{Counts};
+    ghost use Rattle.causal_order.specs.Waits.{AreWaits};
+
+    ghost Value = { Counts };
+
+    ghost view = { λ waits. waits.counts };
+
+    ghost invariant = { λ waits. AreWaits waits.counts };
+}
+
+impl Waits {
+    /// Of the operations of a history none waits for another.
+    ///
+    /// Fails for want of memory alone. O(n k) for n operations of k sessions.
+    pub fn of<O: SeqObject>(alloc: Global, h: &History<O>) -> Result<Waits, AllocError>
+        ensures alike { IfOk result (λ waits. AreAlike waits h.now.1) }
+        ensures none { IfOk result (λ waits. (o : Operation) (s : ℕ) → count waits o s ≡ 0) }
+    {
+        let mut counts = Vectors::new(alloc);
+        for session in 0..h.sessions() {
+            push_zeros(alloc, h, session, &mut counts)?;
+        }
+        Ok(Waits { counts })
+    }
+
+    /// How many operations of each session have to come before each operation.
+    pub fn counts(&self) -> &Vectors
+        ensures counts { result.now ≡ self.now }
+        ensures kept { AreWaits self.now }
+    {
+        &self.counts
+    }
+
+    /// Lets an operation wait for another one. O(1).
+    pub fn add(&mut self, op: OpId, other: OpId)
+        requires op { IsListed self.old op }
+        requires other { IsListed self.old other }
+        ensures { AddsWait op other self.old self.new }
+    {
+        let place = other.session as usize;
+        if u64::from(self.counts.get(op)[place]) <= other.index {
+            self.counts.set(op, place, other.index as u16 + 1);
+        }
+    }
+}
+
+/// Puts a session of which no operation waits behind the sessions before it.
+fn push_zeros<O: SeqObject>(
+    alloc: Global,
+    h: &History<O>,
+    session: usize,
+    counts: &mut Vectors,
+) -> Result<(), AllocError>
+    requires exists { session < length h.now.1 }
+    requires so_far { AreGatheredBefore h.now (λ _. AreZeros (length h.now.1)) session counts.old }
+    ensures so_far { OnOk result (AreGatheredBefore h.now (λ _. AreZeros (length h.now.1)) (session + 1) counts.new) }
+    ensures short { OnOk result (length (operations_of h.now session) ≤ 256) }
+{
+    let zeros = vec![in alloc; 0; h.sessions()]?;
+    counts.push_session()?;
+    for _index in 0..h.len(session as u64) {
+        counts.push(session, &zeros)?;
+    }
+    Ok(())
+}
+
+/// Each operation waits for its source.
+///
+/// The sources are those of the operations of the history. Fails for want of memory alone. O(n k) for n operations of k
+/// sessions.
+pub fn waits_for_sources<O: SeqObject>(
+    alloc: Global,
+    h: &History<O>,
+    sources: &Sources,
+) -> Result<Waits, AllocError>
+    requires alike { AreAlike sources.now h.now.1 }
+    requires listed { AreListed sources.now }
+    ensures alike { IfOk result (λ waits. AreAlike waits h.now.1) }
+    ensures exact { IfOk result (AreWaitsFor (λ w o. HasSource sources.now o w)) }
+{
+    let mut waits = Waits::of(alloc, h)?;
+    for session in 0..sources.len() {
+        add_sources(sources, session, &mut waits);
+    }
+    Ok(waits)
+}
+
+/// Lets the operations of a session wait for their sources.
+fn add_sources(sources: &Sources, session: usize, waits: &mut Waits)
+    requires exists { session < length sources.now }
+    requires listed { AreListed sources.now }
+    requires alike { AreAlike waits.old sources.now }
+    requires so_far { AreWaitsFor (IsSourceBefore sources.now (operation session 0)) waits.old }
+    ensures alike { AreAlike waits.new sources.now }
+    ensures so_far { AreWaitsFor (IsSourceBefore sources.now (operation (session + 1) 0)) waits.new }
+{
+    let of_session = sources.get(session);
+    for index in 0..of_session.len() {
+        if let Some(source) = of_session[index] {
+            let op = OpId {
+                session: session as u64,
+                index: index as u64,
+            };
+            waits.add(op, source);
+        }
+    }
+}

@@ -1,0 +1,25 @@
+//! What decides whether a memory history meets a criterion. The function does nothing: what it ensures is the law.
+
+ghost use Rattle.std.specs.Prelude.{◌↔◌, IsTrue};
+ghost use Rattle.causal_order.specs.Memory.{IsDifferentiated, memory_answer};
+ghost use Rattle.cert_check.specs.Criteria.{Meets};
+ghost use Rattle.bad_patterns.specs.Kinds.{is_against, IsPresent};
+
+use bad_patterns::Kind;
+use bad_patterns::laws::present_kinds_exclude_criteria;
+use cert_check::Criterion;
+use history::History;
+use objects::Memory;
+
+/// A memory history of distinct values meets a criterion exactly where no kind of bad pattern against the criterion is
+/// present in it.
+///
+/// This is the theorem of Bouajjani, Enea, Guerraoui and Hamza, "On Verifying Causal Consistency" (POPL 2017), for
+/// histories with any initial values and with unknown returns.
+pub fn met_exactly_where_no_kind_is_present(h: &History<Memory>, criterion: Criterion)
+    requires distinct { IsDifferentiated h.now }
+    ensures { Meets memory_answer h.now criterion ↔ ((kind : Kind) → IsTrue (is_against kind criterion) → ¬ IsPresent h.now kind) }
+{
+    h.value_is_history();
+    present_kinds_exclude_criteria();
+}

@@ -1,0 +1,4 @@
+//! When a memory history meets a criterion.
+#![tactic(auto)]
+
+pub mod laws;

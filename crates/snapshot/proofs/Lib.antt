@@ -1,0 +1,9 @@
+pub mod Answers
+pub mod Columns
+pub mod Histories
+pub mod LanePlans
+pub mod Meetings
+pub mod Standing
+pub mod Sealings
+pub mod TableLemmas
+pub mod Walked

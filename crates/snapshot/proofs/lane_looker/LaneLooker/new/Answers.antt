@@ -1,0 +1,10 @@
+use Rattle.snapshot.proofs.TableLemmas.{counts_within}
+use Rattle.snapshot.proofs.lane_looker.LaneLooker.new.Goals as goal
+
+pub invariant_of-result : goal.invariant_of-result
+invariant_of-result g c = record {
+  of = c.requires;
+  counts = c.in_ok-counts.ensures.told;
+  within = counts_within c.args.lanes.now.cells c.in_ok-counts.counts.items c.most_places-cap.result c.in_ok-counts.ensures.told.many c.in_ok-counts.ensures.within c.most_places-cap.ensures;
+  tables = c.in_ok-tables.ensures;
+}

@@ -1,0 +1,31 @@
+use Rattle.std.proofs.Common.{◌≡◌, ◌<◌, ◌≤◌, rules, ap, sym, ◌∙◌, subst, arith, length}
+use Rattle.std.specs.Prelude.{Some}
+use Rattle.std.proofs.lemmas.Option.{slice_get_within}
+use Rattle.snapshot.proofs.TableLemmas.{count_most, count_reached, count_within, read_at, best_place, best_some, some_same}
+use Rattle.recorder.specs.Lanes.{IsLane}
+use Rattle.snapshot.proofs.lane_looker.told_count.Goals as goal
+
+pub overflow_cast-result : goal.overflow_cast-result
+overflow_cast-result g c =
+    let some = best_some c.longest-best.result c.if-best-eq0.false in
+    let at = read_at c.args.receipts.now c.longest-best.result.at c.index-receipts-best.result (best_place c.args.receipts.now c.args.s c.longest-best.result c.longest-best.ensures some) c.index-receipts-best.is in
+    let h = count_within c.args.lanes.now c.args.receipts.now c.args.s c.len.result c.longest-best.result c.requires.receipts c.longest-best.ensures some c.index-receipts-best.result at c.len.ensures.operations c.len.ensures.cells c.lane.result.now c.places-places.ensures.lane c.lane.ensures in
+    let k : c.len.result ≤ length c.lane.result.now.calls = h in let short : length c.lane.result.now.calls ≤ 256 = c.places-places.ensures.lane.short in search rules
+
+pub returns-clause-most : goal.returns-clause-most
+returns-clause-most g c =
+    let some = best_some c.longest-best.result c.if-best-eq0.false in
+    let at = read_at c.args.receipts.now c.longest-best.result.at c.index-receipts-best.result (best_place c.args.receipts.now c.args.s c.longest-best.result c.longest-best.ensures some) c.index-receipts-best.is in
+    count_most c.args.lanes.now c.args.receipts.now c.args.s c.len.result c.longest-best.result c.requires.receipts c.longest-best.ensures some c.index-receipts-best.result at c.len.ensures.operations
+
+pub returns-clause-reached : goal.returns-clause-reached
+returns-clause-reached g c =
+    let some = best_some c.longest-best.result c.if-best-eq0.false in
+    let at = read_at c.args.receipts.now c.longest-best.result.at c.index-receipts-best.result (best_place c.args.receipts.now c.args.s c.longest-best.result c.longest-best.ensures some) c.index-receipts-best.is in
+    λ h. count_reached c.args.lanes.now c.args.receipts.now c.args.s c.len.result c.longest-best.result c.requires.receipts c.longest-best.ensures some c.index-receipts-best.result at c.len.ensures.operations
+
+pub returns-clause-within : goal.returns-clause-within
+returns-clause-within g c =
+    let some = best_some c.longest-best.result c.if-best-eq0.false in
+    let at = read_at c.args.receipts.now c.longest-best.result.at c.index-receipts-best.result (best_place c.args.receipts.now c.args.s c.longest-best.result c.longest-best.ensures some) c.index-receipts-best.is in
+    λ lane e. count_within c.args.lanes.now c.args.receipts.now c.args.s c.len.result c.longest-best.result c.requires.receipts c.longest-best.ensures some c.index-receipts-best.result at c.len.ensures.operations c.len.ensures.cells lane (subst (λ l. IsLane l) (some_same c.lane.result.now lane (sym c.lane.ensures ∙ e)) c.places-places.ensures.lane) e

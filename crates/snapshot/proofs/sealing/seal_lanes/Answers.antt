@@ -1,0 +1,33 @@
+use Rattle.std.proofs.Common.{◌≡◌, ◌+◌, ◌≤◌, ◌∷◌, [], length, ap, sym, ◌∙◌, subst, arith}
+use Rattle.std.specs.Prelude.{map, Some, slice_get}
+use Rattle.std.proofs.lemmas.List.{map-append}
+use Rattle.std.proofs.lemmas.Option.{slice_get_within}
+use Rattle.recorder.proofs.Telling.{length_push, length_map}
+use Rattle.snapshot.proofs.TableLemmas.{table_at, lanes_many}
+use Rattle.snapshot.proofs.Histories.{told_by, count_in, lanes_more}
+use Rattle.snapshot.proofs.sealing.seal_lanes.Goals as goal
+
+pub seal_lane-requires-clause-within : goal.seal_lane-requires-clause-within
+seal_lane-requires-clause-within g c = count_in g.O.Recorded.fitting c.looker.inside.lanes.now c.looker.inside.receipts.now c.loop-s.s _ c.longest-best.result c.lane.result.now c.looker.invariant.of c.longest-best.ensures c.lane.ensures
+
+pub seal_lane-requires-clause-table : goal.seal_lane-requires-clause-table
+seal_lane-requires-clause-table g c = table_at c.looker.inside.lanes.now.cells c.looker.inside.tables.items c.loop-s.s c.lane.result.now c.index.result.now c.looker.invariant.tables c.lane.ensures (lanes_many c.looker.inside.lanes.now.cells c.looker.inside.tables.items c.loop-s.s c.lane.result.now c.looker.invariant.tables c.lane.ensures) c.index.ensures
+
+pub loop-s-preserved : goal.loop-s-preserved
+loop-s-preserved g c = record {
+  sessions = ap length c.in_ok-push.ensures.items ∙ (length_push c.loop-s.sessions.items c.in_ok-operations.operations ∙ ap (λ n. n + 1) c.loop-s.invariant.sessions);
+  lanes = ap length c.in_ok-push-2.ensures.items ∙ (length_push c.loop-s.lanes.items c.in_ok-operations.lane ∙ ap (λ n. n + 1) c.loop-s.invariant.lanes);
+  each = lanes_more g.O.Recorded.fitting c.args.looker.now.lanes.cells c.args.looker.now.receipts (map (λ v. v.items) c.loop-s.sessions.items) (map (λ v. v.items) c.push.new.self.items) c.loop-s.lanes.items c.push-in-loop-s.new.self.items c.loop-s.s c.in_ok-operations.operations.items c.in_ok-operations.lane c.lane.result.now
+      (length_map (λ v. v.items) c.loop-s.sessions.items ∙ c.loop-s.invariant.sessions) c.loop-s.invariant.lanes (subst (λ v. slice_get v.lanes.cells c.loop-s.s ≡ Some c.lane.result.now) c.looker.view_is c.lane.ensures)
+      (ap (map (λ v. v.items)) c.in_ok-push.ensures.items ∙ map-append (λ v. v.items) c.loop-s.sessions.items (c.in_ok-operations.operations ∷ [])) c.in_ok-push-2.ensures.items
+      (record {
+        session = c.in_ok-operations.ensures.session;
+        notes = c.in_ok-operations.ensures.notes;
+        short = c.in_ok-operations.ensures.short;
+        told = λ j r e f.
+            let at = subst (λ v. slice_get v.receipts j ≡ Some r) (sym c.looker.view_is) e in
+            let m : length r.operations ≤ c.longest-best.result.count = c.longest-best.ensures.most j r (slice_get_within c.looker.inside.receipts.now j r at) at f in
+            let t : c.longest-best.result.count ≤ length c.in_ok-operations.lane.returns = c.in_ok-operations.ensures.told in omega arith;
+      })
+      c.loop-s.invariant.each;
+}

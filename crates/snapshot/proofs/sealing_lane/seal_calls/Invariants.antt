@@ -1,0 +1,9 @@
+use Rattle.std.proofs.Common.{◌≡◌, ◌+◌, length}
+use Rattle.snapshot.specs.Steps.Sealing.{AreCallsRead}
+use Rattle.snapshot.proofs.sealing_lane.seal_calls.Given as goal
+
+abbrev pub invariant-loop-i : goal.invariant-loop-i
+invariant-loop-i g l = record {
+  many : length l.fn.operations.items + length l.notes.list ≡ l.i;
+  read : AreCallsRead l.lane l.fn.operations.items l.notes.list l.operations.items;
+}

@@ -1,0 +1,4 @@
+pub mod Plans
+pub mod Seals
+pub mod Steps
+pub mod Walks

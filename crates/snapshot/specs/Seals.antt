@@ -1,0 +1,67 @@
+-- Seals of what a recorder holds. (This project's profile.)
+use Rattle.std.specs.Prelude.{◌≡◌, ℕ, ◌+◌, ◌<◌, ◌≤◌, List, length, Option, Some, None, option_map, slice_get, slice_index, min, if◌then◌else◌, nat_lt}
+use Rattle.std.specs.List.{filter_map}
+use Rattle.history.specs.History.{Record, session, entry}
+use Rattle.recorder.specs.Lanes.{Cells}
+use Rattle.recorder.specs.Sessions.{LanesState, ReceiptState, SessionState, begun, op}
+use Rattle.snapshot.specs.Plans.{Look}
+
+-- a seal: its history, and for each session the cells whose returns it holds and those whose calls it holds behind them
+pub record SealState (S C R : Type 0) : Type 0 where
+  pub history : Record S C R
+  pub cells : List Cells
+
+-- a looker: the lanes that it looks at, the receipts that it was told, for each lane how many operations these stand for, how
+-- many places the lanes have at most, and its looks so far, oldest first
+pub record LookerState (S C R : Type 0) : Type 0 where
+  pub lanes : LanesState S
+  pub receipts : List (ReceiptState C R)
+  pub told : List ℕ
+  pub cap : ℕ
+  pub looks : List Look
+
+-- these are the return cells of a lane from the first on, and its call cells behind them
+pub record AreReadFrom (lane cells : Cells) : Type 0 where
+  pub returns : (i x : ℕ) → slice_get cells.returns i ≡ Some x → slice_get lane.returns i ≡ Some x
+  pub calls : (i x : ℕ) → slice_get cells.calls i ≡ Some x → slice_get lane.calls (length cells.returns + i) ≡ Some x
+
+module _ {S C R : Type 0} where
+  -- a receipt is of these lanes: its cells are the first return cells of its lane
+  abbrev pub IsReceiptOf : LanesState S → ReceiptState C R → Type 0
+  IsReceiptOf lanes r = (c : Cells) × (slice_get lanes.cells r.lane ≡ Some c) × ((i x : ℕ) → slice_get r.cells i ≡ Some x → slice_get c.returns i ≡ Some x)
+
+  abbrev pub AreReceiptsOf : LanesState S → List (ReceiptState C R) → Type 0
+  AreReceiptsOf lanes rs = (j : ℕ) (r : ReceiptState C R) → slice_get rs j ≡ Some r → IsReceiptOf lanes r
+
+  -- for each lane the greatest number of operations that one of these receipts stands for
+  pub record AreToldBy (lanes : LanesState S) (rs : List (ReceiptState C R)) (told : List ℕ) : Type 0 where
+    pub many : length told ≡ length lanes.cells
+    pub most : (j : ℕ) (r : ReceiptState C R) → slice_get rs j ≡ Some r → length r.operations ≤ slice_index told r.lane
+    pub reached : (s : ℕ) → 0 < slice_index told s → (j : ℕ) × (r : ReceiptState C R) × (slice_get rs j ≡ Some r) × (r.lane ≡ s) × (length r.operations ≡ slice_index told s)
+
+  -- a history holds each operation that a receipt stands for, with its call and return
+  abbrev pub Holds : Record S C R → ReceiptState C R → Type 0
+  Holds h r = (i : ℕ) (c : C) (x : R) → slice_get r.operations i ≡ Some (c, x) → entry h (op r.lane i) ≡ Some (c, Some x)
+
+  abbrev pub HoldsAll : Record S C R → List (ReceiptState C R) → Type 0
+  HoldsAll h rs = (j : ℕ) (r : ReceiptState C R) → slice_get rs j ≡ Some r → Holds h r
+
+  -- a seal is one of these lanes: it has their start and a session for each of them, and was read from their cells
+  pub record IsSealOf (lanes : LanesState S) (seal : SealState S C R) : Type 0 where
+    pub start : seal.history.0 ≡ lanes.start
+    pub many : length seal.history.1 ≡ length lanes.cells
+    pub each : (s : ℕ) (lane : Cells) → slice_get lanes.cells s ≡ Some lane → (cells : Cells) × (slice_get seal.cells s ≡ Some cells) × AreReadFrom lane cells
+
+  -- how many returns a history has of a session
+  abbrev pub known_returns : Record S C R → ℕ → ℕ
+  known_returns h s = length (filter_map (λ (e : C × Option R). e.1) (session h s))
+
+  -- a seal and a session are of one recorder
+  abbrev pub AreOfOne : SealState S C R → SessionState C R → Type 0
+  AreOfOne seal session = (cells : Cells) × (slice_get seal.cells session.lane ≡ Some cells) × AreReadFrom session.cells cells
+
+  -- how many calls a seal and a session both hold: the smaller of their numbers of calls, but the session's number of returns
+  -- where the seal holds more returns
+  abbrev pub met_calls : Record S C R → SessionState C R → ℕ
+  met_calls h session' =
+      if nat_lt (length session'.done) (known_returns h session'.lane) then length session'.done else min (length (session h session'.lane)) (length (begun session'.done session'.pending))

@@ -1,0 +1,68 @@
+-- What a looker keeps of what it found, and what it makes a seal of.
+use Rattle.std.specs.Prelude.{◌≡◌, ℕ, ◌+◌, ◌<◌, ◌≤◌, Bool, true, List, length, map, Option, Some, None, slice_get, slice_index}
+use Rattle.history.specs.History.{Record, session}
+use Rattle.recorder.specs.Lanes.{Cells, Entry, shown}
+use Rattle.recorder.specs.Sessions.{LanesState, ReceiptState}
+use Rattle.snapshot.specs.declared.longest.LongestReceipt.{LongestReceipt}
+use Rattle.snapshot.specs.Seals.{AreReceiptsOf, AreToldBy}
+
+-- for each cell of a lane a note of it, where it was found full
+pub record TableState (C R : Type 0) : Type 0 where
+  pub returns : List (Option (ℕ × Option (Entry C R)))
+  pub calls : List (Option (ℕ × Option C))
+
+-- notes of the returns of a session that a seal holds, and of the calls behind them
+pub record SealedNotes (C R : Type 0) : Type 0 where
+  pub returns : List (ℕ × Option (Entry C R))
+  pub calls : List (ℕ × Option C)
+
+-- a note of this call cell, which knows its call
+abbrev pub IsCallFound : {C : Type 0} → Cells → ℕ → ℕ × Option C → Type 0
+IsCallFound {C} lane i n = (slice_get lane.calls i ≡ Some n.0) × ((c : C) × (n.1 ≡ Some c))
+
+module _ {C R : Type 0} where
+  -- a note of this return cell, and of a record with a return
+  abbrev pub IsReturnFound : Cells → ℕ → ℕ × Option (Entry C R) → Type 0
+  IsReturnFound lane i n = (slice_get lane.returns i ≡ Some n.0) × ((o : C × R) × (shown n.1 ≡ Some o))
+
+  -- a table of this lane
+  pub record IsTable (lane : Cells) (t : TableState C R) : Type 0 where
+    pub return_places : length t.returns ≡ length lane.returns
+    pub call_places : length t.calls ≡ length lane.calls
+    pub returned : (i : ℕ) (n : ℕ × Option (Entry C R)) → slice_get t.returns i ≡ Some (Some n) → IsReturnFound lane i n
+    pub called : (i : ℕ) (n : ℕ × Option C) → slice_get t.calls i ≡ Some (Some n) → IsCallFound lane i n
+
+  pub record AreTables (lanes : List Cells) (ts : List (TableState C R)) : Type 0 where
+    pub many : length ts ≡ length lanes
+    pub each : (s : ℕ) (lane : Cells) (t : TableState C R) → slice_get lanes s ≡ Some lane → slice_get ts s ≡ Some t → IsTable lane t
+
+  -- of the first n receipts those of a lane stand for at most so many operations, and one of them for as many
+  pub record IsLongest (rs : List (ReceiptState C R)) (s n : ℕ) (best : LongestReceipt) : Type 0 where
+    pub most : (j : ℕ) (r : ReceiptState C R) → j < n → slice_get rs j ≡ Some r → r.lane ≡ s → length r.operations ≤ best.count
+    pub reached : 0 < best.count → (r : ReceiptState C R) × (slice_get rs best.at ≡ Some r) × (r.lane ≡ s) × (length r.operations ≡ best.count) × (length r.cells ≡ best.count)
+
+  -- a return that is known by a note, as a history has it
+  abbrev pub IsReturnedAs : (C → R → Bool) → Option (Entry C R) → Option (C × Option R) → Type 0
+  IsReturnedAs fits k e = (c : C) × (r : R) × (shown k ≡ Some (c, r)) × (e ≡ Some (c, Some r)) × (fits c r ≡ true)
+
+  -- the operations of a session are those of which there are notes
+  pub record IsSealedSession (fits : C → R → Bool) (es : List (C × Option R)) (l : SealedNotes C R) : Type 0 where
+    pub many : length es ≡ length l.returns + length l.calls
+    pub returned : (i : ℕ) (n : ℕ × Option (Entry C R)) → slice_get l.returns i ≡ Some n → IsReturnedAs fits n.1 (slice_get es i)
+    pub called : (i : ℕ) (n : ℕ × Option C) → slice_get l.calls i ≡ Some n → (c : C) × (n.1 ≡ Some c) × (slice_get es (length l.returns + i) ≡ Some (c, None))
+
+  -- the notes are of the cells of this lane
+  pub record AreNotesOf (lane : Cells) (l : SealedNotes C R) : Type 0 where
+    pub returns : (i : ℕ) (n : ℕ × Option (Entry C R)) → slice_get l.returns i ≡ Some n → slice_get lane.returns i ≡ Some n.0
+    pub calls : (i : ℕ) (n : ℕ × Option C) → slice_get l.calls i ≡ Some n → slice_get lane.calls (length l.returns + i) ≡ Some n.0
+
+  -- the cells that notes are of
+  abbrev pub names : SealedNotes C R → Cells
+  names l = record { calls = map (λ (n : ℕ × Option C). n.0) l.calls; returns = map (λ (n : ℕ × Option (Entry C R)). n.0) l.returns }
+
+-- what a looker keeps
+pub record IsLooker {S C R : Type 0} (lanes : LanesState S) (receipts : List (ReceiptState C R)) (told : List ℕ) (cap : ℕ) (ts : List (TableState C R)) : Type 0 where
+  pub of : AreReceiptsOf lanes receipts
+  pub counts : AreToldBy lanes receipts told
+  pub within : (s : ℕ) → slice_index told s ≤ cap
+  pub tables : AreTables lanes.cells ts

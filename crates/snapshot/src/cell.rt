@@ -1,0 +1,8 @@
+use history::OpId;
+
+/// A cell of a recorder: the one for the return of an operation, or the one for its call.
+#[derive(Clone, Copy, Debug, PartialEq, Eq)]
+pub enum Cell {
+    Return(OpId),
+    Call(OpId),
+}

@@ -1,0 +1,99 @@
+ghost use Rattle.std.specs.Prelude.{◌≡◌, ℕ, ◌<◌, ◌≤◌, length, IfOk, IfSome, IsSome, None, slice_index};
+ghost use Rattle.snapshot.specs.Plans.{Plan, fresh_plan, looked_at, next_cell};
+ghost use Rattle.snapshot.specs.Walks.{Stands};
+ghost use Rattle.snapshot.specs.Steps.PlanStates.{call_of, first_of, looks_left, return_of, state_next};
+
+use crate::cell::Cell;
+use crate::lane_plan::LanePlan;
+use history::OpId;
+use std::alloc::{AllocError, Global};
+use std::marker::Model;
+
+/// Which cell a sealer looks at next.
+///
+/// First the return cells, lane by lane: those that were told of from the last down to the first, and behind them
+/// upwards until the first empty one. Then the call cells, lane by lane, from the first whose return was not found
+/// upwards until the first empty one. The end of a lane counts as empty, and is not looked at.
+#[derive(Drop)]
+pub struct CutPlan {
+    cap: usize,
+    lanes: Vec<LanePlan>,
+}
+
+impl Model for CutPlan {
+    ghost use Rattle.snapshot.specs.Steps.PlanStates.{PlanState};
+
+    ghost Value = { PlanState };
+
+    ghost view = { λ p. record { cap = p.cap; lanes = p.lanes.items } };
+}
+
+impl CutPlan {
+    /// The plan for `k` lanes of `cap` places, of which so many operations were told.
+    ///
+    /// Fails for want of memory alone. O(k).
+    pub fn new(alloc: Global, k: usize, cap: usize, told: &[u16]) -> Result<CutPlan, AllocError>
+        requires many { length told.now ≡ k }
+        requires within { (s : ℕ) → slice_index told.now s ≤ cap }
+        ensures { IfOk result (λ plan. Stands plan (fresh_plan k cap told.now)) }
+    {
+        let mut lanes = Vec::with_capacity(alloc, k)?;
+        for s in 0..k {
+            lanes.push(LanePlan::new(told[s] as usize))?;
+        }
+        Ok(CutPlan { cap, lanes })
+    }
+
+    /// The cell that is next: the same until `give` is called, and none when the plan is done. O(k).
+    pub fn next(&self) -> Option<Cell>
+        ensures next { result ≡ state_next self.now }
+        ensures rule { (p : Plan) → Stands self.now p → result ≡ next_cell p }
+    {
+        match self.first_return() {
+            Some(cell) => Some(cell),
+            None => self.first_call(),
+        }
+    }
+
+    fn first_return(&self) -> Option<Cell>
+        ensures { result ≡ first_of (return_of self.now.cap) 0 self.now.lanes }
+    {
+        for s in 0..self.lanes.len() {
+            if let Some(i) = self.lanes[s].next_return(self.cap) {
+                return Some(Cell::Return(OpId {
+                    session: s as u64,
+                    index: i as u64,
+                }));
+            }
+        }
+        None
+    }
+
+    fn first_call(&self) -> Option<Cell>
+        ensures { result ≡ first_of (call_of self.now.cap) 0 self.now.lanes }
+    {
+        for s in 0..self.lanes.len() {
+            if let Some(i) = self.lanes[s].next_call(self.cap) {
+                return Some(Cell::Call(OpId {
+                    session: s as u64,
+                    index: i as u64,
+                }));
+            }
+        }
+        None
+    }
+
+    /// Takes in whether the next cell was full. When the plan is done it changes nothing. O(k).
+    pub fn give(&mut self, full: bool)
+        ensures rule { (p : Plan) → Stands self.old p → Stands self.new (looked_at p (next_cell p) full) }
+        ensures done { state_next self.old ≡ None → self.new ≡ self.old }
+        ensures fewer { IsSome (state_next self.old) → looks_left self.new < looks_left self.old }
+    {
+        let cap = self.cap;
+        match self.next() {
+            Some(Cell::Return(op)) => self.lanes[op.session as usize].give_return(full, cap),
+            Some(Cell::Call(op)) => self.lanes[op.session as usize].give_call(full, cap),
+            None => {}
+        }
+    }
+}

@@ -1,0 +1,226 @@
+ghost use Rattle.std.specs.Prelude.{◌≡◌, ℕ, ◌<◌, ◌≤◌, ◌++◌, ◌∷◌, [], length, IfOk, IfSome, OnErr, Some, slice_get, slice_index};
+ghost use Rattle.recorder.specs.Lanes.{Cells};
+ghost use Rattle.snapshot.specs.Plans.{return_cell};
+ghost use Rattle.snapshot.specs.Seals.{AreReceiptsOf, AreToldBy};
+ghost use Rattle.snapshot.specs.Steps.Tables.{AreTables, IsCallFound, IsReturnFound};
+ghost use Rattle.snapshot.specs.Steps.Looking.{Looked, NotLooked};
+
+use crate::cell::Cell;
+use crate::finding::{find_call, find_return};
+use crate::found::Found;
+use crate::lane_table::LaneTable;
+use crate::longest::longest;
+use crate::looker::Looker;
+use history::OpId;
+use recorder::{Lanes, Receipt, Recorded, ReturnRecord};
+use std::alloc::{AllocError, Global};
+use std::marker::Model;
+
+/// Looks at the cells of a recorder's lanes, and keeps what it found.
+#[derive(Drop)]
+pub struct LaneLooker<'a, O: Recorded> {
+    pub(crate) alloc: Global,
+    pub(crate) lanes: &'a Lanes<O>,
+    pub(crate) receipts: &'a [Receipt<O>],
+    told: Vec<u16>,
+    cap: usize,
+    looks: Vec<(Cell, bool)>,
+    pub(crate) tables: Vec<LaneTable<O>>,
+}
+
+impl<'a, O: Recorded> Model for LaneLooker<'a, O> {
+    ghost use Rattle.snapshot.specs.Seals.{LookerState};
+    ghost use Rattle.snapshot.specs.Steps.Tables.{IsLooker};
+
+    ghost Value = { LookerState O.Start O.Call O.Ret };
+
+    ghost view = { λ l. record { lanes = l.lanes.now; receipts = l.receipts.now; told = l.told.items; cap = l.cap; looks = l.looks.items } };
+
+    ghost invariant = { λ l. IsLooker l.lanes.now l.receipts.now l.told.items l.cap l.tables.items };
+}
+
+impl<'a, O: Recorded> LaneLooker<'a, O> {
+    /// A looker at these lanes, which was told these receipts of them.
+    ///
+    /// Fails for want of memory alone. O(n + k r) for n cells of k lanes and r receipts.
+    pub fn new(
+        alloc: Global,
+        lanes: &'a Lanes<O>,
+        told: &'a [Receipt<O>],
+    ) -> Result<LaneLooker<'a, O>, AllocError>
+        requires { AreReceiptsOf lanes.now told.now }
+        ensures lanes { IfOk result (λ l. l.lanes ≡ lanes.now) }
+        ensures receipts { IfOk result (λ l. l.receipts ≡ told.now) }
+        ensures looks { IfOk result (λ l. l.looks ≡ []) }
+    {
+        let counts = told_counts(alloc, lanes, told)?;
+        let tables = tables_of(alloc, lanes)?;
+        let cap = most_places(lanes);
+        Ok(LaneLooker {
+            alloc,
+            lanes,
+            receipts: told,
+            told: counts,
+            cap,
+            looks: Vec::new(alloc),
+            tables,
+        })
+    }
+
+    /// How many operations of each lane the receipts stand for.
+    pub fn told(&self) -> &[u16]
+        ensures told { result.now ≡ self.now.told }
+        ensures counts { AreToldBy self.now.lanes self.now.receipts result.now }
+        ensures within { (s : ℕ) → slice_index result.now s ≤ self.now.cap }
+    {
+        &self.told
+    }
+
+    /// How many lanes there are.
+    pub fn lanes(&self) -> usize
+        ensures { result ≡ length self.now.lanes.cells }
+    {
+        self.lanes.len()
+    }
+
+    /// How many places the lanes have at most.
+    pub fn places(&self) -> usize
+        ensures { result ≡ self.now.cap }
+    {
+        self.cap
+    }
+
+    fn look_at_return(&mut self, op: OpId) -> Result<bool, AllocError>
+        ensures looked { IfOk result (λ full. Looked self.old (Cell.Return op) full self.new) }
+        ensures refused { OnErr result (NotLooked self.old self.new) }
+    {
+        match self.find_return_of(op) {
+            Some(found) => {
+                self.looks.push((Cell::Return(op), true))?;
+                self.tables[op.session as usize].keep_return(op.index as usize, found);
+                Ok(true)
+            }
+            None => {
+                self.looks.push((Cell::Return(op), false))?;
+                Ok(false)
+            }
+        }
+    }
+
+    fn look_at_call(&mut self, op: OpId) -> Result<bool, AllocError>
+        ensures looked { IfOk result (λ full. Looked self.old (Cell.Call op) full self.new) }
+        ensures refused { OnErr result (NotLooked self.old self.new) }
+    {
+        match self.find_call_of(op) {
+            Some(found) => {
+                self.looks.push((Cell::Call(op), true))?;
+                self.tables[op.session as usize].keep_call(op.index as usize, found);
+                Ok(true)
+            }
+            None => {
+                self.looks.push((Cell::Call(op), false))?;
+                Ok(false)
+            }
+        }
+    }
+
+    fn find_return_of(&self, op: OpId) -> Option<Found<ReturnRecord<O>>>
+        ensures { IfSome result (λ f. (lane : Cells) × (slice_get self.now.lanes.cells op.session ≡ Some lane) × IsReturnFound lane op.index f) }
+    {
+        if op.session >= self.lanes.len() as u64 {
+            return None;
+        }
+        find_return(self.lanes.lane(op.session as usize), op.index)
+    }
+
+    fn find_call_of(&self, op: OpId) -> Option<Found<O::Call>>
+        ensures { IfSome result (λ f. (lane : Cells) × (slice_get self.now.lanes.cells op.session ≡ Some lane) × IsCallFound lane op.index f) }
+    {
+        if op.session >= self.lanes.len() as u64 {
+            return None;
+        }
+        find_call(self.lanes.lane(op.session as usize), op.index)
+    }
+}
+
+impl<'a, O: Recorded> Looker for LaneLooker<'a, O> {
+    ghost use Rattle.std.specs.Prelude.{refl};
+    ghost use Rattle.snapshot.specs.Steps.Looking.{KeepsLanes, keeps_lanes_on};
+
+    ghost looks = { λ l. l.looks };
+
+    ghost keeps = { λ a b. KeepsLanes a b };
+
+    ghost keeps_itself = { λ a. (refl, refl, refl, refl) };
+
+    ghost keeps_on = { λ a b c. keeps_lanes_on a b c };
+
+    fn look(&mut self, cell: Cell) -> Result<bool, AllocError> {
+        match cell {
+            Cell::Return(op) => self.look_at_return(op),
+            Cell::Call(op) => self.look_at_call(op),
+        }
+    }
+}
+
+// For each lane how many operations these receipts of it stand for.
+fn told_counts<O: Recorded>(
+    alloc: Global,
+    lanes: &Lanes<O>,
+    receipts: &[Receipt<O>],
+) -> Result<Vec<u16>, AllocError>
+    requires { AreReceiptsOf lanes.now receipts.now }
+    ensures told { IfOk result (λ told. AreToldBy lanes.now receipts.now told.items) }
+    ensures within { IfOk result (λ told. (s : ℕ) (lane : Cells) → slice_get lanes.now.cells s ≡ Some lane → slice_index told.items s ≤ length lane.calls) }
+{
+    let mut told = Vec::with_capacity(alloc, lanes.len())?;
+    for s in 0..lanes.len() {
+        told.push(told_count(lanes, receipts, s))?;
+    }
+    Ok(told)
+}
+
+fn told_count<O: Recorded>(lanes: &Lanes<O>, receipts: &[Receipt<O>], s: usize) -> u16
+    requires receipts { AreReceiptsOf lanes.now receipts.now }
+    requires lane { s < length lanes.now.cells }
+    ensures most { (j : ℕ) (r : _) → slice_get receipts.now j ≡ Some r → r.lane ≡ s → length r.operations ≤ result }
+    ensures reached { 0 < result → (j : ℕ) × (r : _) × (slice_get receipts.now j ≡ Some r) × (r.lane ≡ s) × (length r.operations ≡ result) }
+    ensures within { (lane : Cells) → slice_get lanes.now.cells s ≡ Some lane → result ≤ length lane.calls }
+{
+    let best = longest(receipts, s as u64);
+    if best.count == 0 {
+        return 0;
+    }
+    let receipt = &receipts[best.at];
+    let _places = lanes.lane(s).places();
+    receipt.len() as u16
+}
+
+// For each lane a table with nothing found.
+fn tables_of<O: Recorded>(alloc: Global, lanes: &Lanes<O>) -> Result<Vec<LaneTable<O>>, AllocError>
+    ensures { IfOk result (λ tables. AreTables lanes.now.cells tables.items) }
+{
+    let mut tables = Vec::with_capacity(alloc, lanes.len())?;
+    for s in 0..lanes.len() {
+        tables.push(LaneTable::new(alloc, lanes.lane(s).places())?)?;
+    }
+    Ok(tables)
+}
+
+// How many places the lanes have at most.
+fn most_places<O: Recorded>(lanes: &Lanes<O>) -> usize
+    ensures { (s : ℕ) (lane : Cells) → slice_get lanes.now.cells s ≡ Some lane → length lane.calls ≤ result }
+{
+    let mut most = 0;
+    for s in 0..lanes.len() {
+        most = larger(most, lanes.lane(s).places());
+    }
+    most
+}
+
+fn larger(a: usize, b: usize) -> usize
+    ensures first { a ≤ result }
+    ensures second { b ≤ result }
+{
+    if a < b { b } else { a }
+}

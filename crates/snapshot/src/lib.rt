@@ -1,0 +1,28 @@
+//! Seals of what a recorder holds: which cells are looked at in which order, and what was found.
+#![tactic(auto)]
+
+mod cell;
+mod comparing;
+mod cut_plan;
+mod finding;
+mod found;
+mod lane_looker;
+mod lane_plan;
+mod lane_table;
+mod longest;
+mod looker;
+mod meeting;
+mod sealed;
+mod sealed_lane;
+mod sealing;
+mod sealing_lane;
+mod walking;
+
+pub use cell::Cell;
+pub use cut_plan::CutPlan;
+pub use lane_looker::LaneLooker;
+pub use looker::Looker;
+pub use meeting::{Met, meet};
+pub use sealed::Sealed;
+pub use sealing::seal;
+pub use walking::walk;

@@ -1,0 +1,42 @@
+ghost use Rattle.std.specs.Prelude.{◌≡◌, ◌≤◌, ◌<◌, ◌+◌, length};
+ghost use Rattle.snapshot.specs.Steps.Tables.{IsLongest};
+
+use recorder::{Receipt, Recorded};
+
+/// The receipt of a lane that stands for most operations: for how many, and where it stands.
+#[derive(Clone, Copy)]
+pub struct LongestReceipt {
+    pub(crate) count: usize,
+    pub(crate) at: usize,
+}
+
+/// The longest receipt of a lane; of none its count is 0.
+pub(crate) fn longest<O: Recorded>(receipts: &[Receipt<O>], lane: u64) -> LongestReceipt
+    ensures { IsLongest receipts.now lane (length receipts.now) result }
+{
+    let mut best = LongestReceipt { count: 0, at: 0 };
+    for j in 0..receipts.len() {
+        best = longer(receipts, lane, best, j);
+    }
+    best
+}
+
+fn longer<O: Recorded>(
+    receipts: &[Receipt<O>],
+    lane: u64,
+    best: LongestReceipt,
+    j: usize,
+) -> LongestReceipt
+    requires place { j < length receipts.now }
+    requires before { IsLongest receipts.now lane j best }
+    ensures { IsLongest receipts.now lane (j + 1) result }
+{
+    let receipt = &receipts[j];
+    if receipt.op().session == lane && receipt.len() > best.count {
+        return LongestReceipt {
+            count: receipt.len(),
+            at: j,
+        };
+    }
+    best
+}

@@ -1,0 +1,24 @@
+ghost use Rattle.std.specs.Prelude.{◌≡◌, ◌++◌, ◌∷◌, [], List, IfOk, OnErr};
+ghost use Rattle.snapshot.specs.Plans.{Look};
+
+use crate::cell::Cell;
+use std::alloc::AllocError;
+
+/// What looks at cells, and keeps the list of its looks with their answers.
+pub trait Looker {
+    /// The looks so far, oldest first.
+    ghost looks: { Self → List Look };
+
+    /// What a look leaves as it was.
+    ghost keeps: { Self → Self → Type 0 };
+
+    /// Looks at a cell: whether it was full. A refused look adds none.
+    fn look(&mut self, cell: Cell) -> Result<bool, AllocError>
+        ensures looked { IfOk result (λ full. looks self.new ≡ looks self.old ++ (cell, full) ∷ []) }
+        ensures refused { OnErr result (looks self.new ≡ looks self.old) }
+        ensures kept { keeps self.old self.new };
+
+    ghost keeps_itself: { (a : Self) → keeps a a };
+
+    ghost keeps_on: { (a b c : Self) → keeps a b → keeps b c → keeps a c };
+}

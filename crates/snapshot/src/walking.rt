@@ -1,0 +1,21 @@
+ghost use Rattle.std.specs.Prelude.{IfOk, OnErr};
+ghost use Rattle.snapshot.specs.Walks.{Walks, WalksToTheEnd};
+
+use crate::cut_plan::CutPlan;
+use crate::looker::Looker;
+use std::alloc::AllocError;
+
+/// Looks at each cell that the plan names, once, in the plan's order.
+///
+/// Fails where a look fails, and then keeps the looks made before, in the looker and in the plan.
+pub fn walk<L: Looker>(plan: &mut CutPlan, looker: &mut L) -> Result<(), AllocError>
+    ensures walked { IfOk result (λ _. WalksToTheEnd plan.old (L.looks looker.old) plan.new (L.looks looker.new)) }
+    ensures broken_off { OnErr result (Walks plan.old (L.looks looker.old) plan.new (L.looks looker.new)) }
+    ensures kept { L.keeps looker.old looker.new }
+{
+    while let Some(cell) = plan.next() {
+        let full = looker.look(cell)?;
+        plan.give(full);
+    }
+    Ok(())
+}
