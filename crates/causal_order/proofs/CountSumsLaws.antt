@@ -1,6 +1,6 @@
 -- What follows for sums of counts.
 use Rattle.std.specs.Prelude.{◌≡◌, ◌≢◌, ℕ, ◌+◌, ◌<◌, ◌≤◌, length}
-use Rattle.std.proofs.Common.{zero, suc, arith, sym, ap, subst, ⊎_elim}
+use Rattle.std.proofs.Common.{zero, suc, arith, sym, ap, refl, subst, ⊎_elim}
 use Rattle.std.proofs.lemmas.Bool.{cases_eq}
 use Rattle.history.specs.declared.op_id.OpId.{OpId}
 use Rattle.history.specs.History.{IsOp, session}
@@ -92,3 +92,18 @@ module _ (h : MemoryHistory) where
   pub counted-within : (v w : Counts) → ((o : OpId) (s : ℕ) → IsOp h o → count v o s ≤ count w o s) → all_counted h v ≤ all_counted h w
   counted-within v w within =
       history-within (λ s i t. count v (op s i) t) (λ s i t. count w (op s i) t) (λ s i t exists is_op there. within (op s i) t is_op)
+
+  -- few sessions of few operations count less than 2 ^ 25
+  pub most-few : length h.1 ≤ 16 → ((s : ℕ) → length (session h s) ≤ 256) → most_counted h ≤ 16777216
+  most-few few short =
+      let of_op : sum_below (λ t. 256) 16 ≡ 4096 = refl in
+      let of_session : sum_below (λ i. 4096) 256 ≡ 1048576 = refl in
+      let of_all : sum_below (λ s. 1048576) 16 ≡ 16777216 = refl in
+      let one : sum_below (λ t. length (session h t)) (length h.1) ≤ sum_below (λ t. 256) 16 =
+      sum-most (λ t. length (session h t)) 256 (length h.1) 16 (λ t below. short t) few in
+      let each : (s : ℕ) → sum_below (λ i. sum_below (λ t. length (session h t)) (length h.1)) (length (session h s)) ≤ sum_below (λ i. 4096) 256 =
+      λ s. sum-most (λ i. sum_below (λ t. length (session h t)) (length h.1)) 4096 (length (session h s)) 256 (λ i below. omega arith) (short s) in
+      let all : most_counted h ≤ sum_below (λ s. 1048576) 16 =
+      sum-most (λ s. sum_below (λ i. sum_below (λ t. length (session h t)) (length h.1)) (length (session h s))) 1048576 (length h.1) 16
+      (λ s below. let this = each s in omega arith) few in
+      omega arith

@@ -16,7 +16,7 @@ use Rattle.causal_order.proofs.CountSumsLaws.{counted-most, counted-item}
 use Rattle.causal_order.proofs.FirstWrites.{distinct-source, source-unique}
 use Rattle.causal_order.proofs.GrowingOrdersLaws.{held-by_sources}
 use Rattle.causal_order.proofs.HappenedBeforeLaws.{past-before, past-of_history, past-program, HB-causal, HB-inside}
-use Rattle.causal_order.proofs.HappenedBeforeVectors.{IsLastBelow, IsSupported, IsFixed, call-cases, fixed-exact, supported-through, supported-rival, supported-raised}
+use Rattle.causal_order.proofs.HappenedBeforeVectors.{IsFixed, call-cases, fixed-exact, supported-through, supported-rival, supported-raised}
 use Rattle.causal_order.proofs.Items.{cases-op, held-item, listed-held}
 use Rattle.causal_order.proofs.MemoryLaws.{same_read, same_written}
 use Rattle.causal_order.proofs.OrdersLaws.{session-of_history}
@@ -31,6 +31,7 @@ use Rattle.causal_order.specs.Relations.{ReadsFrom, IsEdge, IsPast, HB}
 use Rattle.causal_order.specs.SourceOrder.{CountsSourceOrder}
 use Rattle.causal_order.proofs.FirstWrites.{CO-from_sources}
 use Rattle.causal_order.specs.Steps.GrowingOrders.{AreHeldVectors}
+use Rattle.causal_order.specs.Steps.HappenedBefores.{IsLastBelow, IsSupported}
 use Rattle.causal_order.specs.Vectors.{Counts, count, list_of, IsWithin, with_item}
 
 -- something holds of each number below a bound, or something else is found

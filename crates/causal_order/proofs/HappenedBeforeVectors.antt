@@ -13,7 +13,7 @@ use Rattle.causal_order.specs.HappenedBeforeVectors.{IsHBVectors}
 use Rattle.causal_order.specs.Memory.{MemoryCall, MemoryHistory, IsDifferentiated, Writes}
 use Rattle.causal_order.specs.Orders.{op, Order, program_past}
 use Rattle.causal_order.specs.Relations.{ReadsFrom, IsEdge, CO, AreRivalWrites, IsPast, IsClosed, HB}
-use Rattle.causal_order.specs.Steps.HappenedBefores.{AreStrictOf}
+use Rattle.causal_order.specs.Steps.HappenedBefores.{AreStrictOf, IsLastBelow, IsSupported}
 use Rattle.causal_order.specs.SourceOrder.{CountsSourceOrder, SourceOrder}
 use Rattle.causal_order.specs.Sources.{IsListed}
 use Rattle.causal_order.specs.Vectors.{Counts, count, list_of, IsCounted, IsWithin, with_item}
@@ -22,17 +22,6 @@ use Rattle.causal_order.proofs.HappenedBeforeLaws.{in_past, in_past-from, in_pas
 use Rattle.causal_order.proofs.Items.{item-cases, item-here}
 use Rattle.causal_order.proofs.OrdersLaws.{same_op}
 use Rattle.causal_order.proofs.RelationsLaws.{leads-edge, leads-leads}
-
--- the operation m of the session u is the last of its first n operations that writes the variable x
-pub record IsLastBelow (h : MemoryHistory) (x u n m : ℕ) : Type 0 where
-  pub below : m < n
-  pub value : ℕ
-  pub writes : Writes h (op u m) x value
-  pub last : (j y : ℕ) → m < j → j < n → ¬ Writes h (op u j) x y
-
--- what they count there is in the relation
-abbrev pub IsSupported : MemoryHistory → OpId → Counts → Type 0
-IsSupported h o now = (a b : OpId) → IsPast h o b → IsCounted now b a → HB h o a b
 
 -- nothing is left to be added on the past of o: there they count what the vectors v of the causal order do, each without
 -- its own operation; they count operations of the past alone; each counts what the last one that it counts of a session

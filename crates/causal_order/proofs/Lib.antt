@@ -8,7 +8,6 @@ pub mod Places
 pub mod NextVector
 pub mod Flat
 pub mod Items
-pub mod Growing
 pub mod StrictVectors
 pub mod OwnVectors
 pub mod Walked
@@ -45,6 +44,16 @@ pub mod VectorsExist
 pub mod OrderDecisions
 pub mod CountSumsLaws
 pub mod HappenedBeforeExists
+pub mod GrowthLaws
+pub mod Raises
+pub mod Ranges
+pub mod RaisesMade
+pub mod Released
+pub mod GrowingSteps
+pub mod FollowedReads
+pub mod StrictLaws
+pub mod RelationsMade
+pub mod Saturating
 pub mod WaitsLaws
 pub mod Placed
 pub mod TopologicalOrders

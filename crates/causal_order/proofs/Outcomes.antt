@@ -1,6 +1,6 @@
 -- What follows for a result that may be an error, or nothing.
 use Rattle.std.proofs.Common.{Result, Ok, Err}
-use Rattle.std.specs.Prelude.{Option, Some, None, IfOk, IfSome, IfNone, MatchOption}
+use Rattle.std.specs.Prelude.{Option, Some, None, IfOk, IfSome, IfNone, MatchOption, OnOk}
 
 module _ {A E : Type 0} where
   pub some-weaker : (r : Result (Option A) E) (P Q R : A → Type 0) → ((x : A) → P x → Q x → R x)
@@ -13,6 +13,15 @@ module _ {A E : Type 0} where
   none-weaker (Ok None) P Q weaker p = weaker p
   none-weaker (Ok (Some x)) P Q weaker p = p
   none-weaker (Err e) P Q weaker p = p
+
+module _ {A E : Type 0} where
+  pub on_ok-one : (r : Result A E) (P Q : Type 0) → (P → Q) → OnOk r P → OnOk r Q
+  on_ok-one (Ok x) P Q weaker p = weaker p
+  on_ok-one (Err e) P Q weaker p = p
+
+  pub on_ok-both : (r : Result A E) (P Q R : Type 0) → (P → Q → R) → OnOk r P → OnOk r Q → OnOk r R
+  on_ok-both (Ok x) P Q R both p q = both p q
+  on_ok-both (Err e) P Q R both p q = p
 
 -- what is so of nothing, and what is so of something
 pub both-outcomes : {A : Type 0} (e : Option A) (P : Type 0) (Q : A → Type 0) → IfNone e P → IfSome e Q → MatchOption e P Q

@@ -4,6 +4,7 @@ pub mod FlatRows
 pub mod Gathered
 pub mod Listed
 pub mod GrowingOrders
+pub mod GrowthSteps
 pub mod HappenedBefores
 pub mod Indexed
 pub mod Waiting

@@ -1,19 +1,18 @@
 //! Orders of operations that contain program order, while they grow until they are transitive.
 
-ghost use Rattle.std.specs.Prelude.{◌≡◌, ◌<◌, ◌≤◌, ◌↔◌, length, IfOk, IfSome, IsSome, IsTrue, OnOk, slice_index};
-ghost use Rattle.history.specs.History.{IsOp, session as operations_of};
-ghost use Rattle.causal_order.specs.Steps.GrowingOrders.{AreHeldVectors, Grows, IsGrowing, IsRaisedIn, left_of};
+ghost use Rattle.std.specs.Prelude.{◌≡◌, ◌<◌, ◌≤◌, ◌↔◌, ◌⊎◌, ◌+◌, [], ℕ, length, IfOk, IsTrue, MatchBool, MatchOption, OnOk, slice_index};
+ghost use Rattle.history.specs.History.{IsOp, Precedes, session as operations_of};
+ghost use Rattle.causal_order.specs.Orders.{op, Ops};
+ghost use Rattle.causal_order.specs.Steps.GrowingOrders.{AreHeldVectors};
+ghost use Rattle.causal_order.specs.Steps.GrowthSteps.{GrowsWithin, IsAtEnd, IsBegun, IsCaused, IsFirstBehind, IsFollowed, IsGivenUp, IsGrowing, IsIn, IsIncluded, IsMonotone, IsOneRaise, IsPastBefore, IsPastOf, IsRaisedFrom, IsRaisedTo, IsReady, IsRuled, IsSettled, NoMore, NoReads, TakesOut, TakesPast, TakesUpTo, Waits};
 ghost use Rattle.causal_order.specs.Steps.HappenedBefores.{AreStrictOf};
-ghost use Rattle.causal_order.specs.Vectors.{count};
+ghost use Rattle.causal_order.specs.Vectors.{count, IsCounted};
 
 use crate::by_operation::Vectors;
 use crate::strict::strict_vectors;
 use history::{History, OpId};
 use objects::Memory;
 use std::alloc::{AllocError, Global};
-
-/// How many pairs an order may have that it didn't begin with.
-pub(crate) const MOST_ADDED: u32 = 100_000;
 
 /// Counts that were raised: those of one session, in the vectors of neighbours in a session.
 #[derive(Clone, Copy, Debug)]
@@ -55,7 +54,8 @@ pub struct Raise {
 /// Within a session no count falls from one operation to the next. An operation comes before itself where its vector
 /// counts more of its own session than its index.
 ///
-/// What is proved of it: it speaks of operations of the history alone, and its counts only grow. The rest is tested.
+/// What a raise demands of other vectors is done when the raise is followed. Where nothing waits to be followed, the order
+/// is transitive.
 #[derive(Drop)]
 pub(crate) struct GrowingOrder {
     /// The vectors.
@@ -66,6 +66,8 @@ pub(crate) struct GrowingOrder {
     pub(crate) pending: Vec<Raised>,
     /// What was raised, in turn.
     pub(crate) raises: Vec<Raise>,
+    /// How many pairs may be added until the order is given up, or none where it never is.
+    pub(crate) most: Option<u32>,
     /// How many pairs were added.
     pub(crate) added: u32,
     /// Whether some operation comes before itself.
@@ -78,9 +80,12 @@ impl GrowingOrder {
         alloc: Global,
         h: &History<Memory>,
         vectors: &Vectors,
+        most: Option<u32>,
     ) -> Result<GrowingOrder, AllocError>
         requires { AreHeldVectors h.now vectors.now }
         ensures growing { IfOk result (IsGrowing h.now) }
+        ensures begun { IfOk result IsBegun }
+        ensures most { IfOk result (λ order. order.most ≡ most) }
         ensures strict { IfOk result (λ order. AreStrictOf h.now vectors.now order.counts) }
     {
         let counts = strict_vectors(alloc, h, vectors)?;
@@ -90,6 +95,7 @@ impl GrowingOrder {
             past,
             pending: Vec::new(alloc),
             raises: Vec::new(alloc),
+            most,
             added: 0,
             is_cyclic: false,
         })
@@ -97,9 +103,12 @@ impl GrowingOrder {
 
     /// Whether more pairs were added than may be.
     pub(crate) fn is_given_up(&self) -> bool
-        ensures { IsTrue result ↔ (100000 < self.now.added) }
+        ensures { IsTrue result ↔ IsGivenUp self.now }
     {
-        self.added > MOST_ADDED
+        match self.most {
+            Some(most) => most < self.added,
+            None => false,
+        }
     }
 
     /// How many operations of a session are before an operation.
@@ -112,12 +121,10 @@ impl GrowingOrder {
         self.counts.get(op)[session]
     }
 
-    /// What was raised last and isn't followed yet, or none where the order is given up.
+    /// What was raised last and isn't followed yet, or none where nothing waits or the order is given up.
     pub(crate) fn next_raised(&mut self, h: &History<Memory>) -> Option<Raised>
         requires { IsGrowing h.now self.old }
-        ensures grows { Grows h.now self.old self.new }
-        ensures raised { IfSome result (IsRaisedIn h.now) }
-        ensures less { IsSome result → left_of self.new < left_of self.old }
+        ensures { MatchOption result (IsAtEnd h.now self.old self.new) (TakesOut h.now self.old self.new) }
     {
         if self.is_given_up() {
             return None;
@@ -129,9 +136,11 @@ impl GrowingOrder {
     ///
     /// O(k^2) for each operation that is taken in, for k sessions, besides what is raised.
     pub(crate) fn take_past(&mut self, h: &History<Memory>, op: OpId) -> Result<(), AllocError>
-        requires growing { IsGrowing h.now self.old }
+        requires ready { IsReady h.now self.old }
         requires is_op { IsOp h.now op }
-        ensures { OnOk result (Grows h.now self.old self.new) }
+        requires next { slice_index self.old.past.items op.session ≤ op.index }
+        requires own { count self.old.counts op op.session ≡ op.index }
+        ensures { OnOk result (TakesPast h.now self.old self.new op) }
     {
         for session in 0..h.sessions() {
             let count = self.count(h, op, session) as usize;
@@ -147,10 +156,10 @@ impl GrowingOrder {
         session: usize,
         end: usize,
     ) -> Result<(), AllocError>
-        requires growing { IsGrowing h.now self.old }
+        requires ready { IsReady h.now self.old }
         requires session { session < length h.now.1 }
         requires inside { end ≤ length (operations_of h.now session) }
-        ensures { OnOk result (Grows h.now self.old self.new) }
+        ensures { OnOk result (TakesUpTo h.now self.old self.new session end) }
     {
         for index in self.past[session] as usize..end {
             let op = OpId {
@@ -167,27 +176,60 @@ impl GrowingOrder {
     ///
     /// O(1) where nothing was added, and O(k^2) else, for k sessions, besides what it raises.
     fn take_in(&mut self, h: &History<Memory>, op: OpId) -> Result<(), AllocError>
-        requires growing { IsGrowing h.now self.old }
+        requires ready { IsReady h.now self.old }
         requires is_op { IsOp h.now op }
-        ensures { OnOk result (Grows h.now self.old self.new) }
+        requires next { op.index ≡ slice_index self.old.past.items op.session }
+        ensures { OnOk result (TakesUpTo h.now self.old self.new op.session (op.index + 1)) }
     {
         self.include(h, op);
         if self.added == 0 {
             return Ok(());
         }
+        self.add_before(h, op)?;
+        self.add_all_last(h, op)
+    }
+
+    /// Counts the next operation of a session among the operations of the order.
+    fn include(&mut self, h: &History<Memory>, op: OpId)
+        requires growing { IsGrowing h.now self.old }
+        requires is_op { IsOp h.now op }
+        requires next { op.index ≡ slice_index self.old.past.items op.session }
+        ensures { IsIncluded h.now self.old self.new op }
+    {
+        self.past[op.session as usize] = op.index as u16 + 1;
+    }
+
+    /// Puts all that is before the operation before an operation in its session before that.
+    fn add_before(&mut self, h: &History<Memory>, op: OpId) -> Result<(), AllocError>
+        requires growing { IsGrowing h.now self.old }
+        requires is_op { IsOp h.now op }
+        requires is_in { IsIn self.old op }
+        ensures within { OnOk result (GrowsWithin h.now NoReads self.old self.new) }
+        ensures before { OnOk result (IsPastBefore self.new.counts op) }
+    {
+        if op.index == 0 {
+            return Ok(());
+        }
+        let before = OpId {
+            session: op.session,
+            index: op.index - 1,
+        };
+        self.add_past(h, op, before)
+    }
+
+    /// Puts all that is before the last operations of each session that the vector of an operation counts before the
+    /// operation.
+    fn add_all_last(&mut self, h: &History<Memory>, op: OpId) -> Result<(), AllocError>
+        requires growing { IsGrowing h.now self.old }
+        requires is_op { IsOp h.now op }
+        requires is_in { IsIn self.old op }
+        ensures within { OnOk result (GrowsWithin h.now NoReads self.old self.new) }
+        ensures followed { OnOk result ((y : ℕ) → y < length h.now.1 → IsFollowed (Waits NoMore self.new) self.new.counts op y) }
+    {
         for session in 0..h.sessions() {
             self.add_last(h, op, session)?;
         }
         Ok(())
-    }
-
-    /// Counts an operation and those before it in its session among the operations of the order.
-    fn include(&mut self, h: &History<Memory>, op: OpId)
-        requires growing { IsGrowing h.now self.old }
-        requires is_op { IsOp h.now op }
-        ensures { Grows h.now self.old self.new }
-    {
-        self.past[op.session as usize] = op.index as u16 + 1;
     }
 
     /// Follows what was raised: the operation comes behind all that is before the last one counted, and what comes
@@ -195,10 +237,26 @@ impl GrowingOrder {
     pub(crate) fn follow(&mut self, h: &History<Memory>, raised: Raised) -> Result<(), AllocError>
         requires growing { IsGrowing h.now self.old }
         requires is_op { IsOp h.now raised.op }
+        requires is_in { IsIn self.old raised.op }
         requires exists { raised.session < length h.now.1 }
-        ensures { OnOk result (Grows h.now self.old self.new) }
+        requires settled { IsSettled (λ e. e ≡ raised) self.old }
+        ensures within { OnOk result (GrowsWithin h.now NoReads self.old self.new) }
+        ensures settled { OnOk result (IsSettled NoMore self.new) }
     {
         self.add_last(h, raised.op, raised.session)?;
+        self.add_behind(h, raised)
+    }
+
+    /// Lets what comes behind an operation that was raised count as much.
+    fn add_behind(&mut self, h: &History<Memory>, raised: Raised) -> Result<(), AllocError>
+        requires growing { IsGrowing h.now self.old }
+        requires is_op { IsOp h.now raised.op }
+        requires exists { raised.session < length h.now.1 }
+        requires settled { IsSettled (λ e. e ≡ raised) self.old }
+        requires followed { IsFollowed (Waits NoMore self.old) self.old.counts raised.op raised.session }
+        ensures within { OnOk result (GrowsWithin h.now NoReads self.old self.new) }
+        ensures settled { OnOk result (IsSettled NoMore self.new) }
+    {
         let count = self.count(h, raised.op, raised.session);
         for session in 0..h.sessions() {
             let index = self.first_behind(h, session, raised.op);
@@ -213,8 +271,10 @@ impl GrowingOrder {
     fn add_last(&mut self, h: &History<Memory>, op: OpId, session: usize) -> Result<(), AllocError>
         requires growing { IsGrowing h.now self.old }
         requires is_op { IsOp h.now op }
+        requires is_in { IsIn self.old op }
         requires exists { session < length h.now.1 }
-        ensures { OnOk result (Grows h.now self.old self.new) }
+        ensures within { OnOk result (GrowsWithin h.now NoReads self.old self.new) }
+        ensures followed { OnOk result (IsFollowed (Waits NoMore self.new) self.new.counts op session) }
     {
         let count = self.count(h, op, session);
         if count == 0 {
@@ -227,8 +287,7 @@ impl GrowingOrder {
         self.add_past(h, op, last)
     }
 
-    /// Puts a write that is before a read, and all before it, before the source of the read. O(k) for k sessions, besides
-    /// what it raises.
+    /// Puts a write that is before a read before the source of the read. What is before it follows.
     pub(crate) fn add_rival(
         &mut self,
         h: &History<Memory>,
@@ -238,15 +297,17 @@ impl GrowingOrder {
     ) -> Result<(), AllocError>
         requires growing { IsGrowing h.now self.old }
         requires source { IsOp h.now source }
+        requires is_in { IsIn self.old source }
         requires write { IsOp h.now write }
-        ensures { OnOk result (Grows h.now self.old self.new) }
+        ensures within { (reads : Ops) → IsRuled h.now reads self.old.counts source write.session (write.index + 1) → OnOk result (GrowsWithin h.now reads self.old self.new) }
+        ensures growing { OnOk result (IsGrowing h.now self.new) }
+        ensures counted { OnOk result (IsCounted self.new.counts source write) }
     {
         let session = source.session as usize;
         let index = source.index as usize;
         let other = write.session as usize;
         let count = write.index as u16 + 1;
-        self.raise_from(h, session, index, other, count, Cause::Read(read))?;
-        self.add_past(h, source, write)
+        self.raise_from(h, session, index, other, count, Cause::Read(read))
     }
 
     /// Puts all that is before an operation before another one, which that one is before. O(k) for k sessions, besides what
@@ -254,8 +315,11 @@ impl GrowingOrder {
     fn add_past(&mut self, h: &History<Memory>, op: OpId, before: OpId) -> Result<(), AllocError>
         requires growing { IsGrowing h.now self.old }
         requires is_op { IsOp h.now op }
+        requires is_in { IsIn self.old op }
         requires before { IsOp h.now before }
-        ensures { OnOk result (Grows h.now self.old self.new) }
+        requires cause { IsCounted self.old.counts op before ⊎ Precedes before op }
+        ensures within { OnOk result (GrowsWithin h.now NoReads self.old self.new) }
+        ensures past { OnOk result (IsPastOf self.new.counts op before) }
     {
         for session in 0..h.sessions() {
             let count = self.count(h, before, session);
@@ -272,7 +336,8 @@ impl GrowingOrder {
         requires growing { IsGrowing h.now self.now }
         requires is_op { IsOp h.now op }
         requires exists { session < length h.now.1 }
-        ensures { result ≤ slice_index self.now.past.items session }
+        requires monotone { IsMonotone self.now.counts (λ s. slice_index self.now.past.items s) }
+        ensures { IsFirstBehind self.now session op result }
     {
         let mut low = 0;
         let mut high = self.past[session] as usize;
@@ -299,28 +364,33 @@ impl GrowingOrder {
         session: usize,
         index: usize,
         other: usize,
-        count: u16,
+        number: u16,
         cause: Cause,
     ) -> Result<(), AllocError>
         requires growing { IsGrowing h.now self.old }
         requires session { session < length h.now.1 }
         requires inside { index ≤ length (operations_of h.now session) }
         requires other { other < length h.now.1 }
-        requires held { count ≤ length (operations_of h.now other) }
-        ensures { OnOk result (Grows h.now self.old self.new) }
+        requires held { number ≤ length (operations_of h.now other) }
+        ensures growing { OnOk result (IsGrowing h.now self.new) }
+        ensures within { (reads : Ops) → (index < slice_index self.old.past.items session → IsCaused h.now reads self.old.counts (op session index) other number) → OnOk result (GrowsWithin h.now reads self.old self.new) }
+        ensures raised { OnOk result (IsRaisedFrom self.old.counts self.new.counts (slice_index self.old.past.items session) session index other number) }
     {
-        let end = self.raise_up_to(h, session, index, other, count, cause)?;
-        if end > index {
-            let op = OpId {
-                session: session as u64,
-                index: index as u64,
-            };
-            self.is_cyclic = self.is_cyclic || session == other;
-            self.pending.push(Raised {
-                op,
-                end,
-                session: other,
-            })?;
+        let end = self.raise_up_to(h, session, index, other, number, cause)?;
+        if end == index {
+            return Ok(());
+        }
+        let op = OpId {
+            session: session as u64,
+            index: index as u64,
+        };
+        self.pending.push(Raised {
+            op,
+            end,
+            session: other,
+        })?;
+        if session == other {
+            self.is_cyclic = true;
         }
         Ok(())
     }
@@ -333,18 +403,16 @@ impl GrowingOrder {
         session: usize,
         index: usize,
         other: usize,
-        count: u16,
+        number: u16,
         cause: Cause,
     ) -> Result<usize, AllocError>
         requires growing { IsGrowing h.now self.old }
         requires session { session < length h.now.1 }
         requires inside { index ≤ length (operations_of h.now session) }
         requires other { other < length h.now.1 }
-        requires held { count ≤ length (operations_of h.now other) }
-        ensures grows { OnOk result (Grows h.now self.old self.new) }
-        ensures less { IfOk result (λ end. index < end → left_of self.new < left_of self.old) }
-        ensures inside { IfOk result (λ end. end ≤ length (operations_of h.now session)) }
-        ensures from { IfOk result (λ end. index ≤ end) }
+        requires held { number ≤ length (operations_of h.now other) }
+        ensures raised { IfOk result (λ end. IsRaisedTo h.now self.old self.new session index end other number) }
+        ensures stopped { IfOk result (λ end. end < slice_index self.old.past.items session → number ≤ count self.old.counts (op session end) other) }
     {
         let first = OpId {
             session: session as u64,
@@ -361,7 +429,7 @@ impl GrowingOrder {
             } else {
                 Cause::Through(first)
             };
-            if !self.raise(h, op, other, count, cause)? {
+            if !self.raise(h, op, other, number, cause)? {
                 return Ok(end);
             }
             end += 1;
@@ -369,35 +437,33 @@ impl GrowingOrder {
         Ok(end)
     }
 
-    /// Raises what the vector of an operation counts of a session, where that is less and the order isn't given up.
-    /// Whether it was raised.
+    /// Raises what the vector of an operation counts of a session, where that is less. Whether it was raised.
     fn raise(
         &mut self,
         h: &History<Memory>,
         op: OpId,
         session: usize,
-        count: u16,
+        number: u16,
         cause: Cause,
     ) -> Result<bool, AllocError>
         requires growing { IsGrowing h.now self.old }
         requires is_op { IsOp h.now op }
         requires exists { session < length h.now.1 }
-        requires held { count ≤ length (operations_of h.now session) }
-        ensures grows { OnOk result (Grows h.now self.old self.new) }
-        ensures less { IfOk result (λ raised. IsTrue raised → left_of self.new < left_of self.old) }
+        requires held { number ≤ length (operations_of h.now session) }
+        ensures { IfOk result (λ raised. MatchBool raised (IsOneRaise h.now self.old self.new op session number) ((self.new ≡ self.old) × (number ≤ count self.old.counts op session))) }
     {
         let before = self.count(h, op, session);
-        if count <= before || self.is_given_up() {
+        if number <= before {
             return Ok(false);
         }
         self.raises.push(Raise {
             op,
             session,
-            count,
+            count: number,
             cause,
         })?;
-        self.counts.set(op, session, count);
-        self.added += (count - before) as u32;
+        self.counts.set(op, session, number);
+        self.added += (number - before) as u32;
         Ok(true)
     }
 }

@@ -1,9 +1,14 @@
 //! What happened before the operations of a session.
 
-ghost use Rattle.std.specs.Prelude.{◌≡◌, ◌+◌, ◌<◌, length, IfOk, IfSome, OnOk};
-ghost use Rattle.history.specs.History.{IsOp, session as operations_of};
-ghost use Rattle.causal_order.specs.Steps.GrowingOrders.{AreHeldVectors, IsRaisedIn};
-ghost use Rattle.causal_order.specs.Steps.HappenedBefores.{AreStrictOf, HasGrown, IsWellFormed, TakesNext, raises_of, session_of, taken_of, vectors_of};
+ghost use Rattle.std.specs.Prelude.{◌≡◌, ◌⊎◌, ◌+◌, ◌<◌, ◌≤◌, [], ℕ, length, option_map, IfOk, MatchOption, Option, OnOk, Some};
+ghost use Rattle.history.specs.History.{IsOp, entry, session as operations_of};
+ghost use Rattle.causal_order.specs.Memory.{MemoryCall, IsDifferentiated, Writes};
+ghost use Rattle.causal_order.specs.Orders.{op};
+ghost use Rattle.causal_order.specs.SourceOrder.{CountsSourceOrder};
+ghost use Rattle.causal_order.specs.Steps.GrowingOrders.{IsRaisedIn};
+ghost use Rattle.causal_order.specs.Steps.GrowthSteps.{Always, IsGivenUp, IsIn, IsSettled, NoMore, Waits};
+ghost use Rattle.causal_order.specs.Steps.HappenedBefores.{AreReadsFollowed, AreSourcesIn, AreStrictOf, HasGrown, IsLastBelow, IsMade, IsReadFollowed, IsWellFormed, TakesIn, TakesNext, Tells, most_of, raises_of, session_of, taken_of, vectors_of};
+ghost use Rattle.causal_order.specs.Vectors.{count};
 
 use crate::by_operation::Vectors;
 use crate::growing_order::{GrowingOrder, Raise, Raised};
@@ -14,16 +19,17 @@ use history::{History, OpId};
 use objects::Memory;
 use std::alloc::{AllocError, Global};
 
+/// How many pairs a relation may have that the causal order doesn't have, where a certificate or a derivation is made of it.
+pub const MOST_PAIRS: u32 = 100_000;
+
 /// What is known of the happened-before relation of an operation.
-///
-/// That these answers are right is tested, not proved.
 #[derive(Clone, Copy, Debug, PartialEq, Eq)]
 pub enum Saturation {
     /// The vectors are those of the relation, and no operation is before itself.
     Saturated,
     /// Some operation is before itself.
     Cyclic,
-    /// The relation has more than 100,000 pairs that the causal order doesn't have, and isn't made.
+    /// The relation has more pairs than it may have that the causal order doesn't have, and isn't made.
     GivenUp,
 }
 
@@ -47,7 +53,7 @@ pub struct HappenedBefore {
 
 impl HappenedBefore {
     /// The relation for the operations of a session, of which none is taken in yet, from the vectors of the causal
-    /// order.
+    /// order, and with at most so many pairs that the causal order doesn't have, if a number is given.
     ///
     /// Fails for want of memory alone. O(n (log n + k)) for n operations of k sessions.
     pub fn of(
@@ -55,18 +61,20 @@ impl HappenedBefore {
         h: &History<Memory>,
         vectors: &Vectors,
         session: usize,
+        most: Option<u32>,
     ) -> Result<HappenedBefore, AllocError>
-        requires vectors { AreHeldVectors h.now vectors.now }
+        requires order { CountsSourceOrder h.now vectors.now }
         requires exists { session < length h.now.1 }
-        ensures well_formed { IfOk result (IsWellFormed h.now) }
+        ensures made { IfOk result (IsMade h.now) }
         ensures session { IfOk result (λ happened. session_of happened ≡ session) }
         ensures taken { IfOk result (λ happened. taken_of happened ≡ 0) }
+        ensures most { IfOk result (λ happened. most_of happened ≡ most) }
         ensures strict { IfOk result (λ happened. AreStrictOf h.now vectors.now (vectors_of happened)) }
     {
         let mut writes = sorted_writes(alloc, h)?;
         let sources = known_sources(alloc, h, &writes, session)?;
         sort_by_variable(&mut writes);
-        let order = GrowingOrder::of(alloc, h, vectors)?;
+        let order = GrowingOrder::of(alloc, h, vectors, most)?;
         Ok(HappenedBefore {
             session,
             taken: 0,
@@ -78,30 +86,26 @@ impl HappenedBefore {
 
     /// Goes on to the happened-before relation of the session's next operation.
     ///
-    /// It is proved that this operation is taken in and that no vector counts less than before. That the vectors are then
-    /// those of its relation, where this isn't given up, is tested, not proved. After a cyclic relation those of the later
-    /// operations are cyclic or given up, and after one that is given up all are. Fails for want of memory alone, and
-    /// nothing is left then. O(q k^2 + m k log p) for q operations and m pairs that the relation has more than before, and
-    /// k sessions of at most p operations.
+    /// Where values are distinct, its vectors then count exactly this relation, or it is given up: then it has more pairs than
+    /// it may have that the causal order doesn't have. After a cyclic relation those of the later operations are cyclic or
+    /// given up, and after one that is given up all are. Fails for want of memory alone, and nothing is left then. O(q k^2 +
+    /// m k log p) for q operations and m pairs that the relation has more than before, and k sessions of at most p operations.
     pub fn take_next(mut self, h: &History<Memory>) -> Result<HappenedBefore, AllocError>
-        requires well_formed { IsWellFormed h.now self }
+        requires made { IsMade h.now self }
         requires next { taken_of self < length (operations_of h.now (session_of self)) }
         ensures { IfOk result (TakesNext h.now self) }
     {
         let index = self.taken;
-        let op = OpId {
-            session: self.session as u64,
-            index: index as u64,
-        };
-        self.order.take_past(h, op)?;
-        self.taken += 1;
+        self.take_in(h)?;
         self.follow_read_of_all(h, index)?;
         self.saturate(h)?;
         Ok(self)
     }
 
-    /// What the relation of the last operation that was taken in came to: tested, not proved. O(1).
-    pub fn saturation(&self) -> Saturation {
+    /// What the relation of the last operation that was taken in came to. O(1).
+    pub fn saturation(&self) -> Saturation
+        ensures { Tells self.now result }
+    {
         if self.order.is_given_up() {
             Saturation::GivenUp
         } else if self.order.is_cyclic {
@@ -114,7 +118,7 @@ impl HappenedBefore {
     /// For each operation, how many operations of each session are before it. O(1).
     ///
     /// For an operation that is neither the last one taken in nor before it in the causal order, these are what the causal
-    /// order puts before it. That they are so is tested, not proved.
+    /// order puts before it.
     pub fn vectors(&self) -> &Vectors
         ensures { result.now ≡ vectors_of self.now }
     {
@@ -131,23 +135,64 @@ impl HappenedBefore {
         self.order.raises.as_slice()
     }
 
+    /// Takes the session's next operation in, with what is before it in the causal order.
+    fn take_in(&mut self, h: &History<Memory>) -> Result<(), AllocError>
+        requires made { IsMade h.now self.old }
+        requires next { taken_of self.old < length (operations_of h.now (session_of self.old)) }
+        ensures { OnOk result (TakesIn h.now self.old self.new) }
+    {
+        let op = OpId {
+            session: self.session as u64,
+            index: self.taken as u64,
+        };
+        self.order.take_past(h, op)?;
+        self.taken += 1;
+        Ok(())
+    }
+
     /// Follows what was raised until nothing is left, or the order is given up.
     fn saturate(&mut self, h: &History<Memory>) -> Result<(), AllocError>
-        requires { IsWellFormed h.now self.old }
-        ensures { OnOk result (HasGrown h.now self.old self.new) }
+        requires well_formed { IsWellFormed h.now self.old }
+        requires sources { AreSourcesIn h.now self.old }
+        requires settled { IsSettled NoMore self.old.order }
+        requires reads { AreReadsFollowed h.now NoMore (taken_of self.old) self.old }
+        ensures grown { OnOk result (HasGrown h.now Always self.old self.new) }
+        ensures settled { OnOk result (IsSettled NoMore self.new.order) }
+        ensures reads { OnOk result (AreReadsFollowed h.now NoMore (taken_of self.new) self.new) }
+        ensures ended { OnOk result ((length self.new.order.pending.items ≡ 0) ⊎ IsGivenUp self.new.order) }
     {
         while let Some(raised) = self.order.next_raised(h) {
-            self.order.follow(h, raised)?;
-            self.follow_reads(h, raised)?;
+            self.follow(h, raised)?;
         }
         Ok(())
+    }
+
+    /// Follows what was raised, in the order and at the reads of the session.
+    fn follow(&mut self, h: &History<Memory>, raised: Raised) -> Result<(), AllocError>
+        requires well_formed { IsWellFormed h.now self.old }
+        requires sources { AreSourcesIn h.now self.old }
+        requires raised { IsRaisedIn h.now raised }
+        requires is_in { IsIn self.old.order raised.op }
+        requires settled { IsSettled (λ e. e ≡ raised) self.old.order }
+        requires reads { AreReadsFollowed h.now (λ e. e ≡ raised) (taken_of self.old) self.old }
+        ensures grown { OnOk result (HasGrown h.now ⊥ self.old self.new) }
+        ensures settled { OnOk result (IsSettled NoMore self.new.order) }
+        ensures reads { OnOk result (AreReadsFollowed h.now NoMore (taken_of self.new) self.new) }
+    {
+        self.order.follow(h, raised)?;
+        self.follow_reads(h, raised)
     }
 
     /// Puts the writes before the sources that what was raised demands.
     fn follow_reads(&mut self, h: &History<Memory>, raised: Raised) -> Result<(), AllocError>
         requires well_formed { IsWellFormed h.now self.old }
+        requires sources { AreSourcesIn h.now self.old }
         requires raised { IsRaisedIn h.now raised }
-        ensures { OnOk result (HasGrown h.now self.old self.new) }
+        requires settled { IsSettled NoMore self.old.order }
+        requires reads { AreReadsFollowed h.now (λ e. e ≡ raised) (taken_of self.old) self.old }
+        ensures grown { OnOk result (HasGrown h.now ⊥ self.old self.new) }
+        ensures settled { OnOk result (IsSettled NoMore self.new.order) }
+        ensures reads { OnOk result (AreReadsFollowed h.now NoMore (taken_of self.new) self.new) }
     {
         if raised.op.session != self.session as u64 {
             return Ok(());
@@ -161,8 +206,10 @@ impl HappenedBefore {
     /// Puts the writes of each session that are before a read of this session before its source.
     fn follow_read_of_all(&mut self, h: &History<Memory>, index: usize) -> Result<(), AllocError>
         requires well_formed { IsWellFormed h.now self.old }
-        requires index { index < length (operations_of h.now (session_of self.old)) }
-        ensures { OnOk result (HasGrown h.now self.old self.new) }
+        requires sources { AreSourcesIn h.now self.old }
+        requires index { index < taken_of self.old }
+        ensures grown { OnOk result (HasGrown h.now ⊥ self.old self.new) }
+        ensures followed { OnOk result ((u : ℕ) → u < length h.now.1 → IsReadFollowed h.now (Waits NoMore self.new.order) (vectors_of self.new) (op (session_of self.new) index) u) }
     {
         for session in 0..h.sessions() {
             self.follow_read(h, index, session)?;
@@ -179,9 +226,11 @@ impl HappenedBefore {
         session: usize,
     ) -> Result<(), AllocError>
         requires well_formed { IsWellFormed h.now self.old }
-        requires index { index < length (operations_of h.now (session_of self.old)) }
+        requires sources { AreSourcesIn h.now self.old }
+        requires index { index < taken_of self.old }
         requires exists { session < length h.now.1 }
-        ensures { OnOk result (HasGrown h.now self.old self.new) }
+        ensures grown { OnOk result (HasGrown h.now ⊥ self.old self.new) }
+        ensures followed { OnOk result (IsReadFollowed h.now (Waits NoMore self.new.order) (vectors_of self.new) (op (session_of self.new) index) session) }
     {
         let Some(source) = self.sources[index] else {
             return Ok(());
@@ -201,7 +250,9 @@ impl HappenedBefore {
         requires well_formed { IsWellFormed h.now self.now }
         requires is_op { IsOp h.now read }
         requires exists { session < length h.now.1 }
-        ensures { IfSome result (IsOp h.now) }
+        ensures { (c : MemoryCall) → option_map (λ e. e.0) (entry h.now read) ≡ Some c
+            → MatchOption result ((j y : ℕ) → j < count (vectors_of self.now) read session → ¬ Writes h.now (op session j) c.key y)
+            (λ w. (w.session ≡ session) × IsLastBelow h.now c.key session (count (vectors_of self.now) read session) w.index) }
     {
         let count = self.order.count(h, read, session);
         let end = end_of_writes(&self.writes, h.call(read).key, session as u64, count);

@@ -34,7 +34,7 @@ pub use conflicts::waits_with_conflicts;
 pub use differentiation::{are_distinct, is_differentiated};
 pub use found_sources::found_source;
 pub use growing_order::{Cause, Raise};
-pub use happened_before::{HappenedBefore, Saturation};
+pub use happened_before::{HappenedBefore, MOST_PAIRS, Saturation};
 pub use indexed::IndexedMemory;
 pub use known_reads::KnownRead;
 pub use last_writes::{end_of_writes, writes_by_variable};

@@ -1,6 +1,5 @@
 ghost use Rattle.std.specs.Prelude.{◌<◌, length, IfOk, IfNone, IfSome, MatchOption};
 ghost use Rattle.history.specs.History.{session as operations_of};
-ghost use Rattle.causal_order.specs.Steps.HappenedBefores.{AreOpsOrNone};
 ghost use Rattle.causal_order.specs.SourceOrder.{IsSourceOf, LacksSource, ListsSources, ListsSourcesBelow};
 ghost use Rattle.causal_order.specs.Steps.Written.{AreInOrder, IsSorted, ListsWrites};
 
@@ -68,7 +67,8 @@ pub(crate) fn known_sources(
     requires writes { ListsWrites h.now writes.now }
     requires sorted { IsSorted writes.now }
     requires in_order { AreInOrder writes.now }
-    ensures { IfOk result (λ sources. AreOpsOrNone h.now (length (operations_of h.now session)) sources.items) }
+    requires present { ¬ LacksSource h.now }
+    ensures { IfOk result (λ sources. ListsSourcesBelow h.now session (length (operations_of h.now session)) sources.items) }
 {
     let mut sources = Vec::new(alloc);
     for index in 0..h.len(session as u64) {

@@ -2,14 +2,13 @@
 
 ghost use Rattle.std.specs.Prelude.{◌≡◌, ◌+◌, ◌<◌, ◌≤◌, length, IfOk, IfSome, IsTrue, OnOk};
 ghost use Rattle.causal_order.specs.Steps.Gathered.{AreGatheredBefore};
-ghost use Rattle.causal_order.specs.Steps.GrowingOrders.{AreHeldVectors};
 ghost use Rattle.causal_order.specs.SourceOrder.{CountsSourceOrder};
 ghost use Rattle.causal_order.specs.Vectors.{HasOneEach};
 ghost use Rattle.cert_check.specs.Certificates.{criterion_of, HasShapeOf, vectors_of};
 ghost use Rattle.certify_cm.specs.Turns.{TakesTurns};
 
 use crate::schedule::schedule_of;
-use causal_order::{HappenedBefore, Saturation, Vectors, memory_order};
+use causal_order::{HappenedBefore, MOST_PAIRS, Saturation, Vectors, memory_order};
 use cert_check::{Certificate, Criterion, Schedules};
 use history::{History, OpId};
 use objects::Memory;
@@ -65,7 +64,7 @@ fn schedules_by_happened_before(
     h: &History<Memory>,
     vectors: &Vectors,
 ) -> Result<Option<Schedules>, AllocError>
-    requires vectors { AreHeldVectors h.now vectors.now }
+    requires order { CountsSourceOrder h.now vectors.now }
     ensures shape { IfOk result (λ made. IfSome made (HasOneEach h.now)) }
 {
     let mut schedules = Schedules::new(alloc);
@@ -86,13 +85,13 @@ fn push_schedules(
     session: usize,
     schedules: &mut Schedules,
 ) -> Result<bool, AllocError>
-    requires vectors { AreHeldVectors h.now vectors.now }
+    requires order { CountsSourceOrder h.now vectors.now }
     requires few { length h.now.1 ≤ 16 }
     requires exists { session < length h.now.1 }
     requires so_far { AreGatheredBefore h.now TakesTurns session schedules.old }
     ensures { IfOk result (λ all. IsTrue all → AreGatheredBefore h.now TakesTurns (session + 1) schedules.new) }
 {
-    let mut happened = HappenedBefore::of(alloc, h, vectors, session)?;
+    let mut happened = HappenedBefore::of(alloc, h, vectors, session, Some(MOST_PAIRS))?;
     schedules.push_session()?;
     for index in 0..h.len(session as u64) {
         happened = happened.take_next(h)?;

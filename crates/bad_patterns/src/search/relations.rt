@@ -1,7 +1,7 @@
 ghost use Rattle.std.specs.Prelude.{◌<◌, length};
 ghost use Rattle.causal_order.specs.SourceOrder.{CountsSourceOrder};
 
-use causal_order::{HappenedBefore, Raise, Saturation, Vectors, count_at};
+use causal_order::{HappenedBefore, MOST_PAIRS, Raise, Saturation, Vectors, count_at};
 use history::{History, OpId};
 use objects::Memory;
 use std::alloc::{AllocError, Global};
@@ -30,7 +30,7 @@ impl Relation {
         requires order { CountsSourceOrder h.now vectors.now }
         requires exists { session < length h.now.1 }
     {
-        let mut happened = HappenedBefore::of(alloc, h, vectors, session)?;
+        let mut happened = HappenedBefore::of(alloc, h, vectors, session, Some(MOST_PAIRS))?;
         let mut last = None;
         for index in 0..h.len(session as u64) {
             happened = happened.take_next(h)?;

@@ -1,6 +1,6 @@
-use Rattle.causal_order.specs.Steps.HappenedBefores.{AreOpsOrNone}
+use Rattle.causal_order.specs.SourceOrder.{ListsSourcesBelow}
 use Rattle.causal_order.proofs.reads_from.known_sources.Given as goal
 
--- the operations so far have their sources
+-- the sources so far are listed
 abbrev pub invariant-loop-index : goal.invariant-loop-index
-invariant-loop-index l = AreOpsOrNone l.h l.index l.sources.items
+invariant-loop-index l = ListsSourcesBelow l.h l.session l.index l.sources.items

@@ -1,6 +1,6 @@
 use Rattle.std.proofs.Common.{◌≡◌}
 use Rattle.causal_order.specs.Steps.Gathered.{AreGatheredUpTo}
-use Rattle.causal_order.specs.Steps.HappenedBefores.{IsWellFormed, session_of, taken_of}
+use Rattle.causal_order.specs.Steps.HappenedBefores.{IsMade, session_of, taken_of}
 use Rattle.certify_cm.specs.Turns.{TakesTurns}
 use Rattle.certify_cm.proofs.by_happened_before.push_schedules.Given as goal
 
@@ -8,7 +8,7 @@ use Rattle.certify_cm.proofs.by_happened_before.push_schedules.Given as goal
 abbrev pub invariant-loop-index : goal.invariant-loop-index
 invariant-loop-index l = record {
   so_far : AreGatheredUpTo l.h TakesTurns l.session l.index l.schedules;
-  well_formed : IsWellFormed l.h l.happened;
+  made : IsMade l.h l.happened;
   session : session_of l.happened ≡ l.session;
   taken : taken_of l.happened ≡ l.index;
 }

@@ -1,22 +1,30 @@
-use Rattle.std.proofs.Common.{ℕ, List, arith, subst, sym, ◌-◌, ◌<◌, length}
-use Rattle.history.specs.History.{IsOp, session as operations_of}
+use Rattle.std.proofs.Common.{◌<◌, ℕ, List, ◌-◌, ◌∙◌, ap, refl, subst, subst₂, sym}
+use Rattle.std.proofs.lemmas.Option.{same_Some}
 use Rattle.causal_order.specs.declared.writes.Write.{Write}
-use Rattle.causal_order.specs.Memory.{MemoryHistory}
-use Rattle.causal_order.proofs.MemoryLaws.{write-of_history}
+use Rattle.causal_order.specs.Memory.{MemoryCall, Writes}
 use Rattle.causal_order.specs.Orders.{op}
-use Rattle.causal_order.specs.Steps.Written.{IsBelowWrite, ListsWrites}
+use Rattle.causal_order.specs.Steps.HappenedBefores.{IsLastBelow}
+use Rattle.causal_order.specs.Steps.Written.{ListsWrites}
+use Rattle.causal_order.proofs.FollowedReads.{found-last, found-none}
 use Rattle.causal_order.proofs.happened_before.HappenedBefore.last_write.Goals as goal
 
--- what is not after a write of the history is of the history
-below-of_history : (h : MemoryHistory) (writes : List Write) (x s n i : ℕ) → ListsWrites h writes → IsBelowWrite writes x s n i → IsOp h (op s i)
-below-of_history h writes x s n i lists below =
-    let is_op : below.0 < length (operations_of h s) = write-of_history h (op s below.0) x below.1 (lists.no_other _ below.4) in
-    let up_to = below.2 in
-    omega arith
-
 pub returns : goal.returns
-returns c =
+returns c = λ call is.
+    let h = c.args.h.now in
+    let s = c.args.session in
     let end = c.end_of_writes-end.result in
-    let lists = subst (λ (writes : List Write). ListsWrites c.args.h.now writes) (sym c.deref.ensures.value) c.requires.well_formed.writes in
-    below-of_history c.args.h.now c.deref.result.now c.call.result.key c.args.session c.count-count.result (end - 1) lists
-    ((c.end_of_writes-end.ensures (end - 1)).0 (omega arith))
+    let same = same_Some _ _ (sym c.call.ensures ∙ is) in
+    let lists = subst (λ (writes : List Write). ListsWrites h writes) (sym c.deref.ensures.value) c.requires.well_formed.writes in (
+      refl,
+      subst₂ (λ (x n : ℕ). IsLastBelow h x s n (end - 1)) (ap (λ (d : MemoryCall). d.key) same) c.count-count.ensures
+          (found-last h c.deref.result.now lists c.call.result.key s c.count-count.result end c.end_of_writes-end.ensures c.if-end-eq0.false),
+    )
+
+pub returns-then-end-eq0 : goal.returns-then-end-eq0
+returns-then-end-eq0 c = λ call is.
+    let h = c.args.h.now in
+    let s = c.args.session in
+    let same = same_Some _ _ (sym c.call.ensures ∙ is) in
+    let lists = subst (λ (writes : List Write). ListsWrites h writes) (sym c.deref.ensures.value) c.requires.well_formed.writes in
+    subst₂ (λ (x n : ℕ). (j y : ℕ) → j < n → ¬ Writes h (op s j) x y) (ap (λ (d : MemoryCall). d.key) same) c.count-count.ensures
+    (found-none h c.deref.result.now lists c.call.result.key s c.count-count.result c.end_of_writes-end.result c.end_of_writes-end.ensures c.if-end-eq0.true)

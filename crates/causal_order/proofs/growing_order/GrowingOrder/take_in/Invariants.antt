@@ -1,6 +1,0 @@
-use Rattle.causal_order.specs.Steps.GrowingOrders.{Grows}
-use Rattle.causal_order.proofs.growing_order.GrowingOrder.take_in.Given as goal
-
--- what was raised so far
-abbrev pub invariant-loop-session : goal.invariant-loop-session
-invariant-loop-session l = Grows l.h l.fn.self l.self
