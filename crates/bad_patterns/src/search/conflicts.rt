@@ -16,10 +16,7 @@ use std::alloc::{AllocError, Global};
 ///
 /// The history has distinct values. There is none only where there is no such cycle. Fails for want of memory alone.
 /// O(n k log n) for n operations of k sessions.
-pub fn cycle_with_conflicts(
-    alloc: Global,
-    order: &CausalOrder,
-) -> Result<Option<Links>, AllocError>
+pub fn cycle_with_conflicts(alloc: Global, order: &CausalOrder) -> Result<Option<Links>, AllocError>
     requires differentiated { IsDifferentiated order.now }
     ensures { IfOk result (λ found. IfNone found (¬ Shows order.now CyclicCF)) }
 {
