@@ -8,12 +8,11 @@ ghost use Rattle.causal_order.specs.Memory.{memory_answer};
 ghost use Rattle.causal_order.specs.OverwrittenReads.{HasOverwrittenRead, HasOverwrittenStart};
 ghost use Rattle.causal_order.specs.SourceOrder.{CountsSourceOrder, IsCyclic, LacksSource, SourceOrder};
 ghost use Rattle.causal_order.specs.Vectors.{HasOneEach, list_of};
-ghost use Rattle.causal_order.specs.Steps.Written.{AreInOrder, IsSorted, ListsWrites};
 ghost use Rattle.cert_check.specs.Certificates.{criterion_of, HasShapeOf, IsExplainedThroughout};
 ghost use Rattle.certify_cc.specs.BySources.{IsBySources, IsScheduleFor};
 
 use crate::schedule::schedule_of;
-use causal_order::{Vectors, Write, memory_order, sorted_writes, source_of};
+use causal_order::{CausalOrder, IndexedMemory, Vectors};
 use cert_check::{Certificate, Criterion, Schedules};
 use history::{History, OpId};
 use objects::Memory;
@@ -37,45 +36,41 @@ pub fn make_memory(alloc: Global, h: &History<Memory>) -> Result<Option<Certific
     ensures explained { ¬ HasOverwrittenStart h.now → ¬ HasOverwrittenRead h.now
         → IfOk result (λ made. IfSome made (IsExplainedThroughout memory_answer h.now)) }
 {
-    let Some(vectors) = memory_order(alloc, h)? else {
+    let memory = IndexedMemory::of(alloc, h)?;
+    let Some(order) = memory.order() else {
         return Ok(None);
     };
-    Ok(Some(make_by_order(alloc, h, vectors)?))
+    Ok(Some(make_by_order(alloc, &order)?))
 }
 
-/// The certificate that `make_memory` makes, for a caller that has the vectors of the order already.
+/// The certificate that `make_memory` makes, for a caller that has the causal order already.
 ///
 /// Fails for want of memory alone. O(n p k) for n operations of k sessions and pasts of at most p operations.
-pub fn make_by_order(
-    alloc: Global,
-    h: &History<Memory>,
-    vectors: Vectors,
-) -> Result<Certificate, AllocError>
-    requires order { CountsSourceOrder h.now vectors }
+pub fn make_by_order(alloc: Global, order: &CausalOrder) -> Result<Certificate, AllocError>
     ensures criterion { IfOk result (λ c. criterion_of c ≡ Criterion.Cc) }
-    ensures shape { IfOk result (HasShapeOf h.now) }
-    ensures exact { IfOk result (IsBySources h.now) }
-    ensures explained { ¬ HasOverwrittenStart h.now → ¬ HasOverwrittenRead h.now → IfOk result (IsExplainedThroughout memory_answer h.now) }
+    ensures shape { IfOk result (HasShapeOf order.now) }
+    ensures exact { IfOk result (IsBySources order.now) }
+    ensures explained { ¬ HasOverwrittenStart order.now → ¬ HasOverwrittenRead order.now → IfOk result (IsExplainedThroughout memory_answer order.now) }
 {
-    h.value_is_history();
-    let schedules = schedules_by_sources(alloc, h, &vectors)?;
+    order.memory().history().value_is_history();
+    let vectors = order.vectors().copy(alloc)?;
+    let schedules = schedules_by_sources(alloc, order, &vectors)?;
     Ok(Certificate::Cc(vectors, schedules))
 }
 
-/// For each operation, the schedule of its past.
+/// For each operation, the schedule of its past, which these vectors count.
 fn schedules_by_sources(
     alloc: Global,
-    h: &History<Memory>,
+    order: &CausalOrder,
     vectors: &Vectors,
 ) -> Result<Schedules, AllocError>
-    requires order { CountsSourceOrder h.now vectors.now }
-    ensures shape { IfOk result (HasOneEach h.now) }
-    ensures exact { IfOk result (λ schedules. (o : Operation) → IsOp h.now o → IsScheduleFor h.now vectors.now o (list_of schedules o)) }
+    requires counts { CountsSourceOrder order.now vectors.now }
+    ensures shape { IfOk result (HasOneEach order.now) }
+    ensures exact { IfOk result (λ schedules. (o : Operation) → IsOp order.now o → IsScheduleFor order.now vectors.now o (list_of schedules o)) }
 {
-    let writes = sorted_writes(alloc, h)?;
     let mut schedules = Schedules::new(alloc);
-    for session in 0..h.sessions() {
-        push_schedules(alloc, h, vectors, &writes, session, &mut schedules)?;
+    for session in 0..order.memory().history().sessions() {
+        push_schedules(alloc, order, vectors, session, &mut schedules)?;
     }
     Ok(schedules)
 }
@@ -83,29 +78,24 @@ fn schedules_by_sources(
 /// Puts the schedules of a session behind those of the sessions before it.
 fn push_schedules(
     alloc: Global,
-    h: &History<Memory>,
+    order: &CausalOrder,
     vectors: &Vectors,
-    writes: &[Write],
     session: usize,
     schedules: &mut Schedules,
 ) -> Result<(), AllocError>
-    requires order { CountsSourceOrder h.now vectors.now }
-    requires writes { ListsWrites h.now writes.now }
-    requires sorted { IsSorted writes.now }
-    requires in_order { AreInOrder writes.now }
-    requires few { length h.now.1 ≤ 16 }
-    requires exists { session < length h.now.1 }
-    requires so_far { AreGatheredBefore h.now (IsScheduleFor h.now vectors.now) session schedules.old }
-    ensures { OnOk result (AreGatheredBefore h.now (IsScheduleFor h.now vectors.now) (session + 1) schedules.new) }
+    requires counts { CountsSourceOrder order.now vectors.now }
+    requires few { length order.now.1 ≤ 16 }
+    requires exists { session < length order.now.1 }
+    requires so_far { AreGatheredBefore order.now (IsScheduleFor order.now vectors.now) session schedules.old }
+    ensures { OnOk result (AreGatheredBefore order.now (IsScheduleFor order.now vectors.now) (session + 1) schedules.new) }
 {
     schedules.push_session()?;
-    for index in 0..h.len(session as u64) {
+    for index in 0..order.memory().history().len(session as u64) {
         let op = OpId {
             session: session as u64,
             index: index as u64,
         };
-        let source = source_of(h, writes, op).flatten();
-        let walk = schedule_of(alloc, vectors, op, source)?;
+        let walk = schedule_of(alloc, vectors, op, order.source(op))?;
         schedules.push(session, walk.schedule())?;
     }
     Ok(())

@@ -1,10 +1,9 @@
 -- Orders in which operations follow those that they wait for by the reads of a history go by the rule, and cycles of such
 -- operations are cycles of what has to stand before what.
-use Rattle.std.proofs.Common.{◌≡◌, ◌≢◌, ◌⊎◌, ℕ, ◌+◌, ◌-◌, ◌<◌, ◌≤◌, inl, inr, ⊎_elim, List, length, take, arith, ap, sym, refl, subst}
-use Rattle.std.specs.Prelude.{slice_get}
+use Rattle.std.proofs.Common.{◌≡◌, ◌≢◌, ℕ, ◌+◌, ◌-◌, ◌<◌, ◌≤◌, inl, inr, ⊎_elim, List, length, take, arith, ap, sym, refl, subst}
 use Rattle.std.proofs.lemmas.Option.{slice_get_within}
 use Rattle.history.specs.declared.op_id.OpId.{OpId}
-use Rattle.history.specs.History.{IsOp, Precedes, session}
+use Rattle.history.specs.History.{IsOp, Precedes}
 use Rattle.causal_order.specs.Memory.{MemoryHistory, Writes, Reads}
 use Rattle.causal_order.specs.Orders.{op}
 use Rattle.causal_order.specs.Relations.{Leads}
@@ -12,8 +11,8 @@ use Rattle.causal_order.specs.SourceOrder.{CountsSourceOrder, IsSource, IsSource
 use Rattle.causal_order.specs.Sources.{IsListed}
 use Rattle.causal_order.specs.Steps.Conflicts.{IsCountedWrite, IsDue}
 use Rattle.causal_order.specs.Topological.{placed, next_of}
-use Rattle.causal_order.specs.Vectors.{Counts, count, IsCounted}
-use Rattle.causal_order.specs.Waits.{AreAlike, AreWaitsFor, CanFollow, IsAwaited, IsTopologicalOrder, IsWaitEdge, IsWaitingCycle, WaitsFor}
+use Rattle.causal_order.specs.Vectors.{Counts, count}
+use Rattle.causal_order.specs.Waits.{AreAlike, AreWaitsFor, CanFollow, IsAwaited, IsTopologicalOrder, IsWaitEdge, IsWaitingCycle}
 use Rattle.causal_order.proofs.Items.{cases-op}
 use Rattle.causal_order.proofs.MemoryLaws.{read-of_history, same_read, same_written, write-or_read}
 use Rattle.causal_order.proofs.OrdersLaws.{same_op}

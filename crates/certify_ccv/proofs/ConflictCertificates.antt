@@ -1,10 +1,9 @@
 -- There is a certificate by conflicts, where nothing has to stand before itself.
-use Rattle.std.specs.Prelude.{◌≡◌, ◌≢◌, ◌⊎◌, ℕ, ◌+◌, ◌<◌, ◌≤◌, List, [], ◌∷◌, ◌++◌, length, take, Option, Some, None, IfOk, IfNone, IsSome, slice_get}
+use Rattle.std.specs.Prelude.{◌≡◌, ◌≢◌, ◌⊎◌, ℕ, ◌+◌, ◌<◌, ◌≤◌, List, [], ◌∷◌, ◌++◌, length, Option, Some, None, IfOk, IfNone, IsSome}
 use Rattle.std.specs.List.{range_with_len}
-use Rattle.std.proofs.Common.{zero, suc, arith, get_or, map, sym, ap, subst, ◌∙◌, inl, inr, ⊎_elim, refl, Result, Ok, Err}
+use Rattle.std.proofs.Common.{zero, suc, arith, get_or, map, sym, subst, inl, inr, ⊎_elim, refl, Result, Ok, Err}
 use Rattle.std.proofs.lemmas.Bool.{cases_eq, cases_lt}
-use Rattle.std.proofs.lemmas.List.{get_or_past}
-use Rattle.std.proofs.lemmas.List.FromFn.{length-map-range_with_len, get_or-map-range_with_len}
+use Rattle.std.proofs.lemmas.List.FromFn.{get_or-map-range_with_len}
 use Rattle.history.specs.declared.op_id.OpId.{OpId}
 use Rattle.history.specs.History.{IsOp, session}
 use Rattle.causal_order.specs.Memory.{MemoryHistory, memory_answer}
@@ -21,7 +20,7 @@ use Rattle.causal_order.proofs.OrderDecisions.{rivals-decided, source-decided, b
 use Rattle.causal_order.proofs.OrdersLaws.{session-of_history}
 use Rattle.causal_order.proofs.ReadAnswers.{history-fits}
 use Rattle.causal_order.proofs.RelationsLaws.{leads-edge, leads-leads, leads-wider}
-use Rattle.causal_order.proofs.Searches.{IsDecided, both-decided, either-decided, below-decided, least, some_operation}
+use Rattle.causal_order.proofs.Searches.{IsDecided, both-decided, either-decided, least, some_operation}
 use Rattle.causal_order.proofs.VectorsExist.{vectors-exist}
 use Rattle.causal_order.proofs.WaitingCycles.{waiting-cycle}
 use Rattle.causal_order.proofs.Walked.{placed-other, room, room-push}

@@ -13,7 +13,9 @@ ghost use Rattle.causal_order.specs.SourceOrder.{CountsSourceOrder, LacksSource}
 ghost use Rattle.cert_check.specs.Certificates.{criterion_of, HasShapeOf};
 ghost use Rattle.certify_ccv.specs.ByConflicts.{ComesFirst, IsByConflicts};
 
-use causal_order::{OrderOrCycle, Vectors, memory_order, topological_sort, waits_with_conflicts};
+use causal_order::{
+    CausalOrder, IndexedMemory, OrderOrCycle, Vectors, topological_sort, waits_with_conflicts,
+};
 use cert_check::{Arbitration, Certificate, Criterion};
 use history::History;
 use objects::Memory;
@@ -38,17 +40,29 @@ pub fn make_memory(alloc: Global, h: &History<Memory>) -> Result<Option<Certific
     ensures explained { ¬ HasOverwrittenStart h.now → IfOk result (λ made. IfSome made (IsExplainedThroughout memory_answer h.now)) }
 {
     h.value_is_history();
-    let Some(vectors) = memory_order(alloc, h)? else {
+    let memory = IndexedMemory::of(alloc, h)?;
+    let Some(order) = memory.order() else {
         return Ok(None);
     };
-    make_by_order(alloc, h, vectors)
+    make_by_order(alloc, &order)
 }
 
-/// The certificate that `make_memory` makes, for a caller that has the vectors of the order already.
+/// The certificate that `make_memory` makes, for a caller that has the causal order already.
 ///
 /// `None` where the order and the conflicts are cyclic. Fails for want of memory alone. O(n k log n) for n operations of k
 /// sessions.
-pub fn make_by_order(
+pub fn make_by_order(alloc: Global, order: &CausalOrder) -> Result<Option<Certificate>, AllocError>
+    ensures criterion { IfOk result (λ made. IfSome made (λ c. criterion_of c ≡ Criterion.Ccv)) }
+    ensures shape { IfOk result (λ made. IfSome made (HasShapeOf order.now)) }
+    ensures exact { IfOk result (λ made. IfSome made (IsByConflicts order.now)) }
+    ensures none { IfOk result (λ made. IfNone made ((a : Operation) × Leads (ComesFirst order.now) a a)) }
+{
+    let vectors = order.vectors().copy(alloc)?;
+    certificate_by(alloc, order.memory().history(), vectors)
+}
+
+/// The certificate by vectors of the causal order.
+fn certificate_by(
     alloc: Global,
     h: &History<Memory>,
     vectors: Vectors,

@@ -1,3 +1,6 @@
+use Rattle.std.proofs.Common.{◌∙◌, subst}
+use Rattle.causal_order.specs.Memory.{MemoryHistory}
+use Rattle.causal_order.specs.MemoryHistories.{IsMemoryHistory}
 use Rattle.causal_order.proofs.ReadAnswers.{history-fits}
 use Rattle.cert_check.specs.declared.certificate.Certificate.TheVariants.{Cc}
 use Rattle.certify_cc.proofs.Explained.{sources-explain}
@@ -5,6 +8,8 @@ use Rattle.certify_cc.proofs.by_sources.make_by_order.Goals as goal
 
 pub returns-clause-explained : goal.returns-clause-explained
 returns-clause-explained c = λ start read.
-    sources-explain c.args.h.now (history-fits c.args.h.now _ c.value_is_history.ensures) start read
-    (Cc c.args.vectors c.in_ok-schedules.schedules)
-    (record { order = c.requires.order; each = c.in_ok-schedules.ensures.exact })
+    let same = c.history.ensures ∙ c.memory.ensures in
+    let is_history = subst (λ (h : MemoryHistory). IsMemoryHistory h) same c.value_is_history.ensures in
+    sources-explain c.args.order.now (history-fits c.args.order.now _ is_history) start read
+    (Cc c.in_ok-vectors.vectors c.in_ok-schedules.schedules)
+    (record { order = rw c.in_ok-vectors.ensures c.vectors.ensures; each = c.in_ok-schedules.ensures.exact })

@@ -4,4 +4,4 @@ use Rattle.certify_cc.proofs.by_sources.push_schedules.Given as goal
 
 -- the operations so far have their schedules
 abbrev pub invariant-loop-index : goal.invariant-loop-index
-invariant-loop-index l = AreGatheredUpTo l.h (IsScheduleFor l.h l.vectors) l.session l.index l.schedules
+invariant-loop-index l = AreGatheredUpTo l.order (IsScheduleFor l.order l.vectors) l.session l.index l.schedules
