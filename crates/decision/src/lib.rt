@@ -1,4 +1,7 @@
 //! When a memory history meets a criterion.
 #![tactic(auto)]
 
+mod deciding;
 pub mod laws;
+
+pub use deciding::{Decision, decide};

@@ -1,9 +1,7 @@
 //! What is known of a history, for each criterion.
 
-ghost use Rattle.std.specs.Prelude.{◌≡◌, IfErr, IfNone, IfOk, IfSome, option_copied};
-ghost use Rattle.bad_patterns.specs.Kinds.{IsPresent};
-ghost use Rattle.bad_patterns.specs.Patterns.{IsTrueNo};
-ghost use Rattle.causal_order.specs.SourceOrder.{CountsSourceOrder};
+ghost use Rattle.std.specs.Prelude.{◌≡◌, IfErr, IfOk, IfSome};
+ghost use Rattle.causal_order.specs.Memory.{memory_answer};
 ghost use Rattle.cert_check.specs.Certificates.{HasShapeOf, criterion_of};
 ghost use Rattle.cert_check.specs.Criteria.{Meets};
 ghost use Rattle.engine.specs.Report.{IsFounded, IsTrueOf, IsUnexplainedOf, NamesUnexplained, OnlyWithoutThinAir, answer_for};
@@ -12,9 +10,9 @@ use crate::checking::answer_of_pieces;
 use crate::failure::RunError;
 use crate::report::{Answer, Report};
 use bad_patterns::laws::bad_patterns_exclude_criteria;
-use bad_patterns::{Kind, find};
-use causal_order::{Vectors, memory_order};
+use causal_order::IndexedMemory;
 use cert_check::{Certificate, Criterion};
+use decision::{Decision, decide};
 use object_trait::SeqObject;
 use objects::Memory;
 use operations::{AnyHistory, History};
@@ -22,10 +20,10 @@ use std::alloc::{AllocError, Global};
 
 /// What is known of a history, for each criterion.
 ///
-/// `No` where the history is one of a memory, and a bad pattern is found: what the search finds has passed the test of
-/// `check_pattern`. Else a certificate is made: `Yes`
-/// where every piece of it explains its operation, and `Unknown` with the first operation whose piece does not. `Unknown`
-/// with no operation where no certificate is made. The causal order of a memory history is made once for all criteria.
+/// Of a memory history it is decided first: `Yes` where it meets the criterion, and `No` with the kind of a bad pattern that
+/// is present where it does not. Where that is open, and of the other objects, a certificate is made: `Yes` where every piece
+/// of it explains its operation, and `Unknown` with the first operation whose piece does not. `Unknown` with no operation
+/// where no certificate is made. What is known of a memory history is made once for all criteria.
 ///
 /// Fails for want of memory alone. O(n (n + p k + k^2)) for n operations with pasts of p operations in k sessions, and what
 /// the search for patterns and the makers of certificates take.
@@ -55,11 +53,10 @@ fn report_on_memory(alloc: Global, history: History<Memory>) -> Result<Report, R
     ensures unexplained { IfOk result (λ report. (criterion : Criterion) → NamesUnexplained (AnyHistory.Memory history) criterion (answer_for report criterion)) }
     ensures error { IfErr result (λ e. e ≡ RunError.Memory) }
 {
-    let order = memory_order(alloc, &history)?;
-    let order = order.as_ref();
-    let cc = answer_of_memory(alloc, history.copy(alloc)?, order, Criterion::Cc)?;
-    let cm = answer_of_memory(alloc, history.copy(alloc)?, order, Criterion::Cm)?;
-    let ccv = answer_of_memory(alloc, history, order, Criterion::Ccv)?;
+    let memory = IndexedMemory::of(alloc, &history)?;
+    let cc = answer_of_memory(alloc, &memory, Criterion::Cc)?;
+    let cm = answer_of_memory(alloc, &memory, Criterion::Cm)?;
+    let ccv = answer_of_memory(alloc, &memory, Criterion::Ccv)?;
     Ok(Report { cc, cm, ccv })
 }
 
@@ -74,24 +71,39 @@ fn report_on_object<O: SeqObject>(alloc: Global, history: History<O>) -> Result<
     Ok(Report { cc, cm, ccv })
 }
 
-// What is known of a history of a memory and a criterion, by the causal order of the history where it has one.
+// What is known of a history of a memory and a criterion: what the decision says, and where that is open, what the pieces of
+// a certificate show.
 #[tactic(auto, using(crate::proofs::Founded::founded_is_true, crate::proofs::Founded::founded_names))]
 fn answer_of_memory(
     alloc: Global,
-    history: History<Memory>,
-    order: Option<&Vectors>,
+    memory: &IndexedMemory,
     criterion: Criterion,
 ) -> Result<Answer, RunError>
-    requires order { IfSome (option_copied order) (CountsSourceOrder history) }
-    ensures truth { IfOk result (IsTrueOf (AnyHistory.Memory history) criterion) }
-    ensures unknown { IfOk result (OnlyWithoutThinAir (AnyHistory.Memory history)) }
-    ensures unexplained { IfOk result (NamesUnexplained (AnyHistory.Memory history) criterion) }
+    ensures truth { IfOk result (IsTrueOf (AnyHistory.Memory memory.now) criterion) }
+    ensures unknown { IfOk result (OnlyWithoutThinAir (AnyHistory.Memory memory.now)) }
+    ensures unexplained { IfOk result (NamesUnexplained (AnyHistory.Memory memory.now) criterion) }
     ensures error { IfErr result (λ e. e ≡ RunError.Memory) }
 {
-    if let Some(kind) = excluding_kind(alloc, &history, criterion)? {
-        return Ok(Answer::No(kind));
+    bad_patterns_exclude_criteria();
+    match decide(alloc, memory, criterion)? {
+        Decision::Meets => Ok(Answer::Yes),
+        Decision::Excluded(pattern) => Ok(Answer::No(pattern.kind())),
+        Decision::ExcludedBy(kind) => Ok(Answer::No(kind)),
+        Decision::Open => answer_by_certificate(alloc, memory, criterion),
     }
-    let made = certificate_by_causal_order(alloc, &history, order, criterion)?;
+}
+
+// What the pieces of a certificate of a history of a memory show.
+fn answer_by_certificate(
+    alloc: Global,
+    memory: &IndexedMemory,
+    criterion: Criterion,
+) -> Result<Answer, RunError>
+    ensures founded { IfOk result (IsFounded (Meets memory_answer memory.now criterion) (IsUnexplainedOf memory_answer memory.now criterion)) }
+    ensures error { IfErr result (λ e. e ≡ RunError.Memory) }
+{
+    let history = memory.history().copy(alloc)?;
+    let made = certificate_by_causal_order(alloc, memory, criterion)?;
     answer_by(alloc, history, made, criterion)
 }
 
@@ -108,41 +120,25 @@ fn answer_of_object<O: SeqObject>(
     answer_by(alloc, history, made, criterion)
 }
 
-// The kind of a pattern that excludes the criterion, where one is found.
-fn excluding_kind(
-    alloc: Global,
-    history: &History<Memory>,
-    criterion: Criterion,
-) -> Result<Option<Kind>, AllocError>
-    ensures found { IfOk result (λ found. IfSome found (IsTrueNo history.now criterion)) }
-    ensures none { IfOk result (λ found. IfNone found (¬ IsPresent history.now Kind.ThinAirRead)) }
-{
-    bad_patterns_exclude_criteria();
-    let Some(pattern) = find(alloc, history, criterion)? else {
-        return Ok(None);
-    };
-    Ok(Some(pattern.kind()))
-}
-
 // The certificate of a history of a memory by its causal order, where it has one and a certificate is made by it.
 fn certificate_by_causal_order(
     alloc: Global,
-    history: &History<Memory>,
-    order: Option<&Vectors>,
+    memory: &IndexedMemory,
     criterion: Criterion,
 ) -> Result<Option<Certificate>, AllocError>
-    requires order { IfSome (option_copied order) (CountsSourceOrder history.now) }
     ensures criterion { IfOk result (λ made. IfSome made (λ c. criterion_of c ≡ criterion)) }
-    ensures shape { IfOk result (λ made. IfSome made (HasShapeOf history.now)) }
+    ensures shape { IfOk result (λ made. IfSome made (HasShapeOf memory.now)) }
 {
-    let Some(vectors) = order else {
+    let Some(order) = memory.order() else {
         return Ok(None);
     };
-    let vectors = vectors.copy(alloc)?;
     match criterion {
-        Criterion::Cc => Ok(Some(certify_cc::make_by_order(alloc, history, vectors)?)),
-        Criterion::Cm => certify_cm::make_by_order(alloc, history, vectors),
-        Criterion::Ccv => certify_ccv::make_by_order(alloc, history, vectors),
+        Criterion::Cc => Ok(Some(certify_cc::make_by_order(alloc, &order)?)),
+        Criterion::Cm => {
+            let vectors = order.vectors().copy(alloc)?;
+            certify_cm::make_by_order(alloc, memory.history(), vectors)
+        }
+        Criterion::Ccv => certify_ccv::make_by_order(alloc, &order),
     }
 }
 
