@@ -10,6 +10,7 @@ ghost use Rattle.causal_order.specs.Vectors.{count, IsCounted};
 
 use crate::by_operation::Vectors;
 use crate::strict::strict_vectors;
+use crate::vectors::is_at_most;
 use history::{History, OpId};
 use objects::Memory;
 use std::alloc::{AllocError, Global};
@@ -321,6 +322,9 @@ impl GrowingOrder {
         ensures within { OnOk result (GrowsWithin h.now NoReads self.old self.new) }
         ensures past { OnOk result (IsPastOf self.new.counts op before) }
     {
+        if is_at_most(self.counts.get(before), self.counts.get(op)) {
+            return Ok(());
+        }
         for session in 0..h.sessions() {
             let count = self.count(h, before, session);
             let index = op.index as usize;
