@@ -6,7 +6,7 @@ use Rattle.history.specs.declared.op_id.OpId.{OpId}
 use Rattle.history.specs.History.{IsOp, Precedes}
 use Rattle.causal_order.specs.Memory.{MemoryHistory, IsDifferentiated, Reads}
 use Rattle.causal_order.specs.Relations.{CF, CO, Leads}
-use Rattle.causal_order.specs.SourceOrder.{CountsSourceOrder, IsSource, IsSourceEdge, SourceOrder}
+use Rattle.causal_order.specs.SourceOrder.{CountsSourceOrder, IsSource, IsSourceEdge}
 use Rattle.causal_order.specs.Steps.Conflicts.{IsDue}
 use Rattle.causal_order.specs.Vectors.{Counts}
 use Rattle.causal_order.specs.Waits.{AreAlike, AreWaits, AreWaitsFor, IsWaitEdge}

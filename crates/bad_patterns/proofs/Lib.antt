@@ -13,5 +13,6 @@ pub mod PatternReading
 pub mod KnownSources
 pub mod KnownCycles
 pub mod KnownConflicts
+pub mod ConflictLinks
 pub mod RoutesBack
 pub mod ReadPatterns

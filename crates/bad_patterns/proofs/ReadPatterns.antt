@@ -1,5 +1,5 @@
 -- What a search for known reads that come too late finds, and what it excludes.
-use Rattle.std.proofs.Common.{◌≡◌, ℕ, ◌+◌, ◌<◌, ◌≤◌, List, length, get_or, inl, inr, ⊎_elim, refl, arith, ap, sym, ◌∙◌, subst, subst₂, eq-or-lt_of_le}
+use Rattle.std.proofs.Common.{◌≡◌, ℕ, ◌+◌, ◌<◌, ◌≤◌, List, length, get_or, inl, inr, ⊎_elim, refl, arith, ap, sym, ◌∙◌, subst, eq-or-lt_of_le}
 use Rattle.std.specs.Prelude.{◌≢◌, Option, Some, None, Contains, slice_get}
 use Rattle.std.proofs.lemmas.Option.{same_Some, slice_get_within, slice_get-get_or, get_or_from_slice_get}
 use Rattle.history.specs.declared.op_id.OpId.{OpId}
@@ -8,7 +8,7 @@ use Rattle.causal_order.specs.declared.known_reads.KnownRead.{KnownRead}
 use Rattle.causal_order.specs.Memory.{MemoryHistory, initial, Writes, Reads, IsDifferentiated}
 use Rattle.causal_order.specs.Orders.{op}
 use Rattle.causal_order.specs.OverwrittenReads.{HasOverwrittenRead, HasOverwrittenStart}
-use Rattle.causal_order.specs.Relations.{CO, ReadsFrom}
+use Rattle.causal_order.specs.Relations.{ReadsFrom}
 use Rattle.causal_order.specs.SourceOrder.{IsSourceEdge, LacksSource, SourceOrder}
 use Rattle.causal_order.specs.Steps.Indexed.{HasNoWriteOfPast, IsKnownRead, IsLastWriteOfPast, IsSourceIfAny, IsSourcePast, ListsReads}
 use Rattle.causal_order.proofs.CausalOrders.{later-of_history}
@@ -26,7 +26,7 @@ use Rattle.bad_patterns.specs.Steps.Routes.{AreWritesBefore, IsWriteBefore}
 pub listed-at : {X : Type 0} (xs : List X) (i : ℕ) (x : X) → slice_get xs i ≡ Some x → Contains xs x
 listed-at xs i x at = (i, slice_get_within xs i x at, get_or_from_slice_get xs i x x at)
 
-at-listed : {X : Type 0} (xs : List X) (x : X) → (inside : Contains xs x) → slice_get xs inside.0 ≡ Some x
+pub at-listed : {X : Type 0} (xs : List X) (x : X) → (inside : Contains xs x) → slice_get xs inside.0 ≡ Some x
 at-listed xs x inside = slice_get-get_or xs inside.0 x inside.1 ∙ ap (λ y. Some y) inside.2
 
 -- what holds of the first elements of a list, and of the next
@@ -143,7 +143,7 @@ module _ (h : MemoryHistory) where
   start-found present k known w found path goes =
       (w, k.op, k.key, found.value, found.writes, initial-read present k known found.initially, goes)
 
-  source-of : (k : KnownRead) → IsKnownRead h k → (a : OpId) → k.source ≡ Some a → ReadsFrom h a k.op
+  pub source-of : (k : KnownRead) → IsKnownRead h k → (a : OpId) → k.source ≡ Some a → ReadsFrom h a k.op
   source-of k known a is =
       let source : IsSourceIfAny h k.op (Some a) = subst (λ (e : Option OpId). IsSourceIfAny h k.op e) is known.source in source.0
 

@@ -1,3 +1,4 @@
+use Rattle.bad_patterns.proofs.ConflictLinks.{conflict-cycle}
 use Rattle.bad_patterns.proofs.KnownConflicts.{acyclic-conflicts}
 use Rattle.bad_patterns.proofs.search.conflicts.conflicting_operations.Goals as goal
 
@@ -6,3 +7,9 @@ returns-in-Order c =
     let sorted = rw c.in-Order.is at c.in_ok-topological_sort.ensures.sorted in
     acyclic-conflicts c.args.h.now c.requires.differentiated c.args.vectors.now c.requires.order c.in_ok-waits.waits
     c.in_ok-topological_sort.ensures.kept c.in_ok-waits.ensures.alike c.in_ok-waits.ensures.exact sorted.1
+
+pub returns : goal.returns
+returns c =
+    let sorted = rw c.in-Cycle.is at c.in_ok-topological_sort.ensures.sorted in
+    conflict-cycle c.args.h.now c.args.vectors.now c.requires.order c.in_ok-waits.waits c.in_ok-waits.ensures.alike c.in_ok-waits.ensures.exact
+    c.in-Cycle.ops.items sorted
