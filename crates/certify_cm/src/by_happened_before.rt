@@ -79,7 +79,8 @@ fn schedules_by_happened_before(
 ) -> Result<Option<Schedules>, AllocError>
     requires order { CountsSourceOrder h.now vectors.now }
     ensures shape { IfOk result (λ made. IfSome made (HasOneEach h.now)) }
-    ensures each { IfOk result (λ made. IfSome made (λ schedules. (o : Operation) → IsOp h.now o → TakesTurns h.now o (list_of schedules o))) }
+    ensures each { IfOk result (λ made. IfSome made (λ schedules.
+        (o : Operation) → IsOp h.now o → TakesTurns h.now o (list_of schedules o))) }
     ensures none { IsDifferentiated h.now → IfOk result (λ made. IfNone made (HasNoTurns h.now)) }
 {
     let mut schedules = Schedules::new(alloc);
