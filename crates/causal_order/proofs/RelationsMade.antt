@@ -262,6 +262,9 @@ module _ (h : MemoryHistory) where
         sums-next : b.order.added + all_counted h made.strict ≡ all_counted h b.order.counts
         sums-next = let sums = (grows-sums h Always (program_past o) a.order b.order steps).0 in let before = made.added in omega arith
 
+        outside-next : (p : OpId) (s : ℕ) → slice_index b.order.past.items p.session ≤ p.index → count b.order.counts p s ≡ count made.strict p s
+        outside-next = grows-outside h Always (program_past o) made.strict a.order b.order steps made.outside
+
         -- the relation is made
         pub made-next : IsMade h b
         made-next = record {
@@ -271,7 +274,7 @@ module _ (h : MemoryHistory) where
           strict = made.strict;
           begun = made.begun;
           grown = λ p s. let before = made.grown p s in let rises = grows-rises h Always (program_past o) a.order b.order steps p s in omega arith;
-          outside = grows-outside h Always (program_past o) made.strict a.order b.order steps made.outside;
+          outside = outside-next;
           untouched = grows-untouched h Always (program_past o) made.strict a.order b.order steps made.untouched;
           added = sums-next;
           past = λ s. past-next s ∙ subst₂ (λ (t n : ℕ). count made.causal o s ≡ past_count made.causal t n s) (sym same-session) (sym same-taken) refl;
@@ -283,6 +286,13 @@ module _ (h : MemoryHistory) where
           settled = settled;
           reads = reads;
         }
+
+        -- what is in is in its past
+        past-in : (p : OpId) → IsIn b.order p → IsPast h o p
+        past-in p is_in = let is = past-next p.session in ⊎_elim
+            (λ (same : p ≡ o). inl same)
+            (λ (before : SourceOrder h p o). inr (CO-from_sources h p o before))
+            ((made.counts.counted o p next).0 (omega arith))
 
         module _ (waits : length b.order.pending.items ≡ 0) where
           -- where nothing waits, a vector counts what the last one counts that it counts
@@ -328,12 +338,6 @@ module _ (h : MemoryHistory) where
                 let counted = ltb-true p.index (count made.causal o p.session) (in_past-from h made.causal made.counts distinct o next p in_p) in
                 let is = past-next p.session in
                 omega arith
-
-            past-in : (p : OpId) → IsIn b.order p → IsPast h o p
-            past-in p is_in = let is = past-next p.session in ⊎_elim
-                (λ (same : p ≡ o). inl same)
-                (λ (before : SourceOrder h p o). inr (CO-from_sources h p o before))
-                ((made.counts.counted o p next).0 (omega arith))
 
             -- nothing is left to be added
             fixed-next : IsFixed h made.causal o b.order.counts
@@ -393,6 +397,10 @@ module _ (h : MemoryHistory) where
           now = b.order.counts;
           held = saturated.well_formed.order.counts;
           supported = supported-next distinct;
+          outside = λ p s not. outside-next p s (⊎_elim
+              (λ (is_in : IsIn b.order p). absurd (not (past-in p is_in)))
+              (λ (out : slice_index b.order.past.items p.session ≤ p.index). out)
+              (cases_lt p.index (slice_index b.order.past.items p.session)));
           more = let sums = sums-next in omega arith;
         }
 

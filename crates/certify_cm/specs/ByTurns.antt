@@ -1,10 +1,12 @@
 -- The certificate of causal memory of a memory history by its happened-before relations (this project's profile).
-use Rattle.std.specs.Prelude.{ℕ, ◌+◌, List}
+use Rattle.std.specs.Prelude.{ℕ, ◌+◌, ◌⊎◌, List}
 use Rattle.history.specs.declared.op_id.OpId.{OpId}
 use Rattle.history.specs.History.{IsOp}
 use Rattle.causal_order.specs.HappenedBeforeVectors.{IsHBVectors}
-use Rattle.causal_order.specs.Memory.{MemoryHistory}
+use Rattle.causal_order.specs.Memory.{MemoryHistory, IsDifferentiated}
+use Rattle.causal_order.specs.Relations.{HB}
 use Rattle.causal_order.specs.SourceOrder.{CountsSourceOrder}
+use Rattle.causal_order.specs.Steps.HappenedBefores.{HasMorePairs}
 use Rattle.causal_order.specs.Vectors.{Counts, list_of}
 use Rattle.cert_check.specs.declared.certificate.Certificate.{Certificate}
 use Rattle.cert_check.specs.declared.certificate.Certificate.TheVariants.{Cc, Cm, Ccv}
@@ -16,6 +18,15 @@ module _ (h : MemoryHistory) where
     pub vectors : Counts
     pub happened : IsHBVectors h o vectors
     pub turns : AreTurns vectors o.session (o.index + 1) schedule
+
+  -- so they do where values are distinct
+  abbrev pub TakesTurns : OpId → List ℕ → Type 0
+  TakesTurns o schedule = IsDifferentiated h → TakesHBTurns o schedule
+
+  -- in happened-before of some operation an operation is before itself, or it has more than 100,000 pairs that the causal order
+  -- doesn't have
+  abbrev pub HasNoTurns : Type 0
+  HasNoTurns = (o : OpId) × IsOp h o × (((a : OpId) × HB h o a a) ⊎ HasMorePairs h o 100000)
 
   -- the vectors are those of the order of program order and sources, and the schedules go by turns of happened-before
   pub record AreByTurns (v : Counts) (schedules : List (List (List ℕ))) : Type 0 where

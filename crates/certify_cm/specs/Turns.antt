@@ -1,7 +1,6 @@
 -- Schedules in which the operations of one session take turns with what their vectors count (this project's profile).
-use Rattle.std.specs.Prelude.{◌≡◌, ℕ, ◌+◌, List, [], ◌∷◌, ◌++◌}
+use Rattle.std.specs.Prelude.{◌≡◌, ℕ, List, [], ◌∷◌, ◌++◌}
 use Rattle.std.proofs.Common.{zero, suc}
-use Rattle.history.specs.declared.op_id.OpId.{OpId}
 use Rattle.causal_order.specs.Orders.{op}
 use Rattle.causal_order.specs.Topological.{IsFullWalk}
 use Rattle.causal_order.specs.Vectors.{Counts, list_of}
@@ -16,7 +15,3 @@ pub record IsTurn (v : Counts) (s i : ℕ) (before whole : List ℕ) : Type 0 wh
 abbrev pub AreTurns : Counts → ℕ → ℕ → List ℕ → Type 0
 AreTurns v s zero schedule = schedule ≡ []
 AreTurns v s (suc n) schedule = (before : List ℕ) × AreTurns v s n before × IsTurn v s n before schedule
-
--- by some vectors, of which nothing is said, the operations of the session of o take turns in the schedule, up to o
-abbrev pub TakesTurns : OpId → List ℕ → Type 0
-TakesTurns o schedule = (v : Counts) × AreTurns v o.session (o.index + 1) schedule

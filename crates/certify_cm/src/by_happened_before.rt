@@ -1,11 +1,15 @@
 //! Certificates of memory histories by their happened-before relations.
 
-ghost use Rattle.std.specs.Prelude.{◌≡◌, ◌+◌, ◌<◌, ◌≤◌, length, IfOk, IfSome, IsTrue, OnOk};
+ghost use Rattle.std.specs.Prelude.{◌≡◌, ◌⊎◌, ◌+◌, ◌<◌, ◌≤◌, length, IfNone, IfOk, IfSome, IsTrue, IsFalse};
+ghost use Rattle.history.specs.History.{IsOp};
+ghost use Rattle.history.specs.declared.op_id.OpId.{OpId as Operation};
+ghost use Rattle.causal_order.specs.HappenedBeforePatterns.{HasHBCycle, HasStartOverwrittenInHB};
+ghost use Rattle.causal_order.specs.Memory.{memory_answer, IsDifferentiated};
 ghost use Rattle.causal_order.specs.Steps.Gathered.{AreGatheredBefore};
-ghost use Rattle.causal_order.specs.SourceOrder.{CountsSourceOrder};
-ghost use Rattle.causal_order.specs.Vectors.{HasOneEach};
-ghost use Rattle.cert_check.specs.Certificates.{criterion_of, HasShapeOf, vectors_of};
-ghost use Rattle.certify_cm.specs.Turns.{TakesTurns};
+ghost use Rattle.causal_order.specs.SourceOrder.{CountsSourceOrder, IsCyclic, LacksSource};
+ghost use Rattle.causal_order.specs.Vectors.{HasOneEach, list_of};
+ghost use Rattle.cert_check.specs.Certificates.{criterion_of, HasShapeOf, IsExplainedThroughout, vectors_of};
+ghost use Rattle.certify_cm.specs.ByTurns.{HasNoTurns, IsByTurns, TakesTurns};
 
 use crate::schedule::schedule_of;
 use causal_order::{HappenedBefore, MOST_PAIRS, Saturation, Vectors, memory_order};
@@ -21,15 +25,19 @@ use std::alloc::{AllocError, Global};
 /// The source of a known read of a value that is not the initial one is the first write of that value. The schedule takes
 /// the operations of its session in turn, up to it. Before each comes what the relation puts before it
 /// and isn't placed yet, by the topological rule. `None` where the order is cyclic, where a read has no source, or where
-/// the relation of some operation is cyclic or has more than 100,000 pairs that the order doesn't have. That the schedules
-/// go by the relations, and that a relation is the reason where there is no certificate, is tested, not proved. Whether the
-/// certificate explains the known returns is for the checker of certificates to say. Fails for want of memory alone.
-/// O(n p k + n k (k^2 + log n) + m k^2 log p) for n operations of k sessions, pasts of at most p operations and m pairs
-/// more in each relation.
+/// the relation of some operation is cyclic or has more than 100,000 pairs that the order doesn't have. On distinct values,
+/// where no bad pattern against causal memory is present, the certificate explains all known returns, and there is one
+/// unless a relation has so many pairs. Where values are not distinct, whether it explains is for the checker of
+/// certificates to say. Fails for want of memory alone. O(n p k + n k (k^2 + log n) + m k^2 log p) for n operations of k
+/// sessions, pasts of at most p operations and m pairs more in each relation.
 pub fn make_memory(alloc: Global, h: &History<Memory>) -> Result<Option<Certificate>, AllocError>
     ensures criterion { IfOk result (λ made. IfSome made (λ c. criterion_of c ≡ Criterion.Cm)) }
     ensures shape { IfOk result (λ made. IfSome made (HasShapeOf h.now)) }
     ensures vectors { IfOk result (λ made. IfSome made (λ c. CountsSourceOrder h.now (vectors_of c))) }
+    ensures turns { IsDifferentiated h.now → IfOk result (λ made. IfSome made (IsByTurns h.now)) }
+    ensures none { IsDifferentiated h.now → IfOk result (λ made. IfNone made ((IsCyclic h.now ⊎ LacksSource h.now) ⊎ HasNoTurns h.now)) }
+    ensures explained { IsDifferentiated h.now → ¬ HasHBCycle h.now → ¬ HasStartOverwrittenInHB h.now
+        → IfOk result (λ made. IfSome made (IsExplainedThroughout memory_answer h.now)) }
 {
     let Some(vectors) = memory_order(alloc, h)? else {
         return Ok(None);
@@ -40,8 +48,8 @@ pub fn make_memory(alloc: Global, h: &History<Memory>) -> Result<Option<Certific
 /// The certificate that `make_memory` makes, for a caller that has the vectors of the order already.
 ///
 /// `None` where the happened-before relation of some operation is cyclic or has more than 100,000 pairs that the order
-/// doesn't have: tested, not proved. Fails for want of memory alone. O(n p k + n k (k^2 + log n) + m k^2 log p) for n operations of k
-/// sessions, pasts of at most p operations and m pairs more in each relation.
+/// doesn't have. Fails for want of memory alone. O(n p k + n k (k^2 + log n) + m k^2 log p) for n operations of k sessions,
+/// pasts of at most p operations and m pairs more in each relation.
 pub fn make_by_order(
     alloc: Global,
     h: &History<Memory>,
@@ -51,7 +59,12 @@ pub fn make_by_order(
     ensures criterion { IfOk result (λ made. IfSome made (λ c. criterion_of c ≡ Criterion.Cm)) }
     ensures shape { IfOk result (λ made. IfSome made (HasShapeOf h.now)) }
     ensures vectors { IfOk result (λ made. IfSome made (λ c. vectors_of c ≡ vectors)) }
+    ensures turns { IsDifferentiated h.now → IfOk result (λ made. IfSome made (IsByTurns h.now)) }
+    ensures none { IsDifferentiated h.now → IfOk result (λ made. IfNone made (HasNoTurns h.now)) }
+    ensures explained { IsDifferentiated h.now → ¬ HasHBCycle h.now → ¬ HasStartOverwrittenInHB h.now
+        → IfOk result (λ made. IfSome made (IsExplainedThroughout memory_answer h.now)) }
 {
+    h.value_is_history();
     let Some(schedules) = schedules_by_happened_before(alloc, h, &vectors)? else {
         return Ok(None);
     };
@@ -66,6 +79,9 @@ fn schedules_by_happened_before(
 ) -> Result<Option<Schedules>, AllocError>
     requires order { CountsSourceOrder h.now vectors.now }
     ensures shape { IfOk result (λ made. IfSome made (HasOneEach h.now)) }
+    ensures each { IfOk result (λ made. IfSome made (λ schedules.
+        (o : Operation) → IsOp h.now o → TakesTurns h.now o (list_of schedules o))) }
+    ensures none { IsDifferentiated h.now → IfOk result (λ made. IfNone made (HasNoTurns h.now)) }
 {
     let mut schedules = Schedules::new(alloc);
     for session in 0..h.sessions() {
@@ -88,15 +104,17 @@ fn push_schedules(
     requires order { CountsSourceOrder h.now vectors.now }
     requires few { length h.now.1 ≤ 16 }
     requires exists { session < length h.now.1 }
-    requires so_far { AreGatheredBefore h.now TakesTurns session schedules.old }
-    ensures { IfOk result (λ all. IsTrue all → AreGatheredBefore h.now TakesTurns (session + 1) schedules.new) }
+    requires so_far { AreGatheredBefore h.now (TakesTurns h.now) session schedules.old }
+    ensures all { IfOk result (λ all. IsTrue all → AreGatheredBefore h.now (TakesTurns h.now) (session + 1) schedules.new) }
+    ensures none { IsDifferentiated h.now → IfOk result (λ all. IsFalse all → HasNoTurns h.now) }
 {
     let mut happened = HappenedBefore::of(alloc, h, vectors, session, Some(MOST_PAIRS))?;
     schedules.push_session()?;
     for index in 0..h.len(session as u64) {
         happened = happened.take_next(h)?;
-        if happened.saturation() != Saturation::Saturated {
-            return Ok(false);
+        match happened.saturation() {
+            Saturation::Saturated => {}
+            Saturation::Cyclic | Saturation::GivenUp => return Ok(false),
         }
         let op = OpId {
             session: session as u64,

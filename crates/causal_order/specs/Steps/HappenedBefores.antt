@@ -137,8 +137,9 @@ module _ (h : MemoryHistory) where
     pub settled : IsSettled NoMore happened.order
     pub reads : AreReadsFollowed NoMore happened.taken happened
 
-  -- the relation of o has more pairs than a number that the causal order doesn't have: so much more do vectors of pairs of the
-  -- relation count than those of the causal order, each without its own operation
+  -- the relation of o has more pairs than a number that the causal order doesn't have: so much more do vectors count than those
+  -- of the causal order, each without its own operation, which on the past of o count pairs of the relation alone, and elsewhere
+  -- the same
   pub record HasMorePairs (o : OpId) (most : ℕ) : Type 0 where
     pub causal : Counts
     pub counts : CountsSourceOrder h causal
@@ -147,6 +148,7 @@ module _ (h : MemoryHistory) where
     pub now : Counts
     pub held : AreHeldVectors h now
     pub supported : IsSupported o now
+    pub outside : (p : OpId) (s : ℕ) → ¬ IsPast h o p → count now p s ≡ count strict p s
     pub more : most + all_counted h strict < all_counted h now
 
   -- what the relation of o came to, where it may have so many pairs more

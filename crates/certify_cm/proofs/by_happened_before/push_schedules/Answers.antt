@@ -1,35 +1,80 @@
-use Rattle.std.proofs.Common.{List, ℕ, ◌+◌, sym, subst, arith}
+use Rattle.std.proofs.Math.Path.{ap₂}
+use Rattle.std.proofs.Common.{◌≡◌, Option, Some, List, ℕ, ◌+◌, inl, inr, ⊎_elim, sym, subst, subst₂, arith, ◌∙◌}
+use Rattle.history.specs.declared.op_id.OpId.{OpId}
+use Rattle.history.specs.History.{IsOp}
+use Rattle.causal_order.specs.declared.happened_before.Saturation.{Saturation}
+use Rattle.causal_order.specs.declared.happened_before.Saturation.TheVariants.{Saturated, Cyclic, GivenUp}
+use Rattle.causal_order.specs.HappenedBeforeVectors.{IsHBVectors}
 use Rattle.causal_order.specs.Orders.{op}
+use Rattle.causal_order.specs.Steps.HappenedBefores.{Tells, IsOutcome, session_of, taken_of, most_of, vectors_of}
+use Rattle.causal_order.specs.Vectors.{Counts}
 use Rattle.causal_order.proofs.GatheredLaws.{gathered-session, gathered-push, gathered-end}
-use Rattle.certify_cm.specs.Turns.{AreTurns, TakesTurns}
+use Rattle.certify_cm.specs.ByTurns.{TakesTurns}
+use Rattle.certify_cm.specs.Turns.{AreTurns}
 use Rattle.certify_cm.proofs.by_happened_before.push_schedules.Goals as goal
 
 pub loop-index-init : goal.loop-index-init
 loop-index-init c = record {
-  so_far = rw c.in_ok-push_session.ensures.ok (gathered-session c.args.h.now TakesTurns c.args.session c.args.schedules.now c.requires.so_far);
+  so_far = rw c.in_ok-push_session.ensures.ok (gathered-session c.args.h.now (TakesTurns c.args.h.now) c.args.session c.args.schedules.now c.requires.so_far);
   made = c.in_ok-happened.ensures.made;
   session = c.in_ok-happened.ensures.session;
   taken = c.in_ok-happened.ensures.taken;
+  most = c.in_ok-happened.ensures.most;
 }
 
 pub loop-index-preserved : goal.loop-index-preserved
 loop-index-preserved c =
+    let h = c.args.h.now in
     let s = c.args.session in
     let i = c.loop-index.index in
     let v = c.vectors.result.now in
-    let turns : TakesTurns (op s i) c.schedule.result.now = (v, subst (λ (xs : List ℕ). AreTurns v s (i + 1) xs) (sym c.schedule.ensures) c.in_ok-walk.ensures) in
+    let before = c.loop-index.invariant in
     let taken = c.in_ok-happened-2.ensures in
+    let told : Tells c.in_ok-happened-2.happened Saturated = rw c.in-Saturated.is at c.saturation.ensures in
+    let is : op (session_of c.loop-index.happened) (taken_of c.loop-index.happened) ≡ op s i = ap₂ op before.session before.taken in
+    let turns : TakesTurns h (op s i) c.schedule.result.now = λ distinct. record {
+      vectors = v;
+      happened = subst₂ (λ (o : OpId) (now : Counts). IsHBVectors h o now) is (sym c.vectors.ensures) (taken.outcome distinct Saturated told).0;
+      turns = subst (λ (xs : List ℕ). AreTurns v s (i + 1) xs) (sym c.schedule.ensures) c.in_ok-walk.ensures;
+    } in
     record {
       so_far = rw c.in_ok-push.ensures.ok
-          (gathered-push c.args.h.now TakesTurns s i c.loop-index.schedules c.schedule.result.now c.loop-index.invariant.so_far turns);
+          (gathered-push h (TakesTurns h) s i c.loop-index.schedules c.schedule.result.now before.so_far turns);
       made = taken.made;
-      session = let same = taken.session in let before = c.loop-index.invariant.session in omega arith;
-      taken = let more = taken.taken in let before = c.loop-index.invariant.taken in omega arith;
+      session = let same = taken.session in let was = before.session in omega arith;
+      taken = let more = taken.taken in let was = before.taken in omega arith;
+      most = taken.most ∙ before.most;
     }
 
-pub returns : goal.returns
-returns c all =
+pub returns-in-Cyclic : goal.returns-in-Cyclic
+returns-in-Cyclic c = record {
+  all = λ no. absurd cc;
+  none = λ distinct no.
+      let h = c.args.h.now in
+      let s = c.args.session in
+      let i = c.loop-index.index in
+      let before = c.loop-index.invariant in
+      let after = c.in_ok-happened-2.ensures in
+      let happened = c.in_ok-happened-2.happened in
+      let test = c.loop-index-test.true in
+      let count = c.len-index-end.ensures.count in
+      let is_op : IsOp h (op s i) = (omega arith) in
+      let is : op (session_of c.loop-index.happened) (taken_of c.loop-index.happened) ≡ op s i = ap₂ op before.session before.taken in
+      let most : most_of happened ≡ Some 100000 = after.most ∙ before.most in
+      let outcome : (told : Saturation) → Tells happened told → IsOutcome h (op s i) (Some 100000) (vectors_of happened) told =
+      λ told tells. subst₂ (λ (o : OpId) (n : Option ℕ). IsOutcome h o n (vectors_of happened) told) is most (after.outcome distinct told tells) in (
+        op s i,
+        is_op,
+        ⊎_elim
+            (λ (cyclic : c.saturation.result ≡ Cyclic). inl (outcome Cyclic (rw cyclic at c.saturation.ensures)).1)
+            (λ (given_up : c.saturation.result ≡ GivenUp). inr (outcome GivenUp (rw given_up at c.saturation.ensures)))
+            c.in-Cyclic.is,
+      );
+}
+
+pub returns-clause-all : goal.returns-clause-all
+returns-clause-all c all =
     let count = c.len-index-end.ensures.count in
     let up_to = c.loop-index.auto.index-end in
     let test = c.loop-index-test.false in
-    gathered-end c.args.h.now TakesTurns c.args.session c.loop-index.index c.loop-index.schedules c.loop-index.invariant.so_far (omega arith)
+    gathered-end c.args.h.now (TakesTurns c.args.h.now) c.args.session c.loop-index.index c.loop-index.schedules c.loop-index.invariant.so_far (omega arith)

@@ -1,14 +1,15 @@
-use Rattle.std.proofs.Common.{◌≡◌}
+use Rattle.std.proofs.Common.{◌≡◌, Some}
 use Rattle.causal_order.specs.Steps.Gathered.{AreGatheredUpTo}
-use Rattle.causal_order.specs.Steps.HappenedBefores.{IsMade, session_of, taken_of}
-use Rattle.certify_cm.specs.Turns.{TakesTurns}
+use Rattle.causal_order.specs.Steps.HappenedBefores.{IsMade, session_of, taken_of, most_of}
+use Rattle.certify_cm.specs.ByTurns.{TakesTurns}
 use Rattle.certify_cm.proofs.by_happened_before.push_schedules.Given as goal
 
 -- the operations so far are taken in and have their schedules
 abbrev pub invariant-loop-index : goal.invariant-loop-index
 invariant-loop-index l = record {
-  so_far : AreGatheredUpTo l.h TakesTurns l.session l.index l.schedules;
+  so_far : AreGatheredUpTo l.h (TakesTurns l.h) l.session l.index l.schedules;
   made : IsMade l.h l.happened;
   session : session_of l.happened ≡ l.session;
   taken : taken_of l.happened ≡ l.index;
+  most : most_of l.happened ≡ Some 100000;
 }
