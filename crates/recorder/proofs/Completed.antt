@@ -25,8 +25,8 @@ module _ {C R : Type 0} (cells : List ℕ) (self : Begun C R) (told : Tells oper
   completed_receipt = receipt_pushed cells self.notes told x place call r a notes' k pushed is
 
   pub completed_state : (lane : ℕ) → ◌≡◌ {A = ReceiptState C R} (record { lane = lane; cells = map (λ (n : ℕ × Option (Entry C R)). n.0) notes'; operations = operations notes' })
-      (record { lane = lane; cells = take (length self.notes + 1) cells; operations = operations self.notes ++ (self.call, r) ∷ [] })
+      (record { lane = lane; cells = take (length self.notes + 1) cells; operations = operations self.notes ++ (self.call, r, a) ∷ [] })
   completed_state lane =
       let f = cells_pushed cells self.notes told x place call r a notes' k pushed is in
       let h = operations_pushed cells self.notes told x place call r a notes' k pushed is in
-      λ i. record { lane = lane; cells = f i; operations = (h ∙ ap (λ (c : C). operations self.notes ++ (c, r) ∷ []) same_call) i }
+      λ i. record { lane = lane; cells = f i; operations = (h ∙ ap (λ (c : C). operations self.notes ++ (c, r, a) ∷ []) same_call) i }

@@ -3,7 +3,7 @@ use Rattle.std.proofs.Common.{◌≡◌, ℕ, ◌+◌, ◌<◌, ◌≤◌, List,
 use Rattle.std.specs.Prelude.{Bool, true, map, Option, Some, None, option_map, slice_get}
 use Rattle.std.proofs.lemmas.List.{map-append}
 use Rattle.history.specs.declared.advice.Advice.{Advice}
-use Rattle.recorder.specs.Lanes.{Cells, Entry, Notes, Tells, IsLane, known, operation, operations}
+use Rattle.recorder.specs.Lanes.{Cells, Entry, Notes, Returned, Tells, IsLane, known, operation, operations}
 use Rattle.recorder.specs.Sessions.{SessionState, ReceiptState, CanReturn, HasFinished, begun, after_finish, receipt_of, Begun, IsSession}
 use Rattle.std.proofs.lemmas.Option.{slice_get_within}
 use Rattle.recorder.proofs.Telling.{length_map, length_push, tells_many, tells_more, tells_none, operations_more, returned_more}
@@ -19,31 +19,31 @@ module _ {C R : Type 0} where
   seen lane cells notes pending = record { lane = lane; cells = cells; done = operations notes; pending = pending }
 
   module _ (fits : C → R → Bool) (lane : ℕ) (cells : Cells) (notes notes' : List (ℕ × Option (Entry C R))) (p p' : Option (Begun C R)) (b : Begun C R) (some : p ≡ Some b) (none : p' ≡ None) (old : SessionState C R)
-      (view : seen lane cells notes (option_map (λ (q : Begun C R). q.call) p) ≡ old) (r : R) (can : CanReturn fits old r) (more : operations notes' ≡ operations notes ++ (b.call, r) ∷ []) where
+      (view : seen lane cells notes (option_map (λ (q : Begun C R). q.call) p) ≡ old) (r : R) (a : Advice) (can : CanReturn fits old r) (more : operations notes' ≡ operations notes ++ (b.call, r, a) ∷ []) where
     was_pending : old.pending ≡ Some b.call
     was_pending = sym (ap (λ (s : SessionState C R). s.pending) view) ∙ ap (option_map (λ (q : Begun C R). q.call)) some
 
     same_call : can.0 ≡ b.call
     same_call = let e : Some can.0 ≡ Some b.call = sym can.1 ∙ was_pending in cc
 
-    pub seen_finished : HasFinished fits old r (seen lane cells notes' (option_map (λ (q : Begun C R). q.call) p'))
+    pub seen_finished : HasFinished fits old r a (seen lane cells notes' (option_map (λ (q : Begun C R). q.call) p'))
     seen_finished = (
       b.call,
       was_pending,
       subst (λ (c : C). fits c r ≡ true) same_call can.2,
-      (λ i. record { lane = lane; cells = cells; done = more i; pending = option_map (λ (q : Begun C R). q.call) (none i) }) ∙ ap (λ (s : SessionState C R). after_finish s b.call r) view,
+      (λ i. record { lane = lane; cells = cells; done = more i; pending = option_map (λ (q : Begun C R). q.call) (none i) }) ∙ ap (λ (s : SessionState C R). after_finish s b.call r a) view,
     )
 
-  pub seen_receipt : (lane : ℕ) (cells others : Cells) (notes made notes' : List (ℕ × Option (Entry C R))) (c : C) (r : R) (pending : Option C) → operations notes' ≡ operations notes ++ (c, r) ∷ [] → made ≡ notes → length notes ≡ length (operations notes) → others ≡ cells
-      → ◌≡◌ {A = ReceiptState C R} (record { lane = lane; cells = take (length made + 1) others.returns; operations = operations made ++ (c, r) ∷ [] }) (receipt_of (seen lane cells notes' pending))
-  seen_receipt lane cells others notes made notes' c r pending e same many lanes =
-      let count : length made + 1 ≡ length (operations notes') = ap (λ (l : List (ℕ × Option (Entry C R))). length l + 1) same ∙ (ap (λ (n : ℕ). n + 1) many ∙ (sym (length_push (operations notes) (c, r)) ∙ sym (ap length e))) in
-      λ i. record { lane = lane; cells = take (count i) (lanes i).returns; operations = (ap (λ (l : List (ℕ × Option (Entry C R))). operations l ++ (c, r) ∷ []) same ∙ sym e) i }
+  pub seen_receipt : (lane : ℕ) (cells others : Cells) (notes made notes' : List (ℕ × Option (Entry C R))) (c : C) (r : R) (a : Advice) (pending : Option C) → operations notes' ≡ operations notes ++ (c, r, a) ∷ [] → made ≡ notes → length notes ≡ length (operations notes) → others ≡ cells
+      → ◌≡◌ {A = ReceiptState C R} (record { lane = lane; cells = take (length made + 1) others.returns; operations = operations made ++ (c, r, a) ∷ [] }) (receipt_of (seen lane cells notes' pending))
+  seen_receipt lane cells others notes made notes' c r a pending e same many lanes =
+      let count : length made + 1 ≡ length (operations notes') = ap (λ (l : List (ℕ × Option (Entry C R))). length l + 1) same ∙ (ap (λ (n : ℕ). n + 1) many ∙ (sym (length_push (operations notes) (c, r, a)) ∙ sym (ap length e))) in
+      λ i. record { lane = lane; cells = take (count i) (lanes i).returns; operations = (ap (λ (l : List (ℕ × Option (Entry C R))). operations l ++ (c, r, a) ∷ []) same ∙ sym e) i }
 
 module _ {C R : Type 0} (cells : Cells) (calls : Notes C) (returns : Notes (Entry C R)) where
   -- a session with no call pending has as many notes of calls as it has operations
   pub quiet_calls : IsSession {C = C} {R = R} cells calls returns None → length calls.list ≡ length (operations returns.list)
-  quiet_calls s = tells_many known cells.calls calls.list _ s.called ∙ length_map (λ (o : C × R). o.0) (operations returns.list)
+  quiet_calls s = tells_many known cells.calls calls.list _ s.called ∙ length_map (λ (o : Returned C R). o.0) (operations returns.list)
 
   pub return_count : (p : Option (Begun C R)) → IsSession cells calls returns p → length returns.list ≡ length (operations returns.list)
   return_count p s = tells_many operation cells.returns returns.list _ s.returned
@@ -51,9 +51,9 @@ module _ {C R : Type 0} (cells : Cells) (calls : Notes C) (returns : Notes (Entr
   -- the pending call's return has a place
   pub return_place : (b : Begun C R) → IsSession cells calls returns (Some b) → length returns.list < length cells.returns
   return_place b s =
-      let e : length calls.list ≡ length (map (λ (o : C × R). o.0) (operations returns.list) ++ b.call ∷ []) = tells_many known cells.calls calls.list _ s.called in
-      let f : length (map (λ (o : C × R). o.0) (operations returns.list) ++ b.call ∷ []) ≡ length (map (λ (o : C × R). o.0) (operations returns.list)) + 1 = length_push (map (λ (o : C × R). o.0) (operations returns.list)) b.call in
-      let g : length (map (λ (o : C × R). o.0) (operations returns.list)) ≡ length (operations returns.list) = length_map (λ (o : C × R). o.0) (operations returns.list) in
+      let e : length calls.list ≡ length (map (λ (o : Returned C R). o.0) (operations returns.list) ++ b.call ∷ []) = tells_many known cells.calls calls.list _ s.called in
+      let f : length (map (λ (o : Returned C R). o.0) (operations returns.list) ++ b.call ∷ []) ≡ length (map (λ (o : Returned C R). o.0) (operations returns.list)) + 1 = length_push (map (λ (o : Returned C R). o.0) (operations returns.list)) b.call in
+      let g : length (map (λ (o : Returned C R). o.0) (operations returns.list)) ≡ length (operations returns.list) = length_map (λ (o : Returned C R). o.0) (operations returns.list) in
       let h : length returns.list ≡ length (operations returns.list) = return_count (Some b) s in
       let w : length calls.list ≤ length cells.calls = s.within in
       let v : length cells.returns ≡ length cells.calls = s.lane.even in
@@ -66,7 +66,7 @@ module _ {C R : Type 0} (cells : Cells) (calls : Notes C) (returns : Notes (Entr
     lane = s.lane;
     within = subst (λ (l : List (ℕ × Option C)). length l ≤ length cells.calls) (sym e) (let p : length (calls.list ++ (x, Some b.call) ∷ []) ≡ length calls.list + 1 = length_push calls.list (x, Some b.call) in let q : length calls.list < length cells.calls = slice_get_within cells.calls (length calls.list) x at in omega arith);
     called = subst (λ (l : List (ℕ × Option C)). Tells known cells.calls l (begun (operations returns'.list) (Some b.call))) (sym e) (subst (λ (l : List (ℕ × Option (Entry C R))). Tells known cells.calls (calls.list ++ (x, Some b.call) ∷ []) (begun (operations l) (Some b.call))) (sym f)
-        (tells_more known cells.calls calls.list (map (λ (o : C × R). o.0) (operations returns.list)) x (Some b.call) b.call s.called at refl));
+        (tells_more known cells.calls calls.list (map (λ (o : Returned C R). o.0) (operations returns.list)) x (Some b.call) b.call s.called at refl));
     returned = subst (λ (l : List (ℕ × Option (Entry C R))). Tells operation cells.returns l (operations l)) (sym f) s.returned;
     ready = λ d h. let same : b ≡ d = cc in (ap (λ (q : Begun C R). q.notes) (sym same) ∙ (n ∙ sym f), room);
   }
@@ -84,8 +84,8 @@ module _ {C R : Type 0} (cells : Cells) (calls : Notes C) (returns : Notes (Entr
   session_done_at returns' b x r a s at e = record {
     lane = s.lane;
     within = s.within;
-    called = subst (λ (ops : List (C × R)). Tells known cells.calls calls.list (map (λ (o : C × R). o.0) ops)) (sym (ap operations e ∙ operations_more returns.list x b.call r a))
-        (subst (λ (cs : List C). Tells known cells.calls calls.list cs) (sym (map-append (λ (o : C × R). o.0) (operations returns.list) ((b.call, r) ∷ []))) s.called);
+    called = subst (λ (ops : List (Returned C R)). Tells known cells.calls calls.list (map (λ (o : Returned C R). o.0) ops)) (sym (ap operations e ∙ operations_more returns.list x b.call r a))
+        (subst (λ (cs : List C). Tells known cells.calls calls.list cs) (sym (map-append (λ (o : Returned C R). o.0) (operations returns.list) ((b.call, r, a) ∷ []))) s.called);
     returned = subst (λ (l : List (ℕ × Option (Entry C R))). Tells operation cells.returns l (operations l)) (sym e) (returned_more cells.returns returns.list s.returned x at b.call r a);
     ready = λ d h. absurd (cc);
   }
@@ -111,7 +111,7 @@ module _ {C R : Type 0} (cells : Cells) (calls : Notes C) (returns : Notes (Entr
       pub session_done : (lane : Cells) → lane ≡ cells → slice_get lane.returns (length b.notes) ≡ Some x → IsSession {C = C} {R = R} cells calls returns' None
       session_done lane same cell = session_done_at returns' b x r a with_pending (ap (λ (l : Cells). slice_get l.returns (length returns.list)) (sym same) ∙ (ap (λ (l : List (ℕ × Option (Entry C R))). slice_get lane.returns (length l)) (sym pending_notes) ∙ cell)) pushed
 
-      pub done_pushed : operations returns'.list ≡ operations returns.list ++ (b.call, r) ∷ []
+      pub done_pushed : operations returns'.list ≡ operations returns.list ++ (b.call, r, a) ∷ []
       done_pushed = ap operations pushed ∙ operations_more returns.list x b.call r a
 
 -- a session that has recorded nothing
@@ -120,7 +120,7 @@ module _ {C R : Type 0} where
   session_new cells calls returns l e f = record {
     lane = l;
     within = subst (λ (ns : List (ℕ × Option C)). length ns ≤ length cells.calls) (sym e) (omega arith);
-    called = subst (λ (ns : List (ℕ × Option C)). Tells known cells.calls ns (map (λ (o : C × R). o.0) (operations returns.list))) (sym e) (subst (λ (ns : List (ℕ × Option (Entry C R))). Tells known cells.calls [] (map (λ (o : C × R). o.0) (operations ns))) (sym f) (tells_none known cells.calls));
+    called = subst (λ (ns : List (ℕ × Option C)). Tells known cells.calls ns (map (λ (o : Returned C R). o.0) (operations returns.list))) (sym e) (subst (λ (ns : List (ℕ × Option (Entry C R))). Tells known cells.calls [] (map (λ (o : Returned C R). o.0) (operations ns))) (sym f) (tells_none known cells.calls));
     returned = subst (λ (ns : List (ℕ × Option (Entry C R))). Tells operation cells.returns ns (operations ns)) (sym f) (tells_none operation cells.returns);
     ready = λ d h. absurd (cc);
   }

@@ -5,7 +5,7 @@ use Rattle.std.proofs.lemmas.List.{map-append}
 use Rattle.std.proofs.lemmas.List.Elements.{filter_map-append}
 use Rattle.std.proofs.lemmas.Option.{slice_get_within, get_or_from_slice_get}
 use Rattle.std.proofs.Math.Seq.{take-suc}
-use Rattle.recorder.specs.Lanes.{Entry, Tells, operation, operations}
+use Rattle.recorder.specs.Lanes.{Entry, Returned, Tells, operation, operations}
 use Rattle.recorder.specs.Sessions.{IsReceipt}
 use Rattle.history.specs.declared.advice.Advice.{Advice}
 
@@ -58,12 +58,12 @@ module _ {A B : Type 0} (show : ℕ × Option A → Option B) (cells : List ℕ)
 
 module _ {C R : Type 0} where
   -- one more note shows one more operation
-  pub operations_more : (notes : List (ℕ × Option (Entry C R))) (x : ℕ) (c : C) (r : R) (a : Advice) → operations (notes ++ (x, Some (c, Some (r, a))) ∷ []) ≡ operations notes ++ (c, r) ∷ []
+  pub operations_more : (notes : List (ℕ × Option (Entry C R))) (x : ℕ) (c : C) (r : R) (a : Advice) → operations (notes ++ (x, Some (c, Some (r, a))) ∷ []) ≡ operations notes ++ (c, r, a) ∷ []
   operations_more notes x c r a = filter_map-append operation notes ((x, Some (c, Some (r, a))) ∷ [])
 
   module _ (cells : List ℕ) (notes : List (ℕ × Option (Entry C R))) (t : Tells operation cells notes (operations notes)) (x : ℕ) (at : slice_get cells (length notes) ≡ Some x) (c : C) (r : R) (a : Advice) where
     pub returned_more : Tells operation cells (notes ++ (x, Some (c, Some (r, a))) ∷ []) (operations (notes ++ (x, Some (c, Some (r, a))) ∷ []))
-    returned_more = subst (λ (ops : List (C × R)). Tells operation cells (notes ++ (x, Some (c, Some (r, a))) ∷ []) ops) (sym (operations_more notes x c r a)) (tells_more operation cells notes (operations notes) x (Some (c, Some (r, a))) (c, r) t at refl)
+    returned_more = subst (λ (ops : List (Returned C R)). Tells operation cells (notes ++ (x, Some (c, Some (r, a))) ∷ []) ops) (sym (operations_more notes x c r a)) (tells_more operation cells notes (operations notes) x (Some (c, Some (r, a))) (c, r, a) t at refl)
 
     pub receipt_cells : map (λ (n : ℕ × Option (Entry C R)). n.0) (notes ++ (x, Some (c, Some (r, a))) ∷ []) ≡ take (length notes + 1) cells
     receipt_cells = returned_more.named ∙ ap (λ (j : ℕ). take j cells) (length_push notes (x, Some (c, Some (r, a))))
@@ -73,7 +73,7 @@ module _ {C R : Type 0} where
       shows = returned_more.shows;
       last =
           let many : length (notes ++ (x, Some (c, Some (r, a))) ∷ []) - 1 ≡ length (operations notes) = omega (arith, length_push notes (x, Some (c, Some (r, a))), tells_many operation cells notes (operations notes) t) in
-          ap (λ (j : ℕ). slice_get (operations (notes ++ (x, Some (c, Some (r, a))) ∷ [])) j) many ∙ (ap (λ (ops : List (C × R)). slice_get ops (length (operations notes))) (operations_more notes x c r a) ∙ get_pushed (operations notes) (c, r));
+          (a, ap (λ (j : ℕ). slice_get (operations (notes ++ (x, Some (c, Some (r, a))) ∷ [])) j) many ∙ (ap (λ (ops : List (Returned C R)). slice_get ops (length (operations notes))) (operations_more notes x c r a) ∙ get_pushed (operations notes) (c, r, a)));
     }
 
     -- the same of notes that were pushed so
@@ -87,7 +87,7 @@ module _ {C R : Type 0} where
       pub cells_pushed : map (λ (n : ℕ × Option (Entry C R)). n.0) notes' ≡ take (length notes + 1) cells
       cells_pushed = ap (map (λ (n : ℕ × Option (Entry C R)). n.0)) pushed ∙ receipt_cells
 
-      pub operations_pushed : operations notes' ≡ operations notes ++ (c, r) ∷ []
+      pub operations_pushed : operations notes' ≡ operations notes ++ (c, r, a) ∷ []
       operations_pushed = ap operations pushed ∙ operations_more notes x c r a
 
 -- what stands at a place of a list of images
@@ -101,12 +101,12 @@ module _ {C R : Type 0} (notes : List (ℕ × Option (Entry C R))) (i : ℕ) (n 
   pub cell_told : slice_get (map (λ (m : ℕ × Option (Entry C R)). m.0) notes) i ≡ Some n.0
   cell_told = get_map (λ (m : ℕ × Option (Entry C R)). m.0) notes i ∙ ap (option_map (λ (m : ℕ × Option (Entry C R)). m.0)) at
 
-  some_is : (v : Option (C × R)) → Some (operation n) ≡ option_map Some v → operation n ≡ v
+  some_is : (v : Option (Returned C R)) → Some (operation n) ≡ option_map Some v → operation n ≡ v
   some_is None e = absurd (cc)
   some_is (Some x) e = cc
 
   pub operation_told : map operation notes ≡ map Some (operations notes) → operation n ≡ slice_get (operations notes) i
-  operation_told e = some_is (slice_get (operations notes) i) (sym (get_map operation notes i ∙ ap (option_map operation) at) ∙ (ap (λ (l : List (Option (C × R))). slice_get l i) e ∙ get_map Some (operations notes) i))
+  operation_told e = some_is (slice_get (operations notes) i) (sym (get_map operation notes i ∙ ap (option_map operation) at) ∙ (ap (λ (l : List (Option (Returned C R))). slice_get l i) e ∙ get_map Some (operations notes) i))
 
 pub told_many : {C R : Type 0} (notes : List (ℕ × Option (Entry C R))) → map operation notes ≡ map Some (operations notes) → length notes ≡ length (operations notes)
 told_many notes e = sym (length_map operation notes) ∙ (ap length e ∙ length_map Some (operations notes))

@@ -17,13 +17,17 @@ pub record IsLane (cells : Cells) : Type 0 where
 abbrev pub Entry : Type 0 → Type 0 → Type 0
 Entry C R = C × Option (R × Advice)
 
+-- an operation that has returned: its call, its return and the store's advice
+abbrev pub Returned : Type 0 → Type 0 → Type 0
+Returned C R = C × R × Advice
+
 module _ {C R : Type 0} where
   -- the operation that a return record shows
-  abbrev pub completed : Entry C R → Option (C × R)
-  completed e = option_map (λ (x : R × Advice). (e.0, x.0)) e.1
+  abbrev pub completed : Entry C R → Option (Returned C R)
+  completed e = option_map (λ (x : R × Advice). (e.0, x.0, x.1)) e.1
 
   -- the operation that is known of a return cell
-  abbrev pub shown : Option (Entry C R) → Option (C × R)
+  abbrev pub shown : Option (Entry C R) → Option (Returned C R)
   shown None = None
   shown (Some e) = completed e
 
@@ -48,9 +52,9 @@ pub record Tells {A B : Type 0} (show : ℕ × Option A → Option B) (cells : L
 
 module _ {C R : Type 0} where
   -- the operation that a note of a return cell shows
-  abbrev pub operation : ℕ × Option (Entry C R) → Option (C × R)
+  abbrev pub operation : ℕ × Option (Entry C R) → Option (Returned C R)
   operation n = shown n.1
 
   -- the operations that such notes show
-  abbrev pub operations : List (ℕ × Option (Entry C R)) → List (C × R)
+  abbrev pub operations : List (ℕ × Option (Entry C R)) → List (Returned C R)
   operations notes = filter_map operation notes

@@ -73,7 +73,7 @@ impl<O: Recorded> Pending<O> {
         requires told { Tells operation lane.now.returns self.notes (operations self.notes) }
         ensures cell { IfOk result (λ r. slice_get lane.now.returns (length self.notes) ≡ Some r.0.cell) }
         ensures known { IfOk result (λ r. r.0.known ≡ Some (self.call, Some (ret, advice))) }
-        ensures receipt { IfOk result (λ r. r.1 ≡ record { lane = session; cells = take (length self.notes + 1) lane.now.returns; operations = operations self.notes ++ (self.call, ret) ∷ [] }) }
+        ensures receipt { IfOk result (λ r. r.1 ≡ record { lane = session; cells = take (length self.notes + 1) lane.now.returns; operations = operations self.notes ++ (self.call, ret, advice) ∷ [] }) }
         ensures still { IfErr result (λ e. e.0 ≡ self) }
         ensures advice { IfErr result (λ e. e.1 ≡ advice) }
     {

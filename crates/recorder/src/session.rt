@@ -159,7 +159,7 @@ impl<O: Recorded> Session<O> {
     // Sets the return cell of the pending call, which the return fits.
     fn set_return(&mut self, ret: O::Ret, advice: Advice) -> Result<Receipt<O>, Advice>
         requires { CanReturn O.fitting self.old ret }
-        ensures finished { IfOk result (λ _. HasFinished O.fitting self.old ret self.new) }
+        ensures finished { IfOk result (λ _. HasFinished O.fitting self.old ret advice self.new) }
         ensures receipt { IfOk result (λ r. r ≡ receipt_of self.new) }
         ensures advice { IfErr result (λ a. a ≡ advice) }
         ensures unchanged { OnErr result (self.new ≡ self.old) }
@@ -190,7 +190,7 @@ impl<O: SeqObject> Session<O> {
         ret: O::Ret,
         advice: Advice,
     ) -> Result<Receipt<O>, (RecordError, Advice)>
-        ensures finished { IfOk result (λ _. HasFinished O.matches self.old ret self.new) }
+        ensures finished { IfOk result (λ _. HasFinished O.matches self.old ret advice self.new) }
         ensures receipt { IfOk result (λ r. r ≡ receipt_of self.new) }
         ensures refused { IfErr result (λ e. RefusesReturn O.matches self.old ret e.0) }
         ensures advice { IfErr result (λ e. e.1 ≡ advice) }

@@ -1,11 +1,10 @@
 -- What a list of looks answers, with one more look.
-use Rattle.std.proofs.Common.{◌≡◌, ◌≢◌, ℕ, ◌==◌, List, [], ◌∷◌, ◌++◌, refl, sym, ◌∙◌, ap, subst, eq-eqb}
+use Rattle.std.proofs.Common.{◌≡◌, ◌≢◌, ℕ, ◌==◌, List, [], ◌∷◌, ◌++◌, refl, ap, eq-eqb}
 use Rattle.std.specs.Prelude.{Bool, true, false, ◌&&◌, Option, Some, None, if◌then◌else◌}
 use Rattle.std.proofs.lemmas.Bool.{ne_eqb}
 use Rattle.history.specs.declared.op_id.OpId.{OpId}
 use Rattle.snapshot.specs.declared.cell.Cell.{Cell}
-use Rattle.snapshot.specs.declared.cell.Cell.TheVariants.{Return, Call}
-use Rattle.snapshot.specs.Plans.{Look, answer, same_op, same_cell, return_cell, call_cell}
+use Rattle.snapshot.specs.Plans.{Look, answer, same_op, same_cell}
 
 abbrev pick : Bool → Option Bool → Option Bool → Option Bool
 pick t x y = if t then x else y

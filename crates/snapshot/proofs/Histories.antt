@@ -1,20 +1,22 @@
 -- The history that is sealed, and what it holds of receipts.
 use Rattle.std.proofs.Common.{◌≡◌, ◌≢◌, ℕ, zero, suc, ◌+◌, ◌-◌, ◌<◌, ◌≤◌, ◌⊎◌, List, [], ◌∷◌, ◌++◌, length, inl, inr, refl, sym, ◌∙◌, ap, subst, arith, get_or}
-use Rattle.std.specs.Prelude.{Bool, true, Option, Some, None, option_map, slice_get, slice_index_or, map}
+use Rattle.std.specs.Prelude.{Bool, true, Option, Some, None, option_map, slice_get, map}
+use Rattle.std.specs.List.{filter_map}
 use Rattle.std.proofs.lemmas.Bool.{cases_lt, cases_eq}
 use Rattle.std.proofs.lemmas.Option.{slice_get_within, get_or_from_slice_get}
-use Rattle.std.proofs.lemmas.List.{map-append}
-use Rattle.history.specs.History.{Record, IsHistory, IsSession, session, entry}
-use Rattle.recorder.specs.Lanes.{Cells, Entry, shown}
-use Rattle.recorder.specs.Sessions.{ReceiptState, LanesState, op}
-use Rattle.recorder.proofs.Telling.{get_map, length_map, length_push, get_push_cases}
+use Rattle.history.specs.History.{IsHistory, IsSession, session}
+use Rattle.recorder.specs.Lanes.{Cells, IsLane}
+use Rattle.recorder.specs.Sessions.{ReceiptState, LanesState}
+use Rattle.recorder.proofs.Telling.{get_map, get_push_cases}
 use Rattle.snapshot.specs.declared.longest.LongestReceipt.{LongestReceipt}
-use Rattle.snapshot.specs.Seals.{SealState, AreReadFrom, IsReceiptOf, AreReceiptsOf, Holds, HoldsAll, IsSealOf}
-use Rattle.snapshot.specs.Steps.Tables.{SealedNotes, IsReturnedAs, IsSealedSession, AreNotesOf, IsLongest, names}
-use Rattle.snapshot.specs.Steps.Sealing.{AreSealedSessions, IsLaneSealed, AreLanesSealed, IsShown, IsToldBy}
+use Rattle.snapshot.specs.Plans.{Look, Plan, answer, was_full, return_cell, call_cell, first_failing, after_looks, fresh_plan, returns_found, calls_found, Follows}
+use Rattle.snapshot.specs.Seals.{AreReceiptsOf, HoldsAll, HoldsFound, IsSealOf}
+use Rattle.snapshot.specs.Steps.Tables.{SealedNotes, TableState, IsSealedSession, IsTable, IsLongest, RunsTo, TellsLooks, names, was_found}
+use Rattle.snapshot.specs.Steps.Sealing.{AreSealedSessions, AreLanesFound, IsLaneFound, IsLaneSealed, IsOfTable, AreLanesSealed, IsShown, IsToldBy}
 use Rattle.snapshot.specs.Steps.Comparing.{ReturnAgrees, SharesCells}
 use Rattle.snapshot.proofs.TableLemmas.{none_past, pointwise_length}
-use Rattle.snapshot.proofs.Meetings.{get_in, return_at, read_from}
+use Rattle.snapshot.proofs.FoundLooks.{after_is, found_is_full, runs_first, runs_on, runs_same}
+use Rattle.snapshot.proofs.Meetings.{get_in, knowns_are, return_at, read_from}
 
 some_is : {A : Type 0} (x y : A) → Some x ≡ Some y → x ≡ y
 some_is x y e = cc
@@ -108,6 +110,39 @@ module _ {C R : Type 0} (fits : C → R → Bool) where
           (names l.0, get_map names ls s ∙ ap (option_map names) l.1, read_from lane l.0 (a.each s es.0 l.0 lane es.1 l.1 e).notes);
     }
 
+    -- the history holds what looks found, if they follow a plan
+    module _ (start : S) (looks : List Look) (told : List ℕ) (cap : ℕ) (found : AreLanesFound looks told cap ess ls) (f : Follows (fresh_plan (length lanes.cells) cap told) looks) where
+      abbrev found_plan : Plan
+      found_plan = after_looks (fresh_plan (length lanes.cells) cap told) looks
+
+      plan_is : found_plan ≡ record { lanes = length lanes.cells; cap = cap; told = told; looks = looks }
+      plan_is = after_is (fresh_plan (length lanes.cells) cap told) looks
+
+      lane_of : (s : ℕ) → s < found_plan.lanes → (es : List (C × Option R)) × (l : SealedNotes C R) × (slice_get ess s ≡ Some es) × (length (filter_map (λ (e : C × Option R). e.1) es) ≡ length l.returns) × IsLaneFound looks s (get_or told s 0) cap es l
+      lane_of s h =
+          let w : s < length lanes.cells = subst (λ (p : Plan). s < p.lanes) plan_is h in let m : length ess ≡ length lanes.cells = a.sessions in
+          let es = get_in ess s (omega arith) in let at = lane_at s es.0 es.1 in
+          (es.0, at.0, es.1, knowns_are fits es.0 at.0 (a.each s es.0 at.0 at.1 es.1 at.2 at.3).session, found s es.0 at.0 es.1 at.2)
+
+      returns_are : (s : ℕ) (es : List (C × Option R)) (l : SealedNotes C R) → IsLaneFound looks s (get_or told s 0) cap es l → returns_found found_plan s ≡ length l.returns
+      returns_are s es l r =
+          let T : ℕ → Bool = λ i. was_full (answer found_plan.looks (return_cell s i)) in
+          ap (λ (p : Plan). first_failing T (get_or p.told s 0) (p.cap - get_or p.told s 0)) plan_is
+          ∙ runs_first T (get_or told s 0) (length l.returns) cap (runs_same (λ i. was_found looks (return_cell s i)) T (get_or told s 0) (length l.returns) cap (λ i. found_is_full (fresh_plan (length lanes.cells) cap told) looks f refl (return_cell s i)) r.returns)
+
+      calls_are : (s : ℕ) (es : List (C × Option R)) (l : SealedNotes C R) → IsLaneFound looks s (get_or told s 0) cap es l → calls_found found_plan s ≡ length es
+      calls_are s es l r =
+          let T : ℕ → Bool = λ i. was_full (answer found_plan.looks (call_cell s i)) in
+          ap (λ (n : ℕ). first_failing T n (found_plan.cap - n)) (returns_are s es l r)
+          ∙ (ap (λ (p : Plan). first_failing T (length l.returns) (p.cap - length l.returns)) plan_is
+          ∙ runs_first T (length l.returns) (length es) cap (runs_same (λ i. was_found looks (call_cell s i)) T (length l.returns) (length es) cap (λ i. found_is_full (fresh_plan (length lanes.cells) cap told) looks f refl (call_cell s i)) r.calls))
+
+      pub holds_found : HoldsFound found_plan (start, ess)
+      holds_found = record {
+        returns = λ s h. let l = lane_of s h in ap (λ (es : List (C × Option R)). length (filter_map (λ (e : C × Option R). e.1) es)) (session_at start s l.0 l.2) ∙ (l.3 ∙ sym (returns_are s l.0 l.1 l.4));
+        operations = λ s h. let l = lane_of s h in ap length (session_at start s l.0 l.2) ∙ sym (calls_are s l.0 l.1 l.4);
+      }
+
     module _ (of : AreReceiptsOf lanes rs) where
       -- the cells of a receipt are those of the notes of its lane
       pub shared_are : (j : ℕ) (r : ReceiptState C R) → slice_get rs j ≡ Some r → (l : SealedNotes C R) × (slice_get ls r.lane ≡ Some l) × SharesCells r l
@@ -168,3 +203,29 @@ module _ {C R : Type 0} (rs : List (ReceiptState C R)) (ls : List (SealedNotes C
     | inl c ↦ subst (λ (x : ReceiptState C R). IsShown ls x) (some_is r q (sym at ∙ (ap (slice_get rs) (sym c) ∙ e))) (λ m f i less. subst (λ (x : SealedNotes C R). ReturnAgrees x.returns i (slice_get r.operations i)) (some_is l m (sym lane ∙ f)) (agree i less))
     | inr c ↦ old j q (let h' : j < k + 1 = h in let c' : j ≢ k = c in omega arith) e
   ]
+
+-- what looks found of lanes
+module _ {C R : Type 0} where
+  -- what was read of a lane by its table is what looks found
+  pub lane_found : (looks : List Look) (s told cap count : ℕ) (lane : Cells) (t : TableState C R) (es : List (C × Option R)) (l : SealedNotes C R) → TellsLooks looks s t → count ≡ told → IsTable lane t → IsLane lane → length lane.calls ≤ cap → IsOfTable t count es l → IsLaneFound looks s told cap es l
+  lane_found looks s told cap count lane t es l tells same table even most r =
+      let c : length t.calls ≡ length lane.calls = table.call_places in let d : length t.returns ≡ length lane.returns = table.return_places in
+      let e : length lane.returns ≡ length lane.calls = even.even in let m : length lane.calls ≤ cap = most in
+      record {
+        returns = subst (λ (n : ℕ). RunsTo (λ i. was_found looks (return_cell s i)) n (length l.returns) cap) same (runs_on t.returns (λ i. was_found looks (return_cell s i)) count (length l.returns) cap tells.returns (omega arith) r.returns);
+        calls = runs_on t.calls (λ i. was_found looks (call_cell s i)) (length l.returns) (length es) cap tells.calls (omega arith) r.calls;
+      }
+
+  pub lanes_found_more : (looks : List Look) (told : List ℕ) (cap : ℕ) (ess ess' : List (List (C × Option R))) (ls ls' : List (SealedNotes C R)) (k : ℕ) (es' : List (C × Option R)) (l' : SealedNotes C R) → length ess ≡ k → length ls ≡ k
+      → ess' ≡ ess ++ es' ∷ [] → ls' ≡ ls ++ l' ∷ [] → IsLaneFound looks k (get_or told k 0) cap es' l' → AreLanesFound looks told cap ess ls → AreLanesFound looks told cap ess' ls'
+  lanes_found_more looks told cap ess ess' ls ls' k es' l' me ml pe pl new each s es l e f =
+      elim (get_push_cases ess es' s es (subst (λ (x : List (List (C × Option R))). slice_get x s ≡ Some es) pe e)) [
+        | inl h ↦ elim (get_push_cases ls l' s l (subst (λ (x : List (SealedNotes C R)). slice_get x s ≡ Some l) pl f)) [
+          | inl q ↦ each s es l h q
+          | inr q ↦ absurd (let w : s < length ess = slice_get_within ess s es h in let z : s ≡ length ls = q.0 in let x : length ess ≡ k = me in let y : length ls ≡ k = ml in omega arith)
+        ]
+        | inr h ↦ elim (get_push_cases ls l' s l (subst (λ (x : List (SealedNotes C R)). slice_get x s ≡ Some l) pl f)) [
+          | inl q ↦ absurd (let w : s < length ls = slice_get_within ls s l q in let z : s ≡ length ess = h.0 in let x : length ess ≡ k = me in let y : length ls ≡ k = ml in omega arith)
+          | inr q ↦ subst (λ (y : ℕ). IsLaneFound looks y (get_or told y 0) cap es l) (sym (h.0 ∙ me)) (subst (λ (y : List (C × Option R)). IsLaneFound looks k (get_or told k 0) cap y l) h.1 (subst (λ (y : SealedNotes C R). IsLaneFound looks k (get_or told k 0) cap es' y) q.1 new))
+        ]
+      ]

@@ -1,5 +1,6 @@
 pub mod Answers
 pub mod Columns
+pub mod FoundLooks
 pub mod Histories
 pub mod LanePlans
 pub mod Meetings

@@ -1,20 +1,17 @@
 -- How far a seal and a session hold the same, and what a seal holds of receipts.
-use Rattle.std.proofs.Common.{◌≡◌, ℕ, zero, suc, ◌+◌, ◌-◌, ◌<◌, ◌≤◌, ◌⊎◌, List, [], ◌∷◌, ◌++◌, length, inl, inr, refl, sym, ◌∙◌, ap, subst, arith, get_or, length-append}
-use Rattle.std.specs.Prelude.{Bool, true, false, Option, Some, None, option_map, slice_get, slice_index_or, map, min, nat_lt, if◌then◌else◌}
+use Rattle.std.proofs.Common.{◌≡◌, ℕ, zero, suc, ◌+◌, ◌-◌, ◌<◌, ◌≤◌, List, [], ◌∷◌, ◌++◌, length, inl, inr, refl, sym, ◌∙◌, ap, subst, arith, length-append}
+use Rattle.std.specs.Prelude.{Bool, Option, Some, None, option_map, slice_get, map, min, nat_lt, if◌then◌else◌}
 use Rattle.std.specs.List.{filter_map}
 use Rattle.std.proofs.lemmas.Bool.{cases_lt, lt-ltb, le-ltb}
-use Rattle.std.proofs.lemmas.Option.{slice_get_within, slice_get-get_or, get_or_from_slice_get}
 use Rattle.std.proofs.Math.Nat.{min-eq_left, min-eq_right}
 use Rattle.std.proofs.lemmas.List.Elements.{filter_map-append}
-use Rattle.history.specs.History.{Record, IsHistory, IsSession, session, entry}
-use Rattle.recorder.specs.Lanes.{Cells, Entry, shown}
-use Rattle.recorder.specs.Sessions.{ReceiptState, LanesState, SessionState, begun, op}
+use Rattle.history.specs.History.{session, entry}
+use Rattle.recorder.specs.Lanes.{Cells, Entry}
+use Rattle.recorder.specs.Sessions.{SessionState, begun, op}
 use Rattle.recorder.proofs.Telling.{get_map, length_map, length_push, get_push_before}
-use Rattle.snapshot.specs.Seals.{SealState, AreReadFrom, AreReceiptsOf, Holds, HoldsAll, IsSealOf, known_returns, met_calls, AreOfOne}
-use Rattle.snapshot.specs.Steps.Tables.{SealedNotes, IsReturnedAs, IsSealedSession, AreNotesOf, names}
-use Rattle.snapshot.specs.Steps.Sealing.{AreSealedSessions, IsLaneSealed, AreLanesSealed, IsShown}
-use Rattle.snapshot.specs.Steps.Comparing.{ReturnAgrees, CallAgrees, IsReturnOf, IsCallOf, SharesCells}
-use Rattle.snapshot.proofs.TableLemmas.{none_past}
+use Rattle.snapshot.specs.Seals.{SealState, AreReadFrom, known_returns, met_calls, AreOfOne}
+use Rattle.snapshot.specs.Steps.Tables.{SealedNotes, IsSealedSession, AreNotesOf, names}
+use Rattle.snapshot.specs.Steps.Comparing.{ReturnAgrees, CallAgrees, IsReturnOf, IsCallOf}
 
 module _ {A : Type 0} where
   some_is : (x y : A) → Some x ≡ Some y → x ≡ y

@@ -1,14 +1,15 @@
 -- What is read of a lane, with one more operation, and what is sealed of it.
 use Rattle.std.proofs.Common.{◌≡◌, ℕ, zero, suc, ◌+◌, ◌<◌, ◌≤◌, ◌⊎◌, List, [], ◌∷◌, ◌++◌, length, inl, inr, refl, sym, ◌∙◌, ap, subst, arith}
-use Rattle.std.specs.Prelude.{Bool, true, Option, Some, None, slice_get}
+use Rattle.std.specs.Prelude.{Bool, true, false, Option, Some, None, slice_get}
+use Rattle.std.proofs.lemmas.Bool.{cases_lt, false≢true}
 use Rattle.std.proofs.lemmas.Option.{slice_get_within}
 use Rattle.recorder.specs.Lanes.{Cells, Entry, shown}
 use Rattle.recorder.proofs.Telling.{length_push, get_pushed, get_push_cases, get_push_before}
 use Rattle.recorder.specs.Sessions.{ReceiptState}
 use Rattle.snapshot.specs.declared.longest.LongestReceipt.{LongestReceipt}
-use Rattle.snapshot.specs.Steps.Tables.{SealedNotes, IsReturnFound, IsReturnedAs, IsSealedSession, AreNotesOf}
+use Rattle.snapshot.specs.Steps.Tables.{IsReturnFound, IsReturnedAs, IsSealedSession, AreNotesOf}
 use Rattle.snapshot.specs.Steps.Sealing.{ReadsReturn, ReadsCall, AreReturnsRead, AreCallsRead, IsToldBy}
-use Rattle.snapshot.proofs.TableLemmas.{some_same, read_at}
+use Rattle.snapshot.proofs.TableLemmas.{some_same}
 use Rattle.snapshot.proofs.Meetings.{get_in}
 
 none_there : {A : Type 0} {x : A} (i : ℕ) → slice_get {X = A} [] i ≡ Some x → ⊥
@@ -81,6 +82,10 @@ module _ {C R : Type 0} (fits : C → R → Bool) (lane : Cells) where
       returns = a.of;
       calls = λ i n e. subst (λ (k : ℕ). slice_get lane.calls (k + i) ≡ Some n.0) a.many (b.of i n e);
     }
+
+-- a place of which no note was found was not told of
+pub not_told : (count i : ℕ) → (i < count → false ≡ true) → count ≤ i
+not_told count i f = elim (cases_lt i count) [ inl h ↦ absurd (false≢true (f h)) | inr h ↦ h ]
 
 -- a note that a receipt tells
 module _ {C R : Type 0} (rs : List (ReceiptState C R)) (lane : Cells) (best : LongestReceipt) (told : IsToldBy rs lane best) (i : ℕ) (less : i < best.count) where

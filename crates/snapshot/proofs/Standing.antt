@@ -1,18 +1,18 @@
 -- What stands for a plan: the cell that is next, and the state after one more look.
 use Rattle.std.proofs.Common.{◌≡◌, ◌≢◌, ℕ, suc, zero, ◌+◌, ◌<◌, ◌≤◌, ◌⊎◌, List, [], ◌∷◌, ◌++◌, length, inl, inr, refl, sym, ◌∙◌, ap, subst, arith, get_or, set, length-set, drop, ◌==◌, ◌&&◌}
 use Rattle.std.proofs.Math.Seq.{drop-cons}
-use Rattle.std.specs.Prelude.{Bool, true, false, Option, Some, None, slice_get, IsSome}
+use Rattle.std.specs.Prelude.{Bool, false, Option, Some, None, slice_get}
 use Rattle.std.proofs.lemmas.Bool.{cases_eq}
 use Rattle.std.proofs.lemmas.Option.{slice_get_within, get_or_from_slice_get}
 use Rattle.history.specs.declared.op_id.OpId.{OpId}
 use Rattle.snapshot.specs.declared.cell.Cell.{Cell}
 use Rattle.snapshot.specs.declared.cell.Cell.TheVariants.{Return, Call}
 use Rattle.snapshot.specs.declared.lane_plan.LanePlan.{LanePlan}
-use Rattle.snapshot.specs.Plans.{Look, Plan, answer, return_cell, call_cell, same_cell, named_at, or_else, first_named, told_of, next_return, next_call, next_cell, looked_at, fresh_plan}
+use Rattle.snapshot.specs.Plans.{Plan, answer, return_cell, call_cell, same_cell, named_at, or_else, first_named, told_of, next_return, next_call, next_cell, looked_at, fresh_plan}
 use Rattle.snapshot.specs.Walks.{IsLanePlan, Stands}
 use Rattle.snapshot.specs.Steps.PlanStates.{PlanState, return_place, call_place, return_of, call_of, first_of, state_next, after_return, after_call, fresh_lane, lane_left, left_of, looks_left}
 use Rattle.snapshot.proofs.Answers.{answer_other, answer_new, same_op_itself, other_index, other_session}
-use Rattle.snapshot.proofs.LanePlans.{lane_same, lane_returned, lane_called, return_named, call_named, lane_fresh, fewer_returned, fewer_called, call_some, returns_ended, return_unread, call_unread, behind_some}
+use Rattle.snapshot.proofs.LanePlans.{lane_same, lane_returned, lane_called, return_named, call_named, lane_fresh, fewer_returned, fewer_called, call_some, returns_ended, return_unread, call_unread}
 
 -- the first cell that is named, of lanes that name the same
 firsts_same : (f : ℕ → LanePlan → Option Cell) (g : ℕ → Option Cell) (s : ℕ) (ls : List LanePlan) → ((j : ℕ) (l : LanePlan) → slice_get ls j ≡ Some l → f (s + j) l ≡ g (s + j)) → first_of f s ls ≡ first_named g s (length ls)

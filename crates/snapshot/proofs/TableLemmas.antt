@@ -1,15 +1,18 @@
 -- The tables of a looker: with nothing found, and with one more cell found.
 use Rattle.std.proofs.Common.{◌≡◌, ◌≢◌, ℕ, suc, zero, ◌+◌, ◌<◌, ◌≤◌, ◌⊎◌, List, [], ◌∷◌, ◌++◌, length, inl, inr, refl, sym, ◌∙◌, ap, subst, arith, get_or, set, length-set}
-use Rattle.std.specs.Prelude.{Bool, true, Option, Some, None, slice_get}
+use Rattle.std.specs.Prelude.{Bool, true, false, Option, Some, None, slice_get}
 use Rattle.std.proofs.lemmas.Bool.{cases_eq, cases_lt}
-use Rattle.std.proofs.lemmas.Option.{slice_get_within, slice_get_past, get_or_from_slice_get, slice_get-get_or}
+use Rattle.std.proofs.lemmas.Option.{slice_get_within, slice_get-get_or}
 use Rattle.history.specs.declared.advice.Advice.{Advice}
 use Rattle.recorder.specs.Lanes.{Cells, Entry, IsLane, IsFitting, shown}
 use Rattle.recorder.specs.Sessions.{LanesState, ReceiptState}
-use Rattle.recorder.proofs.Telling.{length_push, get_push_cases}
+use Rattle.recorder.proofs.Telling.{get_push_cases}
 use Rattle.snapshot.specs.declared.longest.LongestReceipt.{LongestReceipt}
+use Rattle.snapshot.specs.declared.cell.Cell.{Cell}
+use Rattle.snapshot.specs.Plans.{Look, call_cell, return_cell}
 use Rattle.snapshot.specs.Seals.{AreReceiptsOf, AreToldBy}
-use Rattle.snapshot.specs.Steps.Tables.{TableState, IsTable, AreTables, IsReturnFound, IsCallFound, IsLongest, IsLooker}
+use Rattle.snapshot.specs.Steps.Tables.{TableState, IsTable, AreTables, IsReturnFound, IsCallFound, IsLongest, IsLooker, TellsLooks}
+use Rattle.snapshot.proofs.FoundLooks.{tells_empty, tells_return, tells_call}
 use Rattle.snapshot.proofs.Standing.{get_set_same, get_set_other}
 
 module _ {A : Type 0} where
@@ -47,6 +50,12 @@ module _ {C R : Type 0} where
     | inl h ↦ each j l u e h
     | inr h ↦ let same : Some l ≡ Some lane = sym e ∙ (ap (slice_get lanes) (h.0 ∙ many) ∙ at) in
         subst (λ (x : TableState C R). IsTable l x) h.1 (subst (λ (x : Cells). IsTable x t) (sym (some_same l lane same)) is)
+  ]
+
+  pub fresh_more : (ts ts' : List (TableState C R)) (t : TableState C R) → ts' ≡ ts ++ t ∷ [] → ((s : ℕ) → TellsLooks [] s t) → ((s : ℕ) (u : TableState C R) → slice_get ts s ≡ Some u → TellsLooks [] s u) → (s : ℕ) (u : TableState C R) → slice_get ts' s ≡ Some u → TellsLooks [] s u
+  fresh_more ts ts' t pushed new old s u e = elim (get_push_cases ts t s u (subst (λ (x : List (TableState C R)). slice_get x s ≡ Some u) pushed e)) [
+    | inl h ↦ old s u h
+    | inr h ↦ subst (λ (x : TableState C R). TellsLooks [] s x) h.1 (new s)
   ]
 
   module _ (lane : Cells) (t t' : TableState C R) (is : IsTable lane t) where
@@ -143,7 +152,7 @@ module _ {C R : Type 0} where
   pub lanes_many : (lanes : List Cells) (ts : List (TableState C R)) (s : ℕ) (lane : Cells) → AreTables lanes ts → slice_get lanes s ≡ Some lane → s < length ts
   lanes_many lanes ts s lane a e = let w : s < length lanes = slice_get_within lanes s lane e in let m : length ts ≡ length lanes = a.many in omega arith
 
-  module _ {S : Type 0} (lanes : LanesState S) (rs : List (ReceiptState C R)) (told : List ℕ) (cap : ℕ) (ts : List (TableState C R)) (k : IsLooker lanes rs told cap ts) (s : ℕ) (lane : Cells) (at : slice_get lanes.cells s ≡ Some lane) (t t' : TableState C R) (is : t ≡ get_or ts s t) where
+  module _ {S : Type 0} (lanes : LanesState S) (rs : List (ReceiptState C R)) (told : List ℕ) (cap : ℕ) (looks looks' : List Look) (ts : List (TableState C R)) (k : IsLooker lanes rs told cap looks ts) (s : ℕ) (lane : Cells) (at : slice_get lanes.cells s ≡ Some lane) (t t' : TableState C R) (is : t ≡ get_or ts s t) where
     old_table : IsTable lane t
     old_table = table_at lanes.cells ts s lane t k.tables at (lanes_many lanes.cells ts s lane k.tables at) is
 
@@ -153,15 +162,22 @@ module _ {C R : Type 0} where
     pub call_place : (i : ℕ) (f : ℕ × Option C) → IsCallFound lane i f → i < length t.calls
     call_place i f found = let w : i < length lane.calls = slice_get_within lane.calls i f.0 found.0 in let e : length t.calls ≡ length lane.calls = old_table.call_places in omega arith
 
-    kept_with : IsTable lane t' → IsLooker lanes rs told cap (set ts s t')
-    kept_with new = record { of = k.of; counts = k.counts; within = k.within; tables = tables_set lanes.cells ts s lane t t' k.tables at (read_at ts s t (lanes_many lanes.cells ts s lane k.tables at) is) new }
+    table_is : slice_get ts s ≡ Some t
+    table_is = read_at ts s t (lanes_many lanes.cells ts s lane k.tables at) is
+
+    kept_with : IsTable lane t' → ((z : ℕ) (u : TableState C R) → slice_get (set ts s t') z ≡ Some u → TellsLooks looks' z u) → IsLooker lanes rs told cap looks' (set ts s t')
+    kept_with new tells = record { of = k.of; counts = k.counts; within = k.within; places = k.places; tables = tables_set lanes.cells ts s lane t t' k.tables at table_is new; looked = tells }
 
     -- a looker that keeps one more cell
-    pub keeps_return : (i : ℕ) (f : ℕ × Option (Entry C R)) → IsReturnFound lane i f → t'.returns ≡ set t.returns i (Some f) → t'.calls ≡ t.calls → IsLooker lanes rs told cap (set ts s t')
-    keeps_return i f found r c = kept_with (table_returned lane t t' old_table i f found r c)
+    pub keeps_return : (i : ℕ) (f : ℕ × Option (Entry C R)) → IsReturnFound lane i f → t'.returns ≡ set t.returns i (Some f) → t'.calls ≡ t.calls → looks' ≡ looks ++ (return_cell s i, true) ∷ [] → IsLooker lanes rs told cap looks' (set ts s t')
+    keeps_return i f found r c e = kept_with (table_returned lane t t' old_table i f found r c) (tells_return looks looks' s i ts t t' table_is k.looked f e (return_place i f found) r c)
 
-    pub keeps_call : (i : ℕ) (f : ℕ × Option C) → IsCallFound lane i f → t'.calls ≡ set t.calls i (Some f) → t'.returns ≡ t.returns → IsLooker lanes rs told cap (set ts s t')
-    keeps_call i f found c r = kept_with (table_called lane t t' old_table i f found c r)
+    pub keeps_call : (i : ℕ) (f : ℕ × Option C) → IsCallFound lane i f → t'.calls ≡ set t.calls i (Some f) → t'.returns ≡ t.returns → looks' ≡ looks ++ (call_cell s i, true) ∷ [] → IsLooker lanes rs told cap looks' (set ts s t')
+    keeps_call i f found r c e = kept_with (table_called lane t t' old_table i f found r c) (tells_call looks looks' s i ts t t' table_is k.looked f e (call_place i f found) r c)
+
+  -- a looker that looked at one more cell, and found it empty
+  pub keeps_empty : {S : Type 0} (lanes : LanesState S) (rs : List (ReceiptState C R)) (told : List ℕ) (cap : ℕ) (looks looks' : List Look) (ts : List (TableState C R)) (c : Cell) → IsLooker lanes rs told cap looks ts → looks' ≡ looks ++ (c, false) ∷ [] → IsLooker lanes rs told cap looks' ts
+  keeps_empty lanes rs told cap looks looks' ts c k e = record { of = k.of; counts = k.counts; within = k.within; places = k.places; tables = k.tables; looked = λ s t at. tells_empty looks looks' c e s t (k.looked s t at) }
 
   -- the count of a lane's longest receipt, which is this one
   module _ {S : Type 0} (lanes : LanesState S) (rs : List (ReceiptState C R)) (s n : ℕ) (best : LongestReceipt) (of : AreReceiptsOf lanes rs) (b : IsLongest rs s (length rs) best) (some : 0 < best.count) (r : ReceiptState C R) (at : slice_get rs best.at ≡ Some r) (many : n ≡ length r.operations) where

@@ -1,10 +1,10 @@
 -- Seals of what a recorder holds. (This project's profile.)
-use Rattle.std.specs.Prelude.{◌≡◌, ℕ, ◌+◌, ◌<◌, ◌≤◌, List, length, Option, Some, None, option_map, slice_get, slice_index, min, if◌then◌else◌, nat_lt}
+use Rattle.std.specs.Prelude.{◌≡◌, ℕ, ◌+◌, ◌<◌, ◌≤◌, List, length, Option, Some, slice_get, slice_index, min, if◌then◌else◌, nat_lt}
 use Rattle.std.specs.List.{filter_map}
 use Rattle.history.specs.History.{Record, session, entry}
 use Rattle.recorder.specs.Lanes.{Cells}
 use Rattle.recorder.specs.Sessions.{LanesState, ReceiptState, SessionState, begun, op}
-use Rattle.snapshot.specs.Plans.{Look}
+use Rattle.snapshot.specs.Plans.{Look, Plan, after_looks, calls_found, fresh_plan, returns_found, Follows, IsFinished}
 
 -- a seal: its history, and for each session the cells whose returns it holds and those whose calls it holds behind them
 pub record SealState (S C R : Type 0) : Type 0 where
@@ -65,3 +65,27 @@ module _ {S C R : Type 0} where
   abbrev pub met_calls : Record S C R → SessionState C R → ℕ
   met_calls h session' =
       if nat_lt (length session'.done) (known_returns h session'.lane) then length session'.done else min (length (session h session'.lane)) (length (begun session'.done session'.pending))
+
+module _ {S C R : Type 0} where
+  -- the plan of a looker before its looks, and after them
+  abbrev pub plan_before : LookerState S C R → Plan
+  plan_before l = fresh_plan (length l.lanes.cells) l.cap l.told
+
+  abbrev pub plan_after : LookerState S C R → Plan
+  plan_after l = after_looks (plan_before l) l.looks
+
+  -- of each session a history holds as many returns and as many operations as were found
+  pub record HoldsFound (p : Plan) (h : Record S C R) : Type 0 where
+    pub returns : (s : ℕ) → s < p.lanes → known_returns h s ≡ returns_found p s
+    pub operations : (s : ℕ) → s < p.lanes → length (session h s) ≡ calls_found p s
+
+  -- a history holds what was found by a walk to the end: of the plan for these lanes and for what these receipts told
+  pub record IsFoundByWalk (lanes : LanesState S) (rs : List (ReceiptState C R)) (h : Record S C R) : Type 0 where
+    pub told : List ℕ
+    pub cap : ℕ
+    pub looks : List Look
+    pub counts : AreToldBy lanes rs told
+    pub places : (s : ℕ) (lane : Cells) → slice_get lanes.cells s ≡ Some lane → length lane.calls ≤ cap
+    pub follows : Follows (fresh_plan (length lanes.cells) cap told) looks
+    pub finished : IsFinished (after_looks (fresh_plan (length lanes.cells) cap told) looks)
+    pub found : HoldsFound (after_looks (fresh_plan (length lanes.cells) cap told) looks) h

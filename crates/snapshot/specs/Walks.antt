@@ -1,7 +1,7 @@
 -- What stands for a plan, and what a walk does. (This project's profile.)
 use Rattle.std.specs.Prelude.{◌≡◌, ℕ, ◌+◌, ◌<◌, ◌≤◌, Bool, true, false, List, ◌++◌, length, Option, Some, None, slice_get}
 use Rattle.snapshot.specs.declared.lane_plan.LanePlan.{LanePlan}
-use Rattle.snapshot.specs.Plans.{Look, Plan, answer, was_read, return_cell, call_cell, told_of, next_cell, after_looks, Follows, IsFinished}
+use Rattle.snapshot.specs.Plans.{Look, Plan, answer, was_read, return_cell, call_cell, told_of, after_looks, Follows, IsFinished}
 use Rattle.snapshot.specs.Steps.PlanStates.{PlanState}
 
 -- of these answers, one for each place, those from a place on: full up to `found`, and behind it either none, or empty at once

@@ -2,7 +2,7 @@ ghost use Rattle.std.specs.Prelude.{◌≡◌, ℕ, ◌<◌, ◌≤◌, ◌++◌
 ghost use Rattle.recorder.specs.Lanes.{Cells};
 ghost use Rattle.snapshot.specs.Plans.{return_cell};
 ghost use Rattle.snapshot.specs.Seals.{AreReceiptsOf, AreToldBy};
-ghost use Rattle.snapshot.specs.Steps.Tables.{AreTables, IsCallFound, IsReturnFound};
+ghost use Rattle.snapshot.specs.Steps.Tables.{AreTables, IsCallFound, IsReturnFound, TellsLooks};
 ghost use Rattle.snapshot.specs.Steps.Looking.{Looked, NotLooked};
 
 use crate::cell::Cell;
@@ -36,7 +36,7 @@ impl<'a, O: Recorded> Model for LaneLooker<'a, O> {
 
     ghost view = { λ l. record { lanes = l.lanes.now; receipts = l.receipts.now; told = l.told.items; cap = l.cap; looks = l.looks.items } };
 
-    ghost invariant = { λ l. IsLooker l.lanes.now l.receipts.now l.told.items l.cap l.tables.items };
+    ghost invariant = { λ l. IsLooker l.lanes.now l.receipts.now l.told.items l.cap l.looks.items l.tables.items };
 }
 
 impl<'a, O: Recorded> LaneLooker<'a, O> {
@@ -85,7 +85,8 @@ impl<'a, O: Recorded> LaneLooker<'a, O> {
 
     /// How many places the lanes have at most.
     pub fn places(&self) -> usize
-        ensures { result ≡ self.now.cap }
+        ensures places { result ≡ self.now.cap }
+        ensures most { (s : ℕ) (lane : Cells) → slice_get self.now.lanes.cells s ≡ Some lane → length lane.calls ≤ result }
     {
         self.cap
     }
@@ -198,7 +199,8 @@ fn told_count<O: Recorded>(lanes: &Lanes<O>, receipts: &[Receipt<O>], s: usize) 
 
 // For each lane a table with nothing found.
 fn tables_of<O: Recorded>(alloc: Global, lanes: &Lanes<O>) -> Result<Vec<LaneTable<O>>, AllocError>
-    ensures { IfOk result (λ tables. AreTables lanes.now.cells tables.items) }
+    ensures tables { IfOk result (λ tables. AreTables lanes.now.cells tables.items) }
+    ensures fresh { IfOk result (λ tables. (s : ℕ) (t : _) → slice_get tables.items s ≡ Some t → TellsLooks [] s t) }
 {
     let mut tables = Vec::with_capacity(alloc, lanes.len())?;
     for s in 0..lanes.len() {

@@ -1,7 +1,8 @@
 ghost use Rattle.std.specs.Prelude.{◌≡◌, ◌<◌, ℕ, IfOk, IfErr, length, map, slice_get, Some};
-ghost use Rattle.snapshot.specs.Seals.{AreReceiptsOf, HoldsAll, IsSealOf};
+ghost use Rattle.snapshot.specs.Seals.{AreReceiptsOf, HoldsAll, HoldsFound, IsFoundByWalk, IsSealOf, plan_after, plan_before};
+ghost use Rattle.snapshot.specs.Plans.{Follows};
 ghost use Rattle.snapshot.specs.Steps.Comparing.{SharesCells};
-ghost use Rattle.snapshot.specs.Steps.Sealing.{AreLanesSealed, IsShown};
+ghost use Rattle.snapshot.specs.Steps.Sealing.{AreLanesFound, AreLanesSealed, IsShown};
 
 use crate::comparing::compare_receipt;
 use crate::cut_plan::CutPlan;
@@ -22,7 +23,8 @@ type Session<O> = Vec<(<O as Recorded>::Call, Option<<O as Recorded>::Ret>)>;
 fn seal_lanes<'a, O: Recorded>(
     looker: &LaneLooker<'a, O>,
 ) -> Result<(Vec<Session<O>>, Vec<SealedLane<O>>, Vec<Option<Advice>>), AllocError>
-    ensures { IfOk result (λ r. AreLanesSealed O.fitting looker.now.lanes.cells looker.now.receipts (map (λ s. s.items) r.0.items) r.1.items) }
+    ensures sealed { IfOk result (λ r. AreLanesSealed O.fitting looker.now.lanes.cells looker.now.receipts (map (λ s. s.items) r.0.items) r.1.items) }
+    ensures found { IfOk result (λ r. AreLanesFound looker.now.looks looker.now.told looker.now.cap (map (λ s. s.items) r.0.items) r.1.items) }
 {
     let mut sessions = Vec::new(looker.alloc);
     let mut lanes = Vec::new(looker.alloc);
@@ -61,6 +63,7 @@ impl<'a, O: SeqObject> LaneLooker<'a, O> {
     pub fn sealed(self) -> Result<Sealed<O>, AllocError>
         ensures holds { IfOk result (λ s. HoldsAll s.history self.entry.receipts) }
         ensures seal { IfOk result (λ s. IsSealOf self.entry.lanes s) }
+        ensures found { IfOk result (λ s. Follows (plan_before self.entry) self.entry.looks → HoldsFound (plan_after self.entry) s.history) }
     {
         let (sessions, lanes, advice) = seal_lanes(&self)?;
         compare_receipts(self.alloc, self.receipts, &lanes);
@@ -82,6 +85,7 @@ pub fn seal<O: SeqObject>(
     requires { AreReceiptsOf lanes.now told.now }
     ensures holds { IfOk result (λ s. HoldsAll s.history told.now) }
     ensures seal { IfOk result (λ s. IsSealOf lanes.now s) }
+    ensures found { IfOk result (λ s. IsFoundByWalk lanes.now told.now s.history) }
     ensures refused { IfErr result (λ e. e ≡ RecordError.Memory) }
 {
     let mut looker = LaneLooker::new(alloc, lanes, told)?;

@@ -1,7 +1,7 @@
-ghost use Rattle.std.specs.Prelude.{◌≡◌, ℕ, ◌<◌, ◌≤◌, ◌+◌, ◌++◌, ◌∷◌, [], length, IfOk, IfSome, IsSome, Some, None, slice_get, true};
-ghost use Rattle.recorder.specs.Lanes.{shown};
-ghost use Rattle.snapshot.specs.Steps.Tables.{AreNotesOf, IsCallFound, IsReturnFound, IsSealedSession, IsTable};
-ghost use Rattle.snapshot.specs.Steps.Sealing.{AreCallsRead, AreReturnsRead, IsToldBy, ReadsCall, ReadsReturn};
+ghost use Rattle.std.specs.Prelude.{◌≡◌, ℕ, ◌<◌, ◌≤◌, ◌+◌, ◌++◌, ◌∷◌, [], length, IfOk, IfSome, IsSome, MatchOption, Some, None, slice_get, false, true};
+ghost use Rattle.recorder.specs.Lanes.{IsLane, shown};
+ghost use Rattle.snapshot.specs.Steps.Tables.{AreNotesOf, IsCallFound, IsReturnFound, IsSealedSession, IsTable, RunsTo, has_note};
+ghost use Rattle.snapshot.specs.Steps.Sealing.{AreCallsRead, AreReturnsRead, IsOfTable, IsToldBy, ReadsCall, ReadsReturn};
 
 use crate::lane_table::LaneTable;
 use crate::longest::LongestReceipt;
@@ -24,6 +24,7 @@ fn return_note<O: Recorded>(
     requires table { IsTable lane.now table.now }
     ensures found { IfSome result (λ n. IsReturnFound lane.now i (n.cell, n.known)) }
     ensures told { i < best.count → IsSome result }
+    ensures looked { best.count ≤ i → MatchOption result (has_note table.now.returns i ≡ false) (λ _. has_note table.now.returns i ≡ true) }
 {
     let blank = lane.return_note(i);
     if i < best.count {
@@ -80,6 +81,7 @@ fn seal_returns<O: Recorded>(
     ensures read { IfOk result (λ notes. AreReturnsRead O.fitting lane.now notes.list operations.new.items) }
     ensures told { IfOk result (λ notes. best.count ≤ length notes.list) }
     ensures short { IfOk result (λ notes. length notes.list ≤ length lane.now.calls) }
+    ensures found { IfOk result (λ notes. RunsTo (has_note table.now.returns) best.count (length notes.list) (length table.now.returns)) }
 {
     let mut notes = NoteList::new(alloc);
     for i in 0..lane.places() {
@@ -125,6 +127,7 @@ fn seal_calls<O: Recorded>(
     requires table { IsTable lane.now table.now }
     ensures read { IfOk result (λ notes. AreCallsRead lane.now operations.old.items notes.list operations.new.items) }
     ensures short { IfOk result (λ _. length operations.old.items ≤ length lane.now.calls → length operations.new.items ≤ length lane.now.calls) }
+    ensures found { IfOk result (λ _. length operations.old.items ≤ length lane.now.calls → RunsTo (has_note table.now.calls) (length operations.old.items) (length operations.new.items) (length table.now.calls)) }
 {
     let mut notes = NoteList::new(alloc);
     for i in operations.len()..lane.places() {
@@ -153,6 +156,8 @@ pub(crate) fn seal_lane<O: Recorded>(
     ensures notes { IfOk result (λ r. AreNotesOf lane.now r.1) }
     ensures short { IfOk result (λ r. length r.0.items ≤ 256) }
     ensures told { IfOk result (λ r. best.count ≤ length r.1.returns) }
+    ensures lane { IfOk result (λ _. IsLane lane.now) }
+    ensures found { IfOk result (λ r. IsOfTable table.now best.count r.0.items r.1) }
 {
     let mut operations = Vec::new(alloc);
     let returns = seal_returns(alloc, lane, receipts, best, table, &mut operations, advice)?;

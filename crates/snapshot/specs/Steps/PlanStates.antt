@@ -1,8 +1,6 @@
 -- What a plan keeps of its looks.
-use Rattle.std.specs.Prelude.{◌≡◌, ℕ, ◌+◌, ◌-◌, ◌<◌, ◌≤◌, ◌&&◌, Bool, true, false, not, if◌then◌else◌, List, [], ◌∷◌, length, Option, Some, None, nat_lt, slice_get, slice_set, zero, suc}
-use Rattle.history.specs.declared.op_id.OpId.{OpId}
+use Rattle.std.specs.Prelude.{ℕ, ◌+◌, ◌-◌, ◌&&◌, Bool, true, false, not, if◌then◌else◌, List, [], ◌∷◌, Option, Some, None, nat_lt, zero, suc}
 use Rattle.snapshot.specs.declared.cell.Cell.{Cell}
-use Rattle.snapshot.specs.declared.cell.Cell.TheVariants.{Return, Call}
 use Rattle.snapshot.specs.declared.lane_plan.LanePlan.{LanePlan}
 use Rattle.snapshot.specs.Plans.{return_cell, call_cell, named_at, or_else}
 

@@ -1,10 +1,11 @@
 -- What is read of a lane as it is sealed.
-use Rattle.std.specs.Prelude.{◌≡◌, ℕ, ◌+◌, ◌<◌, ◌≤◌, ◌++◌, ◌∷◌, [], Bool, true, List, length, Option, Some, None, slice_get}
+use Rattle.std.specs.Prelude.{◌≡◌, ℕ, ◌+◌, ◌<◌, ◌≤◌, ◌++◌, ◌∷◌, [], Bool, true, List, length, Option, Some, None, slice_get, slice_index}
 use Rattle.recorder.specs.Lanes.{Cells, Entry, shown}
 use Rattle.recorder.specs.Sessions.{ReceiptState}
 use Rattle.snapshot.specs.declared.longest.LongestReceipt.{LongestReceipt}
 use Rattle.history.specs.History.{Record, session}
-use Rattle.snapshot.specs.Steps.Tables.{IsReturnedAs, SealedNotes, IsSealedSession, AreNotesOf}
+use Rattle.snapshot.specs.Plans.{Look, call_cell, return_cell}
+use Rattle.snapshot.specs.Steps.Tables.{IsReturnedAs, SealedNotes, TableState, IsSealedSession, AreNotesOf, RunsTo, has_note, was_found}
 use Rattle.snapshot.specs.Steps.Comparing.{ReturnAgrees}
 
 module _ {C R : Type 0} where
@@ -65,6 +66,21 @@ module _ {C R : Type 0} where
     pub sessions : length ess ≡ length cells
     pub lanes : length ls ≡ length cells
     pub each : (s : ℕ) (es : List (C × Option R)) (l : SealedNotes C R) (lane : Cells) → slice_get ess s ≡ Some es → slice_get ls s ≡ Some l → slice_get cells s ≡ Some lane → IsLaneSealed fits lane rs s es l
+
+  -- a session as it was sealed has the returns of which the table of its lane has notes, behind those that were told, and the
+  -- calls of which it has notes behind them
+  pub record IsOfTable (t : TableState C R) (told : ℕ) (es : List (C × Option R)) (l : SealedNotes C R) : Type 0 where
+    pub returns : RunsTo (has_note t.returns) told (length l.returns) (length t.returns)
+    pub calls : RunsTo (has_note t.calls) (length l.returns) (length es) (length t.calls)
+
+  -- and so what looks found
+  pub record IsLaneFound (looks : List Look) (s told cap : ℕ) (es : List (C × Option R)) (l : SealedNotes C R) : Type 0 where
+    pub returns : RunsTo (λ i. was_found looks (return_cell s i)) told (length l.returns) cap
+    pub calls : RunsTo (λ i. was_found looks (call_cell s i)) (length l.returns) (length es) cap
+
+  abbrev pub AreLanesFound : List Look → List ℕ → ℕ → List (List (C × Option R)) → List (SealedNotes C R) → Type 0
+  AreLanesFound looks told cap ess ls =
+      (s : ℕ) (es : List (C × Option R)) (l : SealedNotes C R) → slice_get ess s ≡ Some es → slice_get ls s ≡ Some l → IsLaneFound looks s (slice_index told s) cap es l
 
   -- each operation of a receipt is shown by a note of its lane
   abbrev pub IsShown : List (SealedNotes C R) → ReceiptState C R → Type 0

@@ -1,10 +1,32 @@
 -- What a looker keeps of what it found, and what it makes a seal of.
-use Rattle.std.specs.Prelude.{◌≡◌, ℕ, ◌+◌, ◌<◌, ◌≤◌, Bool, true, List, length, map, Option, Some, None, slice_get, slice_index}
-use Rattle.history.specs.History.{Record, session}
+use Rattle.std.specs.Prelude.{◌≡◌, ℕ, ◌+◌, ◌<◌, ◌≤◌, ◌&&◌, ◌||◌, Bool, true, false, List, [], ◌∷◌, length, map, Option, Some, None, slice_get, slice_index}
 use Rattle.recorder.specs.Lanes.{Cells, Entry, shown}
 use Rattle.recorder.specs.Sessions.{LanesState, ReceiptState}
 use Rattle.snapshot.specs.declared.longest.LongestReceipt.{LongestReceipt}
+use Rattle.snapshot.specs.declared.cell.Cell.{Cell}
+use Rattle.snapshot.specs.Plans.{Look, call_cell, return_cell, same_cell}
 use Rattle.snapshot.specs.Seals.{AreReceiptsOf, AreToldBy}
+
+-- one of these looks found the cell full
+abbrev pub was_found : List Look → Cell → Bool
+was_found [] c = false
+was_found (l ∷ ls) c = (same_cell l.0 c && l.1) || was_found ls c
+
+-- there is a note at this place
+abbrev pub is_note : {A : Type 0} → Option (Option A) → Bool
+is_note None = false
+is_note (Some None) = false
+is_note (Some (Some n)) = true
+
+abbrev pub has_note : {A : Type 0} → List (Option A) → ℕ → Bool
+has_note xs i = is_note (slice_get xs i)
+
+-- the places from one on that pass a test end here: at the first that fails it, or behind the last
+pub record RunsTo (test : ℕ → Bool) (from to end : ℕ) : Type 0 where
+  pub from_on : from ≤ to
+  pub within : to ≤ end
+  pub full : (i : ℕ) → from ≤ i → i < to → test i ≡ true
+  pub stops : to < end → test to ≡ false
 
 -- for each cell of a lane a note of it, where it was found full
 pub record TableState (C R : Type 0) : Type 0 where
@@ -31,6 +53,11 @@ module _ {C R : Type 0} where
     pub call_places : length t.calls ≡ length lane.calls
     pub returned : (i : ℕ) (n : ℕ × Option (Entry C R)) → slice_get t.returns i ≡ Some (Some n) → IsReturnFound lane i n
     pub called : (i : ℕ) (n : ℕ × Option C) → slice_get t.calls i ≡ Some (Some n) → IsCallFound lane i n
+
+  -- a table of session s has a note of each cell that looks found full
+  pub record TellsLooks (looks : List Look) (s : ℕ) (t : TableState C R) : Type 0 where
+    pub returns : (i : ℕ) → has_note t.returns i ≡ was_found looks (return_cell s i)
+    pub calls : (i : ℕ) → has_note t.calls i ≡ was_found looks (call_cell s i)
 
   pub record AreTables (lanes : List Cells) (ts : List (TableState C R)) : Type 0 where
     pub many : length ts ≡ length lanes
@@ -61,8 +88,10 @@ module _ {C R : Type 0} where
   names l = record { calls = map (λ (n : ℕ × Option C). n.0) l.calls; returns = map (λ (n : ℕ × Option (Entry C R)). n.0) l.returns }
 
 -- what a looker keeps
-pub record IsLooker {S C R : Type 0} (lanes : LanesState S) (receipts : List (ReceiptState C R)) (told : List ℕ) (cap : ℕ) (ts : List (TableState C R)) : Type 0 where
+pub record IsLooker {S C R : Type 0} (lanes : LanesState S) (receipts : List (ReceiptState C R)) (told : List ℕ) (cap : ℕ) (looks : List Look) (ts : List (TableState C R)) : Type 0 where
   pub of : AreReceiptsOf lanes receipts
   pub counts : AreToldBy lanes receipts told
   pub within : (s : ℕ) → slice_index told s ≤ cap
+  pub places : (s : ℕ) (lane : Cells) → slice_get lanes.cells s ≡ Some lane → length lane.calls ≤ cap
   pub tables : AreTables lanes.cells ts
+  pub looked : (s : ℕ) (t : TableState C R) → slice_get ts s ≡ Some t → TellsLooks looks s t

@@ -1,4 +1,4 @@
-use Rattle.std.proofs.Common.{◌<◌, subst, length}
+use Rattle.std.proofs.Common.{◌<◌, subst}
 use Rattle.snapshot.proofs.comparing.compare_receipt.Goals as goal
 
 pub compare_told-requires-clause-shared : goal.compare_told-requires-clause-shared

@@ -1,6 +1,7 @@
 use Rattle.std.proofs.Common.{◌+◌, length, ap, ◌∙◌}
 use Rattle.recorder.proofs.Telling.{length_push}
-use Rattle.snapshot.proofs.TableLemmas.{table_fresh, tables_more}
+use Rattle.snapshot.proofs.TableLemmas.{table_fresh, tables_more, fresh_more}
+use Rattle.snapshot.proofs.FoundLooks.{tells_none}
 use Rattle.snapshot.proofs.lane_looker.tables_of.Goals as goal
 
 pub loop-s-preserved : goal.loop-s-preserved
@@ -9,4 +10,5 @@ loop-s-preserved g c = record {
   each = tables_more c.args.lanes.now.cells c.loop-s.tables.items c.push.new.self.items c.in_ok-new.field-0 c.loop-s.s c.lane.result.now c.loop-s.invariant.many c.lane.ensures
       (table_fresh c.lane.result.now c.in_ok-new.field-0 c.places.result c.places.ensures.lane c.places.ensures.places c.in_ok-new.ensures.returns c.in_ok-new.ensures.calls c.in_ok-new.ensures.no_return c.in_ok-new.ensures.no_call)
       c.in_ok-push.ensures.items c.loop-s.invariant.each;
+  fresh = fresh_more c.loop-s.tables.items c.push.new.self.items c.in_ok-new.field-0 c.in_ok-push.ensures.items (λ s. tells_none s c.in_ok-new.field-0 c.in_ok-new.ensures.no_return c.in_ok-new.ensures.no_call) c.loop-s.invariant.fresh;
 }

@@ -1,6 +1,4 @@
-use Rattle.std.proofs.Common.{◌≡◌, ◌<◌, ◌≤◌, rules, ap, sym, ◌∙◌, subst, arith, length}
-use Rattle.std.specs.Prelude.{Some}
-use Rattle.std.proofs.lemmas.Option.{slice_get_within}
+use Rattle.std.proofs.Common.{◌≤◌, rules, sym, ◌∙◌, subst, length}
 use Rattle.snapshot.proofs.TableLemmas.{count_most, count_reached, count_within, read_at, best_place, best_some, some_same}
 use Rattle.recorder.specs.Lanes.{IsLane}
 use Rattle.snapshot.proofs.lane_looker.told_count.Goals as goal

@@ -1,4 +1,4 @@
-use Rattle.std.proofs.Common.{◌≡◌, ◌≤◌, ◌<◌, ◌+◌, length, ap, sym, ◌∙◌, subst, arith, rules}
+use Rattle.std.proofs.Common.{◌≡◌, ◌<◌, ◌+◌, length, ap, sym, ◌∙◌, subst, rules}
 use Rattle.recorder.proofs.Telling.{length_push}
 use Rattle.snapshot.proofs.TableLemmas.{most_more, reached_more, within_more, told_all}
 use Rattle.snapshot.proofs.lane_looker.told_counts.Goals as goal

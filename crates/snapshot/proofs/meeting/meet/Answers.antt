@@ -1,4 +1,4 @@
-use Rattle.std.proofs.Common.{◌≡◌, ◌<◌, ◌≤◌, rules, arith, refl, sym, subst, length}
+use Rattle.std.proofs.Common.{◌≡◌, ◌<◌, ◌≤◌, rules, arith, sym, subst, length}
 use Rattle.std.proofs.Math.Nat.{min-le_left}
 use Rattle.snapshot.proofs.Meetings.{meet_shares_return, meet_shares_call, meet_returns, meet_first_calls, fewer_returns, fewer_calls, more_returns, more_calls, meet_calls}
 use Rattle.snapshot.proofs.meeting.meet.Goals as goal

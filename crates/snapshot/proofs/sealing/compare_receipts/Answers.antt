@@ -1,4 +1,4 @@
-use Rattle.std.proofs.Common.{◌≡◌, ◌<◌, ◌≤◌, rules, arith, sym, ◌∙◌, ap, subst, length}
+use Rattle.std.proofs.Common.{◌<◌, ◌≤◌, rules, arith, sym, ◌∙◌, ap, subst, length}
 use Rattle.std.specs.Prelude.{slice_get}
 use Rattle.std.proofs.lemmas.Option.{slice_get_within}
 use Rattle.snapshot.specs.Steps.Comparing.{SharesCells}

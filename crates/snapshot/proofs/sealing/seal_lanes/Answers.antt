@@ -1,10 +1,12 @@
-use Rattle.std.proofs.Common.{◌≡◌, ◌+◌, ◌≤◌, ◌∷◌, [], length, ap, sym, ◌∙◌, subst, arith}
+use Rattle.std.proofs.Common.{◌≡◌, ◌+◌, ◌≤◌, ◌∷◌, [], length, get_or, ap, sym, ◌∙◌, subst, arith}
 use Rattle.std.specs.Prelude.{map, Some, slice_get}
 use Rattle.std.proofs.lemmas.List.{map-append}
 use Rattle.std.proofs.lemmas.Option.{slice_get_within}
 use Rattle.recorder.proofs.Telling.{length_push, length_map}
-use Rattle.snapshot.proofs.TableLemmas.{table_at, lanes_many}
-use Rattle.snapshot.proofs.Histories.{told_by, count_in, lanes_more}
+use Rattle.snapshot.proofs.TableLemmas.{table_at, lanes_many, read_at}
+use Rattle.snapshot.proofs.Histories.{count_in, lanes_more, lane_found, lanes_found_more}
+use Rattle.snapshot.specs.Steps.Sealing.{IsLaneFound}
+use Rattle.snapshot.proofs.FoundLooks.{count_is}
 use Rattle.snapshot.proofs.sealing.seal_lanes.Goals as goal
 
 pub seal_lane-requires-clause-within : goal.seal_lane-requires-clause-within
@@ -30,4 +32,16 @@ loop-s-preserved g c = record {
             let t : c.longest-best.result.count ≤ length c.in_ok-operations.lane.returns = c.in_ok-operations.ensures.told in omega arith;
       })
       c.loop-s.invariant.each;
+  found = lanes_found_more c.args.looker.now.looks c.args.looker.now.told c.args.looker.now.cap (map (λ v. v.items) c.loop-s.sessions.items) (map (λ v. v.items) c.push.new.self.items) c.loop-s.lanes.items c.push-in-loop-s.new.self.items c.loop-s.s c.in_ok-operations.operations.items c.in_ok-operations.lane
+      (length_map (λ v. v.items) c.loop-s.sessions.items ∙ c.loop-s.invariant.sessions) c.loop-s.invariant.lanes (ap (map (λ v. v.items)) c.in_ok-push.ensures.items ∙ map-append (λ v. v.items) c.loop-s.sessions.items (c.in_ok-operations.operations ∷ [])) c.in_ok-push-2.ensures.items
+      (subst (λ v. IsLaneFound v.looks c.loop-s.s (get_or v.told c.loop-s.s 0) v.cap c.in_ok-operations.operations.items c.in_ok-operations.lane) c.looker.view_is
+      (lane_found c.looker.inside.looks.items c.loop-s.s (get_or c.looker.inside.told.items c.loop-s.s 0) c.looker.inside.cap c.longest-best.result.count c.lane.result.now c.index.result.now c.in_ok-operations.operations.items c.in_ok-operations.lane
+      (c.looker.invariant.looked c.loop-s.s c.index.result.now (read_at c.looker.inside.tables.items c.loop-s.s c.index.result.now (lanes_many c.looker.inside.lanes.now.cells c.looker.inside.tables.items c.loop-s.s c.lane.result.now c.looker.invariant.tables c.lane.ensures) c.index.ensures))
+      (count_is c.looker.inside.lanes.now c.looker.inside.receipts.now c.looker.inside.told.items c.loop-s.s c.longest-best.result c.looker.invariant.counts c.longest-best.ensures)
+      (table_at c.looker.inside.lanes.now.cells c.looker.inside.tables.items c.loop-s.s c.lane.result.now c.index.result.now c.looker.invariant.tables c.lane.ensures (lanes_many c.looker.inside.lanes.now.cells c.looker.inside.tables.items c.loop-s.s c.lane.result.now c.looker.invariant.tables c.lane.ensures) c.index.ensures)
+      c.in_ok-operations.ensures.lane (c.looker.invariant.places c.loop-s.s c.lane.result.now c.lane.ensures) c.in_ok-operations.ensures.found))
+      c.loop-s.invariant.found;
 }
+
+pub returns-clause-found : goal.returns-clause-found
+returns-clause-found g c = c.loop-s.invariant.found

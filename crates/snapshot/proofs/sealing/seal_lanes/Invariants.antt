@@ -2,7 +2,7 @@ use Rattle.std.proofs.Common.{◌≡◌, ℕ, List, length}
 use Rattle.std.specs.Prelude.{Option, Some, slice_get, map}
 use Rattle.recorder.specs.Lanes.{Cells}
 use Rattle.snapshot.specs.Steps.Tables.{SealedNotes}
-use Rattle.snapshot.specs.Steps.Sealing.{IsLaneSealed}
+use Rattle.snapshot.specs.Steps.Sealing.{AreLanesFound, IsLaneSealed}
 use Rattle.snapshot.proofs.sealing.seal_lanes.Given as goal
 
 abbrev pub invariant-loop-s : goal.invariant-loop-s
@@ -10,4 +10,5 @@ invariant-loop-s g l = record {
   sessions : length l.sessions.items ≡ l.s;
   lanes : length l.lanes.items ≡ l.s;
   each : (s : ℕ) (es : List (_ × Option _)) (n : SealedNotes _ _) (lane : Cells) → slice_get (map (λ v. v.items) l.sessions.items) s ≡ Some es → slice_get l.lanes.items s ≡ Some n → slice_get l.looker.lanes.cells s ≡ Some lane → IsLaneSealed g.O.Recorded.fitting lane l.looker.receipts s es n;
+  found : AreLanesFound l.looker.looks l.looker.told l.looker.cap (map (λ v. v.items) l.sessions.items) l.lanes.items;
 }

@@ -1,4 +1,6 @@
-use Rattle.std.proofs.Common.{◌≡◌, length}
+use Rattle.std.proofs.Common.{◌≡◌, ◌<◌, ◌≤◌, ℕ, length}
+use Rattle.std.specs.Prelude.{true}
+use Rattle.snapshot.specs.Steps.Tables.{has_note}
 use Rattle.snapshot.specs.Steps.Sealing.{AreReturnsRead}
 use Rattle.snapshot.proofs.sealing_lane.seal_returns.Given as goal
 
@@ -6,4 +8,5 @@ abbrev pub invariant-loop-i : goal.invariant-loop-i
 invariant-loop-i g l = record {
   many : length l.notes.list ≡ l.i;
   read : AreReturnsRead g.O.Recorded.fitting l.lane l.notes.list l.operations.items;
+  found : (i : ℕ) → l.best.count ≤ i → i < l.i → has_note l.table.returns i ≡ true;
 }

@@ -1,7 +1,6 @@
-use Rattle.std.proofs.Common.{◌≡◌, ◌<◌, rules, refl, sym, ◌∙◌, ap, subst, length, arith, set}
-use Rattle.std.specs.Prelude.{Some, slice_get}
-use Rattle.std.proofs.lemmas.Option.{slice_get_within, slice_get_read}
-use Rattle.snapshot.specs.declared.cell.Cell.TheVariants.{Return, Call}
+use Rattle.std.proofs.Common.{◌≡◌, ◌<◌, rules, refl, sym, ◌∙◌, ap, subst, length, set}
+use Rattle.std.specs.Prelude.{Some}
+use Rattle.std.proofs.lemmas.Option.{slice_get_within}
 use Rattle.snapshot.specs.Walks.{Stands}
 use Rattle.snapshot.specs.Steps.PlanStates.{state_next, looks_left, PlanState, return_place, call_place, after_return, after_call}
 use Rattle.snapshot.proofs.LanePlans.{return_room, call_room}
