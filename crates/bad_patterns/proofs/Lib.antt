@@ -16,3 +16,4 @@ pub mod KnownConflicts
 pub mod ConflictLinks
 pub mod RoutesBack
 pub mod ReadPatterns
+pub mod NothingFound

@@ -1,6 +1,6 @@
 -- The bad patterns of Bouajjani, Enea, Guerraoui and Hamza ("On Verifying Causal Consistency", POPL 2017, the table of bad
 -- patterns), where the value 0 of the paper is the initial value of a variable.
-use Rattle.std.specs.Prelude.{◌≢◌, ◌⊎◌, ℕ, Bool, true, false}
+use Rattle.std.specs.Prelude.{◌≢◌, ◌⊎◌, ℕ, Bool, IsTrue, true, false}
 use Rattle.history.specs.declared.op_id.OpId.{OpId}
 use Rattle.cert_check.specs.declared.criterion.Criterion.{Criterion}
 use Rattle.cert_check.specs.declared.criterion.Criterion.TheVariants.{Cc, Cm, Ccv}
@@ -45,3 +45,7 @@ module _ (h : MemoryHistory) where
   -- a kind is present in a history of distinct values that shows it
   abbrev pub IsPresent : Kind → Type 0
   IsPresent kind = IsDifferentiated h × Shows kind
+
+  -- no kind that is against a criterion is present
+  abbrev pub IsFreeOf : Criterion → Type 0
+  IsFreeOf criterion = (kind : Kind) → IsTrue (is_against kind criterion) → ¬ IsPresent kind

@@ -1,13 +1,15 @@
-ghost use Rattle.std.specs.Prelude.{◌↔◌, ℕ, IfNone, IfOk, IfSome, IsTrue, MatchOption};
-ghost use Rattle.bad_patterns.specs.Kinds.{IsThinAirRead, is_against};
+ghost use Rattle.std.specs.Prelude.{◌↔◌, ◌≢◌, ℕ, IfNone, IfOk, IfSome, IsTrue, MatchOption};
+ghost use Rattle.bad_patterns.specs.Kinds.{IsFreeOf, IsThinAirRead, Shows, is_against};
 ghost use Rattle.bad_patterns.specs.Patterns.{IsBadPattern, IsShownBy, kind_of};
-ghost use Rattle.bad_patterns.specs.declared.pattern.Pattern.TheVariants.{ThinAirRead};
-ghost use Rattle.cert_check.specs.declared.criterion.Criterion.{Criterion as AnyCriterion};
+ghost use Rattle.bad_patterns.specs.Steps.Found.{IsFirst, IsFirstFound, IsFirstOf};
+ghost use Rattle.bad_patterns.specs.declared.kind.Kind.TheVariants.{CyclicCF};
 ghost use Rattle.causal_order.specs.Memory.{IsDifferentiated};
 ghost use Rattle.causal_order.specs.Orders.{op};
 ghost use Rattle.causal_order.specs.OverwrittenReads.{HasOverwrittenRead, HasOverwrittenStart};
+ghost use Rattle.causal_order.specs.Steps.Indexed.{IsOrdered, IsUnordered};
 ghost use Rattle.causal_order.specs.Steps.Written.{IsSorted, ListsWrites};
-ghost use Rattle.bad_patterns.specs.Steps.Found.{IsFirst, IsFirstFound, IsFirstOf};
+ghost use Rattle.cert_check.specs.declared.criterion.Criterion.{Criterion as AnyCriterion};
+ghost use Rattle.cert_check.specs.declared.criterion.Criterion.TheVariants.{Cc, Cm};
 
 use crate::checking::is_shown;
 use crate::finding_happened_before::find_happened_before;
@@ -23,13 +25,16 @@ use std::alloc::{AllocError, Global};
 
 /// A pattern that shows that the history does not meet the criterion, where the search finds one.
 ///
+/// Against causal consistency and against causal convergence one is found exactly where a kind that is against the criterion
+/// is present in the history. Against causal memory one is found where a kind against causal consistency is present; of
+/// the two kinds of happened-before one may be missed. In a history that does not have distinct values no kind is present.
+///
 /// Kinds are tried in turn, those alone that are against the criterion: a cycle of the causal order, a read of a value that
 /// nobody wrote, a read of the initial value after a write, a read from an overwritten write, a read of the initial value
 /// that a happened-before relation puts after a write, a happened-before relation with a cycle, and a cycle with
 /// conflicts. A thin-air read that is found is the first one. For the kinds of happened-before the relation of each
 /// session's last operation is searched: one with more than 100,000 pairs that the causal order doesn't have is left out,
-/// and so is a pattern whose derivation would have more than 100,000 lines. There is none where the history does not have
-/// distinct values.
+/// and so is a pattern whose derivation would have more than 100,000 lines.
 ///
 /// Fails for want of memory alone. O(n log n + n k) for n operations of k sessions, besides what `find_in` costs.
 pub fn find(
@@ -39,13 +44,15 @@ pub fn find(
 ) -> Result<Option<Pattern>, AllocError>
     ensures found { IfOk result (λ found. IfSome found (IsBadPattern h.now criterion)) }
     ensures first { IfOk result (λ found. IfSome found (IsFirstFound h.now)) }
-    ensures none { IfOk result (λ found. IfNone found ((r : OpId) → ¬ IsBadPattern h.now criterion (ThinAirRead r))) }
+    ensures none { IfOk result (λ found. IfNone found (IsFreeOf h.now Cc)) }
+    ensures exact { criterion ≢ Cm → IfOk result (λ found. IfNone found (IsFreeOf h.now criterion)) }
 {
     let memory = IndexedMemory::of(alloc, h)?;
     find_in(alloc, &memory, criterion)
 }
 
-/// What `find` answers, for a caller that knows of the history already what it asks.
+/// What `find` answers, for a caller that knows of the history already what it asks: exact against causal consistency and
+/// causal convergence, and of the kinds against causal consistency also against causal memory.
 ///
 /// Fails for want of memory alone. O(n k (k + log n)) for n operations of k sessions, and against causal memory for each
 /// session what its happened-before relations cost, and O(m log m + l n) for m pairs that they have more than the causal
@@ -57,42 +64,36 @@ pub fn find_in(
 ) -> Result<Option<Pattern>, AllocError>
     ensures found { IfOk result (λ found. IfSome found (IsBadPattern memory.now criterion)) }
     ensures first { IfOk result (λ found. IfSome found (IsFirstFound memory.now)) }
-    ensures none { IfOk result (λ found. IfNone found ((r : OpId) → ¬ IsBadPattern memory.now criterion (ThinAirRead r))) }
+    ensures none { IfOk result (λ found. IfNone found (IsFreeOf memory.now Cc)) }
+    ensures exact { criterion ≢ Cm → IfOk result (λ found. IfNone found (IsFreeOf memory.now criterion)) }
 {
     if !memory.is_differentiated() {
         return Ok(None);
     }
     match memory.order() {
         Some(order) => find_in_order(alloc, &order, criterion),
-        None => find_without_order(alloc, memory, criterion),
+        None => Ok(Some(find_without_order(alloc, memory)?)),
     }
 }
 
-/// A pattern of a history that has no causal order without a cycle, or a thin-air read.
+/// A pattern of a history that has no causal order without a cycle, or a thin-air read. They are against every criterion.
 ///
 /// A cycle of the causal order is tried, and then a thin-air read, of which the first one is found.
 ///
-/// Fails for want of memory alone. O(n k^2 + n log n) for n operations of k sessions.
-fn find_without_order(
-    alloc: Global,
-    memory: &IndexedMemory,
-    criterion: Criterion,
-) -> Result<Option<Pattern>, AllocError>
-    requires { IsDifferentiated memory.now }
-    ensures found { IfOk result (λ found. IfSome found (IsBadPattern memory.now criterion)) }
-    ensures first { IfOk result (λ found. IfSome found (IsFirstFound memory.now)) }
-    ensures none { IfOk result (λ found. IfNone found ((r : OpId) → ¬ IsThinAirRead memory.now r)) }
+/// Fails for want of memory alone. O(n (k + log n)) for n operations of k sessions.
+fn find_without_order(alloc: Global, memory: &IndexedMemory) -> Result<Pattern, AllocError>
+    requires differentiated { IsDifferentiated memory.now }
+    requires unordered { IsUnordered memory.now }
+    ensures found { IfOk result (λ pattern. (criterion : AnyCriterion) → IsBadPattern memory.now criterion pattern) }
+    ensures first { IfOk result (IsFirstFound memory.now) }
 {
     if let Some(path) = cyclic_order(alloc, memory.history(), memory.sources())? {
-        let found = tested(alloc, memory, criterion, Pattern::CyclicCO(path))?;
-        if found.is_some() {
-            return Ok(found);
-        }
+        return Ok(Pattern::CyclicCO(path));
     }
-    if let Some(read) = first_thin_air_read(memory.history(), memory.writes()) {
-        return Ok(Some(Pattern::ThinAirRead(read)));
-    }
-    Ok(None)
+    let Some(read) = first_thin_air_read(memory.history(), memory.writes()) else {
+        unreachable!();
+    };
+    Ok(Pattern::ThinAirRead(read))
 }
 
 /// A pattern of a history that has a causal order without a cycle, and no thin-air read.
@@ -103,11 +104,12 @@ fn find_in_order(
     order: &CausalOrder,
     criterion: Criterion,
 ) -> Result<Option<Pattern>, AllocError>
-    requires { IsDifferentiated order.now }
+    requires differentiated { IsDifferentiated order.now }
+    requires ordered { IsOrdered order.now }
     ensures found { IfOk result (λ found. IfSome found (IsBadPattern order.now criterion)) }
     ensures first { IfOk result (λ found. IfSome found (IsFirstFound order.now)) }
-    ensures start { IfOk result (λ found. IfNone found (¬ HasOverwrittenStart order.now)) }
-    ensures read { IfOk result (λ found. IfNone found (¬ HasOverwrittenRead order.now)) }
+    ensures none { IfOk result (λ found. IfNone found (IsFreeOf order.now Cc)) }
+    ensures exact { criterion ≢ Cm → IfOk result (λ found. IfNone found (IsFreeOf order.now criterion)) }
 {
     if let Some(pattern) = find_overwritten(alloc, order)? {
         return Ok(Some(pattern));
@@ -136,7 +138,7 @@ fn find_overwritten(alloc: Global, order: &CausalOrder) -> Result<Option<Pattern
     }
 }
 
-/// A cycle of the causal order and of conflicts, where such cycles are against the criterion.
+/// A cycle of the causal order and of conflicts, where such cycles are against the criterion and there is one.
 fn find_conflicts(
     alloc: Global,
     order: &CausalOrder,
@@ -145,12 +147,13 @@ fn find_conflicts(
     requires { IsDifferentiated order.now }
     ensures found { IfOk result (λ found. IfSome found (IsBadPattern order.now criterion)) }
     ensures first { IfOk result (λ found. IfSome found (IsFirstFound order.now)) }
+    ensures none { IfOk result (λ found. IfNone found (IsTrue (is_against CyclicCF criterion) → ¬ Shows order.now CyclicCF)) }
 {
     if !Kind::CyclicCF.is_against(criterion) {
         return Ok(None);
     }
     match cycle_with_conflicts(alloc, order)? {
-        Some(links) => tested(alloc, order.memory(), criterion, Pattern::CyclicCF(links)),
+        Some(links) => Ok(Some(Pattern::CyclicCF(links))),
         None => Ok(None),
     }
 }

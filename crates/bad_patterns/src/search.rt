@@ -1,6 +1,7 @@
 //! The search for operations that show a pattern.
 //!
-//! What it answers is a candidate: who asks tests it.
+//! Cycles and overwritten reads are found exactly where they are, with what shows them. What is answered of happened-before
+//! relations is a candidate: who asks tests it.
 
 mod conflicts;
 mod cycles;

@@ -100,11 +100,3 @@ fn push_apart(last: OpId, op: OpId, ops: &mut Vec<OpId>) -> Result<(), AllocErro
     }
     Ok(())
 }
-
-/// Puts an operation behind the others, where it is not the last of them already.
-pub fn push_other(ops: &mut Vec<OpId>, op: OpId) -> Result<(), AllocError> {
-    if ops.last().copied() != Some(op) {
-        ops.push(op)?;
-    }
-    Ok(())
-}

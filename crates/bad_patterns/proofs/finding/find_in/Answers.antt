@@ -1,9 +1,18 @@
-use Rattle.history.specs.declared.op_id.OpId.{OpId}
-use Rattle.causal_order.proofs.Outcomes.{none-weaker}
-use Rattle.bad_patterns.specs.Kinds.{IsThinAirRead}
+use Rattle.std.specs.Prelude.{IfNone, IfOk}
+use Rattle.std.proofs.Common.{subst}
+use Rattle.causal_order.specs.Memory.{MemoryHistory}
+use Rattle.cert_check.specs.declared.criterion.Criterion.TheVariants.{Cc}
+use Rattle.bad_patterns.specs.Kinds.{IsFreeOf}
 use Rattle.bad_patterns.proofs.finding.find_in.Goals as goal
 
-pub returns-in-None-clause-none : goal.returns-in-None-clause-none
-returns-in-None-clause-none c =
-    none-weaker c.find_without_order.result _ _ (λ (none : (r : OpId) → ¬ IsThinAirRead c.args.memory.now r) r bad. none r bad.shown)
-    c.find_without_order.ensures.none
+pub returns-in-Some-clause-none : goal.returns-in-Some-clause-none
+returns-in-Some-clause-none c =
+    subst (λ (h : MemoryHistory). IfOk c.find_in_order.result (λ found. IfNone found (IsFreeOf h Cc))) c.in-Some.ensures.order c.find_in_order.ensures.none
+
+pub returns-in-Some-clause-exact : goal.returns-in-Some-clause-exact
+returns-in-Some-clause-exact c apart =
+    subst (λ (h : MemoryHistory). IfOk c.find_in_order.result (λ found. IfNone found (IsFreeOf h c.args.criterion))) c.in-Some.ensures.order
+    (c.find_in_order.ensures.exact apart)
+
+pub returns-in_ok-find_without_order-in-None-clause-found : goal.returns-in_ok-find_without_order-in-None-clause-found
+returns-in_ok-find_without_order-in-None-clause-found c = c.in_ok-find_without_order-in-None.ensures.found c.args.criterion
