@@ -1,9 +1,14 @@
 pub mod Answers
 pub mod Columns
 pub mod FoundLooks
+pub mod ConsistentCuts
+pub mod Filtered
+pub mod FoundPlaces
 pub mod Histories
 pub mod LanePlans
 pub mod Meetings
+pub mod RunPlaces
+pub mod SealedSessions
 pub mod Standing
 pub mod Sealings
 pub mod TableLemmas

@@ -1,4 +1,6 @@
+pub mod Cuts
 pub mod Plans
+pub mod Runs
 pub mod Seals
 pub mod Steps
 pub mod Walks

@@ -9,6 +9,7 @@ mod found;
 mod lane_looker;
 mod lane_plan;
 mod lane_table;
+pub mod laws;
 mod longest;
 mod looker;
 mod meeting;
