@@ -5,17 +5,19 @@ use Rattle.std.specs.List.{filter_map}
 use Rattle.std.proofs.lemmas.Bool.{cases_lt, cases_eq}
 use Rattle.std.proofs.lemmas.Option.{slice_get_within, get_or_from_slice_get}
 use Rattle.history.specs.History.{IsHistory, IsSession, session}
-use Rattle.recorder.specs.Lanes.{Cells, IsLane}
+use Rattle.history.specs.declared.advice.Advice.{Advice}
+use Rattle.recorder.specs.Lanes.{Cells, IsLane, Returned}
 use Rattle.recorder.specs.Sessions.{ReceiptState, LanesState}
 use Rattle.recorder.proofs.Telling.{get_map, get_push_cases}
 use Rattle.snapshot.specs.declared.longest.LongestReceipt.{LongestReceipt}
 use Rattle.snapshot.specs.Plans.{Look, Plan, answer, was_full, return_cell, call_cell, first_failing, after_looks, fresh_plan, returns_found, calls_found, Follows}
-use Rattle.snapshot.specs.Seals.{AreReceiptsOf, HoldsAll, HoldsFound, IsSealOf}
-use Rattle.snapshot.specs.Steps.Tables.{SealedNotes, TableState, IsSealedSession, IsTable, IsLongest, RunsTo, TellsLooks, names, was_found}
+use Rattle.snapshot.specs.Seals.{AdvisesAll, AreReceiptsOf, HoldsAll, HoldsFound, IsSealOf}
+use Rattle.snapshot.specs.Steps.Tables.{SealedNotes, TableState, IsSealedSession, IsTable, IsLongest, RunsTo, TellsLooks, advised, names, was_found}
 use Rattle.snapshot.specs.Steps.Sealing.{AreSealedSessions, AreLanesFound, IsLaneFound, IsLaneSealed, IsOfTable, AreLanesSealed, IsShown, IsToldBy}
 use Rattle.snapshot.specs.Steps.Comparing.{ReturnAgrees, SharesCells}
 use Rattle.snapshot.proofs.TableLemmas.{none_past, pointwise_length}
 use Rattle.snapshot.proofs.FoundLooks.{after_is, found_is_full, runs_first, runs_on, runs_same}
+use Rattle.snapshot.proofs.Advising.{advised_at, lane_advised}
 use Rattle.snapshot.proofs.Meetings.{get_in, knowns_are, return_at, read_from}
 
 some_is : {A : Type 0} (x y : A) → Some x ≡ Some y → x ≡ y
@@ -100,7 +102,7 @@ module _ {C R : Type 0} (fits : C → R → Bool) where
           subst (λ (y : List (C × Option R)). IsSealedSession fits y l) (sym (session_at start s es.0 es.1)) (a.each s es.0 l lane.0 es.1 e lane.1).session;
     }
 
-    pub seal_is : (start : S) → start ≡ lanes.start → IsSealOf lanes (record { history = (start, ess); cells = map names ls })
+    pub seal_is : (start : S) → start ≡ lanes.start → IsSealOf lanes (record { history = (start, ess); cells = map names ls; advice = map advised ls })
     seal_is start same = record {
       start = same;
       many = a.sessions;
@@ -150,15 +152,23 @@ module _ {C R : Type 0} (fits : C → R → Bool) where
           let o = of j r e in let w : r.lane < length lanes.cells = slice_get_within lanes.cells r.lane o.0 o.1 in
           let m : length ess ≡ length lanes.cells = a.sessions in let n : length ls ≡ length lanes.cells = a.lanes in
           let es = get_in ess r.lane (omega arith) in let l = get_in ls r.lane (omega arith) in let is = a.each r.lane es.0 l.0 o.0 es.1 l.1 o.1 in
-          (l.0, l.1, (is.told j r e refl, λ i x h g k q. let s = is.session.returned i k q in (ap Some (some_is x k.0 (sym (o.2 i x g) ∙ is.notes.returns i k q)), ((s.0, s.1), s.2))))
+          (l.0, l.1, (is.told j r e refl, λ i x h g k q. let s = is.session.returned i k q in (ap Some (some_is x k.0 (sym (o.2 i x g) ∙ is.notes.returns i k q)), ((s.0, s.1, s.2.0), s.2.1))))
 
       pub holds_all : (start : S) → ((j : ℕ) (r : ReceiptState C R) → slice_get rs j ≡ Some r → IsShown ls r) → HoldsAll (start, ess) rs
-      holds_all start show j r e i c x at =
+      holds_all start show j r e i c x d at =
           let o = of j r e in let w : r.lane < length lanes.cells = slice_get_within lanes.cells r.lane o.0 o.1 in
           let m : length ess ≡ length lanes.cells = a.sessions in let n : length ls ≡ length lanes.cells = a.lanes in
           let es = get_in ess r.lane (omega arith) in let l = get_in ls r.lane (omega arith) in let is = a.each r.lane es.0 l.0 o.0 es.1 l.1 o.1 in
-          let less : i < length r.operations = slice_get_within r.operations i (c, x) at in let t : length r.operations ≤ length l.0.returns = is.told j r e refl in
-          ap (λ (y : List (C × Option R)). slice_get y i) (session_at start r.lane es.0 es.1) ∙ (return_at fits es.0 l.0 is.session i (slice_get r.operations i) (omega arith) (show j r e l.0 l.1 i less) ∙ ap (option_map (λ (y : C × R). (y.0, Some y.1))) at)
+          let less : i < length r.operations = slice_get_within r.operations i (c, x, d) at in let t : length r.operations ≤ length l.0.returns = is.told j r e refl in
+          ap (λ (y : List (C × Option R)). slice_get y i) (session_at start r.lane es.0 es.1) ∙ (return_at fits es.0 l.0 is.session i (slice_get r.operations i) (omega arith) (show j r e l.0 l.1 i less) ∙ ap (option_map (λ (y : Returned C R). (y.0, Some y.1))) at)
+
+      pub advises_all : (start : S) → ((j : ℕ) (r : ReceiptState C R) → slice_get rs j ≡ Some r → IsShown ls r) → AdvisesAll (record { history = (start, ess); cells = map names ls; advice = map advised ls }) rs
+      advises_all start show j r e i c x d at =
+          let o = of j r e in let w : r.lane < length lanes.cells = slice_get_within lanes.cells r.lane o.0 o.1 in
+          let m : length ess ≡ length lanes.cells = a.sessions in let n : length ls ≡ length lanes.cells = a.lanes in
+          let es = get_in ess r.lane (omega arith) in let l = get_in ls r.lane (omega arith) in let is = a.each r.lane es.0 l.0 o.0 es.1 l.1 o.1 in
+          let less : i < length r.operations = slice_get_within r.operations i (c, x, d) at in let t : length r.operations ≤ length l.0.returns = is.told j r e refl in
+          ap (λ (y : List (Option Advice)). slice_get y i) (lane_advised ls r.lane l.0 l.1) ∙ advised_at l.0 i (slice_get r.operations i) (omega arith) (show j r e l.0 l.1 i less) (c, x, d) at
 
   -- the longest receipt of a lane is of its cells
   pub told_by : {S : Type 0} (lanes : LanesState S) (rs : List (ReceiptState C R)) (s n : ℕ) (best : LongestReceipt) (lane : Cells) → AreReceiptsOf lanes rs → IsLongest rs s n best → slice_get lanes.cells s ≡ Some lane → IsToldBy rs lane best

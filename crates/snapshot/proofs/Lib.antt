@@ -1,3 +1,4 @@
+pub mod Advising
 pub mod Answers
 pub mod Columns
 pub mod FoundLooks

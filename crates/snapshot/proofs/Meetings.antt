@@ -6,7 +6,7 @@ use Rattle.std.proofs.lemmas.Bool.{cases_lt, lt-ltb, le-ltb}
 use Rattle.std.proofs.Math.Nat.{min-eq_left, min-eq_right}
 use Rattle.std.proofs.lemmas.List.Elements.{filter_map-append}
 use Rattle.history.specs.History.{session, entry}
-use Rattle.recorder.specs.Lanes.{Cells, Entry}
+use Rattle.recorder.specs.Lanes.{Cells, Entry, Returned}
 use Rattle.recorder.specs.Sessions.{SessionState, begun, op}
 use Rattle.recorder.proofs.Telling.{get_map, length_map, length_push, get_push_before}
 use Rattle.snapshot.specs.Seals.{SealState, AreReadFrom, known_returns, met_calls, AreOfOne}
@@ -52,28 +52,28 @@ module _ {C R : Type 0} where
         (λ i h. let n = get_in l.calls i h in let s = is.called i n.0 n.1 in (s.0, s.2))
 
     -- what is sealed at a place is what an agreeing note shows
-    pub return_at : (i : ℕ) (o : Option (C × R)) → i < length l.returns → ReturnAgrees l.returns i o → slice_get es i ≡ option_map (λ (x : C × R). (x.0, Some x.1)) o
-    return_at i o h a = let n = get_in l.returns i h in let s = is.returned i n.0 n.1 in s.3 ∙ ap (option_map (λ (x : C × R). (x.0, Some x.1))) (sym s.2 ∙ a n.0 n.1)
+    pub return_at : (i : ℕ) (o : Option (Returned C R)) → i < length l.returns → ReturnAgrees l.returns i o → slice_get es i ≡ option_map (λ (x : Returned C R). (x.0, Some x.1)) o
+    return_at i o h a = let n = get_in l.returns i h in let s = is.returned i n.0 n.1 in s.3 ∙ ap (option_map (λ (x : Returned C R). (x.0, Some x.1))) (sym s.2.1 ∙ a n.0 n.1)
 
     pub call_at : (i : ℕ) (c : Option C) → i < length l.calls → CallAgrees l.calls i c → option_map (λ (x : C × Option R). x.0) (slice_get es (length l.returns + i)) ≡ c
     call_at i c h a = let n = get_in l.calls i h in let s = is.called i n.0 n.1 in ap (option_map (λ (x : C × Option R). x.0)) s.2 ∙ (sym s.1 ∙ a n.0 n.1)
 
   -- the calls of a session that returned are the first that it began
-  pub begun_first : (done : List (C × R)) (pending : Option C) (i : ℕ) → i < length done → slice_get (begun done pending) i ≡ option_map (λ (o : C × R). o.0) (slice_get done i)
-  begun_first done None i h = get_map (λ (o : C × R). o.0) done i
+  pub begun_first : (done : List (Returned C R)) (pending : Option C) (i : ℕ) → i < length done → slice_get (begun done pending) i ≡ option_map (λ (o : Returned C R). o.0) (slice_get done i)
+  begun_first done None i h = get_map (λ (o : Returned C R). o.0) done i
   begun_first done (Some c) i h =
       let o = get_in done i h in
-      let e : slice_get (map (λ (x : C × R). x.0) done) i ≡ Some o.0.0 = get_map (λ (x : C × R). x.0) done i ∙ ap (option_map (λ (x : C × R). x.0)) o.1 in
-      get_push_before (map (λ (x : C × R). x.0) done) c i o.0.0 e ∙ ap (option_map (λ (x : C × R). x.0)) (sym o.1)
+      let e : slice_get (map (λ (x : Returned C R). x.0) done) i ≡ Some o.0.0 = get_map (λ (x : Returned C R). x.0) done i ∙ ap (option_map (λ (x : Returned C R). x.0)) o.1 in
+      get_push_before (map (λ (x : Returned C R). x.0) done) c i o.0.0 e ∙ ap (option_map (λ (x : Returned C R). x.0)) (sym o.1)
 
-  pub begun_many : (done : List (C × R)) (pending : Option C) → length done ≤ length (begun done pending)
-  begun_many done None = let e : length (map (λ (o : C × R). o.0) done) ≡ length done = length_map (λ (o : C × R). o.0) done in omega (arith, e)
+  pub begun_many : (done : List (Returned C R)) (pending : Option C) → length done ≤ length (begun done pending)
+  begun_many done None = let e : length (map (λ (o : Returned C R). o.0) done) ≡ length done = length_map (λ (o : Returned C R). o.0) done in omega (arith, e)
   begun_many done (Some c) =
-      let e : length (map (λ (o : C × R). o.0) done) ≡ length done = length_map (λ (o : C × R). o.0) done in
-      let f : length (map (λ (o : C × R). o.0) done ++ c ∷ []) ≡ length (map (λ (o : C × R). o.0) done) + 1 = length_push (map (λ (o : C × R). o.0) done) c in omega (arith, e, f)
+      let e : length (map (λ (o : Returned C R). o.0) done) ≡ length done = length_map (λ (o : Returned C R). o.0) done in
+      let f : length (map (λ (o : Returned C R). o.0) done ++ c ∷ []) ≡ length (map (λ (o : Returned C R). o.0) done) + 1 = length_push (map (λ (o : Returned C R). o.0) done) c in omega (arith, e, f)
 
   -- calls of returns that agree agree
-  pub calls_of_returns : (x : Option (C × Option R)) (o : Option (C × R)) → x ≡ option_map (λ (y : C × R). (y.0, Some y.1)) o → option_map (λ (y : C × Option R). y.0) x ≡ option_map (λ (y : C × R). y.0) o
+  pub calls_of_returns : (x : Option (C × Option R)) (o : Option (Returned C R)) → x ≡ option_map (λ (y : Returned C R). (y.0, Some y.1)) o → option_map (λ (y : C × Option R). y.0) x ≡ option_map (λ (y : Returned C R). y.0) o
   calls_of_returns x None e = ap (option_map (λ (y : C × Option R). y.0)) e
   calls_of_returns x (Some o) e = ap (option_map (λ (y : C × Option R). y.0)) e
 
@@ -104,7 +104,7 @@ module _ {C R : Type 0} where
   -- a session's cells are those of the notes of its lane
   module _ (fits : C → R → Bool) (es : List (C × Option R)) (l : SealedNotes C R) (cells : Cells) (is : IsSealedSession fits es l) (from : AreReadFrom cells (names l)) where
     pub shares_return : (i : ℕ) → IsReturnOf l.returns i (slice_get cells.returns i)
-    shares_return i n e = let s = is.returned i n e in (from.returns i n.0 (name_at l.returns i n e), ((s.0, s.1), s.2))
+    shares_return i n e = let s = is.returned i n e in (from.returns i n.0 (name_at l.returns i n e), ((s.0, s.1, s.2.0), s.2.1))
 
     pub shares_call : (i : ℕ) → IsCallOf l.calls i (slice_get cells.calls (length l.returns + i))
     shares_call i n e =
@@ -133,7 +133,7 @@ module _ {S C R : Type 0} (fits : C → R → Bool) (seal : SealState S C R) (mi
 
   -- the first returns that agree
   module _ (many : ℕ) (held : many ≤ length l.returns) (done : many ≤ length mine.done) (agree : (i : ℕ) → i < many → ReturnAgrees l.returns i (slice_get mine.done i)) where
-    pub meet_returns : (i : ℕ) → i < many → entry seal.history (op mine.lane i) ≡ option_map (λ (o : C × R). (o.0, Some o.1)) (slice_get mine.done i)
+    pub meet_returns : (i : ℕ) → i < many → entry seal.history (op mine.lane i) ≡ option_map (λ (o : Returned C R). (o.0, Some o.1)) (slice_get mine.done i)
     meet_returns i h = return_at fits (session seal.history mine.lane) l is_sealed i (slice_get mine.done i) (let a : i < many = h in let b : many ≤ length l.returns = held in omega arith) (agree i h)
 
     pub meet_first_calls : (i : ℕ) → i < many → option_map (λ (e : C × Option R). e.0) (entry seal.history (op mine.lane i)) ≡ slice_get (begun mine.done mine.pending) i

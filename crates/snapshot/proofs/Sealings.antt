@@ -3,6 +3,7 @@ use Rattle.std.proofs.Common.{◌≡◌, ℕ, zero, suc, ◌+◌, ◌<◌, ◌�
 use Rattle.std.specs.Prelude.{Bool, true, false, Option, Some, None, slice_get}
 use Rattle.std.proofs.lemmas.Bool.{cases_lt, false≢true}
 use Rattle.std.proofs.lemmas.Option.{slice_get_within}
+use Rattle.history.specs.declared.advice.Advice.{Advice}
 use Rattle.recorder.specs.Lanes.{Cells, Entry, shown}
 use Rattle.recorder.proofs.Telling.{length_push, get_pushed, get_push_cases, get_push_before}
 use Rattle.recorder.specs.Sessions.{ReceiptState}
@@ -23,8 +24,8 @@ module _ {C R : Type 0} (fits : C → R → Bool) (lane : Cells) where
   pub calls_none : (es : List (C × Option R)) → AreCallsRead lane es [] es
   calls_none es = record { many = omega arith; front = λ i h. refl; of = λ i n e. absurd (none_there i e); shows = λ i n e. absurd (none_there i e) }
 
-  pub returns_more : (i : ℕ) (notes notes' : List (ℕ × Option (Entry C R))) (es es' : List (C × Option R)) → AreReturnsRead fits lane notes es → ReadsReturn fits lane i notes notes' es es' → i ≡ length notes → AreReturnsRead fits lane notes' es'
-  returns_more i notes notes' es es' a b at = record {
+  pub returns_more : (i : ℕ) (notes notes' : List (ℕ × Option (Entry C R))) (es es' : List (C × Option R)) (ds ds' : List (Option Advice)) → AreReturnsRead fits lane notes es → ReadsReturn fits lane i notes notes' es es' ds ds' → i ≡ length notes → AreReturnsRead fits lane notes' es'
+  returns_more i notes notes' es es' ds ds' a b at = record {
     many = ap length b.pushed ∙ (length_push es (b.call, Some b.ret) ∙ (ap (λ (n : ℕ). n + 1) a.many ∙ (sym (length_push notes (b.cell, b.known)) ∙ sym (ap length b.noted))));
     of = λ j n e. elim (cases j n e) [
       | inl h ↦ a.of j n h
@@ -33,7 +34,7 @@ module _ {C R : Type 0} (fits : C → R → Bool) (lane : Cells) where
     shows = λ j n e. elim (cases j n e) [
       | inl h ↦ kept j n (a.shows j n h)
       | inr h ↦ subst (λ (x : ℕ × Option (Entry C R)). IsReturnedAs fits x.1 (slice_get es' j)) h.1
-          (b.call, b.ret, b.shows, ap (λ (x : List (C × Option R)). slice_get x j) b.pushed ∙ (ap (slice_get (es ++ (b.call, Some b.ret) ∷ [])) (h.0 ∙ sym a.many) ∙ get_pushed es (b.call, Some b.ret)), b.fitting)
+          (b.call, b.ret, (b.advice, b.shows), ap (λ (x : List (C × Option R)). slice_get x j) b.pushed ∙ (ap (slice_get (es ++ (b.call, Some b.ret) ∷ [])) (h.0 ∙ sym a.many) ∙ get_pushed es (b.call, Some b.ret)), b.fitting)
     ];
   }
     where
@@ -43,8 +44,8 @@ module _ {C R : Type 0} (fits : C → R → Bool) (lane : Cells) where
       kept : (j : ℕ) (n : ℕ × Option (Entry C R)) → IsReturnedAs fits n.1 (slice_get es j) → IsReturnedAs fits n.1 (slice_get es' j)
       kept j n s = (s.0, s.1, s.2, ap (λ (x : List (C × Option R)). slice_get x j) b.pushed ∙ get_push_before es (b.call, Some b.ret) j (s.0, Some s.1) s.3, s.4)
 
-  pub calls_more : (i : ℕ) (before : List (C × Option R)) (notes notes' : List (ℕ × Option C)) (es es' : List (C × Option R)) → AreCallsRead lane before notes es → ReadsCall lane i notes notes' es es' → i ≡ length before + length notes → AreCallsRead lane before notes' es'
-  calls_more i before notes notes' es es' a b at = record {
+  pub calls_more : (i : ℕ) (before : List (C × Option R)) (notes notes' : List (ℕ × Option C)) (es es' : List (C × Option R)) (ds ds' : List (Option Advice)) → AreCallsRead lane before notes es → ReadsCall lane i notes notes' es es' ds ds' → i ≡ length before + length notes → AreCallsRead lane before notes' es'
+  calls_more i before notes notes' es es' ds ds' a b at = record {
     many = ap length b.pushed ∙ (length_push es (b.call, None) ∙ (ap (λ (n : ℕ). n + 1) a.many ∙ (let e : length notes' ≡ length notes + 1 = ap length b.noted ∙ length_push notes (b.cell, b.known) in let x : length before + length notes + 1 ≡ length before + length notes' = omega (arith, e) in x)));
     front = λ j h. ap (λ (x : List (C × Option R)). slice_get x j) b.pushed ∙ (push_same es (b.call, None) j (let m : length es ≡ length before + length notes = a.many in let h' : j < length before = h in omega arith) ∙ a.front j h);
     of = λ j n e. elim (cases j n e) [

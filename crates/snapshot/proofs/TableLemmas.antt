@@ -4,7 +4,7 @@ use Rattle.std.specs.Prelude.{Bool, true, false, Option, Some, None, slice_get}
 use Rattle.std.proofs.lemmas.Bool.{cases_eq, cases_lt}
 use Rattle.std.proofs.lemmas.Option.{slice_get_within, slice_get-get_or}
 use Rattle.history.specs.declared.advice.Advice.{Advice}
-use Rattle.recorder.specs.Lanes.{Cells, Entry, IsLane, IsFitting, shown}
+use Rattle.recorder.specs.Lanes.{Cells, Entry, IsLane, IsFitting, Returned, shown}
 use Rattle.recorder.specs.Sessions.{LanesState, ReceiptState}
 use Rattle.recorder.proofs.Telling.{get_push_cases}
 use Rattle.snapshot.specs.declared.longest.LongestReceipt.{LongestReceipt}
@@ -136,11 +136,11 @@ counts_within cells told cap many within most s = by (slice_get cells s) refl
 
 module _ {C R : Type 0} where
   -- a record with a reply shows its operation
-  pub shown_reply : (k : Option (Entry C R)) (e : Entry C R) (x : R × Advice) → k ≡ Some e → Some x ≡ e.1 → (o : C × R) × (shown k ≡ Some o)
-  shown_reply k e x same reply = ((e.0, x.0), ap shown same ∙ ap (λ (y : Option (R × Advice)). shown (Some (e.0, y))) (sym reply))
+  pub shown_reply : (k : Option (Entry C R)) (e : Entry C R) (x : R × Advice) → k ≡ Some e → Some x ≡ e.1 → (o : Returned C R) × (shown k ≡ Some o)
+  shown_reply k e x same reply = ((e.0, x.0, x.1), ap shown same ∙ ap (λ (y : Option (R × Advice)). shown (Some (e.0, y))) (sym reply))
 
-  pub shown_parts : (k : Option (Entry C R)) (e : Entry C R) (y : Option (R × Advice)) (c : C) (x : R) (a : Advice) → k ≡ Some e → y ≡ e.1 → y ≡ Some (x, a) → c ≡ e.0 → shown k ≡ Some (c, x)
-  shown_parts k e y c x a same reply is call = ap shown same ∙ (ap (λ (z : Option (R × Advice)). shown (Some (e.0, z))) (sym reply ∙ is) ∙ ap (λ (d : C). Some (d, x)) (sym call))
+  pub shown_parts : (k : Option (Entry C R)) (e : Entry C R) (y : Option (R × Advice)) (c : C) (x : R) (a : Advice) → k ≡ Some e → y ≡ e.1 → y ≡ Some (x, a) → c ≡ e.0 → shown k ≡ Some (c, x, a)
+  shown_parts k e y c x a same reply is call = ap shown same ∙ (ap (λ (z : Option (R × Advice)). shown (Some (e.0, z))) (sym reply ∙ is) ∙ ap (λ (d : C). Some (d, x, a)) (sym call))
 
   pub fitting_parts : (fits : C → R → Bool) (e : Entry C R) (y : Option (R × Advice)) (c : C) (x : R) (a : Advice) → IsFitting fits e → y ≡ e.1 → y ≡ Some (x, a) → c ≡ e.0 → fits c x ≡ true
   fitting_parts fits e y c x a f reply is call = subst (λ (d : C). fits d x ≡ true) (sym call) (subst (λ (z : Option (R × Advice)). IsFitting fits (e.0, z)) (sym reply ∙ is) f)

@@ -1,15 +1,19 @@
 -- Seals of what a recorder holds. (This project's profile.)
-use Rattle.std.specs.Prelude.{◌≡◌, ℕ, ◌+◌, ◌<◌, ◌≤◌, List, length, Option, Some, slice_get, slice_index, min, if◌then◌else◌, nat_lt}
+use Rattle.std.specs.Prelude.{◌≡◌, ℕ, ◌+◌, ◌<◌, ◌≤◌, List, [], length, Option, Some, None, slice_get, slice_index, slice_index_or, min, if◌then◌else◌, nat_lt}
 use Rattle.std.specs.List.{filter_map}
 use Rattle.history.specs.History.{Record, session, entry}
+use Rattle.history.specs.declared.advice.Advice.{Advice}
+use Rattle.history.specs.declared.op_id.OpId.{OpId}
 use Rattle.recorder.specs.Lanes.{Cells}
 use Rattle.recorder.specs.Sessions.{LanesState, ReceiptState, SessionState, begun, op}
 use Rattle.snapshot.specs.Plans.{Look, Plan, after_looks, calls_found, fresh_plan, returns_found, Follows, IsFinished}
 
--- a seal: its history, and for each session the cells whose returns it holds and those whose calls it holds behind them
+-- a seal: its history, for each session the cells whose returns it holds and those whose calls it holds behind them, and for
+-- each operation of each session the store's advice, if it has a return
 pub record SealState (S C R : Type 0) : Type 0 where
   pub history : Record S C R
   pub cells : List Cells
+  pub advice : List (List (Option Advice))
 
 -- a looker: the lanes that it looks at, the receipts that it was told, for each lane how many operations these stand for, how
 -- many places the lanes have at most, and its looks so far, oldest first
@@ -41,10 +45,27 @@ module _ {S C R : Type 0} where
 
   -- a history holds each operation that a receipt stands for, with its call and return
   abbrev pub Holds : Record S C R → ReceiptState C R → Type 0
-  Holds h r = (i : ℕ) (c : C) (x : R) → slice_get r.operations i ≡ Some (c, x) → entry h (op r.lane i) ≡ Some (c, Some x)
+  Holds h r = (i : ℕ) (c : C) (x : R) (a : Advice) → slice_get r.operations i ≡ Some (c, x, a) → entry h (op r.lane i) ≡ Some (c, Some x)
 
   abbrev pub HoldsAll : Record S C R → List (ReceiptState C R) → Type 0
   HoldsAll h rs = (j : ℕ) (r : ReceiptState C R) → slice_get rs j ≡ Some r → Holds h r
+
+  -- the advice that a seal has of an operation
+  abbrev pub advice_of : SealState S C R → OpId → Option (Option Advice)
+  advice_of seal o = slice_get (slice_index_or seal.advice o.session []) o.index
+
+  -- a seal has the advice of each operation that a receipt stands for
+  abbrev pub Advises : SealState S C R → ReceiptState C R → Type 0
+  Advises seal r = (i : ℕ) (c : C) (x : R) (a : Advice) → slice_get r.operations i ≡ Some (c, x, a) → advice_of seal (op r.lane i) ≡ Some (Some a)
+
+  abbrev pub AdvisesAll : SealState S C R → List (ReceiptState C R) → Type 0
+  AdvisesAll seal rs = (j : ℕ) (r : ReceiptState C R) → slice_get rs j ≡ Some r → Advises seal r
+
+  -- a seal has one entry of advice for each operation of its history: advice where the return is known, and none where it is not
+  pub record IsAdvised (seal : SealState S C R) : Type 0 where
+    pub many : (s : ℕ) → length (slice_index_or seal.advice s []) ≡ length (session seal.history s)
+    pub returned : (o : OpId) (c : C) (x : R) → entry seal.history o ≡ Some (c, Some x) → (a : Advice) × (advice_of seal o ≡ Some (Some a))
+    pub called : (o : OpId) (c : C) → entry seal.history o ≡ Some (c, None) → advice_of seal o ≡ Some None
 
   -- a seal is one of these lanes: it has their start and a session for each of them, and was read from their cells
   pub record IsSealOf (lanes : LanesState S) (seal : SealState S C R) : Type 0 where

@@ -1,5 +1,7 @@
 ghost use Rattle.std.specs.Prelude.{◌≡◌, ◌<◌, length, slice_get, map, Some};
-ghost use Rattle.snapshot.specs.Steps.Tables.{IsSealedSession, names};
+ghost use Rattle.std.specs.List.{flat_map};
+ghost use Rattle.snapshot.specs.Seals.{IsAdvised};
+ghost use Rattle.snapshot.specs.Steps.Tables.{IsSealedSession, advised, names};
 ghost use Rattle.snapshot.specs.Steps.Sealing.{AreSealedSessions};
 ghost use Rattle.history.specs.History.{session};
 
@@ -19,16 +21,17 @@ pub struct Sealed<O: SeqObject> {
 }
 
 impl<O: SeqObject> Model for Sealed<O> {
-    ghost use Rattle.std.specs.Prelude.{map};
+    ghost use Rattle.std.specs.Prelude.{◌≡◌, map};
     ghost use Rattle.snapshot.specs.Seals.{SealState};
-    ghost use Rattle.snapshot.specs.Steps.Tables.{names};
+    ghost use Rattle.std.specs.List.{flat_map};
+    ghost use Rattle.snapshot.specs.Steps.Tables.{advised, names};
     ghost use Rattle.snapshot.specs.Steps.Sealing.{AreSealedSessions};
 
     ghost Value = { SealState O.Start O.Call O.Ret };
 
-    ghost view = { λ s. record { history = s.history; cells = map names s.lanes.items } };
+    ghost view = { λ s. record { history = s.history; cells = map names s.lanes.items; advice = map advised s.lanes.items } };
 
-    ghost invariant = { λ s. AreSealedSessions O.matches s.history s.lanes.items };
+    ghost invariant = { λ s. AreSealedSessions O.matches s.history s.lanes.items × (s.advice.items ≡ flat_map advised s.lanes.items) };
 }
 
 impl<O: SeqObject> Sealed<O> {
@@ -38,8 +41,9 @@ impl<O: SeqObject> Sealed<O> {
         advice: Vec<Option<Advice>>,
         lanes: Vec<SealedLane<O>>,
     ) -> Sealed<O>
-        requires { AreSealedSessions O.matches history lanes.items }
-        ensures { result ≡ record { history = history; cells = map names lanes.items } }
+        requires sessions { AreSealedSessions O.matches history lanes.items }
+        requires advice { advice.items ≡ flat_map advised lanes.items }
+        ensures { result ≡ record { history = history; cells = map names lanes.items; advice = map advised lanes.items } }
     {
         Sealed {
             alloc,
@@ -58,7 +62,12 @@ impl<O: SeqObject> Sealed<O> {
     }
 
     /// What the stores advised: one entry for each operation, in order, and none for an operation without a return.
-    pub fn advice(&self) -> &[Option<Advice>] {
+    ///
+    /// The advice of an operation is that which its session's `finish` was given.
+    pub fn advice(&self) -> &[Option<Advice>]
+        ensures order { result.now ≡ flat_map (λ a. a) self.now.advice }
+        ensures each { IsAdvised self.now }
+    {
         &self.advice
     }
 
@@ -70,6 +79,7 @@ impl<O: SeqObject> Sealed<O> {
     pub(crate) fn lane(&self, s: usize) -> &SealedLane<O>
         requires { s < length self.now.cells }
         ensures cells { slice_get self.now.cells s ≡ Some (names result.now) }
+        ensures advice { slice_get self.now.advice s ≡ Some (advised result.now) }
         ensures session { IsSealedSession O.matches (session self.now.history s) result.now }
     {
         &self.lanes[s]

@@ -1,5 +1,7 @@
 ghost use Rattle.std.specs.Prelude.{◌≡◌, ◌<◌, ℕ, IfOk, IfErr, length, map, slice_get, Some};
-ghost use Rattle.snapshot.specs.Seals.{AreReceiptsOf, HoldsAll, HoldsFound, IsFoundByWalk, IsSealOf, plan_after, plan_before};
+ghost use Rattle.std.specs.List.{flat_map};
+ghost use Rattle.snapshot.specs.Steps.Tables.{advised};
+ghost use Rattle.snapshot.specs.Seals.{AdvisesAll, AreReceiptsOf, HoldsAll, HoldsFound, IsFoundByWalk, IsSealOf, plan_after, plan_before};
 ghost use Rattle.snapshot.specs.Plans.{Follows};
 ghost use Rattle.snapshot.specs.Steps.Comparing.{SharesCells};
 ghost use Rattle.snapshot.specs.Steps.Sealing.{AreLanesFound, AreLanesSealed, IsShown};
@@ -24,6 +26,7 @@ fn seal_lanes<'a, O: Recorded>(
     looker: &LaneLooker<'a, O>,
 ) -> Result<(Vec<Session<O>>, Vec<SealedLane<O>>, Vec<Option<Advice>>), AllocError>
     ensures sealed { IfOk result (λ r. AreLanesSealed O.fitting looker.now.lanes.cells looker.now.receipts (map (λ s. s.items) r.0.items) r.1.items) }
+    ensures advised { IfOk result (λ r. r.2.items ≡ flat_map advised r.1.items) }
     ensures found { IfOk result (λ r. AreLanesFound looker.now.looks looker.now.told looker.now.cap (map (λ s. s.items) r.0.items) r.1.items) }
 {
     let mut sessions = Vec::new(looker.alloc);
@@ -63,6 +66,7 @@ impl<'a, O: SeqObject> LaneLooker<'a, O> {
     pub fn sealed(self) -> Result<Sealed<O>, AllocError>
         ensures holds { IfOk result (λ s. HoldsAll s.history self.entry.receipts) }
         ensures seal { IfOk result (λ s. IsSealOf self.entry.lanes s) }
+        ensures advises { IfOk result (λ s. AdvisesAll s self.entry.receipts) }
         ensures found { IfOk result (λ s. Follows (plan_before self.entry) self.entry.looks → HoldsFound (plan_after self.entry) s.history) }
     {
         let (sessions, lanes, advice) = seal_lanes(&self)?;
@@ -85,6 +89,7 @@ pub fn seal<O: SeqObject>(
     requires { AreReceiptsOf lanes.now told.now }
     ensures holds { IfOk result (λ s. HoldsAll s.history told.now) }
     ensures seal { IfOk result (λ s. IsSealOf lanes.now s) }
+    ensures advises { IfOk result (λ s. AdvisesAll s told.now) }
     ensures found { IfOk result (λ s. IsFoundByWalk lanes.now told.now s.history) }
     ensures refused { IfErr result (λ e. e ≡ RecordError.Memory) }
 {

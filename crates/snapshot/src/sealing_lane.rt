@@ -1,6 +1,6 @@
-ghost use Rattle.std.specs.Prelude.{◌≡◌, ℕ, ◌<◌, ◌≤◌, ◌+◌, ◌++◌, ◌∷◌, [], length, IfOk, IfSome, IsSome, MatchOption, Some, None, slice_get, false, true};
+ghost use Rattle.std.specs.Prelude.{◌≡◌, ℕ, ◌<◌, ◌≤◌, ◌+◌, ◌++◌, ◌∷◌, [], length, map, IfOk, IfSome, IsSome, MatchOption, Some, None, slice_get, false, true};
 ghost use Rattle.recorder.specs.Lanes.{IsLane, shown};
-ghost use Rattle.snapshot.specs.Steps.Tables.{AreNotesOf, IsCallFound, IsReturnFound, IsSealedSession, IsTable, RunsTo, has_note};
+ghost use Rattle.snapshot.specs.Steps.Tables.{AreNotesOf, IsCallFound, IsReturnFound, IsSealedSession, IsTable, RunsTo, advice_shown, advised, has_note, no_advice};
 ghost use Rattle.snapshot.specs.Steps.Sealing.{AreCallsRead, AreReturnsRead, IsOfTable, IsToldBy, ReadsCall, ReadsReturn};
 
 use crate::lane_table::LaneTable;
@@ -49,7 +49,7 @@ fn push_return<O: Recorded>(
 ) -> Result<(), AllocError>
     requires place { i < length lane.now.returns }
     requires found { IsReturnFound lane.now i (known.cell, known.known) }
-    ensures { IfOk result (λ _. ReadsReturn O.fitting lane.now i notes.old.list notes.new.list operations.old.items operations.new.items) }
+    ensures { IfOk result (λ _. ReadsReturn O.fitting lane.now i notes.old.list notes.new.list operations.old.items operations.new.items advice.old.items advice.new.items) }
 {
     let mut note = known;
     let Some(record) = lane.return_record(i, &mut note) else {
@@ -81,6 +81,7 @@ fn seal_returns<O: Recorded>(
     ensures read { IfOk result (λ notes. AreReturnsRead O.fitting lane.now notes.list operations.new.items) }
     ensures told { IfOk result (λ notes. best.count ≤ length notes.list) }
     ensures short { IfOk result (λ notes. length notes.list ≤ length lane.now.calls) }
+    ensures advised { IfOk result (λ notes. advice.new.items ≡ advice.old.items ++ map advice_shown notes.list) }
     ensures found { IfOk result (λ notes. RunsTo (has_note table.now.returns) best.count (length notes.list) (length table.now.returns)) }
 {
     let mut notes = NoteList::new(alloc);
@@ -104,7 +105,7 @@ fn push_call<O: Recorded>(
 ) -> Result<(), AllocError>
     requires place { i < length lane.now.calls }
     requires found { IsCallFound lane.now i (known.cell, known.known) }
-    ensures { IfOk result (λ _. ReadsCall lane.now i notes.old.list notes.new.list operations.old.items operations.new.items) }
+    ensures { IfOk result (λ _. ReadsCall lane.now i notes.old.list notes.new.list operations.old.items operations.new.items advice.old.items advice.new.items) }
 {
     let mut note = known;
     let Some(call) = lane.call(i, &mut note) else {
@@ -127,6 +128,7 @@ fn seal_calls<O: Recorded>(
     requires table { IsTable lane.now table.now }
     ensures read { IfOk result (λ notes. AreCallsRead lane.now operations.old.items notes.list operations.new.items) }
     ensures short { IfOk result (λ _. length operations.old.items ≤ length lane.now.calls → length operations.new.items ≤ length lane.now.calls) }
+    ensures advised { IfOk result (λ notes. advice.new.items ≡ advice.old.items ++ map no_advice notes.list) }
     ensures found { IfOk result (λ _. length operations.old.items ≤ length lane.now.calls → RunsTo (has_note table.now.calls) (length operations.old.items) (length operations.new.items) (length table.now.calls)) }
 {
     let mut notes = NoteList::new(alloc);
@@ -157,6 +159,7 @@ pub(crate) fn seal_lane<O: Recorded>(
     ensures short { IfOk result (λ r. length r.0.items ≤ 256) }
     ensures told { IfOk result (λ r. best.count ≤ length r.1.returns) }
     ensures lane { IfOk result (λ _. IsLane lane.now) }
+    ensures advised { IfOk result (λ r. advice.new.items ≡ advice.old.items ++ advised r.1) }
     ensures found { IfOk result (λ r. IsOfTable table.now best.count r.0.items r.1) }
 {
     let mut operations = Vec::new(alloc);

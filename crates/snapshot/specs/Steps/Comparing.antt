@@ -1,6 +1,6 @@
 -- What comparing the notes of a sealed lane with others shows.
 use Rattle.std.specs.Prelude.{◌≡◌, ℕ, ◌<◌, ◌≤◌, List, length, Option, Some, slice_get}
-use Rattle.recorder.specs.Lanes.{Entry, shown}
+use Rattle.recorder.specs.Lanes.{Entry, Returned, shown}
 use Rattle.recorder.specs.Sessions.{ReceiptState}
 use Rattle.snapshot.specs.Steps.Tables.{SealedNotes}
 
@@ -14,10 +14,10 @@ CallAgrees {C} notes i c = (n : ℕ × Option C) → slice_get notes i ≡ Some 
 module _ {C R : Type 0} where
   -- the note at this place is of this cell, and of a record with a return
   abbrev pub IsReturnOf : List (ℕ × Option (Entry C R)) → ℕ → Option ℕ → Type 0
-  IsReturnOf notes i cell = (n : ℕ × Option (Entry C R)) → slice_get notes i ≡ Some n → (cell ≡ Some n.0) × ((o : C × R) × (shown n.1 ≡ Some o))
+  IsReturnOf notes i cell = (n : ℕ × Option (Entry C R)) → slice_get notes i ≡ Some n → (cell ≡ Some n.0) × ((o : Returned C R) × (shown n.1 ≡ Some o))
 
   -- the note at this place shows this operation
-  abbrev pub ReturnAgrees : List (ℕ × Option (Entry C R)) → ℕ → Option (C × R) → Type 0
+  abbrev pub ReturnAgrees : List (ℕ × Option (Entry C R)) → ℕ → Option (Returned C R) → Type 0
   ReturnAgrees notes i o = (n : ℕ × Option (Entry C R)) → slice_get notes i ≡ Some n → shown n.1 ≡ o
 
   -- the sealed lane has the operations' cells of a receipt

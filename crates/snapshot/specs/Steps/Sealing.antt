@@ -4,6 +4,7 @@ use Rattle.recorder.specs.Lanes.{Cells, Entry, shown}
 use Rattle.recorder.specs.Sessions.{ReceiptState}
 use Rattle.snapshot.specs.declared.longest.LongestReceipt.{LongestReceipt}
 use Rattle.history.specs.History.{Record, session}
+use Rattle.history.specs.declared.advice.Advice.{Advice}
 use Rattle.snapshot.specs.Plans.{Look, call_cell, return_cell}
 use Rattle.snapshot.specs.Steps.Tables.{IsReturnedAs, SealedNotes, TableState, IsSealedSession, AreNotesOf, RunsTo, has_note, was_found}
 use Rattle.snapshot.specs.Steps.Comparing.{ReturnAgrees}
@@ -13,20 +14,22 @@ module _ {C R : Type 0} where
   abbrev pub IsToldBy : List (ReceiptState C R) → Cells → LongestReceipt → Type 0
   IsToldBy rs lane best = 0 < best.count → (r : ReceiptState C R) × (slice_get rs best.at ≡ Some r) × (length r.operations ≡ best.count) × ((i x : ℕ) → slice_get r.cells i ≡ Some x → slice_get lane.returns i ≡ Some x)
 
-  -- one more operation with its return, and a note of its cell
-  pub record ReadsReturn (fits : C → R → Bool) (lane : Cells) (i : ℕ) (notes notes' : List (ℕ × Option (Entry C R))) (es es' : List (C × Option R)) : Type 0 where
+  -- one more operation with its return and its advice, and a note of its cell
+  pub record ReadsReturn (fits : C → R → Bool) (lane : Cells) (i : ℕ) (notes notes' : List (ℕ × Option (Entry C R))) (es es' : List (C × Option R)) (ds ds' : List (Option Advice)) : Type 0 where
     pub cell : ℕ
     pub known : Option (Entry C R)
     pub call : C
     pub ret : R
+    pub advice : Advice
     pub of : slice_get lane.returns i ≡ Some cell
-    pub shows : shown known ≡ Some (call, ret)
+    pub shows : shown known ≡ Some (call, ret, advice)
     pub fitting : fits call ret ≡ true
     pub noted : notes' ≡ notes ++ (cell, known) ∷ []
     pub pushed : es' ≡ es ++ (call, Some ret) ∷ []
+    pub advised : ds' ≡ ds ++ Some advice ∷ []
 
   -- one more call, and a note of its cell
-  pub record ReadsCall (lane : Cells) (i : ℕ) (notes notes' : List (ℕ × Option C)) (es es' : List (C × Option R)) : Type 0 where
+  pub record ReadsCall (lane : Cells) (i : ℕ) (notes notes' : List (ℕ × Option C)) (es es' : List (C × Option R)) (ds ds' : List (Option Advice)) : Type 0 where
     pub cell : ℕ
     pub known : Option C
     pub call : C
@@ -34,6 +37,7 @@ module _ {C R : Type 0} where
     pub shows : known ≡ Some call
     pub noted : notes' ≡ notes ++ (cell, known) ∷ []
     pub pushed : es' ≡ es ++ (call, None) ∷ []
+    pub advised : ds' ≡ ds ++ None ∷ []
 
   -- the returns of a lane from the first on, with notes of their cells
   pub record AreReturnsRead (fits : C → R → Bool) (lane : Cells) (notes : List (ℕ × Option (Entry C R))) (es : List (C × Option R)) : Type 0 where

@@ -1,6 +1,7 @@
 -- What a looker keeps of what it found, and what it makes a seal of.
-use Rattle.std.specs.Prelude.{◌≡◌, ℕ, ◌+◌, ◌<◌, ◌≤◌, ◌&&◌, ◌||◌, Bool, true, false, List, [], ◌∷◌, length, map, Option, Some, None, slice_get, slice_index}
-use Rattle.recorder.specs.Lanes.{Cells, Entry, shown}
+use Rattle.std.specs.Prelude.{◌≡◌, ℕ, ◌+◌, ◌<◌, ◌≤◌, ◌&&◌, ◌||◌, ◌++◌, Bool, true, false, List, [], ◌∷◌, length, map, Option, Some, None, option_map, slice_get, slice_index}
+use Rattle.history.specs.declared.advice.Advice.{Advice}
+use Rattle.recorder.specs.Lanes.{Cells, Entry, Returned, shown}
 use Rattle.recorder.specs.Sessions.{LanesState, ReceiptState}
 use Rattle.snapshot.specs.declared.longest.LongestReceipt.{LongestReceipt}
 use Rattle.snapshot.specs.declared.cell.Cell.{Cell}
@@ -45,7 +46,7 @@ IsCallFound {C} lane i n = (slice_get lane.calls i ≡ Some n.0) × ((c : C) × 
 module _ {C R : Type 0} where
   -- a note of this return cell, and of a record with a return
   abbrev pub IsReturnFound : Cells → ℕ → ℕ × Option (Entry C R) → Type 0
-  IsReturnFound lane i n = (slice_get lane.returns i ≡ Some n.0) × ((o : C × R) × (shown n.1 ≡ Some o))
+  IsReturnFound lane i n = (slice_get lane.returns i ≡ Some n.0) × ((o : Returned C R) × (shown n.1 ≡ Some o))
 
   -- a table of this lane
   pub record IsTable (lane : Cells) (t : TableState C R) : Type 0 where
@@ -70,7 +71,7 @@ module _ {C R : Type 0} where
 
   -- a return that is known by a note, as a history has it
   abbrev pub IsReturnedAs : (C → R → Bool) → Option (Entry C R) → Option (C × Option R) → Type 0
-  IsReturnedAs fits k e = (c : C) × (r : R) × (shown k ≡ Some (c, r)) × (e ≡ Some (c, Some r)) × (fits c r ≡ true)
+  IsReturnedAs fits k e = (c : C) × (r : R) × ((a : Advice) × (shown k ≡ Some (c, r, a))) × (e ≡ Some (c, Some r)) × (fits c r ≡ true)
 
   -- the operations of a session are those of which there are notes
   pub record IsSealedSession (fits : C → R → Bool) (es : List (C × Option R)) (l : SealedNotes C R) : Type 0 where
@@ -86,6 +87,19 @@ module _ {C R : Type 0} where
   -- the cells that notes are of
   abbrev pub names : SealedNotes C R → Cells
   names l = record { calls = map (λ (n : ℕ × Option C). n.0) l.calls; returns = map (λ (n : ℕ × Option (Entry C R)). n.0) l.returns }
+
+-- a call without a return has none
+abbrev pub no_advice : {C : Type 0} → ℕ × Option C → Option Advice
+no_advice n = None
+
+module _ {C R : Type 0} where
+  -- the advice that a note of a return cell shows
+  abbrev pub advice_shown : ℕ × Option (Entry C R) → Option Advice
+  advice_shown n = option_map (λ (o : Returned C R). o.2) (shown n.1)
+
+  -- the advice of the operations of a session, none for a call without a return
+  abbrev pub advised : SealedNotes C R → List (Option Advice)
+  advised l = map advice_shown l.returns ++ map no_advice l.calls
 
 -- what a looker keeps
 pub record IsLooker {S C R : Type 0} (lanes : LanesState S) (receipts : List (ReceiptState C R)) (told : List ℕ) (cap : ℕ) (looks : List Look) (ts : List (TableState C R)) : Type 0 where

@@ -6,6 +6,7 @@ use Rattle.recorder.proofs.Telling.{length_push, length_map}
 use Rattle.snapshot.proofs.TableLemmas.{table_at, lanes_many, read_at}
 use Rattle.snapshot.proofs.Histories.{count_in, lanes_more, lane_found, lanes_found_more}
 use Rattle.snapshot.specs.Steps.Sealing.{IsLaneFound}
+use Rattle.snapshot.proofs.Advising.{lanes_advised_more}
 use Rattle.snapshot.proofs.FoundLooks.{count_is}
 use Rattle.snapshot.proofs.sealing.seal_lanes.Goals as goal
 
@@ -32,6 +33,7 @@ loop-s-preserved g c = record {
             let t : c.longest-best.result.count ≤ length c.in_ok-operations.lane.returns = c.in_ok-operations.ensures.told in omega arith;
       })
       c.loop-s.invariant.each;
+  advised = lanes_advised_more c.loop-s.advice.items c.seal_lane.new.advice.items c.loop-s.lanes.items c.push-in-loop-s.new.self.items c.in_ok-operations.lane c.loop-s.invariant.advised c.in_ok-push-2.ensures.items c.in_ok-operations.ensures.advised;
   found = lanes_found_more c.args.looker.now.looks c.args.looker.now.told c.args.looker.now.cap (map (λ v. v.items) c.loop-s.sessions.items) (map (λ v. v.items) c.push.new.self.items) c.loop-s.lanes.items c.push-in-loop-s.new.self.items c.loop-s.s c.in_ok-operations.operations.items c.in_ok-operations.lane
       (length_map (λ v. v.items) c.loop-s.sessions.items ∙ c.loop-s.invariant.sessions) c.loop-s.invariant.lanes (ap (map (λ v. v.items)) c.in_ok-push.ensures.items ∙ map-append (λ v. v.items) c.loop-s.sessions.items (c.in_ok-operations.operations ∷ [])) c.in_ok-push-2.ensures.items
       (subst (λ v. IsLaneFound v.looks c.loop-s.s (get_or v.told c.loop-s.s 0) v.cap c.in_ok-operations.operations.items c.in_ok-operations.lane) c.looker.view_is

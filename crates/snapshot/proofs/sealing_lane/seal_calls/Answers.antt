@@ -1,8 +1,9 @@
-use Rattle.std.proofs.Common.{◌≡◌, ◌+◌, ◌<◌, ◌≤◌, length, ap, sym, ◌∙◌, subst, arith, rules}
+use Rattle.std.proofs.Common.{◌≡◌, ◌+◌, ◌<◌, ◌≤◌, length, refl, ap, sym, ◌∙◌, subst, arith, rules}
 use Rattle.recorder.proofs.Telling.{length_push}
-use Rattle.std.specs.Prelude.{Some, false}
-use Rattle.snapshot.specs.Steps.Tables.{has_note, is_note}
+use Rattle.std.specs.Prelude.{Some, None, false}
+use Rattle.snapshot.specs.Steps.Tables.{has_note, is_note, no_advice}
 use Rattle.snapshot.proofs.FoundLooks.{one_more}
+use Rattle.snapshot.proofs.Advising.{mapped_more}
 use Rattle.snapshot.proofs.Sealings.{calls_more}
 use Rattle.snapshot.proofs.sealing_lane.seal_calls.Goals as goal
 
@@ -12,7 +13,8 @@ loop-i-preserved g c =
     let many : length c.args.operations.now.items + length c.loop-i.notes.list ≡ c.loop-i.i = c.loop-i.invariant.many in
     record {
       many = omega arith;
-      read = calls_more g.O.Recorded.fitting c.args.lane.now c.loop-i.i c.args.operations.now.items c.loop-i.notes.list c.push_call.new.notes.list c.loop-i.operations.items c.push_call.new.operations.items c.loop-i.invariant.read c.in_ok-push_call.ensures (sym c.loop-i.invariant.many);
+      read = calls_more g.O.Recorded.fitting c.args.lane.now c.loop-i.i c.args.operations.now.items c.loop-i.notes.list c.push_call.new.notes.list c.loop-i.operations.items c.push_call.new.operations.items c.loop-i.advice.items c.push_call.new.advice.items c.loop-i.invariant.read c.in_ok-push_call.ensures (sym c.loop-i.invariant.many);
+      advised = mapped_more no_advice c.args.advice.now.items c.loop-i.advice.items c.push_call.new.advice.items c.loop-i.notes.list c.push_call.new.notes.list (c.in_ok-push_call.ensures.cell, c.in_ok-push_call.ensures.known) None c.loop-i.invariant.advised c.in_ok-push_call.ensures.noted c.in_ok-push_call.ensures.advised refl;
       found = one_more (has_note c.args.table.now.calls) (length c.args.operations.now.items) c.loop-i.i c.loop-i.invariant.found (λ _. ap is_note (c.found_call.ensures ∙ ap Some c.in-Some.is));
     }
 

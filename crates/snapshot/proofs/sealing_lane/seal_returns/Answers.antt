@@ -1,8 +1,9 @@
 use Rattle.std.proofs.Common.{◌≡◌, ◌+◌, ◌<◌, ◌≤◌, length, subst, ap, sym, ◌∙◌, arith, rules}
 use Rattle.recorder.proofs.Telling.{length_push}
-use Rattle.std.specs.Prelude.{false}
-use Rattle.snapshot.specs.Steps.Tables.{has_note}
+use Rattle.std.specs.Prelude.{Some, option_map, false}
+use Rattle.snapshot.specs.Steps.Tables.{advice_shown, has_note}
 use Rattle.snapshot.proofs.FoundLooks.{one_more}
+use Rattle.snapshot.proofs.Advising.{mapped_more}
 use Rattle.snapshot.proofs.Sealings.{returns_more, not_told}
 use Rattle.snapshot.proofs.sealing_lane.seal_returns.Goals as goal
 
@@ -12,7 +13,8 @@ loop-i-preserved g c =
     let many : length c.loop-i.notes.list ≡ c.loop-i.i = c.loop-i.invariant.many in
     record {
       many = omega arith;
-      read = returns_more g.O.Recorded.fitting c.args.lane.now c.loop-i.i c.loop-i.notes.list c.push_return.new.notes.list c.loop-i.operations.items c.push_return.new.operations.items c.loop-i.invariant.read c.in_ok-push_return.ensures (sym c.loop-i.invariant.many);
+      read = returns_more g.O.Recorded.fitting c.args.lane.now c.loop-i.i c.loop-i.notes.list c.push_return.new.notes.list c.loop-i.operations.items c.push_return.new.operations.items c.loop-i.advice.items c.push_return.new.advice.items c.loop-i.invariant.read c.in_ok-push_return.ensures (sym c.loop-i.invariant.many);
+      advised = mapped_more advice_shown c.args.advice.now.items c.loop-i.advice.items c.push_return.new.advice.items c.loop-i.notes.list c.push_return.new.notes.list (c.in_ok-push_return.ensures.cell, c.in_ok-push_return.ensures.known) (Some c.in_ok-push_return.ensures.advice) c.loop-i.invariant.advised c.in_ok-push_return.ensures.noted c.in_ok-push_return.ensures.advised (ap (option_map (λ o. o.2)) c.in_ok-push_return.ensures.shows);
       found = one_more (has_note c.args.table.now.returns) c.args.best.count c.loop-i.i c.loop-i.invariant.found c.in-Some.ensures.looked;
     }
 

@@ -9,4 +9,4 @@ pub returns-clause-session : goal.returns-clause-session
 returns-clause-session g c =
     let place : c.args.s < length c.self.inside.lanes.items = subst (λ n. c.args.s < n) (sym (ap (λ v. length v.cells) c.self.view_is) ∙ length_map names c.self.inside.lanes.items) c.requires in
     let at = read_at c.self.inside.lanes.items c.args.s c.index.result.now place c.index.ensures in
-    subst (λ v. IsSealedSession g.O.SeqObject.matches (session v.history c.args.s) c.index.result.now) c.self.view_is (c.self.invariant.each c.args.s c.index.result.now at)
+    subst (λ v. IsSealedSession g.O.SeqObject.matches (session v.history c.args.s) c.index.result.now) c.self.view_is (c.self.invariant.0.each c.args.s c.index.result.now at)
