@@ -134,10 +134,7 @@ fn certificate_by_causal_order(
     };
     match criterion {
         Criterion::Cc => Ok(Some(certify_cc::make_by_order(alloc, &order)?)),
-        Criterion::Cm => {
-            let vectors = order.vectors().copy(alloc)?;
-            certify_cm::make_by_order(alloc, memory.history(), vectors)
-        }
+        Criterion::Cm => certify_cm::make_by_order(alloc, &order),
         Criterion::Ccv => certify_ccv::make_by_order(alloc, &order),
     }
 }
