@@ -1,7 +1,11 @@
-//! What `judge` says where the happened-before relation of an operation has about 100,000 pairs that the causal order
-//! doesn't have.
+//! Histories in which the happened-before relation of an operation has about 100,000 pairs that the causal order doesn't
+//! have: what `judge` says of them, and up to where the search and the maker of certificates go.
 
+use crate::histories::memory;
 use crate::judged::said;
+use bad_patterns::find;
+use cert_check::Criterion;
+use certify_cm::make_memory;
 use std::alloc::{AllocError, Global};
 use std::test::Fail;
 
@@ -55,30 +59,46 @@ fn said_of_pairs<P: AllocGlobal>(rt: &P, more: usize, cycle: bool) -> Result<Str
     said(rt, text.as_str())
 }
 
-const MET: &str = "0 cc yes;cm yes;ccv yes;";
+/// Whether a pattern against causal memory is found in such a history, and whether a certificate of it is made.
+fn found_and_made(alloc: Global, more: usize, cycle: bool) -> Result<(bool, bool), AllocError> {
+    let text = history_of(alloc, more, cycle)?;
+    let Some(history) = memory(alloc, text.as_str()) else {
+        return Ok((false, false));
+    };
+    let found = find(alloc, &history, Criterion::Cm)?.is_some();
+    let made = make_memory(alloc, &history)?.is_some();
+    Ok((found, made))
+}
 
-const UNKNOWN: &str = "0 cc yes;cm unknown;ccv yes;";
+const MET: &str = "0 cc yes;cm yes;ccv yes;";
 
 const CYCLIC: &str = "0 cc yes;cm no CyclicHB;ccv no CyclicCF;";
 
-const UNKNOWN_AND_CYCLIC: &str = "0 cc yes;cm unknown;ccv no CyclicCF;";
+#[test]
+fn any_number_of_pairs_is_decided(rt: HostRuntime) -> Result<(), Fail> {
+    assert_eq!(rt; said_of_pairs(&rt, 0, false)?.as_str(), MET);
+    assert_eq!(rt; said_of_pairs(&rt, 248, false)?.as_str(), MET);
+    assert_eq!(rt; said_of_pairs(&rt, 249, false)?.as_str(), MET);
+    assert_eq!(rt; said_of_pairs(&rt, 0, true)?.as_str(), CYCLIC);
+    assert_eq!(rt; said_of_pairs(&rt, 244, true)?.as_str(), CYCLIC);
+    assert_eq!(rt; said_of_pairs(&rt, 245, true)?.as_str(), CYCLIC);
+    Ok(())
+}
 
 #[test]
 fn up_to_100000_pairs_a_relation_is_made(rt: HostRuntime) -> Result<(), Fail> {
-    assert_eq!(rt; said_of_pairs(&rt, 0, false)?.as_str(), MET);
-    assert_eq!(rt; said_of_pairs(&rt, 247, false)?.as_str(), MET);
-    assert_eq!(rt; said_of_pairs(&rt, 248, false)?.as_str(), MET);
-    assert_eq!(rt; said_of_pairs(&rt, 0, true)?.as_str(), CYCLIC);
-    assert_eq!(rt; said_of_pairs(&rt, 243, true)?.as_str(), CYCLIC);
-    assert_eq!(rt; said_of_pairs(&rt, 244, true)?.as_str(), CYCLIC);
+    assert_eq!(rt; found_and_made(rt.alloc(), 247, false)?, (false, true));
+    assert_eq!(rt; found_and_made(rt.alloc(), 248, false)?, (false, true));
+    assert_eq!(rt; found_and_made(rt.alloc(), 243, true)?, (true, false));
+    assert_eq!(rt; found_and_made(rt.alloc(), 244, true)?, (true, false));
     Ok(())
 }
 
 #[test]
 fn above_100000_pairs_a_relation_is_given_up(rt: HostRuntime) -> Result<(), Fail> {
-    assert_eq!(rt; said_of_pairs(&rt, 249, false)?.as_str(), UNKNOWN);
-    assert_eq!(rt; said_of_pairs(&rt, 250, false)?.as_str(), UNKNOWN);
-    assert_eq!(rt; said_of_pairs(&rt, 245, true)?.as_str(), UNKNOWN_AND_CYCLIC);
-    assert_eq!(rt; said_of_pairs(&rt, 246, true)?.as_str(), UNKNOWN_AND_CYCLIC);
+    assert_eq!(rt; found_and_made(rt.alloc(), 249, false)?, (false, false));
+    assert_eq!(rt; found_and_made(rt.alloc(), 250, false)?, (false, false));
+    assert_eq!(rt; found_and_made(rt.alloc(), 245, true)?, (false, false));
+    assert_eq!(rt; found_and_made(rt.alloc(), 246, true)?, (false, false));
     Ok(())
 }

@@ -12,7 +12,7 @@ ghost use Rattle.cert_check.specs.Certificates.{criterion_of, HasShapeOf, IsExpl
 ghost use Rattle.certify_cm.specs.ByTurns.{HasNoTurns, IsByTurns, TakesTurns};
 
 use crate::schedule::schedule_of;
-use causal_order::{HappenedBefore, MOST_PAIRS, Saturation, Vectors, memory_order};
+use causal_order::{CausalOrder, HappenedBefore, IndexedMemory, MOST_PAIRS, Saturation, Vectors};
 use cert_check::{Certificate, Criterion, Schedules};
 use history::{History, OpId};
 use objects::Memory;
@@ -39,18 +39,33 @@ pub fn make_memory(alloc: Global, h: &History<Memory>) -> Result<Option<Certific
     ensures explained { IsDifferentiated h.now → ¬ HasHBCycle h.now → ¬ HasStartOverwrittenInHB h.now
         → IfOk result (λ made. IfSome made (IsExplainedThroughout memory_answer h.now)) }
 {
-    let Some(vectors) = memory_order(alloc, h)? else {
+    let memory = IndexedMemory::of(alloc, h)?;
+    let Some(order) = memory.order() else {
         return Ok(None);
     };
-    make_by_order(alloc, h, vectors)
+    make_by_order(alloc, &order)
 }
 
-/// The certificate that `make_memory` makes, for a caller that has the vectors of the order already.
+/// The certificate that `make_memory` makes, for a caller that has the causal order already.
 ///
 /// `None` where the happened-before relation of some operation is cyclic or has more than 100,000 pairs that the order
 /// doesn't have. Fails for want of memory alone. O(n p k + n k (k^2 + log n) + m k^2 log p) for n operations of k sessions,
 /// pasts of at most p operations and m pairs more in each relation.
-pub fn make_by_order(
+pub fn make_by_order(alloc: Global, order: &CausalOrder) -> Result<Option<Certificate>, AllocError>
+    ensures criterion { IfOk result (λ made. IfSome made (λ c. criterion_of c ≡ Criterion.Cm)) }
+    ensures shape { IfOk result (λ made. IfSome made (HasShapeOf order.now)) }
+    ensures vectors { IfOk result (λ made. IfSome made (λ c. CountsSourceOrder order.now (vectors_of c))) }
+    ensures turns { IsDifferentiated order.now → IfOk result (λ made. IfSome made (IsByTurns order.now)) }
+    ensures none { IsDifferentiated order.now → IfOk result (λ made. IfNone made (HasNoTurns order.now)) }
+    ensures explained { IsDifferentiated order.now → ¬ HasHBCycle order.now → ¬ HasStartOverwrittenInHB order.now
+        → IfOk result (λ made. IfSome made (IsExplainedThroughout memory_answer order.now)) }
+{
+    let vectors = order.vectors().copy(alloc)?;
+    certificate_by(alloc, order.memory().history(), vectors)
+}
+
+/// The certificate by vectors of the causal order.
+fn certificate_by(
     alloc: Global,
     h: &History<Memory>,
     vectors: Vectors,
@@ -58,7 +73,7 @@ pub fn make_by_order(
     requires order { CountsSourceOrder h.now vectors }
     ensures criterion { IfOk result (λ made. IfSome made (λ c. criterion_of c ≡ Criterion.Cm)) }
     ensures shape { IfOk result (λ made. IfSome made (HasShapeOf h.now)) }
-    ensures vectors { IfOk result (λ made. IfSome made (λ c. vectors_of c ≡ vectors)) }
+    ensures vectors { IfOk result (λ made. IfSome made (λ c. CountsSourceOrder h.now (vectors_of c))) }
     ensures turns { IsDifferentiated h.now → IfOk result (λ made. IfSome made (IsByTurns h.now)) }
     ensures none { IsDifferentiated h.now → IfOk result (λ made. IfNone made (HasNoTurns h.now)) }
     ensures explained { IsDifferentiated h.now → ¬ HasHBCycle h.now → ¬ HasStartOverwrittenInHB h.now

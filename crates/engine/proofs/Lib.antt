@@ -4,3 +4,4 @@ pub mod Founded
 pub mod ReadCallLaws
 pub mod NotRefused
 pub mod Outcomes
+pub mod Decided

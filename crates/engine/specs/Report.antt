@@ -13,11 +13,10 @@ use Rattle.objects.specs.AddRemoveSet.{answer as set_answer}
 use Rattle.objects.specs.Queue.{answer as queue_answer}
 use Rattle.objects.specs.Keyed.{answer as keyed_answer}
 use Rattle.history.specs.History.{Record}
-use Rattle.causal_order.specs.Memory.{memory_answer}
+use Rattle.causal_order.specs.Memory.{IsDifferentiated, memory_answer}
 use Rattle.cert_check.specs.declared.certificate.Certificate.{Certificate}
 use Rattle.cert_check.specs.Certificates.{HasShapeOf, IsFirstUnexplained, criterion_of}
 use Rattle.cert_check.specs.Criteria.{Meets}
-use Rattle.bad_patterns.specs.Kinds.{IsPresent}
 use Rattle.bad_patterns.specs.Patterns.{IsTrueNo}
 use Rattle.engine.specs.declared.report.Answer.{Answer}
 use Rattle.engine.specs.declared.report.Answer.TheVariants.{Yes, No, Unknown}
@@ -76,15 +75,16 @@ IsFounded met unexplained (No kind) = ⊥
 IsFounded met unexplained (Unknown None) = ⊤
 IsFounded met unexplained (Unknown (Some o)) = unexplained o
 
--- nothing is left unknown where a value is read out of thin air, in a history of distinct values
-abbrev pub HasNoThinAir : AnyHistory → Type 0
-HasNoThinAir (histories.Memory h) = ¬ IsPresent h ThinAirRead
-HasNoThinAir _ = ⊤
+-- the values of a history of a memory are not distinct; other objects have no such values
+abbrev pub LacksDistinctValues : AnyHistory → Type 0
+LacksDistinctValues (histories.Memory h) = ¬ IsDifferentiated h
+LacksDistinctValues _ = ⊤
 
-abbrev pub OnlyWithoutThinAir : AnyHistory → Answer → Type 0
-OnlyWithoutThinAir history Yes = ⊤
-OnlyWithoutThinAir history (No kind) = ⊤
-OnlyWithoutThinAir history (Unknown place) = HasNoThinAir history
+-- an answer is left unknown only there
+abbrev pub IsKnownOnDistinctValues : AnyHistory → Answer → Type 0
+IsKnownOnDistinctValues history Yes = ⊤
+IsKnownOnDistinctValues history (No kind) = ⊤
+IsKnownOnDistinctValues history (Unknown place) = LacksDistinctValues history
 
 -- the answer of a report for a criterion
 abbrev pub answer_for : Report → Criterion → Answer

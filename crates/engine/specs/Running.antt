@@ -9,7 +9,7 @@ use Rattle.operations.specs.AnyForm.{form_of, IsAnyHistory, IsJson, IsRefusedFor
 use Rattle.cert_check.specs.declared.criterion.Criterion.{Criterion}
 use Rattle.engine.specs.declared.report.Report.{Report}
 use Rattle.engine.specs.declared.command_line.Order.TheVariants.{Judge, Check}
-use Rattle.engine.specs.Report.{IsTrueOf, NamesUnexplained, OnlyWithoutThinAir, answer_for, text_for}
+use Rattle.engine.specs.Report.{IsTrueOf, NamesUnexplained, IsKnownOnDistinctValues, answer_for, text_for}
 use Rattle.engine.specs.Checking.{IsCheckReport, IsPairError, HasOtherShape}
 use Rattle.engine.specs.declared.input.TheConstants.{MOST_INPUT_BYTES}
 
@@ -20,7 +20,7 @@ pub record IsReport (input text : List ℕ) : Type 0 where
   pub is_history : IsAnyHistory history
   pub read : IsJson input (form_of history)
   pub true_of : (criterion : Criterion) → IsTrueOf history criterion (answer_for report criterion)
-  pub unknown : (criterion : Criterion) → OnlyWithoutThinAir history (answer_for report criterion)
+  pub unknown : (criterion : Criterion) → IsKnownOnDistinctValues history (answer_for report criterion)
   pub unexplained : (criterion : Criterion) → NamesUnexplained history criterion (answer_for report criterion)
   pub lines : text ≡ text_for report
 

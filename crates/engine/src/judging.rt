@@ -4,7 +4,7 @@ ghost use Rattle.std.specs.Prelude.{◌≡◌, IfErr, IfOk, IfSome};
 ghost use Rattle.causal_order.specs.Memory.{memory_answer};
 ghost use Rattle.cert_check.specs.Certificates.{HasShapeOf, criterion_of};
 ghost use Rattle.cert_check.specs.Criteria.{Meets};
-ghost use Rattle.engine.specs.Report.{IsFounded, IsTrueOf, IsUnexplainedOf, NamesUnexplained, OnlyWithoutThinAir, answer_for};
+ghost use Rattle.engine.specs.Report.{IsFounded, IsTrueOf, IsUnexplainedOf, NamesUnexplained, IsKnownOnDistinctValues, answer_for};
 
 use crate::checking::answer_of_pieces;
 use crate::failure::RunError;
@@ -30,7 +30,7 @@ use std::alloc::{AllocError, Global};
 #[tactic(auto, using(crate::proofs::Founded::founded_is_true, crate::proofs::Founded::founded_names))]
 pub fn report_on(alloc: Global, history: AnyHistory) -> Result<Report, RunError>
     ensures truth { IfOk result (λ report. (criterion : Criterion) → IsTrueOf history criterion (answer_for report criterion)) }
-    ensures unknown { IfOk result (λ report. (criterion : Criterion) → OnlyWithoutThinAir history (answer_for report criterion)) }
+    ensures unknown { IfOk result (λ report. (criterion : Criterion) → IsKnownOnDistinctValues history (answer_for report criterion)) }
     ensures unexplained { IfOk result (λ report. (criterion : Criterion) → NamesUnexplained history criterion (answer_for report criterion)) }
     ensures error { IfErr result (λ e. e ≡ RunError.Memory) }
 {
@@ -49,7 +49,7 @@ pub fn report_on(alloc: Global, history: AnyHistory) -> Result<Report, RunError>
 // The same for the histories of a memory, in which patterns are looked for.
 fn report_on_memory(alloc: Global, history: History<Memory>) -> Result<Report, RunError>
     ensures truth { IfOk result (λ report. (criterion : Criterion) → IsTrueOf (AnyHistory.Memory history) criterion (answer_for report criterion)) }
-    ensures unknown { IfOk result (λ report. (criterion : Criterion) → OnlyWithoutThinAir (AnyHistory.Memory history) (answer_for report criterion)) }
+    ensures unknown { IfOk result (λ report. (criterion : Criterion) → IsKnownOnDistinctValues (AnyHistory.Memory history) (answer_for report criterion)) }
     ensures unexplained { IfOk result (λ report. (criterion : Criterion) → NamesUnexplained (AnyHistory.Memory history) criterion (answer_for report criterion)) }
     ensures error { IfErr result (λ e. e ≡ RunError.Memory) }
 {
@@ -80,7 +80,7 @@ fn answer_of_memory(
     criterion: Criterion,
 ) -> Result<Answer, RunError>
     ensures truth { IfOk result (IsTrueOf (AnyHistory.Memory memory.now) criterion) }
-    ensures unknown { IfOk result (OnlyWithoutThinAir (AnyHistory.Memory memory.now)) }
+    ensures unknown { IfOk result (IsKnownOnDistinctValues (AnyHistory.Memory memory.now)) }
     ensures unexplained { IfOk result (NamesUnexplained (AnyHistory.Memory memory.now) criterion) }
     ensures error { IfErr result (λ e. e ≡ RunError.Memory) }
 {
@@ -134,10 +134,7 @@ fn certificate_by_causal_order(
     };
     match criterion {
         Criterion::Cc => Ok(Some(certify_cc::make_by_order(alloc, &order)?)),
-        Criterion::Cm => {
-            let vectors = order.vectors().copy(alloc)?;
-            certify_cm::make_by_order(alloc, memory.history(), vectors)
-        }
+        Criterion::Cm => certify_cm::make_by_order(alloc, &order),
         Criterion::Ccv => certify_ccv::make_by_order(alloc, &order),
     }
 }

@@ -1,21 +1,38 @@
 //! Laws of runs: the contract of each function is the law, and the function does nothing.
 
-ghost use Rattle.std.specs.Prelude.{List, Option, Some, length, ◌+◌, ◌<◌, ◌≤◌, ◌≡◌, ◌⊎◌, ℕ};
+ghost use Rattle.std.specs.Prelude.{List, Option, Some, length, ◌+◌, ◌<◌, ◌≤◌, ◌≡◌, ◌↔◌, ◌⊎◌, ℕ};
+ghost use Rattle.causal_order.specs.Memory.{IsDifferentiated, MemoryHistory, memory_answer};
+ghost use Rattle.cert_check.specs.Criteria.{Meets};
 ghost use Rattle.operations.specs.AnyForm.{form_of, IsAnyHistory, IsJson};
 ghost use Rattle.engine.specs.Failure.{failure_status};
 ghost use Rattle.engine.specs.ReadCalls.{CallsAtMost, Outcome};
+ghost use Rattle.engine.specs.Report.{answer_for};
 ghost use Rattle.engine.specs.Running.{Answers, Fails, IsAnswer, IsAnswerError, IsReport};
 
 use crate::command_line::Order;
 use crate::failure::RunError;
 use crate::input::MOST_INPUT_BYTES;
+use crate::report::Answer;
 use crate::source::Source;
+use bad_patterns::Kind;
+use cert_check::Criterion;
 use operations::AnyHistory;
 
 /// A report on the form of a history is a report on that history: no other start can be taken, for instance.
 pub fn report_is_on_the_history_of_its_input()
     ensures { (input text : List ℕ) (history : AnyHistory) → IsAnyHistory history → IsJson input (form_of history)
         → (report : IsReport input text) → report.history ≡ history }
+{}
+
+/// A report on a memory history of distinct values leaves nothing unknown: a line is a yes exactly where the history meets the
+/// criterion, and a no exactly where it does not.
+pub fn distinct_values_are_decided()
+    ensures met { (input text : List ℕ) (report : IsReport input text) (h : MemoryHistory) (criterion : Criterion)
+        → report.history ≡ AnyHistory.Memory h → IsDifferentiated h
+        → answer_for report.report criterion ≡ Answer.Yes ↔ Meets memory_answer h criterion }
+    ensures excluded { (input text : List ℕ) (report : IsReport input text) (h : MemoryHistory) (criterion : Criterion)
+        → report.history ≡ AnyHistory.Memory h → IsDifferentiated h
+        → ((kind : Kind) × (answer_for report.report criterion ≡ Answer.No kind)) ↔ ¬ Meets memory_answer h criterion }
 {}
 
 /// An input that is answered is not refused: the most that can come in place of its answer is want of memory.

@@ -1,7 +1,7 @@
 use Rattle.causal_order.proofs.ReadAnswers.{history-fits}
 use Rattle.cert_check.specs.declared.certificate.Certificate.TheVariants.{Cm}
 use Rattle.certify_cm.proofs.Explained.{turns-explain}
-use Rattle.certify_cm.proofs.by_happened_before.make_by_order.Goals as goal
+use Rattle.certify_cm.proofs.by_happened_before.certificate_by.Goals as goal
 
 pub returns-clause-explained : goal.returns-clause-explained
 returns-clause-explained c = λ distinct cycle start.
