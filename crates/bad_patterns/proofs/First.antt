@@ -1,11 +1,7 @@
 -- Which operation is the first thin-air read.
-use Rattle.std.proofs.Common.{◌≡◌, ℕ, ◌+◌, ◌<◌, ◌≤◌, ⊎_elim, length, arith, subst, ◌∙◌, eq-or-lt_of_le, Option, Some, None, Result, Ok, Err, IfOk, IfNone}
+use Rattle.std.proofs.Common.{◌≡◌, ℕ, ◌+◌, ◌<◌, ◌≤◌, ⊎_elim, length, arith, subst, ◌∙◌, eq-or-lt_of_le}
 use Rattle.std.proofs.lemmas.Option.{slice_get_within}
 use Rattle.history.specs.declared.op_id.OpId.{OpId}
-use Rattle.cert_check.specs.declared.criterion.Criterion.{Criterion}
-use Rattle.bad_patterns.specs.declared.pattern.Pattern.{Pattern}
-use Rattle.bad_patterns.specs.declared.pattern.Pattern.TheVariants.{ThinAirRead}
-use Rattle.bad_patterns.specs.Patterns.{IsBadPattern}
 use Rattle.history.specs.History.{IsOp, session}
 use Rattle.causal_order.specs.Memory.{MemoryHistory}
 use Rattle.bad_patterns.specs.Kinds.{IsThinAirRead}
@@ -49,14 +45,3 @@ module _ (h : MemoryHistory) where
         first.none_earlier a.index same.1 (subst (λ (t : ℕ). IsThinAirRead h (op t a.index)) (same.0 ∙ first.of_session) thin_air))
         earlier;
   }
-
-  -- a pattern that is the first thin-air read, and one of another kind
-  pub first-same : (read r : OpId) → ThinAirRead read ≡ ThinAirRead r → IsFirst h read → IsFirst h r
-  first-same read r same first = let is : read ≡ r = cc in subst (λ (o : OpId). IsFirst h o) is first
-
-  -- a history without a thin-air read has no pattern of that kind, whatever else is found
-  pub no_pattern : {E : Type 0} (criterion : Criterion) (found : Result (Option Pattern) E) → ((r : OpId) → ¬ IsThinAirRead h r)
-      → IfOk found (λ p. IfNone p ((r : OpId) → ¬ IsBadPattern h criterion (ThinAirRead r)))
-  no_pattern criterion (Ok None) none = λ r bad. none r bad.shown
-  no_pattern criterion (Ok (Some pattern)) none = tt
-  no_pattern criterion (Err e) none = tt

@@ -4,7 +4,7 @@ use Rattle.std.proofs.Common.{⊎_elim}
 use Rattle.history.specs.declared.op_id.OpId.{OpId}
 use Rattle.cert_check.specs.declared.criterion.Criterion.{Criterion}
 use Rattle.cert_check.specs.declared.criterion.Criterion.TheVariants.{Cc, Cm, Ccv}
-use Rattle.causal_order.specs.Memory.{MemoryHistory, IsDifferentiated}
+use Rattle.causal_order.specs.Memory.{MemoryHistory}
 use Rattle.causal_order.specs.OverwrittenReads.{HasOverwrittenRead, HasOverwrittenStart}
 use Rattle.causal_order.specs.SourceOrder.{IsCyclic, LacksSource, SourceOrder}
 use Rattle.causal_order.specs.Steps.Indexed.{IsOrdered, IsUnordered}
@@ -13,10 +13,6 @@ use Rattle.bad_patterns.specs.declared.kind.Kind.TheVariants.{CyclicCO, ThinAirR
 use Rattle.bad_patterns.specs.Kinds.{is_against, IsFreeOf, IsThinAirRead, Shows}
 
 module _ (h : MemoryHistory) where
-  -- in a history without distinct values no kind is present
-  pub free-indistinct : ¬ IsDifferentiated h → (criterion : Criterion) → IsFreeOf h criterion
-  free-indistinct none criterion kind against present = none present.0
-
   -- a history without an order has a cycle or a thin-air read
   pub unordered-shown : IsUnordered h → ¬ IsCyclic h → ¬ ((r : OpId) → ¬ IsThinAirRead h r)
   unordered-shown unordered acyclic none = ⊎_elim
