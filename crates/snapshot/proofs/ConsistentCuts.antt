@@ -1,6 +1,6 @@
 -- What a sealer found whose looks followed its plan to the end is a consistent cut of the run.
-use Rattle.std.proofs.Common.{◌≡◌, ℕ, ◌-◌, ◌<◌, ◌≤◌, inl, inr, List, [], ◌∷◌, ◌++◌, ◌+◌, zero, suc, length, take, drop, refl, sym, ◌∙◌, ap, subst, arith, take-append-drop, length-take-le, eq-eqb}
-use Rattle.std.specs.Prelude.{Bool, true, false, Option, Some, None, if◌then◌else◌, map, slice_get, slice_index}
+use Rattle.std.proofs.Common.{◌≡◌, ℕ, ◌-◌, ◌<◌, ◌≤◌, inl, inr, List, [], ◌∷◌, ◌++◌, ◌+◌, zero, suc, length, take, drop, refl, sym, ◌∙◌, ap, subst, arith, take-append-drop, length-take-le}
+use Rattle.std.specs.Prelude.{Bool, true, false, Option, Some, None, map, slice_get, slice_index}
 use Rattle.std.specs.List.{filter_map}
 use Rattle.std.proofs.lemmas.Bool.{cases_lt}
 use Rattle.std.proofs.lemmas.List.{take-append-le}
@@ -8,7 +8,6 @@ use Rattle.std.proofs.lemmas.Option.{slice_get_within}
 use Rattle.history.specs.declared.op_id.OpId.{OpId}
 use Rattle.history.specs.History.{Record, IsOp, session}
 use Rattle.recorder.specs.Sessions.{op}
-use Rattle.snapshot.specs.declared.cell.Cell.{Cell}
 use Rattle.snapshot.specs.declared.cell.Cell.TheVariants.{Call}
 use Rattle.snapshot.specs.Plans.{Look, Plan, answer, was_full, return_cell, call_cell, returns_found, calls_found, next_return, next_call, next_cell, fresh_plan, after_looks, Follows, IsFinished}
 use Rattle.snapshot.specs.Runs.{Event, call_of, return_of, look_of, begun, ended, looks, IsAt, IsRun, HasSealed, operations, sealed, sealed_session, sealed_sessions}
@@ -18,8 +17,8 @@ use Rattle.snapshot.specs.Walks.{Stands, WalksToTheEnd}
 use Rattle.snapshot.specs.Steps.PlanStates.{PlanState}
 use Rattle.snapshot.specs.Cuts.{HasReturn, IsConsistentCut}
 use Rattle.snapshot.proofs.Filtered.{take-from, take-stands, picked_more, picked_whole, picked_front}
-use Rattle.snapshot.proofs.FoundPlaces.{first_from, first_below, full_is, looks_are, follows_at, returns_over, calls_over, returns_over_at, return_behind, call_behind, returns_stay}
-use Rattle.snapshot.proofs.RunPlaces.{run_front, has_place, ended_there, ended_begun, ended_fewer, begun_fits, answer_given, looks_later, empty_return, empty_call, full_return, full_call, begun_by, ended_by}
+use Rattle.snapshot.proofs.FoundPlaces.{first_from, first_below, full_is, looks_are, returns_over, calls_over, returns_over_at, return_behind, call_behind, returns_stay}
+use Rattle.snapshot.proofs.RunPlaces.{run_front, has_place, ended_there, ended_begun, ended_fewer, begun_fits, answer_given, looks_later, empty_return, empty_call, full_return, full_call, begun_by, ended_by, followed_at}
 use Rattle.snapshot.proofs.SealedSessions.{operations_calls, operations_many, operations_returns, operations_return, operations_returned, session_at, session_past}
 
 -- the plan of a sealer with these looks
@@ -57,10 +56,6 @@ module _ {C R : Type 0} (k cap : ℕ) (es : List (Event C R)) (run : IsRun k cap
         absurd (omega arith)
     | inr l ↦ l
   ]
-
--- a look is picked
-look_picked : (C R : Type 0) (z : ℕ) (cell : Cell) (full : Bool) → look_of {C = C} {R = R} z (Looked z cell full) ≡ Some (cell, full)
-look_picked C R z cell full = let look : Look = (cell, full) in ap {B = Option Look} (λ (b : Bool). if b then Some look else None) (eq-eqb z z refl)
 
 module _ {C R : Type 0} (k cap : ℕ) (es : List (Event C R)) (run : IsRun k cap es) (z b : ℕ) (told : List ℕ) (started : IsAt es b (Started z told)) where
   abbrev plan : Plan
@@ -109,7 +104,7 @@ module _ {C R : Type 0} (k cap : ℕ) (es : List (Event C R)) (run : IsRun k cap
   returns_given : Follows (fresh_plan k cap told) (looks z es) → (i : ℕ) (o : OpId) (full : Bool) (s : ℕ) → s < k → IsAt es i (Looked z (Call o) full) → returns_found plan s ≤ length (ended s (take i es))
   returns_given follows i o full s l look =
       let before : b < i = looks_later k cap es run z i b told (Call o) full started look in
-      let next = follows_at (look_of z) es (fresh_plan k cap told) i (Looked z (Call o) full) (Call o, full) follows look (look_picked C R z (Call o) full) in
+      let next = followed_at es z (fresh_plan k cap told) follows i (Call o) full look in
       let next' : next_cell (plan_with k cap told (looks z (take i es))) ≡ Some (Call o) = subst (λ (p : Plan). next_cell p ≡ Some (Call o)) (looks_are (fresh_plan k cap told) (looks z (take i es))) next in
       let over = returns_over_at (plan_with k cap told (looks z (take i es))) o next' s l in
       let stay = returns_stay (plan_with k cap told (looks z (take i es))) (looks z (drop i es)) s over (told_fits s) in

@@ -81,3 +81,14 @@ module _ {X Y : Type 0} (f : X → Option Y) where
   picked_at [] zero y e = absurd (cc)
   picked_at [] (suc n) y e = absurd (cc)
   picked_at (x ∷ xs) n y e = picked_behind x xs y (λ m d. picked_at xs m y d) (f x) refl n e
+
+  -- what is picked from a place stands behind what is picked before it
+  pub picked_stands : (xs : List X) (i : ℕ) (x : X) (y : Y) → slice_get xs i ≡ Some x → f x ≡ Some y → slice_get (filter_map f xs) (length (filter_map f (take i xs))) ≡ Some y
+  picked_stands [] zero x y e p = absurd (cc)
+  picked_stands [] (suc i) x y e p = absurd (cc)
+  picked_stands (z ∷ xs) zero x y e p = let same : z ≡ x = cc in subst (λ (o : Option Y). slice_get (cons_option o (filter_map f xs)) 0 ≡ Some y) (sym (ap f same ∙ p)) refl
+  picked_stands (z ∷ xs) (suc i) x y e p = by (f z) (picked_stands xs i x y e p)
+    where
+      by : (o : Option Y) → slice_get (filter_map f xs) (length (filter_map f (take i xs))) ≡ Some y → slice_get (cons_option o (filter_map f xs)) (length (cons_option o (filter_map f (take i xs)))) ≡ Some y
+      by None d = d
+      by (Some w) d = d

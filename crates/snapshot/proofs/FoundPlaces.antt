@@ -120,6 +120,20 @@ module _ {X : Type 0} (f : X → Option Look) where
       by None v rest = rest p v
       by (Some m) v rest = rest (looked_at p (Some m.0) m.1) v.1
 
+-- where it is so of each look, the looks follow the plan
+module _ {X : Type 0} (f : X → Option Look) where
+  pub follows_each : (xs : List X) (p : Plan) → ((i : ℕ) (x : X) (l : Look) → slice_get xs i ≡ Some x → f x ≡ Some l → next_cell (after_looks p (filter_map f (take i xs))) ≡ Some l.0) → Follows p (filter_map f xs)
+  follows_each [] p each = tt
+  follows_each (x ∷ xs) p each = by (f x) refl (λ q e. follows_each xs q e)
+    where
+      by : (o : Option Look) → f x ≡ o → ((q : Plan) → ((i : ℕ) (y : X) (l : Look) → slice_get xs i ≡ Some y → f y ≡ Some l → next_cell (after_looks q (filter_map f (take i xs))) ≡ Some l.0) → Follows q (filter_map f xs))
+          → Follows p (cons_option o (filter_map f xs))
+      by None e rest = rest p (λ i y l at g. subst (λ (o : Option Look). next_cell (after_looks p (cons_option o (filter_map f (take i xs)))) ≡ Some l.0) e (each (suc i) y l at g))
+      by (Some m) e rest = (
+        each 0 x m refl e,
+        rest (looked_at p (Some m.0) m.1) (λ i y l at g. subst (λ (o : Option Look). next_cell (after_looks p (cons_option o (filter_map f (take i xs)))) ≡ Some l.0) e (each (suc i) y l at g)),
+      )
+
 -- the cells that lanes name
 or_none : (x y : Option Cell) → or_else x y ≡ None → (x ≡ None) × (y ≡ None)
 or_none None y e = (refl, e)

@@ -8,9 +8,12 @@ pub mod FoundPlaces
 pub mod Histories
 pub mod LanePlans
 pub mod Meetings
-pub mod RunPlaces
-pub mod SealedSessions
 pub mod Standing
 pub mod Sealings
 pub mod TableLemmas
 pub mod Walked
+pub mod ConsistentCuts
+pub mod Filtered
+pub mod FoundPlaces
+pub mod RunPlaces
+pub mod SealedSessions

@@ -1,17 +1,20 @@
 -- Runs of sessions and sealers: which operations have begun and ended at each place, and what a sealer has found there.
-use Rattle.std.proofs.Common.{◌≡◌, ℕ, ◌+◌, ◌<◌, ◌≤◌, ◌==◌, inl, inr, List, length, take, refl, sym, ◌∙◌, ap, subst, arith, take-take, eq-eqb, eqb-true}
-use Rattle.std.specs.Prelude.{Bool, true, false, Some, None, if◌then◌else◌}
+use Rattle.std.proofs.Common.{◌≡◌, ℕ, ◌+◌, ◌-◌, ◌<◌, ◌≤◌, ◌==◌, inl, inr, List, length, take, refl, sym, ◌∙◌, ap, subst, arith, take-take, [], ◌∷◌, ◌++◌, zero, suc, eq-eqb, eqb-true}
+use Rattle.std.specs.Prelude.{Bool, true, false, Option, Some, None, if◌then◌else◌, slice_get}
 use Rattle.std.proofs.lemmas.Bool.{cases_lt}
+use Rattle.std.proofs.lemmas.List.{take-append-le, take_at}
+use Rattle.std.proofs.lemmas.Option.{slice_get_within}
 use Rattle.history.specs.declared.op_id.OpId.{OpId}
 use Rattle.recorder.specs.Sessions.{op}
+use Rattle.recorder.proofs.Telling.{get_pushed, get_push_cases}
 use Rattle.snapshot.specs.declared.cell.Cell.{Cell}
 use Rattle.snapshot.specs.declared.cell.Cell.TheVariants.{Return, Call}
-use Rattle.snapshot.specs.Plans.{Look, answer}
+use Rattle.snapshot.specs.Plans.{Look, Plan, answer, next_cell, after_looks, Follows}
 use Rattle.snapshot.specs.Runs.{Event, call_of, return_of, counts_of, look_of, begun, ended, sealers, looks, IsAt, HasBegun, HasEnded, CanFollow, IsRun}
 use Rattle.snapshot.specs.Runs.Event.{Began, Ended, Started, Looked}
 use Rattle.snapshot.proofs.Meetings.{get_in}
-use Rattle.snapshot.proofs.Filtered.{take-from, take-stands, picked_more, picked_whole, picked_before, picked_at}
-use Rattle.snapshot.proofs.FoundPlaces.{answer_told}
+use Rattle.snapshot.proofs.Filtered.{take-from, take-stands, picked_more, picked_whole, picked_before, picked_at, picked_stands}
+use Rattle.snapshot.proofs.FoundPlaces.{answer_told, follows_at, follows_each}
 
 some_if : {A : Type 0} (b : Bool) (x y : A) → (if b then Some x else None) ≡ Some y → (b ≡ true) × (x ≡ y)
 some_if true x y e = (refl, cc)
@@ -24,6 +27,10 @@ module _ (C R : Type 0) where
 
   return_picked : (o : OpId) (r : R) → return_of {C = C} o.session (Ended o r) ≡ Some r
   return_picked o r = ap (λ (b : Bool). if b then Some r else None) (eq-eqb o.session o.session refl)
+
+-- a look is picked
+pub look_picked : (C R : Type 0) (z : ℕ) (cell : Cell) (full : Bool) → look_of {C = C} {R = R} z (Looked z cell full) ≡ Some (cell, full)
+look_picked C R z cell full = let look : Look = (cell, full) in ap {B = Option Look} (λ (b : Bool). if b then Some look else None) (eq-eqb z z refl)
 
 -- and what is picked is such an event
 module _ {C R : Type 0} where
@@ -38,6 +45,12 @@ module _ {C R : Type 0} where
   returned s (Began o c) r p = absurd (cc)
   returned s (Started z told) r p = absurd (cc)
   returned s (Looked z cell full) r p = absurd (cc)
+
+  started : (e : Event C R) (told : List ℕ) → counts_of e ≡ Some told → (z : ℕ) × (e ≡ Started z told)
+  started (Started z t) told p = (z, ap (Started z) (let same : t ≡ told = cc in same))
+  started (Began o c) told p = absurd (cc)
+  started (Ended o r) told p = absurd (cc)
+  started (Looked z cell full) told p = absurd (cc)
 
   looked : (z : ℕ) (e : Event C R) (cell : Cell) (full : Bool) → look_of z e ≡ Some (cell, full) → e ≡ Looked z cell full
   looked z (Looked y d b) cell full p =
@@ -104,6 +117,17 @@ module _ {C R : Type 0} (k cap : ℕ) where
       | inr l ↦ l
     ]
 
+    pub one_pending : (s : ℕ) → length (begun s es) ≤ length (ended s es) + 1
+    one_pending s = elim (cases_lt (length (ended s es)) (length (begun s es))) [
+      | inl l ↦
+          let l' : length (ended s es) < length (begun s es) = l in
+          let b = begun_there s (length (begun s es) - 1) (omega arith) in
+          let m : length (ended s (take b.0 es)) ≡ length (begun s es) - 1 = (run b.0 (Began (op s (length (begun s es) - 1)) b.1) b.2).3 in
+          let w : length (ended s (take b.0 es)) ≤ length (ended s es) = picked_whole (return_of s) es b.0 in
+          omega arith
+      | inr l ↦ let l' : length (begun s es) ≤ length (ended s es) = l in omega arith
+    ]
+
     pub begun_fits : (s : ℕ) → length (begun s es) ≤ cap
     begun_fits s = elim (cases_lt cap (length (begun s es))) [
       | inl l ↦ let m : cap < cap = (has_place s cap l).1 in omega arith
@@ -153,3 +177,43 @@ module _ {C R : Type 0} (k cap : ℕ) where
 
     pub ended_by : (i j : ℕ) (o : OpId) (r : R) → i < j → IsAt es i (Ended o r) → o.index < length (ended o.session (take j es))
     ended_by i j o r l at = ended_counted (take j es) (run_front es j run) o (i, r, take-stands j es i (Ended o r) l at)
+
+module _ {C R : Type 0} (k cap : ℕ) where
+  -- runs are made event by event
+  pub run_none : IsRun {C = C} {R = R} k cap []
+  run_none zero e at = absurd (cc)
+  run_none (suc i) e at = absurd (cc)
+
+  pub run_more : (es : List (Event C R)) (e : Event C R) → IsRun k cap es → CanFollow k cap es e → IsRun k cap (es ++ e ∷ [])
+  run_more es e run next i f at = elim (get_push_cases es e i f at) [
+    | inl h ↦
+        let w : i < length es = slice_get_within es i f h in
+        subst (λ (before : List (Event C R)). CanFollow k cap before f) (sym (take-append-le i es (e ∷ []) (omega arith))) (run i f h)
+    | inr h ↦ subst (λ (before : List (Event C R)). CanFollow k cap before f) (sym (take_at es (e ∷ []) i (sym h.0))) (subst (λ (g : Event C R). CanFollow k cap es g) h.1 next)
+  ]
+
+  pub run_last : (es : List (Event C R)) (e : Event C R) → IsRun k cap (es ++ e ∷ []) → IsRun k cap es × CanFollow k cap es e
+  run_last es e run = (
+    subst (λ (front : List (Event C R)). IsRun k cap front) (take_at es (e ∷ []) (length es) refl) (run_front k cap (es ++ e ∷ []) (length es) run),
+    subst (λ (before : List (Event C R)). CanFollow k cap before e) (take_at es (e ∷ []) (length es) refl) (run (length es) e (get_pushed es e)),
+  )
+
+  module _ (es : List (Event C R)) (run : IsRun k cap es) where
+    -- what sealers were told, by their numbers
+    pub sealer_started : (z : ℕ) (told : List ℕ) → slice_get (sealers es) z ≡ Some told → (j : ℕ) × IsAt es j (Started z told)
+    sealer_started z told e =
+        let p = picked_at counts_of es z told e in let s = started p.1 told p.3 in
+        let at : IsAt es p.0 (Started s.0 told) = p.2 ∙ ap Some s.1 in
+        let n : length (sealers (take p.0 es)) ≡ s.0 = (run p.0 (Started s.0 told) at).0 in
+        (p.0, subst (λ (y : ℕ). IsAt es p.0 (Started y told)) (sym n ∙ p.4) at)
+
+    pub started_told : (z j : ℕ) (told : List ℕ) → IsAt es j (Started z told) → slice_get (sealers es) z ≡ Some told
+    started_told z j told at = subst (λ (n : ℕ). slice_get (sealers es) n ≡ Some told) (run j (Started z told) at).0 (picked_stands counts_of es j (Started z told) told at refl)
+
+-- the looks of a sealer follow a plan exactly where the cell of each is next behind those before it
+module _ {C R : Type 0} (es : List (Event C R)) (z : ℕ) (p : Plan) where
+  pub followed_at : Follows p (looks z es) → (i : ℕ) (c : Cell) (full : Bool) → IsAt es i (Looked z c full) → next_cell (after_looks p (looks z (take i es))) ≡ Some c
+  followed_at w i c full at = follows_at (look_of z) es p i (Looked z c full) (c, full) w at (look_picked C R z c full)
+
+  pub followed_each : ((i : ℕ) (c : Cell) (full : Bool) → IsAt es i (Looked z c full) → next_cell (after_looks p (looks z (take i es))) ≡ Some c) → Follows p (looks z es)
+  followed_each each = follows_each (look_of z) es p (λ i e l at g. each i l.0 l.1 (at ∙ ap Some (looked z e l.0 l.1 g)))

@@ -1,17 +1,58 @@
 //! What holds of every run of sessions and sealers. The functions do nothing: what they ensure is the law.
 
-ghost use Rattle.std.specs.Prelude.{◌≡◌, ℕ, ◌<◌, [], List, length, slice_index, take};
+ghost use Rattle.std.specs.Prelude.{◌≡◌, ◌↔◌, ℕ, ◌+◌, ◌<◌, ◌≤◌, ◌++◌, ◌∷◌, [], Bool, List, Some, length, slice_get, slice_index, take};
 ghost use Rattle.history.specs.History.{session};
 ghost use Rattle.recorder.specs.Sessions.{op};
-ghost use Rattle.snapshot.specs.Plans.{Plan, fresh_plan, after_looks, returns_found, calls_found};
+ghost use Rattle.snapshot.specs.Plans.{Plan, fresh_plan, after_looks, next_cell, returns_found, calls_found, Follows};
 ghost use Rattle.snapshot.specs.Seals.{known_returns};
 ghost use Rattle.snapshot.specs.Walks.{Stands, WalksToTheEnd};
 ghost use Rattle.snapshot.specs.Steps.PlanStates.{PlanState};
-ghost use Rattle.snapshot.specs.Runs.{Event, HasSealed, IsAt, IsRun, looks, sealed};
-ghost use Rattle.snapshot.specs.Runs.Event.{Started};
+ghost use Rattle.snapshot.specs.Runs.{CanFollow, Event, HasBegun, HasEnded, HasSealed, IsAt, IsRun, begun, ended, looks, sealed, sealers};
+ghost use Rattle.snapshot.specs.Runs.Event.{Looked, Started};
 ghost use Rattle.snapshot.specs.Cuts.{HasReturn, IsConsistentCut};
 
+use crate::cell::Cell;
+use history::OpId;
 use object_trait::SeqObject;
+
+/// Runs are made event by event: a run is nothing yet, or a run with one event more, which may come behind it.
+pub fn runs_are_made_event_by_event<O: SeqObject>()
+    ensures none { (k cap : ℕ) → IsRun {C = O.Call} {R = O.Ret} k cap [] }
+    ensures more { (k cap : ℕ) (es : List (Event O.Call O.Ret)) (e : Event O.Call O.Ret)
+        → IsRun k cap (es ++ e ∷ []) ↔ (IsRun k cap es × CanFollow k cap es e) }
+{}
+
+/// In every run, an operation has begun exactly where its session has begun more calls than its index says, and has ended
+/// exactly where its session has been given more returns.
+pub fn operations_are_counted<O: SeqObject>()
+    ensures begun { (k cap : ℕ) (es : List (Event O.Call O.Ret)) (o : OpId) → IsRun k cap es
+        → HasBegun es o ↔ (o.index < length (begun o.session es)) }
+    ensures ended { (k cap : ℕ) (es : List (Event O.Call O.Ret)) (o : OpId) → IsRun k cap es
+        → HasEnded es o ↔ (o.index < length (ended o.session es)) }
+{}
+
+/// In every run, a session ends only what it has begun, has at most one operation that has not ended, and begins no more than
+/// its lane has places.
+pub fn sessions_are_sequential<O: SeqObject>()
+    ensures ended { (k cap : ℕ) (es : List (Event O.Call O.Ret)) (s : ℕ) → IsRun k cap es
+        → length (ended s es) ≤ length (begun s es) }
+    ensures pending { (k cap : ℕ) (es : List (Event O.Call O.Ret)) (s : ℕ) → IsRun k cap es
+        → length (begun s es) ≤ length (ended s es) + 1 }
+    ensures places { (k cap : ℕ) (es : List (Event O.Call O.Ret)) (s : ℕ) → IsRun k cap es → length (begun s es) ≤ cap }
+{}
+
+/// In every run, what stands at a sealer's number in the list of what was told is what the sealer was told at its start.
+pub fn sealers_are_counted<O: SeqObject>()
+    ensures { (k cap : ℕ) (es : List (Event O.Call O.Ret)) (z : ℕ) (told : List ℕ) → IsRun k cap es
+        → (slice_get (sealers es) z ≡ Some told) ↔ ((j : ℕ) × IsAt es j (Started z told)) }
+{}
+
+/// The looks of a sealer follow a plan exactly where each is at the cell that is next in the plan behind those before it.
+pub fn plans_are_followed_look_by_look<O: SeqObject>()
+    ensures { (es : List (Event O.Call O.Ret)) (z : ℕ) (plan : Plan) → Follows plan (looks z es)
+        ↔ ((i : ℕ) (c : Cell) (full : Bool) → IsAt es i (Looked z c full)
+        → next_cell (after_looks plan (looks z (take i es))) ≡ Some c) }
+{}
 
 /// In every run, a sealer whose looks followed its plan to the end has sealed a consistent cut: the looks of a run are
 /// answered truly.
