@@ -15,3 +15,5 @@ pub mod KnownCycles
 pub mod KnownConflicts
 pub mod RoutesBack
 pub mod ReadPatterns
+pub mod HappenedReads
+pub mod SearchedLaws

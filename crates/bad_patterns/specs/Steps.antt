@@ -2,3 +2,4 @@
 pub mod Found
 pub mod KnownSources
 pub mod Routes
+pub mod Relations
