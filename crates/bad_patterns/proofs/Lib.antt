@@ -17,3 +17,5 @@ pub mod ConflictLinks
 pub mod RoutesBack
 pub mod ReadPatterns
 pub mod NothingFound
+pub mod HappenedReads
+pub mod SearchedLaws

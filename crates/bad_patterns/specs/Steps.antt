@@ -3,3 +3,4 @@ pub mod Conflicts
 pub mod Found
 pub mod KnownSources
 pub mod Routes
+pub mod Relations

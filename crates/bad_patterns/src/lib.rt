@@ -18,14 +18,17 @@ mod reading;
 mod reading_lines;
 mod routes;
 mod search;
+mod searched;
 mod thin_air;
 
 pub use causal_order::is_differentiated;
 pub use checking::check_pattern;
 pub use derivation::{Derivation, Line};
 pub use finding::{find, find_in};
+pub use finding_happened_before::search_happened_before;
 pub use kind::Kind;
 pub use link::{Link, Links};
 pub use path::Path;
 pub use pattern::Pattern;
 pub use reading::read_pattern;
+pub use searched::Searched;

@@ -9,8 +9,8 @@ use std::collections::BTreeMap;
 
 /// A derivation of a pair of a happened-before relation, with no line that the pair doesn't rest on.
 ///
-/// Where it would have more than 100,000 lines, not all are made, and it is no derivation. Fails for want of memory alone. O(m log m + l n) for m
-/// raises, l lines and n operations.
+/// Where it would have more than 100,000 lines, not all are made, and it is no derivation. Fails for want of memory alone.
+/// O(m log m + l n) for m raises, l lines and n operations.
 pub fn derivation_of(
     alloc: Global,
     order: &CausalOrder,
