@@ -2,10 +2,11 @@
 
 use crate::cases::{Question, failures};
 use crate::histories::memory;
-use bad_patterns::{Line, Pattern, check_pattern, find};
+use bad_patterns::{Line, Pattern, check_pattern};
 use cert_check::Criterion;
 use objects::Memory;
 use operations::History;
+use pattern_search::find;
 use std::alloc::{AllocError, Global};
 use std::test::Fail;
 

@@ -3,9 +3,9 @@
 
 use crate::histories::memory;
 use crate::judged::said;
-use bad_patterns::find;
 use cert_check::Criterion;
 use certify_cm::make_memory;
+use pattern_search::find;
 use std::alloc::{AllocError, Global};
 use std::test::Fail;
 

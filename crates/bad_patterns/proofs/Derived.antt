@@ -5,10 +5,10 @@ use Rattle.std.proofs.lemmas.Bool.{cases_lt}
 use Rattle.std.proofs.lemmas.List.{get_or_append_left, get_or_push, take-append-le, take_all, take_more_same}
 use Rattle.std.proofs.lemmas.Option.{same_Some, slice_get_within, slice_get-get_or, get_or_from_slice_get}
 use Rattle.history.specs.declared.op_id.OpId.{OpId}
-use Rattle.causal_order.specs.Memory.{MemoryHistory, IsDifferentiated}
-use Rattle.causal_order.proofs.MemoryLaws.{same_read}
+use Rattle.memory_order.specs.Memory.{MemoryHistory, IsDifferentiated}
+use Rattle.memory_order.proofs.MemoryLaws.{same_read}
 use Rattle.causal_order.specs.Orders.{only, program_past}
-use Rattle.causal_order.specs.Relations.{ReadsFrom, AreRivalWrites, HB}
+use Rattle.memory_order.specs.Relations.{ReadsFrom, AreRivalWrites, HB}
 use Rattle.bad_patterns.specs.declared.derivation.Line.{Line}
 use Rattle.bad_patterns.specs.declared.derivation.Line.TheVariants.{Co, Tr, Rf}
 use Rattle.bad_patterns.specs.Derivations.{Pair, Gives, GivesJoinedPair, GivesRivalPair, GivePairs, IsDerivation}

@@ -2,7 +2,7 @@
 use Rattle.std.proofs.Common.{◌≡◌, ℕ, Bool, false, List, sym, subst, ◌∙◌}
 use Rattle.std.specs.Prelude.{◌↔◌, IsTrue}
 use Rattle.history.specs.declared.op_id.OpId.{OpId}
-use Rattle.causal_order.specs.Memory.{MemoryHistory, initial, Writes, Reads, IsDifferentiated}
+use Rattle.memory_order.specs.Memory.{MemoryHistory, initial, Writes, Reads, IsDifferentiated}
 use Rattle.causal_order.specs.Orders.{only, program_past}
 use Rattle.cert_check.proofs.ConvergentLaws.{only-same}
 use Rattle.bad_patterns.specs.declared.derivation.Line.{Line}

@@ -2,11 +2,11 @@
 use Rattle.std.proofs.Common.{◌≡◌, ℕ, Bool, true, false, not, List, sym, refl}
 use Rattle.std.specs.Prelude.{◌≢◌, ◌↔◌, Contains, IsTrue}
 use Rattle.history.specs.declared.op_id.OpId.{OpId}
-use Rattle.causal_order.specs.declared.writes.Write.{Write}
-use Rattle.causal_order.specs.Memory.{MemoryHistory, initial, Reads}
+use Rattle.memory_order.specs.declared.writes.Write.{Write}
+use Rattle.memory_order.specs.Memory.{MemoryHistory, initial, Reads}
 use Rattle.bad_patterns.specs.Kinds.{IsThinAirRead}
-use Rattle.causal_order.proofs.MemoryLaws.{same_read}
-use Rattle.causal_order.specs.Steps.Written.{ListsWrites}
+use Rattle.memory_order.proofs.MemoryLaws.{same_read}
+use Rattle.memory_order.specs.Steps.Written.{ListsWrites}
 
 module _ (h : MemoryHistory) (writes : List Write) (lists : ListsWrites h writes) where
   -- a known read of a value that is not the initial one is out of thin air where that value is not written

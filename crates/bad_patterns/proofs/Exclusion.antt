@@ -5,9 +5,9 @@ use Rattle.std.proofs.lemmas.Option.{slice_get_within, same_Some}
 use Rattle.history.specs.declared.op_id.OpId.{OpId}
 use Rattle.history.specs.History.{IsOp, session}
 use Rattle.causal_order.specs.Orders.{Order, only, past, IsLinearization}
-use Rattle.causal_order.specs.Memory.{MemoryHistory, memory_answer, initial, Writes, Reads, IsDifferentiated}
-use Rattle.causal_order.specs.Relations.{ReadsFrom, IsEdge, CO, CF}
-use Rattle.causal_order.proofs.MemoryLaws.{same_written}
+use Rattle.memory_order.specs.Memory.{MemoryHistory, memory_answer, initial, Writes, Reads, IsDifferentiated}
+use Rattle.memory_order.specs.Relations.{ReadsFrom, IsEdge, CO, CF}
+use Rattle.memory_order.proofs.MemoryLaws.{same_written}
 use Rattle.cert_check.specs.declared.criterion.Criterion.TheVariants.{Cc}
 use Rattle.cert_check.specs.Criteria.{every, IsCausalOrder, Explains, IsCausallyConsistent, IsCausallyConvergent}
 use Rattle.cert_check.proofs.FilteredLaws.{StandBoth, filter_in_order}
@@ -15,7 +15,7 @@ use Rattle.cert_check.proofs.ConvergentLaws.{cut_is_linearization}
 use Rattle.bad_patterns.specs.declared.kind.Kind.{Kind}
 use Rattle.bad_patterns.specs.declared.kind.Kind.TheVariants.{CyclicCO, ThinAirRead, WriteCOInitRead, WriteCORead, WriteHBInitRead, CyclicHB, CyclicCF}
 use Rattle.bad_patterns.specs.Kinds.{is_against, Shows}
-use Rattle.causal_order.proofs.LastWrites.{IsUnwritten, IsLastWrite}
+use Rattle.memory_order.proofs.LastWrites.{IsUnwritten, IsLastWrite}
 use Rattle.bad_patterns.proofs.Leads.{leads_in}
 use Rattle.bad_patterns.proofs.ReadPasts.{place, stands_before, value-cases, no_write_before, source-stands, source-before}
 

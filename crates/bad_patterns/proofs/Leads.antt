@@ -4,10 +4,10 @@ use Rattle.std.specs.Prelude.{◌≢◌, slice_get}
 use Rattle.std.proofs.lemmas.Option.{same_Some, slice_get_within, slice_get-get_or}
 use Rattle.std.proofs.lemmas.Bool.{cases_lt}
 use Rattle.history.specs.declared.op_id.OpId.{OpId}
-use Rattle.causal_order.specs.Orders.{StandsAt}
-use Rattle.causal_order.specs.Memory.{MemoryHistory}
-use Rattle.causal_order.specs.Relations.{IsPath, Leads, IsEdge, CO, IsPast}
-use Rattle.causal_order.proofs.RelationsLaws.{leads-leads}
+use Rattle.causal_order.specs.Orders.{StandsAt, IsPath, Leads}
+use Rattle.memory_order.specs.Memory.{MemoryHistory}
+use Rattle.memory_order.specs.Relations.{IsEdge, CO, IsPast}
+use Rattle.causal_order.proofs.PathsLaws.{leads-leads}
 use Rattle.bad_patterns.specs.Paths.{GoesFrom, HasEdge}
 
 module _ (related wider : OpId → OpId → Type 0) (transitive : (a b c : OpId) → wider a b → wider b c → wider a c)

@@ -2,7 +2,6 @@ pub mod Distinct
 pub mod Exclusion
 pub mod Standing
 pub mod MemoryExclusion
-pub mod First
 pub mod Leads
 pub mod Derived
 pub mod DerivedEnds
@@ -10,12 +9,3 @@ pub mod Neighbours
 pub mod ReadPasts
 pub mod Shown
 pub mod PatternReading
-pub mod KnownSources
-pub mod KnownCycles
-pub mod KnownConflicts
-pub mod ConflictLinks
-pub mod RoutesBack
-pub mod ReadPatterns
-pub mod NothingFound
-pub mod HappenedReads
-pub mod SearchedLaws

@@ -6,10 +6,10 @@ use Rattle.std.proofs.lemmas.Option.{same_Some}
 use Rattle.history.specs.declared.op_id.OpId.{OpId}
 use Rattle.history.specs.History.{IsOp, session}
 use Rattle.causal_order.specs.Orders.{Order, only, past, program_past, StandsAt, IsLinearization}
-use Rattle.causal_order.specs.Memory.{MemoryHistory, memory_answer, initial, Writes, IsDifferentiated}
-use Rattle.causal_order.proofs.MemoryLaws.{same_written}
-use Rattle.causal_order.specs.Relations.{ReadsFrom, CO, AreRivalWrites, IsPast, IsClosed, HB}
-use Rattle.causal_order.proofs.RelationsLaws.{CO-of_history}
+use Rattle.memory_order.specs.Memory.{MemoryHistory, memory_answer, initial, Writes, IsDifferentiated}
+use Rattle.memory_order.proofs.MemoryLaws.{same_written}
+use Rattle.memory_order.specs.Relations.{ReadsFrom, CO, AreRivalWrites, IsPast, IsClosed, HB}
+use Rattle.memory_order.proofs.RelationsLaws.{CO-of_history}
 use Rattle.cert_check.specs.Criteria.{IsCausalOrder, Explains, IsCausalMemory}
 use Rattle.cert_check.proofs.ConvergentLaws.{only-same}
 use Rattle.cert_check.proofs.FilteredLaws.{StandBoth}

@@ -6,12 +6,12 @@ use Rattle.objects.specs.declared.register.RegisterCall.TheVariants.{Read}
 use Rattle.objects.specs.declared.register.RegisterRet.TheVariants.{Value}
 use Rattle.history.specs.declared.op_id.OpId.{OpId}
 use Rattle.causal_order.specs.Orders.{Order, Ops, only, past, StandsAt, IsLinearization}
-use Rattle.causal_order.specs.Memory.{MemoryHistory, memory_answer, initial, Writes, Reads, IsDifferentiated}
+use Rattle.memory_order.specs.Memory.{MemoryHistory, memory_answer, initial, Writes, Reads, IsDifferentiated}
 use Rattle.cert_check.specs.Criteria.{Explains}
 use Rattle.cert_check.proofs.ConvergentLaws.{only-same}
 use Rattle.causal_order.proofs.Fronts.{take-from, take-stands}
-use Rattle.causal_order.proofs.MemoryLaws.{write-or_read}
-use Rattle.causal_order.proofs.LastWrites.{IsUnwritten, IsLastWrite, answer-cases}
+use Rattle.memory_order.proofs.MemoryLaws.{write-or_read}
+use Rattle.memory_order.proofs.LastWrites.{IsUnwritten, IsLastWrite, answer-cases}
 
 pub itself : (r : OpId) → IsTrue (only r r)
 itself r = and_from (r.session == r.session) (r.index == r.index) (eq-eqb r.session r.session refl) (eq-eqb r.index r.index refl)

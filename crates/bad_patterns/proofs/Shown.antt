@@ -5,8 +5,8 @@ use Rattle.std.proofs.lemmas.Option.{same_Some, slice_get_within, get_or_from_sl
 use Rattle.history.specs.declared.op_id.OpId.{OpId}
 use Rattle.operations.specs.JsonLaws.{map_from}
 use Rattle.causal_order.specs.Orders.{StandsAt}
-use Rattle.causal_order.specs.Memory.{MemoryHistory, memory_answer, IsDifferentiated}
-use Rattle.causal_order.specs.Relations.{CO, CF}
+use Rattle.memory_order.specs.Memory.{MemoryHistory, memory_answer, IsDifferentiated}
+use Rattle.memory_order.specs.Relations.{CO, CF}
 use Rattle.cert_check.specs.declared.criterion.Criterion.{Criterion}
 use Rattle.cert_check.specs.declared.criterion.Criterion.TheVariants.{Cc, Cm, Ccv}
 use Rattle.cert_check.specs.Criteria.{Meets}
@@ -23,7 +23,7 @@ use Rattle.bad_patterns.proofs.Derived.{derivation-sound}
 use Rattle.bad_patterns.proofs.MemoryExclusion.{initial_read_HB-excluded, cyclic_HB-excluded}
 use Rattle.bad_patterns.proofs.Exclusion.{consistency-excluded, convergence-excluded}
 use Rattle.bad_patterns.proofs.Leads.{leads-step, goes-leads, goes-apart}
-use Rattle.causal_order.proofs.MemoryLaws.{write-or_read}
+use Rattle.memory_order.proofs.MemoryLaws.{write-or_read}
 
 module _ (h : MemoryHistory) where
   -- a step of a cycle of the causal order and conflicts

@@ -3,9 +3,9 @@ use Rattle.std.specs.Prelude.{◌≡◌, ℕ, ◌-◌, ◌<◌, ◌≤◌, List,
 use Rattle.history.specs.declared.op_id.OpId.{OpId}
 use Rattle.bad_patterns.specs.declared.derivation.Line.{Line}
 use Rattle.bad_patterns.specs.declared.derivation.Line.TheVariants.{Co, Tr, Rf}
-use Rattle.causal_order.specs.Memory.{MemoryHistory}
+use Rattle.memory_order.specs.Memory.{MemoryHistory}
 use Rattle.causal_order.specs.Orders.{program_past}
-use Rattle.causal_order.specs.Relations.{ReadsFrom, AreRivalWrites}
+use Rattle.memory_order.specs.Relations.{ReadsFrom, AreRivalWrites}
 use Rattle.bad_patterns.specs.Paths.{GoesFrom, HasEdge}
 
 -- two operations, the one that happened before first

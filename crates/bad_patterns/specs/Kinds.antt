@@ -6,10 +6,11 @@ use Rattle.cert_check.specs.declared.criterion.Criterion.{Criterion}
 use Rattle.cert_check.specs.declared.criterion.Criterion.TheVariants.{Cc, Cm, Ccv}
 use Rattle.bad_patterns.specs.declared.kind.Kind.{Kind}
 use Rattle.bad_patterns.specs.declared.kind.Kind.TheVariants.{CyclicCO, ThinAirRead, WriteCOInitRead, WriteCORead, WriteHBInitRead, CyclicHB, CyclicCF}
-use Rattle.causal_order.specs.Memory.{MemoryHistory, initial, Writes, Reads, IsDifferentiated}
-use Rattle.causal_order.specs.Relations.{Leads, CO, CF}
-use Rattle.causal_order.specs.OverwrittenReads.{HasOverwrittenRead, HasOverwrittenStart}
-use Rattle.causal_order.specs.HappenedBeforePatterns.{HasHBCycle, HasStartOverwrittenInHB}
+use Rattle.memory_order.specs.Memory.{MemoryHistory, initial, Writes, Reads, IsDifferentiated}
+use Rattle.causal_order.specs.Orders.{Leads}
+use Rattle.memory_order.specs.Relations.{CO, CF}
+use Rattle.memory_order.specs.OverwrittenReads.{HasOverwrittenRead, HasOverwrittenStart}
+use Rattle.memory_order.specs.HappenedBeforePatterns.{HasHBCycle, HasStartOverwrittenInHB}
 
 -- which kinds exclude which criterion
 abbrev pub is_against : Kind → Criterion → Bool

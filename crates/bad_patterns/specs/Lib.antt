@@ -3,5 +3,3 @@ pub mod Paths
 pub mod Derivations
 pub mod Patterns
 pub mod PatternForm
-pub mod Searches
-pub mod Steps

@@ -3,9 +3,9 @@ use Rattle.std.specs.Prelude.{◌≡◌, ℕ, ◌+◌, ◌-◌, ◌<◌, List, l
 use Rattle.history.specs.declared.op_id.OpId.{OpId}
 use Rattle.bad_patterns.specs.declared.link.Link.{Link}
 use Rattle.bad_patterns.specs.declared.link.Link.TheVariants.{Co, Cf}
-use Rattle.causal_order.specs.Memory.{MemoryHistory}
-use Rattle.causal_order.specs.Orders.{StandsAt}
-use Rattle.causal_order.specs.Relations.{IsPath, ReadsFrom, IsEdge, AreRivalWrites}
+use Rattle.memory_order.specs.Memory.{MemoryHistory}
+use Rattle.causal_order.specs.Orders.{StandsAt, IsPath}
+use Rattle.memory_order.specs.Relations.{ReadsFrom, IsEdge, AreRivalWrites}
 
 -- a path from a to b by edges of the causal order; one operation alone goes to itself by no edge
 pub record GoesFrom (h : MemoryHistory) (path : List OpId) (a b : OpId) : Type 0 where

@@ -8,9 +8,9 @@ use Rattle.bad_patterns.specs.declared.kind.Kind.TheVariants as kinds
 use Rattle.bad_patterns.specs.declared.pattern.Pattern.{Pattern}
 use Rattle.bad_patterns.specs.declared.pattern.Pattern.TheVariants.{CyclicCO, ThinAirRead, WriteCOInitRead, WriteCORead, WriteHBInitRead, CyclicHB, CyclicCF}
 use Rattle.bad_patterns.specs.declared.derivation.Line.{Line}
-use Rattle.causal_order.specs.Memory.{MemoryHistory, memory_answer, initial, Writes, Reads, IsDifferentiated}
+use Rattle.memory_order.specs.Memory.{MemoryHistory, memory_answer, initial, Writes, Reads, IsDifferentiated}
 use Rattle.causal_order.specs.Orders.{program_past}
-use Rattle.causal_order.specs.Relations.{ReadsFrom, AreRivalWrites}
+use Rattle.memory_order.specs.Relations.{ReadsFrom, AreRivalWrites}
 use Rattle.bad_patterns.specs.Kinds.{is_against, IsThinAirRead, IsPresent}
 use Rattle.bad_patterns.specs.Paths.{GoesFrom, HasEdge, IsCycle}
 use Rattle.bad_patterns.specs.Derivations.{IsDerivation}

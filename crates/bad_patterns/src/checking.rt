@@ -1,7 +1,7 @@
 ghost use Rattle.std.specs.Prelude.{◌↔◌, IfOk, IsTrue};
 ghost use Rattle.bad_patterns.specs.Patterns.{IsBadPattern, IsShownBy, IsTrueNo, kind_of};
-ghost use Rattle.causal_order.specs.Memory.{IsDifferentiated};
-ghost use Rattle.causal_order.specs.Steps.Written.{AreInOrder, IsSorted, ListsWrites};
+ghost use Rattle.memory_order.specs.Memory.{IsDifferentiated};
+ghost use Rattle.memory_order.specs.Steps.Written.{AreInOrder, IsSorted, ListsWrites};
 
 use crate::cycle::is_cycle;
 use crate::happened_before::{is_derivation_of_cycle, is_derivation_of_initial_read};
@@ -9,9 +9,9 @@ use crate::laws::bad_patterns_exclude_criteria;
 use crate::pattern::Pattern;
 use crate::routes::{are_paths_to_overwritten_read, is_cyclic_path, is_path_to_initial_read};
 use crate::thin_air::is_thin_air_read;
-use causal_order::{Write, are_distinct, sorted_writes};
 use cert_check::Criterion;
 use history::History;
+use memory_order::{Write, are_distinct, sorted_writes};
 use objects::Memory;
 use std::alloc::{AllocError, Global};
 

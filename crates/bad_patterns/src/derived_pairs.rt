@@ -2,18 +2,18 @@
 
 ghost use Rattle.std.specs.Prelude.{◌≡◌, ◌↔◌, IfOk, IsTrue, MatchOption, slice_get};
 ghost use Rattle.history.specs.declared.op_id.OpId.{OpId};
-ghost use Rattle.causal_order.specs.Memory.{IsDifferentiated};
+ghost use Rattle.memory_order.specs.Memory.{IsDifferentiated};
 ghost use Rattle.causal_order.specs.Orders.{program_past};
-ghost use Rattle.causal_order.specs.Relations.{AreRivalWrites};
-ghost use Rattle.causal_order.specs.Steps.Written.{AreInOrder, IsSorted, ListsWrites};
+ghost use Rattle.memory_order.specs.Relations.{AreRivalWrites};
+ghost use Rattle.memory_order.specs.Steps.Written.{AreInOrder, IsSorted, ListsWrites};
 ghost use Rattle.bad_patterns.specs.Derivations.{Gives, GivesCausalPair, GivesJoinedPair, GivesRivalPair, IsDerivation};
 
 use crate::derivation::Line;
 use crate::edges::are_rival_writes;
 use crate::path::Path;
 use crate::routes::ends_of;
-use causal_order::{Write, found_source};
 use history::{History, OpId};
+use memory_order::{Write, found_source};
 use objects::Memory;
 use std::alloc::{AllocError, Global};
 

@@ -2,11 +2,11 @@
 
 ghost use Rattle.std.specs.Prelude.{◌≡◌, ◌↔◌, ℕ, IsTrue, MatchOption};
 ghost use Rattle.history.specs.History.{IsOp, Precedes};
-ghost use Rattle.causal_order.specs.Memory.{initial, Reads, Writes};
-ghost use Rattle.causal_order.specs.Relations.{AreRivalWrites, IsEdge, ReadsFrom};
+ghost use Rattle.memory_order.specs.Memory.{initial, Reads, Writes};
+ghost use Rattle.memory_order.specs.Relations.{AreRivalWrites, IsEdge, ReadsFrom};
 
-use causal_order::{initial_value, known_read};
 use history::{History, OpId};
+use memory_order::{initial_value, known_read};
 use objects::{Memory, RegisterCall};
 
 /// The variable and the value of a write, whether its return is known or not.

@@ -1,15 +1,15 @@
 //! What the derivation of a pattern shows.
 
 ghost use Rattle.std.specs.Prelude.{◌↔◌, IfOk, IsTrue};
-ghost use Rattle.causal_order.specs.Memory.{IsDifferentiated};
-ghost use Rattle.causal_order.specs.Steps.Written.{AreInOrder, IsSorted, ListsWrites};
+ghost use Rattle.memory_order.specs.Memory.{IsDifferentiated};
+ghost use Rattle.memory_order.specs.Steps.Written.{AreInOrder, IsSorted, ListsWrites};
 ghost use Rattle.bad_patterns.specs.Patterns.{IsDerivationOfCycle, IsDerivationOfInitialRead};
 
 use crate::derivation::Derivation;
 use crate::derived_pairs::{derived_pair, is_in_program_past};
 use crate::edges::reads_initial;
-use causal_order::Write;
 use history::{History, OpId};
+use memory_order::Write;
 use objects::Memory;
 use std::alloc::{AllocError, Global};
 

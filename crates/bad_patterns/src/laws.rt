@@ -1,7 +1,7 @@
 //! What holds of bad patterns. The functions do nothing: what they ensure is the law.
 
 ghost use Rattle.std.specs.Prelude.{IsTrue};
-ghost use Rattle.causal_order.specs.Memory.{MemoryHistory, memory_answer};
+ghost use Rattle.memory_order.specs.Memory.{MemoryHistory, memory_answer};
 ghost use Rattle.cert_check.specs.Criteria.{Meets};
 ghost use Rattle.bad_patterns.specs.Kinds.{is_against, IsPresent};
 ghost use Rattle.bad_patterns.specs.Patterns.{IsBadPattern, IsTrueNo, kind_of};

@@ -2,7 +2,8 @@
 
 ghost use Rattle.std.specs.Prelude.{◌↔◌, IsTrue, MatchOption};
 ghost use Rattle.history.specs.declared.op_id.OpId.{OpId};
-ghost use Rattle.causal_order.specs.Relations.{IsEdge, IsPath};
+ghost use Rattle.memory_order.specs.Relations.{IsEdge};
+ghost use Rattle.causal_order.specs.Orders.{IsPath};
 ghost use Rattle.bad_patterns.specs.Paths.{GoesFrom};
 ghost use Rattle.bad_patterns.specs.Patterns.{ArePathsToOverwrittenRead, IsCyclicPath, IsPathToInitialRead};
 

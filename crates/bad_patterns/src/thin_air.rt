@@ -1,9 +1,9 @@
 ghost use Rattle.std.specs.Prelude.{◌↔◌, IsTrue};
 ghost use Rattle.bad_patterns.specs.Kinds.{IsThinAirRead};
-ghost use Rattle.causal_order.specs.Steps.Written.{IsSorted, ListsWrites};
+ghost use Rattle.memory_order.specs.Steps.Written.{IsSorted, ListsWrites};
 
-use causal_order::{Write, initial_value, is_written, known_read};
 use history::{History, OpId};
+use memory_order::{Write, initial_value, is_written, known_read};
 use objects::Memory;
 
 /// Whether the operation is a known read of a value that is not the initial one and that nobody wrote.

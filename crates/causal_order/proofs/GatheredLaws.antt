@@ -6,8 +6,7 @@ use Rattle.std.proofs.lemmas.List.{get_or_append_left, get_or_past, length_push,
 use Rattle.history.specs.declared.op_id.OpId.{OpId}
 use Rattle.history.specs.History.{Record, IsOp, session}
 use Rattle.causal_order.specs.Orders.{op}
-use Rattle.causal_order.specs.Sources.{IsListed}
-use Rattle.causal_order.specs.Vectors.{ByOperation, list_of, HasOneEach}
+use Rattle.causal_order.specs.Vectors.{IsListed, ByOperation, list_of, HasOneEach}
 use Rattle.causal_order.specs.Steps.Gathered.{AreGatheredBefore, AreGatheredUpTo}
 use Rattle.causal_order.proofs.PushedLaws.{pushed, listed-length, pushed-other, pushed-length, pushed-cases, pushed-value_old, pushed-value_next}
 

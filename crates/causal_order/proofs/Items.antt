@@ -1,16 +1,12 @@
 -- Vectors with another count at one place.
-use Rattle.std.specs.Prelude.{◌≡◌, ◌≢◌, ◌⊎◌, ℕ, ◌<◌, ◌≤◌, List, [], length}
-use Rattle.std.proofs.Common.{arith, get_or, set, sym, ap, subst, ◌∙◌, inl, inr, ⊎_elim}
+use Rattle.std.specs.Prelude.{◌≡◌, ◌≢◌, ◌⊎◌, ℕ, ◌<◌, List, [], length}
+use Rattle.std.proofs.Common.{get_or, set, sym, ap, subst, ◌∙◌, inl, inr, ⊎_elim}
 use Rattle.std.proofs.lemmas.Bool.{cases_eq}
 use Rattle.std.proofs.lemmas.List.{get_or-set_same, get_or-set_other, length-set}
 use Rattle.history.specs.declared.op_id.OpId.{OpId}
-use Rattle.history.specs.History.{IsOp, session}
-use Rattle.causal_order.specs.Steps.GrowingOrders.{AreHeldVectors}
-use Rattle.causal_order.specs.Memory.{MemoryHistory}
 use Rattle.causal_order.proofs.OrdersLaws.{same_op}
 use Rattle.causal_order.proofs.PushedLaws.{listed-length}
-use Rattle.causal_order.specs.Sources.{IsListed}
-use Rattle.causal_order.specs.Vectors.{Counts, count, list_of, with_item}
+use Rattle.causal_order.specs.Vectors.{IsListed, Counts, count, list_of, with_item}
 
 -- an operation is another one, or it isn't
 pub cases-op : (p o : OpId) → (p ≡ o) ⊎ (p ≢ o)
@@ -73,39 +69,3 @@ module _ (v : Counts) (o : OpId) (t x : ℕ) (listed : IsListed v o) where
 
   pub item-here : t < length (list_of v o) → count (with_item v o t x) o t ≡ x
   item-here inside = ap (λ (xs : List ℕ). get_or xs t 0) item-same ∙ get_or-set_same (list_of v o) t x 0 inside
-
-module _ (h : MemoryHistory) (v : Counts) (vectors : AreHeldVectors h v) (o : OpId) (is_op : IsOp h o) (t x : ℕ) (exists : t < length h.1) where
-  pub listed-held : IsListed v o
-  listed-held = let same = vectors.vectors.one_each.operations o.session in omega arith
-
-  inside : t < length (list_of v o)
-  inside = let size = vectors.vectors.counts o is_op in omega arith
-
-  -- they are vectors of the history still
-  pub held-item : x ≤ length (session h t) → AreHeldVectors h (with_item v o t x)
-  held-item held = record {
-    vectors = record {
-      one_each = record {
-        sessions = length-set v o.session _ ∙ vectors.vectors.one_each.sessions;
-        operations = λ s. item-operations v o t x listed-held s ∙ vectors.vectors.one_each.operations s;
-      };
-      counts = λ p of_history. item-size v o t x listed-held p ∙ vectors.vectors.counts p of_history;
-    };
-    held = λ p s of_history. ⊎_elim
-        (λ (same : count (with_item v o t x) p s ≡ count v p s). let before = vectors.held p s of_history in omega arith)
-        (λ (places : (p ≡ o) × (s ≡ t)).
-        let new : count (with_item v o t x) o t ≤ length (session h t) = let value = item-here v o t x listed-held inside in omega arith in
-        subst (λ (q : OpId). count (with_item v o t x) q s ≤ length (session h s)) (sym places.0)
-        (subst (λ (n : ℕ). count (with_item v o t x) o n ≤ length (session h n)) (sym places.1) new))
-        (item-cases v o t x listed-held p s);
-  }
-
-  -- none falls, where the new one is larger
-  pub rises-item : count v o t ≤ x → (p : OpId) (s : ℕ) → count v p s ≤ count (with_item v o t x) p s
-  rises-item larger p s = ⊎_elim
-      (λ (same : count (with_item v o t x) p s ≡ count v p s). omega arith)
-      (λ (places : (p ≡ o) × (s ≡ t)).
-      let new : count v o t ≤ count (with_item v o t x) o t = let value = item-here v o t x listed-held inside in omega arith in
-      subst (λ (q : OpId). count v q s ≤ count (with_item v o t x) q s) (sym places.0)
-      (subst (λ (n : ℕ). count v o n ≤ count (with_item v o t x) o n) (sym places.1) new))
-      (item-cases v o t x listed-held p s)

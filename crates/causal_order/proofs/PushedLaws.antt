@@ -8,7 +8,7 @@ use Rattle.std.specs.List.{sum_by}
 use Rattle.history.specs.declared.op_id.OpId.{OpId}
 use Rattle.causal_order.specs.Orders.{op}
 use Rattle.causal_order.proofs.OrdersLaws.{same_op}
-use Rattle.causal_order.specs.Sources.{IsListed}
+use Rattle.causal_order.specs.Vectors.{IsListed}
 
 -- the lists, with x behind those of the session s
 abbrev pub pushed : {A : Type 0} → List (List A) → ℕ → A → List (List A)

@@ -1,22 +1,20 @@
 -- Orders by the topological rule: a walk that places all is one, and where there is one no operation leads to itself.
-use Rattle.std.specs.Prelude.{◌≡◌, ◌≢◌, ◌⊎◌, ℕ, ◌+◌, ◌-◌, ◌<◌, ◌≤◌, List, [], length, take, max}
+use Rattle.std.specs.Prelude.{◌≡◌, ◌≢◌, ℕ, ◌+◌, ◌<◌, ◌≤◌, List, [], length, take, max}
 use Rattle.std.proofs.Common.{arith, get_or, sym, ap, subst, ⊎_elim, refl, eq-or-lt_of_le}
 use Rattle.std.proofs.lemmas.Bool.{cases_eq, cases_lt}
 use Rattle.std.proofs.lemmas.List.{get_or_past}
 use Rattle.history.specs.declared.op_id.OpId.{OpId}
 use Rattle.history.specs.History.{Precedes}
-use Rattle.causal_order.specs.Orders.{op}
-use Rattle.causal_order.specs.Relations.{Leads}
-use Rattle.causal_order.specs.Sources.{IsListed}
+use Rattle.causal_order.specs.Orders.{op, Leads}
+use Rattle.causal_order.specs.Vectors.{IsListed, Counts, count}
 use Rattle.causal_order.specs.Steps.Waiting.{IsLimit, AreLimits, IsOpen, IsStuck}
 use Rattle.causal_order.specs.Topological.{placed, next_of, CanGoOn, IsFullWalk}
-use Rattle.causal_order.specs.Vectors.{Counts, count}
 use Rattle.causal_order.specs.Waits.{WaitsFor, IsAwaited, IsWaitEdge, CanFollow, IsTopologicalOrder}
-use Rattle.causal_order.proofs.NextVector.{counted-listed}
+use Rattle.causal_order.proofs.VectorsLaws.{counted-listed}
 use Rattle.causal_order.proofs.OrdersLaws.{same_op}
 use Rattle.causal_order.proofs.Placed.{placed-up, placed-whole, places}
 use Rattle.causal_order.proofs.PushedLaws.{listed-length}
-use Rattle.causal_order.proofs.RelationsLaws.{leads-within}
+use Rattle.causal_order.proofs.PathsLaws.{leads-within}
 
 module _ (waits : Counts) (schedule : List ℕ) (order : IsTopologicalOrder waits schedule) where
   -- some front of the schedule places a and not b

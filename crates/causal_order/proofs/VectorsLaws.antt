@@ -1,9 +1,18 @@
--- What follows for the vectors of a history.
-use Rattle.std.proofs.Common.{arith}
+-- What follows for vectors.
+use Rattle.std.proofs.Common.{arith, get_or, subst, lt_of_not-le}
 use Rattle.history.specs.declared.op_id.OpId.{OpId}
 use Rattle.history.specs.History.{Record, IsOp}
 use Rattle.causal_order.proofs.OrdersLaws.{session-of_history}
-use Rattle.causal_order.specs.Vectors.{ByOperation, HasListOf, HasOneEach}
+use Rattle.causal_order.specs.Vectors.{ByOperation, HasListOf, HasOneEach, Counts, IsCounted, IsListed}
+use Rattle.std.specs.Prelude.{ℕ, ◌<◌, ◌≤◌, List, [], length}
+use Rattle.std.proofs.lemmas.List.{get_or_past}
+
+-- what has no vector counts nothing
+pub counted-listed : (v : Counts) (o a : OpId) → IsCounted v o a → IsListed v o
+counted-listed v o a counted = lt_of_not-le (λ (past : length (get_or v o.session []) ≤ o.index).
+    let none = get_or_past (get_or v o.session []) o.index [] past in
+    let nothing = subst (λ (xs : List ℕ). a.index < get_or xs a.session 0) none counted in
+    omega arith)
 
 module _ {S C R : Type 0} (h : Record S C R) where
   -- each operation of the history has a list

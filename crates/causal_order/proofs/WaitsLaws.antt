@@ -6,14 +6,13 @@ use Rattle.std.proofs.lemmas.List.{get_or_past, length-set}
 use Rattle.history.specs.declared.op_id.OpId.{OpId}
 use Rattle.history.specs.History.{Record, session}
 use Rattle.causal_order.specs.Orders.{op}
-use Rattle.causal_order.specs.Sources.{IsListed}
+use Rattle.causal_order.specs.Vectors.{IsListed, Counts, count, list_of, with_item, IsCounted}
 use Rattle.causal_order.specs.Steps.Gathered.{AreGatheredBefore}
 use Rattle.causal_order.specs.Steps.Waiting.{AddsWait, AreZeros}
-use Rattle.causal_order.specs.Vectors.{Counts, count, list_of, with_item, IsCounted}
 use Rattle.causal_order.specs.Waits.{AreAlike, AreWaits, AreWaitsFor}
 use Rattle.causal_order.proofs.GatheredLaws.{gathered-shape}
 use Rattle.causal_order.proofs.Items.{item-operations, item-size, item-cases, item-here}
-use Rattle.causal_order.proofs.NextVector.{counted-listed}
+use Rattle.causal_order.proofs.VectorsLaws.{counted-listed}
 use Rattle.causal_order.proofs.OrdersLaws.{same_op}
 use Rattle.causal_order.proofs.PushedLaws.{listed-length}
 

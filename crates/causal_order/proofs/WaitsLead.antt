@@ -1,16 +1,14 @@
 -- What leads where operations wait for others.
-use Rattle.std.specs.Prelude.{◌≡◌, ◌≢◌, ◌⊎◌, ◌+◌, ◌-◌, ◌<◌, List, length, slice_get}
+use Rattle.std.specs.Prelude.{◌≡◌, ◌≢◌, ◌+◌, ◌-◌, ◌<◌, List, length, slice_get}
 use Rattle.std.proofs.Common.{arith, sym, ap, ◌∙◌, inl, inr, ⊎_elim, refl}
 use Rattle.std.proofs.lemmas.Bool.{cases_eq}
 use Rattle.history.specs.declared.op_id.OpId.{OpId}
-use Rattle.causal_order.specs.Orders.{op}
-use Rattle.causal_order.specs.Relations.{Leads}
-use Rattle.causal_order.specs.Sources.{IsListed}
-use Rattle.causal_order.specs.Vectors.{Counts, count}
+use Rattle.causal_order.specs.Orders.{op, Leads}
+use Rattle.causal_order.specs.Vectors.{IsListed, Counts, count}
 use Rattle.causal_order.specs.Waits.{AreWaits, AreWaitsFor, IsWaitEdge, IsWaitingCycle}
 use Rattle.causal_order.proofs.Items.{cases-op}
-use Rattle.causal_order.proofs.NextVector.{counted-listed}
-use Rattle.causal_order.proofs.RelationsLaws.{leads-edge, leads-first}
+use Rattle.causal_order.proofs.VectorsLaws.{counted-listed}
+use Rattle.causal_order.proofs.PathsLaws.{leads-edge, leads-first}
 
 module _ (waits : Counts) where
   -- a cycle leads from an operation to itself

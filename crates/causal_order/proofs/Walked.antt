@@ -6,8 +6,7 @@ use Rattle.std.proofs.lemmas.List.{get_or_past, get_or-set_same, get_or-set_othe
 use Rattle.std.proofs.lemmas.List.Sums.{sum_by_push}
 use Rattle.std.proofs.lemmas.Option.{slice_get_within, get_or_from_slice_get, slice_get-get_or}
 use Rattle.causal_order.specs.Orders.{op}
-use Rattle.causal_order.specs.Vectors.{Counts, count, list_of}
-use Rattle.causal_order.specs.Sources.{IsListed}
+use Rattle.causal_order.specs.Vectors.{Counts, count, list_of, IsListed}
 use Rattle.causal_order.specs.Topological.{placed, next_of, CanGoOn, IsNext, IsWalk, AreSeen, IsTally}
 use Rattle.causal_order.proofs.TopologicalLaws.{placed-same}
 

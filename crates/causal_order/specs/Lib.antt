@@ -1,15 +1,6 @@
 pub mod Orders
-pub mod Memory
-pub mod Relations
 pub mod Vectors
-pub mod Sources
-pub mod SourceOrder
 pub mod ProgramOrder
 pub mod Topological
 pub mod Waits
-pub mod OverwrittenReads
-pub mod HappenedBeforePatterns
-pub mod HappenedBeforeVectors
-pub mod MemoryHistories
-pub mod CountSums
 pub mod Steps

@@ -1,6 +1,6 @@
 -- Sets, orders and lists of operations, as Bouajjani, Enea, Guerraoui and Hamza use them ("On Verifying Causal
 -- Consistency", POPL 2017, sections 2 and 3).
-use Rattle.std.specs.Prelude.{◌≡◌, ◌⊎◌, ℕ, ◌<◌, ◌==◌, ◌&&◌, ◌||◌, Bool, IsTrue, List, Some, slice_get, nat_le}
+use Rattle.std.specs.Prelude.{◌≡◌, ◌⊎◌, ℕ, ◌<◌, ◌==◌, ◌&&◌, ◌||◌, Bool, IsTrue, List, Some, slice_get, nat_le, ◌+◌}
 use Rattle.history.specs.declared.op_id.OpId.{OpId}
 
 -- the operation with this index of this session
@@ -34,6 +34,15 @@ past co o a = only o a || co a o
 -- the operation o stands at the place k of a list
 abbrev pub StandsAt : List OpId → ℕ → OpId → Type 0
 StandsAt ops k o = slice_get ops k ≡ Some o
+
+-- a path in a relation: it joins each operation to the next
+abbrev pub IsPath : (OpId → OpId → Type 0) → List OpId → Type 0
+IsPath related path = (k : ℕ) (a b : OpId) → StandsAt path k a → StandsAt path (k + 1) b → related a b
+
+-- some path of at least one step leads from a to b
+abbrev pub Leads : (OpId → OpId → Type 0) → OpId → OpId → Type 0
+Leads related a b =
+    (path : List OpId) × (n : ℕ) × IsPath related path × StandsAt path 0 a × StandsAt path (n + 1) b
 
 -- a list of the operations of a set, each once and no other, in which each stands before those that it is before in co
 pub record IsLinearization (set : Ops) (co : Order) (ops : List OpId) : Type 0 where

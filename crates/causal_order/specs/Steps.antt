@@ -1,11 +1,4 @@
 -- What single functions say to one another, in terms of their own data: no promise to a reader rests on it.
-pub mod Written
 pub mod FlatRows
 pub mod Gathered
-pub mod Listed
-pub mod GrowingOrders
-pub mod GrowthSteps
-pub mod HappenedBefores
-pub mod Indexed
 pub mod Waiting
-pub mod Conflicts

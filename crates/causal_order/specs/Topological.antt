@@ -4,8 +4,7 @@ use Rattle.std.specs.Prelude.{◌≡◌, ◌≢◌, ℕ, ◌<◌, ◌≤◌, ◌
 use Rattle.std.specs.List.{count_by}
 use Rattle.history.specs.declared.op_id.OpId.{OpId}
 use Rattle.causal_order.specs.Orders.{op}
-use Rattle.causal_order.specs.Vectors.{Counts, count, list_of}
-use Rattle.causal_order.specs.Sources.{IsListed}
+use Rattle.causal_order.specs.Vectors.{Counts, count, list_of, IsListed}
 
 -- how many operations of the session s a schedule places: as many as it names s
 abbrev pub placed : List ℕ → ℕ → ℕ

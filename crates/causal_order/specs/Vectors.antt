@@ -13,6 +13,10 @@ ByOperation A = List (List (List A))
 abbrev pub list_of : {A : Type 0} → ByOperation A → OpId → List A
 list_of lists o = slice_index_or (slice_index_or lists o.session []) o.index []
 
+-- lists by operation have an entry for o
+abbrev pub IsListed : {A : Type 0} → List (List A) → OpId → Type 0
+IsListed lists o = o.index < length (slice_index_or lists o.session [])
+
 -- the lists, with x at a place of the list of o
 abbrev pub with_item : {A : Type 0} → ByOperation A → OpId → ℕ → A → ByOperation A
 with_item lists o place x =

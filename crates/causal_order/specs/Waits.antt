@@ -3,11 +3,9 @@
 use Rattle.std.specs.Prelude.{◌≡◌, ◌≢◌, ◌⊎◌, ℕ, ◌+◌, ◌-◌, ◌<◌, ◌≤◌, List, [], length, take, slice_get, Some, slice_index_or}
 use Rattle.history.specs.declared.op_id.OpId.{OpId}
 use Rattle.history.specs.History.{Precedes}
-use Rattle.causal_order.specs.Orders.{StandsAt}
-use Rattle.causal_order.specs.Relations.{IsPath, Leads}
-use Rattle.causal_order.specs.Sources.{IsListed}
+use Rattle.causal_order.specs.Orders.{StandsAt, IsPath, Leads}
+use Rattle.causal_order.specs.Vectors.{IsListed, Counts, count, IsCounted}
 use Rattle.causal_order.specs.Topological.{placed, next_of, AreSquare}
-use Rattle.causal_order.specs.Vectors.{Counts, count, IsCounted}
 use Rattle.causal_order.specs.declared.sorting.OrderOrCycle.{OrderOrCycle}
 use Rattle.causal_order.specs.declared.sorting.OrderOrCycle.TheVariants.{Order, Cycle}
 

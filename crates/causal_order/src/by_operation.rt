@@ -1,6 +1,5 @@
 ghost use Rattle.std.specs.Prelude.{◌≡◌, ◌∷◌, ◌++◌, ◌<◌, ◌↔◌, List, [], length, slice_set, IfOk, IsTrue, OnOk, OnErr, slice_index_or};
-ghost use Rattle.causal_order.specs.Sources.{IsListed};
-ghost use Rattle.causal_order.specs.Vectors.{list_of, with_item};
+ghost use Rattle.causal_order.specs.Vectors.{IsListed, list_of, with_item};
 
 use crate::rows::Rows;
 use history::OpId;

@@ -52,7 +52,7 @@ pub fn has_counted(v: &Vectors, op: OpId, earlier: OpId) -> bool
 }
 
 /// Whether the vector of an operation counts another operation. O(1).
-pub(crate) fn has_counted_other(v: &Vectors, op: OpId, earlier: OpId) -> bool
+pub fn has_counted_other(v: &Vectors, op: OpId, earlier: OpId) -> bool
     ensures { IsTrue result ↔ ((earlier ≢ op) × IsCounted v.now op earlier) }
 {
     earlier != op && has_counted(v, op, earlier)

@@ -1,17 +1,14 @@
 //! What operations wait for.
 
-ghost use Rattle.std.specs.Prelude.{◌≡◌, ◌+◌, ◌<◌, ◌≤◌, ℕ, length, slice_index_or, IfOk, OnOk};
+ghost use Rattle.std.specs.Prelude.{◌≡◌, ◌+◌, ◌<◌, ◌≤◌, ℕ, length, IfOk, OnOk};
 ghost use Rattle.history.specs.declared.op_id.OpId.{OpId as Operation};
 ghost use Rattle.history.specs.History.{session as operations_of};
-ghost use Rattle.causal_order.specs.Orders.{op as operation};
-ghost use Rattle.causal_order.specs.Sources.{AreListed, HasSource, IsListed};
+ghost use Rattle.causal_order.specs.Vectors.{IsListed, count};
 ghost use Rattle.causal_order.specs.Steps.Gathered.{AreGatheredBefore};
-ghost use Rattle.causal_order.specs.Steps.Waiting.{AddsWait, AreZeros, IsSourceBefore};
-ghost use Rattle.causal_order.specs.Vectors.{count, list_of};
-ghost use Rattle.causal_order.specs.Waits.{AreAlike, AreWaits, AreWaitsFor};
+ghost use Rattle.causal_order.specs.Steps.Waiting.{AddsWait, AreZeros};
+ghost use Rattle.causal_order.specs.Waits.{AreAlike, AreWaits};
 
 use crate::by_operation::Vectors;
-use crate::placing::Sources;
 use history::{History, OpId};
 use object_trait::SeqObject;
 use std::alloc::{AllocError, Global};
@@ -91,46 +88,4 @@ fn push_zeros<O: SeqObject>(
         counts.push(session, &zeros)?;
     }
     Ok(())
-}
-
-/// Each operation waits for its source.
-///
-/// The sources are those of the operations of the history. Fails for want of memory alone. O(n k) for n operations of k
-/// sessions.
-pub fn waits_for_sources<O: SeqObject>(
-    alloc: Global,
-    h: &History<O>,
-    sources: &Sources,
-) -> Result<Waits, AllocError>
-    requires alike { AreAlike sources.now h.now.1 }
-    requires listed { AreListed sources.now }
-    ensures alike { IfOk result (λ waits. AreAlike waits h.now.1) }
-    ensures exact { IfOk result (AreWaitsFor (λ w o. HasSource sources.now o w)) }
-{
-    let mut waits = Waits::of(alloc, h)?;
-    for session in 0..sources.len() {
-        add_sources(sources, session, &mut waits);
-    }
-    Ok(waits)
-}
-
-/// Lets the operations of a session wait for their sources.
-fn add_sources(sources: &Sources, session: usize, waits: &mut Waits)
-    requires exists { session < length sources.now }
-    requires listed { AreListed sources.now }
-    requires alike { AreAlike waits.old sources.now }
-    requires so_far { AreWaitsFor (IsSourceBefore sources.now (operation session 0)) waits.old }
-    ensures alike { AreAlike waits.new sources.now }
-    ensures so_far { AreWaitsFor (IsSourceBefore sources.now (operation (session + 1) 0)) waits.new }
-{
-    let of_session = sources.get(session);
-    for index in 0..of_session.len() {
-        if let Some(source) = of_session[index] {
-            let op = OpId {
-                session: session as u64,
-                index: index as u64,
-            };
-            waits.add(op, source);
-        }
-    }
 }

@@ -15,5 +15,3 @@ pub mod ListReading
 pub mod CertificateForms
 pub mod ConvergentLaws
 pub mod FilteredLaws
-pub mod ReadPieces
-pub mod WalkedSchedules

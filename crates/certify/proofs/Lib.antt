@@ -1,1 +1,3 @@
 pub mod InTurn
+pub mod ReadPieces
+pub mod WalkedSchedules

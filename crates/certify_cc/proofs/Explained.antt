@@ -4,15 +4,15 @@ use Rattle.std.specs.Prelude.{◌≢◌, Option, Some, None, MatchOption}
 use Rattle.std.proofs.lemmas.Bool.{cases_lt}
 use Rattle.history.specs.declared.op_id.OpId.{OpId}
 use Rattle.history.specs.History.{IsOp}
-use Rattle.causal_order.proofs.FirstWrites.{CO-from_sources}
-use Rattle.causal_order.proofs.MemoryLaws.{same_read, write-or_read}
-use Rattle.causal_order.proofs.ReadAnswers.{Fits, AnswersBehind, answers-source, answers-start}
-use Rattle.causal_order.proofs.RelationsLaws.{leads-edge}
-use Rattle.causal_order.proofs.SourceVectors.{counts-before, before-counted, counted-of_history, order-vector_ok}
-use Rattle.causal_order.specs.Memory.{MemoryHistory, memory_answer, initial, Writes, Reads}
+use Rattle.memory_order.proofs.FirstWrites.{CO-from_sources}
+use Rattle.memory_order.proofs.MemoryLaws.{same_read, write-or_read}
+use Rattle.memory_order.proofs.ReadAnswers.{Fits, AnswersBehind, answers-source, answers-start}
+use Rattle.causal_order.proofs.PathsLaws.{leads-edge}
+use Rattle.memory_order.proofs.SourceVectors.{counts-before, before-counted, counted-of_history, order-vector_ok}
+use Rattle.memory_order.specs.Memory.{MemoryHistory, memory_answer, initial, Writes, Reads}
 use Rattle.causal_order.specs.Orders.{only, StandsAt}
-use Rattle.causal_order.specs.OverwrittenReads.{HasOverwrittenStart, HasOverwrittenRead}
-use Rattle.causal_order.specs.SourceOrder.{CountsSourceOrder, IsSource, IsSourceEdge, IsSourceOf, SourceOrder}
+use Rattle.memory_order.specs.OverwrittenReads.{HasOverwrittenStart, HasOverwrittenRead}
+use Rattle.memory_order.specs.SourceOrder.{CountsSourceOrder, IsSource, IsSourceEdge, IsSourceOf, SourceOrder}
 use Rattle.causal_order.specs.Topological.{IsFullWalk}
 use Rattle.causal_order.specs.Vectors.{Counts, list_of, IsCounted}
 use Rattle.cert_check.specs.declared.certificate.Certificate.{Certificate}
@@ -22,8 +22,8 @@ use Rattle.cert_check.specs.Criteria.{Explains}
 use Rattle.cert_check.specs.Schedules.{named, IsSchedule}
 use Rattle.cert_check.proofs.ConvergentLaws.{only-same}
 use Rattle.cert_check.proofs.Named.{named_within, named_once}
-use Rattle.cert_check.proofs.ReadPieces.{explains-reads}
-use Rattle.cert_check.proofs.WalkedSchedules.{plain-schedule}
+use Rattle.certify.proofs.ReadPieces.{explains-reads}
+use Rattle.certify.proofs.WalkedSchedules.{plain-schedule}
 use Rattle.certify_cc.specs.BySources.{IsBySource, IsBySources}
 use Rattle.certify_cc.proofs.SourceSchedules.{write-stands, source-schedule, behind-write}
 

@@ -4,16 +4,16 @@ use Rattle.std.specs.List.{range_with_len}
 use Rattle.std.proofs.Common.{arith, get_or, map, sym, subst, ⊎_elim}
 use Rattle.std.proofs.lemmas.List.FromFn.{length-map-range_with_len, get_or-map-range_with_len}
 use Rattle.history.specs.declared.op_id.OpId.{OpId}
-use Rattle.causal_order.specs.Memory.{MemoryHistory, memory_answer}
-use Rattle.causal_order.specs.MemoryHistories.{IsMemoryHistory}
+use Rattle.memory_order.specs.Memory.{MemoryHistory, memory_answer}
+use Rattle.memory_order.specs.MemoryHistories.{IsMemoryHistory}
 use Rattle.causal_order.specs.Orders.{op}
-use Rattle.causal_order.specs.OverwrittenReads.{HasOverwrittenRead, HasOverwrittenStart}
-use Rattle.causal_order.specs.SourceOrder.{CountsSourceOrder, IsCyclic, IsSourceOf, LacksSource}
+use Rattle.memory_order.specs.OverwrittenReads.{HasOverwrittenRead, HasOverwrittenStart}
+use Rattle.memory_order.specs.SourceOrder.{CountsSourceOrder, IsCyclic, IsSourceOf, LacksSource}
 use Rattle.causal_order.specs.Vectors.{Counts, list_of, count, IsCounted}
 use Rattle.causal_order.proofs.EachOperation.{by_operation, by_operation-one_each, list_of-by_operation}
-use Rattle.causal_order.proofs.ReadAnswers.{history-fits}
+use Rattle.memory_order.proofs.ReadAnswers.{history-fits}
 use Rattle.causal_order.proofs.Searches.{least, below-decided}
-use Rattle.causal_order.proofs.VectorsExist.{source-known, vectors-exist}
+use Rattle.memory_order.proofs.VectorsExist.{source-known, vectors-exist}
 use Rattle.causal_order.proofs.WalksExist.{full-walk}
 use Rattle.cert_check.specs.declared.certificate.Certificate.TheVariants.{Cc}
 use Rattle.cert_check.specs.Criteria.{IsCausallyConsistent}

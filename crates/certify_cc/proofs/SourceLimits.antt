@@ -5,15 +5,15 @@ use Rattle.std.proofs.lemmas.Bool.{cases_eq, cases_lt}
 use Rattle.std.proofs.lemmas.List.{get_or_past}
 use Rattle.history.specs.declared.op_id.OpId.{OpId}
 use Rattle.history.specs.History.{IsOp, session}
-use Rattle.causal_order.proofs.ClosedLimits.{closed-reached}
+use Rattle.memory_order.proofs.ClosedLimits.{closed-reached}
 use Rattle.causal_order.proofs.FullWalks.{walk-within}
-use Rattle.causal_order.proofs.GrowingOrdersLaws.{SourceOrder-of_history}
+use Rattle.memory_order.proofs.GrowingOrdersLaws.{SourceOrder-of_history}
 use Rattle.causal_order.proofs.OrdersLaws.{session-of_history}
-use Rattle.causal_order.proofs.SourceVectors.{program-before, counts-itself, counts-before, counted-of_history, counted-counted, counted-back}
+use Rattle.memory_order.proofs.SourceVectors.{program-before, counts-itself, counts-before, counted-of_history, counted-counted, counted-back}
 use Rattle.causal_order.proofs.Walked.{limit-within}
-use Rattle.causal_order.specs.Memory.{MemoryHistory}
+use Rattle.memory_order.specs.Memory.{MemoryHistory}
 use Rattle.causal_order.specs.Orders.{op}
-use Rattle.causal_order.specs.SourceOrder.{CountsSourceOrder, SourceOrder}
+use Rattle.memory_order.specs.SourceOrder.{CountsSourceOrder, SourceOrder}
 use Rattle.causal_order.specs.Topological.{placed, IsFullWalk}
 use Rattle.causal_order.specs.Vectors.{Counts, count, IsCounted}
 use Rattle.certify_cc.specs.BySources.{AreApart}

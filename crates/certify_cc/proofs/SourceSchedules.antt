@@ -9,17 +9,17 @@ use Rattle.history.specs.History.{IsOp}
 use Rattle.causal_order.proofs.Fronts.{front-take, front-at, push-at, push-last}
 use Rattle.causal_order.proofs.FullWalks.{walk-longer}
 use Rattle.causal_order.proofs.OrdersLaws.{same_op}
-use Rattle.causal_order.proofs.SourceVectors.{counts-before}
+use Rattle.memory_order.proofs.SourceVectors.{counts-before}
 use Rattle.causal_order.proofs.TopologicalLaws.{placed-same}
 use Rattle.causal_order.proofs.Walked.{placed-other}
-use Rattle.causal_order.specs.Memory.{MemoryHistory}
+use Rattle.memory_order.specs.Memory.{MemoryHistory}
 use Rattle.causal_order.specs.Orders.{op, StandsAt}
-use Rattle.causal_order.specs.SourceOrder.{CountsSourceOrder, SourceOrder}
+use Rattle.memory_order.specs.SourceOrder.{CountsSourceOrder, SourceOrder}
 use Rattle.causal_order.specs.Topological.{placed, CanGoOn, IsFullWalk}
 use Rattle.causal_order.specs.Vectors.{Counts, list_of, count, IsCounted}
 use Rattle.cert_check.specs.Schedules.{times, named, StandsBefore, IsSchedule}
 use Rattle.cert_check.proofs.Named.{named_is, named_at, named_within, times-take-le, before_from_counted}
-use Rattle.cert_check.proofs.WalkedSchedules.{step-existing, step-after, walk-ends}
+use Rattle.certify.proofs.WalkedSchedules.{step-existing, step-after, walk-ends}
 use Rattle.certify_cc.specs.BySources.{AreApart}
 use Rattle.certify_cc.proofs.SourceLimits.{write-op, limit-most, apart-to, write-above, write-limit, first-places}
 

@@ -3,8 +3,8 @@ use Rattle.std.specs.Prelude.{◌≡◌, ℕ, ◌<◌, ◌≤◌, List, [], ◌�
 use Rattle.history.specs.declared.op_id.OpId.{OpId}
 use Rattle.history.specs.History.{IsOp}
 use Rattle.causal_order.specs.Orders.{op}
-use Rattle.causal_order.specs.Memory.{MemoryHistory}
-use Rattle.causal_order.specs.SourceOrder.{CountsSourceOrder, IsSourceOf}
+use Rattle.memory_order.specs.Memory.{MemoryHistory}
+use Rattle.memory_order.specs.SourceOrder.{CountsSourceOrder, IsSourceOf}
 use Rattle.causal_order.specs.Topological.{IsFullWalk}
 use Rattle.causal_order.specs.Vectors.{Counts, list_of, count, IsCounted}
 use Rattle.cert_check.specs.declared.certificate.Certificate.{Certificate}

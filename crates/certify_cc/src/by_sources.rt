@@ -4,17 +4,18 @@ ghost use Rattle.std.specs.Prelude.{◌≡◌, ◌⊎◌, ◌+◌, ◌<◌, ◌�
 ghost use Rattle.history.specs.History.{IsOp};
 ghost use Rattle.history.specs.declared.op_id.OpId.{OpId as Operation};
 ghost use Rattle.causal_order.specs.Steps.Gathered.{AreGatheredBefore};
-ghost use Rattle.causal_order.specs.Memory.{memory_answer};
-ghost use Rattle.causal_order.specs.OverwrittenReads.{HasOverwrittenRead, HasOverwrittenStart};
-ghost use Rattle.causal_order.specs.SourceOrder.{CountsSourceOrder, IsCyclic, LacksSource, SourceOrder};
+ghost use Rattle.memory_order.specs.Memory.{memory_answer};
+ghost use Rattle.memory_order.specs.OverwrittenReads.{HasOverwrittenRead, HasOverwrittenStart};
+ghost use Rattle.memory_order.specs.SourceOrder.{CountsSourceOrder, IsCyclic, LacksSource, SourceOrder};
 ghost use Rattle.causal_order.specs.Vectors.{HasOneEach, list_of};
 ghost use Rattle.cert_check.specs.Certificates.{criterion_of, HasShapeOf, IsExplainedThroughout};
 ghost use Rattle.certify_cc.specs.BySources.{IsBySources, IsScheduleFor};
 
 use crate::schedule::schedule_of;
-use causal_order::{CausalOrder, IndexedMemory, Vectors};
+use causal_order::Vectors;
 use cert_check::{Certificate, Criterion, Schedules};
 use history::{History, OpId};
+use memory_order::{CausalOrder, IndexedMemory};
 use objects::Memory;
 use std::alloc::{AllocError, Global};
 

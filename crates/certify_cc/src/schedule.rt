@@ -2,9 +2,8 @@
 
 ghost use Rattle.std.specs.Prelude.{◌≡◌, ◌<◌, ◌≤◌, ℕ, [], length, IfOk, MatchOption, Some, slice_index_or};
 ghost use Rattle.history.specs.declared.op_id.OpId.{OpId as Operation};
-ghost use Rattle.causal_order.specs.Sources.{IsListed};
+ghost use Rattle.causal_order.specs.Vectors.{IsListed, list_of};
 ghost use Rattle.causal_order.specs.Topological.{AreSquare, IsFullWalk};
-ghost use Rattle.causal_order.specs.Vectors.{list_of};
 ghost use Rattle.certify_cc.specs.BySources.{AreApart, IsApart, IsBySource};
 
 use causal_order::{Vectors, Walk};

@@ -4,21 +4,19 @@ use Rattle.std.proofs.Common.{◌≡◌, ◌≢◌, ℕ, ◌+◌, ◌-◌, ◌<�
 use Rattle.std.proofs.lemmas.Option.{slice_get_within}
 use Rattle.history.specs.declared.op_id.OpId.{OpId}
 use Rattle.history.specs.History.{IsOp, Precedes}
-use Rattle.causal_order.specs.Memory.{MemoryHistory, Writes, Reads}
-use Rattle.causal_order.specs.Orders.{op}
-use Rattle.causal_order.specs.Relations.{Leads}
-use Rattle.causal_order.specs.SourceOrder.{CountsSourceOrder, IsSource, IsSourceEdge, SourceOrder}
-use Rattle.causal_order.specs.Sources.{IsListed}
-use Rattle.causal_order.specs.Steps.Conflicts.{IsCountedWrite, IsDue}
+use Rattle.memory_order.specs.Memory.{MemoryHistory, Writes, Reads}
+use Rattle.causal_order.specs.Orders.{op, Leads}
+use Rattle.memory_order.specs.SourceOrder.{CountsSourceOrder, IsSource, IsSourceEdge, SourceOrder}
+use Rattle.causal_order.specs.Vectors.{IsListed, Counts, count}
+use Rattle.memory_order.specs.Steps.Conflicts.{IsCountedWrite, IsDue}
 use Rattle.causal_order.specs.Topological.{placed, next_of}
-use Rattle.causal_order.specs.Vectors.{Counts, count}
 use Rattle.causal_order.specs.Waits.{AreAlike, AreWaitsFor, CanFollow, IsAwaited, IsTopologicalOrder, IsWaitEdge, IsWaitingCycle}
 use Rattle.causal_order.proofs.Items.{cases-op}
-use Rattle.causal_order.proofs.MemoryLaws.{read-of_history, same_read, same_written, write-or_read}
+use Rattle.memory_order.proofs.MemoryLaws.{read-of_history, same_read, same_written, write-or_read}
 use Rattle.causal_order.proofs.OrdersLaws.{same_op}
 use Rattle.causal_order.proofs.Placed.{front-places, placed-up}
-use Rattle.causal_order.proofs.RelationsLaws.{last-edge, leads-back, leads-edge, leads-wider}
-use Rattle.causal_order.proofs.SourceVectors.{before-counted, counts-before}
+use Rattle.causal_order.proofs.PathsLaws.{last-edge, leads-back, leads-edge, leads-wider}
+use Rattle.memory_order.proofs.SourceVectors.{before-counted, counts-before}
 use Rattle.causal_order.proofs.WaitsLead.{cycle-leads}
 use Rattle.certify_ccv.specs.ByConflicts.{SourceConflict, ComesFirst, CanStand, GoesByRule}
 

@@ -6,22 +6,23 @@ use Rattle.std.proofs.lemmas.Bool.{cases_eq, cases_lt}
 use Rattle.std.proofs.lemmas.List.FromFn.{get_or-map-range_with_len}
 use Rattle.history.specs.declared.op_id.OpId.{OpId}
 use Rattle.history.specs.History.{IsOp, session}
-use Rattle.causal_order.specs.Memory.{MemoryHistory, memory_answer}
-use Rattle.causal_order.specs.MemoryHistories.{IsMemoryHistory}
-use Rattle.causal_order.specs.OverwrittenReads.{HasOverwrittenStart}
-use Rattle.causal_order.specs.Relations.{AreRivalWrites, Leads, CO, CF}
-use Rattle.causal_order.specs.SourceOrder.{CountsSourceOrder, IsCyclic, IsSource, LacksSource, SourceOrder}
+use Rattle.memory_order.specs.Memory.{MemoryHistory, memory_answer}
+use Rattle.memory_order.specs.MemoryHistories.{IsMemoryHistory}
+use Rattle.memory_order.specs.OverwrittenReads.{HasOverwrittenStart}
+use Rattle.memory_order.specs.Relations.{AreRivalWrites, CO, CF}
+use Rattle.causal_order.specs.Orders.{Leads}
+use Rattle.memory_order.specs.SourceOrder.{CountsSourceOrder, IsCyclic, IsSource, LacksSource, SourceOrder}
 use Rattle.causal_order.specs.Topological.{placed, next_of}
 use Rattle.causal_order.specs.Vectors.{Counts}
-use Rattle.causal_order.proofs.FirstWrites.{CO-from_sources}
+use Rattle.memory_order.proofs.FirstWrites.{CO-from_sources}
 use Rattle.causal_order.proofs.Fronts.{each-push}
-use Rattle.causal_order.proofs.MemoryLaws.{read-of_history}
-use Rattle.causal_order.proofs.OrderDecisions.{rivals-decided, source-decided, before-decided}
+use Rattle.memory_order.proofs.MemoryLaws.{read-of_history}
+use Rattle.memory_order.proofs.OrderDecisions.{rivals-decided, source-decided, before-decided}
 use Rattle.causal_order.proofs.OrdersLaws.{session-of_history}
-use Rattle.causal_order.proofs.ReadAnswers.{history-fits}
-use Rattle.causal_order.proofs.RelationsLaws.{leads-edge, leads-leads, leads-wider}
+use Rattle.memory_order.proofs.ReadAnswers.{history-fits}
+use Rattle.causal_order.proofs.PathsLaws.{leads-edge, leads-leads, leads-wider}
 use Rattle.causal_order.proofs.Searches.{IsDecided, both-decided, either-decided, least, some_operation}
-use Rattle.causal_order.proofs.VectorsExist.{vectors-exist}
+use Rattle.memory_order.proofs.VectorsExist.{vectors-exist}
 use Rattle.causal_order.proofs.WaitingCycles.{waiting-cycle}
 use Rattle.causal_order.proofs.Walked.{placed-other, room, room-push}
 use Rattle.causal_order.proofs.TopologicalLaws.{placed-same}

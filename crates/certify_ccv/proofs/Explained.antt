@@ -6,16 +6,16 @@ use Rattle.std.proofs.lemmas.Bool.{cases_eq, cases_lt}
 use Rattle.std.proofs.lemmas.Option.{same_Some}
 use Rattle.history.specs.declared.op_id.OpId.{OpId}
 use Rattle.history.specs.History.{IsOp, session}
-use Rattle.causal_order.proofs.FirstWrites.{CO-from_sources}
-use Rattle.causal_order.proofs.MemoryLaws.{same_read, write-or_read}
-use Rattle.causal_order.proofs.ReadAnswers.{Fits, AnswersBehind, answers-source, answers-start}
-use Rattle.causal_order.proofs.RelationsLaws.{leads-edge}
-use Rattle.causal_order.proofs.SourcesExist.{read-source}
-use Rattle.causal_order.proofs.SourceVectors.{counts-before, before-counted, counted-of_history, order-vector_ok}
-use Rattle.causal_order.specs.Memory.{MemoryHistory, memory_answer, initial, Writes, Reads}
+use Rattle.memory_order.proofs.FirstWrites.{CO-from_sources}
+use Rattle.memory_order.proofs.MemoryLaws.{same_read, write-or_read}
+use Rattle.memory_order.proofs.ReadAnswers.{Fits, AnswersBehind, answers-source, answers-start}
+use Rattle.causal_order.proofs.PathsLaws.{leads-edge}
+use Rattle.memory_order.proofs.SourcesExist.{read-source}
+use Rattle.memory_order.proofs.SourceVectors.{counts-before, before-counted, counted-of_history, order-vector_ok}
+use Rattle.memory_order.specs.Memory.{MemoryHistory, memory_answer, initial, Writes, Reads}
 use Rattle.causal_order.specs.Orders.{only, StandsAt}
-use Rattle.causal_order.specs.OverwrittenReads.{HasOverwrittenStart}
-use Rattle.causal_order.specs.SourceOrder.{CountsSourceOrder, IsSource, IsSourceEdge, SourceOrder}
+use Rattle.memory_order.specs.OverwrittenReads.{HasOverwrittenStart}
+use Rattle.memory_order.specs.SourceOrder.{CountsSourceOrder, IsSource, IsSourceEdge, SourceOrder}
 use Rattle.causal_order.specs.Vectors.{Counts, count, IsCounted}
 use Rattle.cert_check.specs.declared.certificate.Certificate.{Certificate}
 use Rattle.cert_check.specs.declared.certificate.Certificate.TheVariants.{Cc, Cm, Ccv}
@@ -24,8 +24,8 @@ use Rattle.cert_check.specs.Schedules.{times, named, StandsBefore}
 use Rattle.cert_check.proofs.ConvergentLaws.{only-same}
 use Rattle.cert_check.proofs.FilteredLaws.{filter_keeps, filter_from, filter_in_order}
 use Rattle.cert_check.proofs.Named.{named_is, named_each, named_once, before_from_counted}
-use Rattle.cert_check.proofs.ReadPieces.{explains-reads}
-use Rattle.cert_check.proofs.WalkedSchedules.{next-is}
+use Rattle.certify.proofs.ReadPieces.{explains-reads}
+use Rattle.certify.proofs.WalkedSchedules.{next-is}
 use Rattle.certify_ccv.specs.ByConflicts.{ComesFirst, GoesByRule, IsByConflicts}
 
 module _ (h : MemoryHistory) (list : List ℕ) (by_rule : GoesByRule h list) where

@@ -3,13 +3,12 @@ use Rattle.std.proofs.Common.{◌≡◌, ◌≢◌, ℕ, ◌<◌, ◌≤◌, inl
 use Rattle.std.proofs.lemmas.Bool.{cases_eq}
 use Rattle.history.specs.declared.op_id.OpId.{OpId}
 use Rattle.history.specs.History.{IsOp, session}
-use Rattle.causal_order.proofs.GrowingOrdersLaws.{SourceOrder-of_history}
-use Rattle.causal_order.specs.Memory.{MemoryHistory}
-use Rattle.causal_order.proofs.MemoryLaws.{write-of_history}
-use Rattle.causal_order.specs.Orders.{op}
-use Rattle.causal_order.specs.Relations.{Leads}
-use Rattle.causal_order.proofs.RelationsLaws.{leads-edge, leads-first}
-use Rattle.causal_order.specs.SourceOrder.{IsSourceEdge, SourceOrder}
+use Rattle.memory_order.proofs.GrowingOrdersLaws.{SourceOrder-of_history}
+use Rattle.memory_order.specs.Memory.{MemoryHistory}
+use Rattle.memory_order.proofs.MemoryLaws.{write-of_history}
+use Rattle.causal_order.specs.Orders.{op, Leads}
+use Rattle.causal_order.proofs.PathsLaws.{leads-edge, leads-first}
+use Rattle.memory_order.specs.SourceOrder.{IsSourceEdge, SourceOrder}
 use Rattle.causal_order.specs.Topological.{placed, next_of}
 use Rattle.certify_ccv.specs.ByConflicts.{SourceConflict, ComesFirst}
 

@@ -2,9 +2,9 @@
 use Rattle.std.specs.Prelude.{◌≡◌, ◌⊎◌, ℕ, ◌<◌, List, Some, slice_get, take}
 use Rattle.history.specs.declared.op_id.OpId.{OpId}
 use Rattle.history.specs.History.{IsOp}
-use Rattle.causal_order.specs.Memory.{MemoryHistory}
-use Rattle.causal_order.specs.Relations.{AreRivalWrites}
-use Rattle.causal_order.specs.SourceOrder.{CountsSourceOrder, IsSource, SourceOrder}
+use Rattle.memory_order.specs.Memory.{MemoryHistory}
+use Rattle.memory_order.specs.Relations.{AreRivalWrites}
+use Rattle.memory_order.specs.SourceOrder.{CountsSourceOrder, IsSource, SourceOrder}
 use Rattle.causal_order.specs.Topological.{placed, next_of}
 use Rattle.causal_order.specs.Vectors.{Counts}
 use Rattle.cert_check.specs.declared.certificate.Certificate.{Certificate}

@@ -3,21 +3,20 @@
 
 ghost use Rattle.std.specs.Prelude.{◌≡◌, ◌⊎◌, IfNone, IfOk, IfSome};
 ghost use Rattle.history.specs.declared.op_id.OpId.{OpId as Operation};
-ghost use Rattle.causal_order.specs.Relations.{Leads};
+ghost use Rattle.causal_order.specs.Orders.{Leads};
 ghost use Rattle.std.specs.Prelude.{IsSome};
-ghost use Rattle.causal_order.specs.Memory.{memory_answer};
-ghost use Rattle.causal_order.specs.OverwrittenReads.{HasOverwrittenStart};
-ghost use Rattle.causal_order.specs.Relations.{CF, CO};
+ghost use Rattle.memory_order.specs.Memory.{memory_answer};
+ghost use Rattle.memory_order.specs.OverwrittenReads.{HasOverwrittenStart};
+ghost use Rattle.memory_order.specs.Relations.{CF, CO};
 ghost use Rattle.cert_check.specs.Certificates.{IsExplainedThroughout};
-ghost use Rattle.causal_order.specs.SourceOrder.{CountsSourceOrder, LacksSource};
+ghost use Rattle.memory_order.specs.SourceOrder.{CountsSourceOrder, LacksSource};
 ghost use Rattle.cert_check.specs.Certificates.{criterion_of, HasShapeOf};
 ghost use Rattle.certify_ccv.specs.ByConflicts.{ComesFirst, IsByConflicts};
 
-use causal_order::{
-    CausalOrder, IndexedMemory, OrderOrCycle, Vectors, topological_sort, waits_with_conflicts,
-};
+use causal_order::{OrderOrCycle, Vectors, topological_sort};
 use cert_check::{Arbitration, Certificate, Criterion};
 use history::History;
+use memory_order::{CausalOrder, IndexedMemory, waits_with_conflicts};
 use objects::Memory;
 use std::alloc::{AllocError, Global};
 

@@ -1,8 +1,8 @@
 //! What holds of these certificates. The functions do nothing: what they ensure is the law.
 
-ghost use Rattle.causal_order.specs.Memory.{MemoryHistory, memory_answer};
-ghost use Rattle.causal_order.specs.MemoryHistories.{IsMemoryHistory};
-ghost use Rattle.causal_order.specs.OverwrittenReads.{HasOverwrittenStart};
+ghost use Rattle.memory_order.specs.Memory.{MemoryHistory, memory_answer};
+ghost use Rattle.memory_order.specs.MemoryHistories.{IsMemoryHistory};
+ghost use Rattle.memory_order.specs.OverwrittenReads.{HasOverwrittenStart};
 ghost use Rattle.cert_check.specs.Certificates.{HasShapeOf, IsExplainedThroughout};
 ghost use Rattle.certify_ccv.specs.ByConflicts.{IsByConflicts};
 

@@ -5,25 +5,25 @@ use Rattle.std.specs.Prelude.{◌≢◌, IsTrue}
 use Rattle.std.proofs.lemmas.Bool.{cases_eq, cases_lt}
 use Rattle.history.specs.declared.op_id.OpId.{OpId}
 use Rattle.history.specs.History.{IsOp}
-use Rattle.causal_order.proofs.HappenedBeforeLaws.{program_past-parts, HB-read}
-use Rattle.causal_order.proofs.MemoryLaws.{same_read}
-use Rattle.causal_order.proofs.ReadAnswers.{Fits, AnswersBehind, answers-source, answers-start}
-use Rattle.causal_order.proofs.RelationsLaws.{leads-edge}
-use Rattle.causal_order.proofs.SourcesExist.{read-source}
-use Rattle.causal_order.proofs.SourceVectors.{order-vector_ok}
-use Rattle.causal_order.specs.HappenedBeforePatterns.{HasHBCycle, HasStartOverwrittenInHB}
-use Rattle.causal_order.specs.HappenedBeforeVectors.{IsHBVectors}
-use Rattle.causal_order.specs.Memory.{MemoryHistory, memory_answer, initial, IsDifferentiated, Writes, Reads}
+use Rattle.memory_order.proofs.HappenedBeforeLaws.{program_past-parts, HB-read}
+use Rattle.memory_order.proofs.MemoryLaws.{same_read}
+use Rattle.memory_order.proofs.ReadAnswers.{Fits, AnswersBehind, answers-source, answers-start}
+use Rattle.causal_order.proofs.PathsLaws.{leads-edge}
+use Rattle.memory_order.proofs.SourcesExist.{read-source}
+use Rattle.memory_order.proofs.SourceVectors.{order-vector_ok}
+use Rattle.memory_order.specs.HappenedBeforePatterns.{HasHBCycle, HasStartOverwrittenInHB}
+use Rattle.memory_order.specs.HappenedBeforeVectors.{IsHBVectors}
+use Rattle.memory_order.specs.Memory.{MemoryHistory, memory_answer, initial, IsDifferentiated, Writes, Reads}
 use Rattle.causal_order.specs.Orders.{program_past, StandsAt}
-use Rattle.causal_order.specs.Relations.{IsEdge, ReadsFrom, HB}
-use Rattle.causal_order.specs.SourceOrder.{CountsSourceOrder}
+use Rattle.memory_order.specs.Relations.{IsEdge, ReadsFrom, HB}
+use Rattle.memory_order.specs.SourceOrder.{CountsSourceOrder}
 use Rattle.causal_order.specs.Vectors.{Counts, list_of}
 use Rattle.cert_check.specs.declared.certificate.Certificate.{Certificate}
 use Rattle.cert_check.specs.declared.certificate.Certificate.TheVariants.{Cc, Cm, Ccv}
 use Rattle.cert_check.specs.Certificates.{IsScheduledPiece, IsExplainedThroughout}
 use Rattle.cert_check.specs.Schedules.{named, StandsBefore}
 use Rattle.cert_check.proofs.Named.{named_once}
-use Rattle.cert_check.proofs.ReadPieces.{explains-reads}
+use Rattle.certify.proofs.ReadPieces.{explains-reads}
 use Rattle.certify_cm.specs.ByTurns.{IsByTurns}
 use Rattle.certify_cm.specs.Turns.{AreTurns}
 use Rattle.certify_cm.proofs.TurnPieces.{happened-stands, stands-happened, causal-stands, turns-schedule}

@@ -2,16 +2,16 @@
 use Rattle.std.proofs.Common.{ℕ, zero, suc, ◌+◌, List, [], ◌∷◌, ◌++◌, refl}
 use Rattle.history.specs.declared.op_id.OpId.{OpId}
 use Rattle.history.specs.History.{IsOp}
-use Rattle.causal_order.proofs.HappenedBeforeExists.{HB-vectors}
-use Rattle.causal_order.proofs.ReadAnswers.{history-fits}
-use Rattle.causal_order.proofs.SourceVectors.{order-vector_ok}
-use Rattle.causal_order.proofs.VectorsExist.{vectors-exist}
+use Rattle.memory_order.proofs.HappenedBeforeExists.{HB-vectors}
+use Rattle.memory_order.proofs.ReadAnswers.{history-fits}
+use Rattle.memory_order.proofs.SourceVectors.{order-vector_ok}
+use Rattle.memory_order.proofs.VectorsExist.{vectors-exist}
 use Rattle.causal_order.proofs.WalksExist.{full-walk}
-use Rattle.causal_order.specs.HappenedBeforePatterns.{HasHBCycle, HasStartOverwrittenInHB}
-use Rattle.causal_order.specs.Memory.{MemoryHistory, memory_answer, IsDifferentiated}
-use Rattle.causal_order.specs.MemoryHistories.{IsMemoryHistory}
+use Rattle.memory_order.specs.HappenedBeforePatterns.{HasHBCycle, HasStartOverwrittenInHB}
+use Rattle.memory_order.specs.Memory.{MemoryHistory, memory_answer, IsDifferentiated}
+use Rattle.memory_order.specs.MemoryHistories.{IsMemoryHistory}
 use Rattle.causal_order.specs.Orders.{op, program_past}
-use Rattle.causal_order.specs.SourceOrder.{CountsSourceOrder, IsCyclic, LacksSource}
+use Rattle.memory_order.specs.SourceOrder.{CountsSourceOrder, IsCyclic, LacksSource}
 use Rattle.causal_order.specs.Vectors.{Counts, list_of}
 use Rattle.cert_check.specs.Certificates.{IsScheduledPiece}
 use Rattle.cert_check.specs.Criteria.{IsCausalMemory}

@@ -4,20 +4,20 @@ use Rattle.std.specs.Prelude.{◌≢◌}
 use Rattle.std.proofs.lemmas.Bool.{cases_eq}
 use Rattle.history.specs.declared.op_id.OpId.{OpId}
 use Rattle.history.specs.History.{IsOp}
-use Rattle.causal_order.proofs.FirstWrites.{CO-from_sources}
-use Rattle.causal_order.proofs.HappenedBeforeCounts.{counted-happened, happened-counted, other-happened}
-use Rattle.causal_order.proofs.HappenedBeforeLaws.{past-before, past-of_history, HB-causal}
-use Rattle.causal_order.proofs.SourceVectors.{before-counted, own-count}
-use Rattle.causal_order.specs.HappenedBeforeVectors.{IsHBVectors}
-use Rattle.causal_order.specs.Memory.{MemoryHistory, IsDifferentiated}
+use Rattle.memory_order.proofs.FirstWrites.{CO-from_sources}
+use Rattle.memory_order.proofs.HappenedBeforeCounts.{counted-happened, happened-counted, other-happened}
+use Rattle.memory_order.proofs.HappenedBeforeLaws.{past-before, past-of_history, HB-causal}
+use Rattle.memory_order.proofs.SourceVectors.{before-counted, own-count}
+use Rattle.memory_order.specs.HappenedBeforeVectors.{IsHBVectors}
+use Rattle.memory_order.specs.Memory.{MemoryHistory, IsDifferentiated}
 use Rattle.causal_order.specs.Orders.{StandsAt}
-use Rattle.causal_order.specs.Relations.{CO, IsPast, HB}
-use Rattle.causal_order.specs.SourceOrder.{CountsSourceOrder}
+use Rattle.memory_order.specs.Relations.{CO, IsPast, HB}
+use Rattle.memory_order.specs.SourceOrder.{CountsSourceOrder}
 use Rattle.causal_order.specs.Topological.{placed}
 use Rattle.causal_order.specs.Vectors.{Counts, count}
 use Rattle.cert_check.specs.Schedules.{times, named, StandsBefore, IsSchedule}
 use Rattle.cert_check.proofs.Named.{named_is, counted_from_before, before_from_counted}
-use Rattle.cert_check.proofs.WalkedSchedules.{next-is}
+use Rattle.certify.proofs.WalkedSchedules.{next-is}
 use Rattle.certify_cm.specs.Turns.{AreTurns}
 use Rattle.certify_cm.proofs.TurnPlaces.{turn-own, turn-other, turns-within}
 use Rattle.certify_cm.proofs.TurnSchedules.{IsReached, turns-reached}

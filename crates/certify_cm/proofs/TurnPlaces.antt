@@ -5,16 +5,16 @@ use Rattle.std.proofs.lemmas.Bool.{cases_eq}
 use Rattle.history.specs.declared.op_id.OpId.{OpId}
 use Rattle.history.specs.History.{IsOp}
 use Rattle.causal_order.proofs.FullWalks.{walk-within, full-walk_reaches}
-use Rattle.causal_order.proofs.HappenedBeforeCounts.{counted-happened, happened-counted, counted-in_past, own-happened, happened-within}
-use Rattle.causal_order.proofs.HappenedBeforeLaws.{program_past-from, past-program, past-of_history, HB-transitive}
-use Rattle.causal_order.proofs.SourcedLaws.{listed-op}
+use Rattle.memory_order.proofs.HappenedBeforeCounts.{counted-happened, happened-counted, counted-in_past, own-happened, happened-within}
+use Rattle.memory_order.proofs.HappenedBeforeLaws.{program_past-from, past-program, past-of_history, HB-transitive}
+use Rattle.memory_order.proofs.SourcedLaws.{listed-op}
 use Rattle.causal_order.proofs.TopologicalLaws.{placed-same}
 use Rattle.causal_order.proofs.Walked.{placed-other}
-use Rattle.causal_order.specs.HappenedBeforeVectors.{IsHBVectors}
-use Rattle.causal_order.specs.Memory.{MemoryHistory, IsDifferentiated}
+use Rattle.memory_order.specs.HappenedBeforeVectors.{IsHBVectors}
+use Rattle.memory_order.specs.Memory.{MemoryHistory, IsDifferentiated}
 use Rattle.causal_order.specs.Orders.{op}
-use Rattle.causal_order.specs.Relations.{IsPast, HB}
-use Rattle.causal_order.specs.SourceOrder.{CountsSourceOrder}
+use Rattle.memory_order.specs.Relations.{IsPast, HB}
+use Rattle.memory_order.specs.SourceOrder.{CountsSourceOrder}
 use Rattle.causal_order.specs.Topological.{placed, next_of}
 use Rattle.causal_order.specs.Vectors.{Counts, count, list_of}
 use Rattle.certify_cm.specs.Turns.{IsTurn, AreTurns}

@@ -7,12 +7,12 @@ use Rattle.std.proofs.lemmas.Option.{slice_get_within}
 use Rattle.history.specs.declared.op_id.OpId.{OpId}
 use Rattle.history.specs.History.{IsOp}
 use Rattle.causal_order.proofs.Fronts.{front-take, front-at, push-at, push-last}
-use Rattle.causal_order.proofs.HappenedBeforeCounts.{counted-in_past, own-happened}
-use Rattle.causal_order.specs.HappenedBeforeVectors.{IsHBVectors}
-use Rattle.causal_order.specs.Memory.{MemoryHistory, IsDifferentiated}
+use Rattle.memory_order.proofs.HappenedBeforeCounts.{counted-in_past, own-happened}
+use Rattle.memory_order.specs.HappenedBeforeVectors.{IsHBVectors}
+use Rattle.memory_order.specs.Memory.{MemoryHistory, IsDifferentiated}
 use Rattle.causal_order.specs.Orders.{op}
-use Rattle.causal_order.specs.Relations.{IsPast, HB}
-use Rattle.causal_order.specs.SourceOrder.{CountsSourceOrder}
+use Rattle.memory_order.specs.Relations.{IsPast, HB}
+use Rattle.memory_order.specs.SourceOrder.{CountsSourceOrder}
 use Rattle.causal_order.specs.Topological.{placed, next_of}
 use Rattle.causal_order.specs.Vectors.{Counts, count}
 use Rattle.cert_check.proofs.Named.{times-take-le}

@@ -2,11 +2,11 @@
 use Rattle.std.specs.Prelude.{ℕ, ◌+◌, ◌⊎◌, List}
 use Rattle.history.specs.declared.op_id.OpId.{OpId}
 use Rattle.history.specs.History.{IsOp}
-use Rattle.causal_order.specs.HappenedBeforeVectors.{IsHBVectors}
-use Rattle.causal_order.specs.Memory.{MemoryHistory, IsDifferentiated}
-use Rattle.causal_order.specs.Relations.{HB}
-use Rattle.causal_order.specs.SourceOrder.{CountsSourceOrder}
-use Rattle.causal_order.specs.Steps.HappenedBefores.{HasMorePairs}
+use Rattle.memory_order.specs.HappenedBeforeVectors.{IsHBVectors}
+use Rattle.memory_order.specs.Memory.{MemoryHistory, IsDifferentiated}
+use Rattle.memory_order.specs.Relations.{HB}
+use Rattle.memory_order.specs.SourceOrder.{CountsSourceOrder}
+use Rattle.memory_order.specs.Steps.HappenedBefores.{HasMorePairs}
 use Rattle.causal_order.specs.Vectors.{Counts, list_of}
 use Rattle.cert_check.specs.declared.certificate.Certificate.{Certificate}
 use Rattle.cert_check.specs.declared.certificate.Certificate.TheVariants.{Cc, Cm, Ccv}

@@ -3,18 +3,19 @@
 ghost use Rattle.std.specs.Prelude.{◌≡◌, ◌⊎◌, ◌+◌, ◌<◌, ◌≤◌, length, IfNone, IfOk, IfSome, IsTrue, IsFalse};
 ghost use Rattle.history.specs.History.{IsOp};
 ghost use Rattle.history.specs.declared.op_id.OpId.{OpId as Operation};
-ghost use Rattle.causal_order.specs.HappenedBeforePatterns.{HasHBCycle, HasStartOverwrittenInHB};
-ghost use Rattle.causal_order.specs.Memory.{memory_answer, IsDifferentiated};
+ghost use Rattle.memory_order.specs.HappenedBeforePatterns.{HasHBCycle, HasStartOverwrittenInHB};
+ghost use Rattle.memory_order.specs.Memory.{memory_answer, IsDifferentiated};
 ghost use Rattle.causal_order.specs.Steps.Gathered.{AreGatheredBefore};
-ghost use Rattle.causal_order.specs.SourceOrder.{CountsSourceOrder, IsCyclic, LacksSource};
+ghost use Rattle.memory_order.specs.SourceOrder.{CountsSourceOrder, IsCyclic, LacksSource};
 ghost use Rattle.causal_order.specs.Vectors.{HasOneEach, list_of};
 ghost use Rattle.cert_check.specs.Certificates.{criterion_of, HasShapeOf, IsExplainedThroughout, vectors_of};
 ghost use Rattle.certify_cm.specs.ByTurns.{HasNoTurns, IsByTurns, TakesTurns};
 
 use crate::schedule::schedule_of;
-use causal_order::{CausalOrder, HappenedBefore, IndexedMemory, MOST_PAIRS, Saturation, Vectors};
+use causal_order::Vectors;
 use cert_check::{Certificate, Criterion, Schedules};
 use history::{History, OpId};
+use memory_order::{CausalOrder, HappenedBefore, IndexedMemory, MOST_PAIRS, Saturation};
 use objects::Memory;
 use std::alloc::{AllocError, Global};
 

@@ -1,8 +1,8 @@
 //! What holds of these certificates. The functions do nothing: what they ensure is the law.
 
-ghost use Rattle.causal_order.specs.HappenedBeforePatterns.{HasHBCycle, HasStartOverwrittenInHB};
-ghost use Rattle.causal_order.specs.Memory.{MemoryHistory, memory_answer, IsDifferentiated};
-ghost use Rattle.causal_order.specs.MemoryHistories.{IsMemoryHistory};
+ghost use Rattle.memory_order.specs.HappenedBeforePatterns.{HasHBCycle, HasStartOverwrittenInHB};
+ghost use Rattle.memory_order.specs.Memory.{MemoryHistory, memory_answer, IsDifferentiated};
+ghost use Rattle.memory_order.specs.MemoryHistories.{IsMemoryHistory};
 ghost use Rattle.cert_check.specs.Certificates.{IsExplainedThroughout};
 ghost use Rattle.certify_cm.specs.ByTurns.{IsByTurns};
 

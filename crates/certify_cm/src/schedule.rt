@@ -2,7 +2,7 @@
 
 ghost use Rattle.std.specs.Prelude.{◌≡◌, ◌+◌, ◌<◌, ◌≤◌, length, IfOk};
 ghost use Rattle.history.specs.History.{IsOp, session};
-ghost use Rattle.causal_order.specs.Steps.GrowingOrders.{AreHeldVectors};
+ghost use Rattle.memory_order.specs.Steps.GrowingOrders.{AreHeldVectors};
 ghost use Rattle.certify_cm.specs.Turns.{AreTurns};
 
 use causal_order::{Vectors, Walk};

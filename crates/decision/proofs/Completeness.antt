@@ -4,9 +4,9 @@ use Rattle.std.specs.Prelude.{IsTrue}
 use Rattle.cert_check.specs.declared.criterion.Criterion.{Criterion}
 use Rattle.cert_check.specs.declared.criterion.Criterion.TheVariants.{Cc, Cm, Ccv}
 use Rattle.cert_check.specs.Criteria.{Meets}
-use Rattle.causal_order.specs.Memory.{MemoryHistory, IsDifferentiated, memory_answer}
-use Rattle.causal_order.specs.MemoryHistories.{IsMemoryHistory}
-use Rattle.causal_order.specs.SourceOrder.{LacksSource}
+use Rattle.memory_order.specs.Memory.{MemoryHistory, IsDifferentiated, memory_answer}
+use Rattle.memory_order.specs.MemoryHistories.{IsMemoryHistory}
+use Rattle.memory_order.specs.SourceOrder.{LacksSource}
 use Rattle.bad_patterns.specs.declared.kind.Kind.{Kind}
 use Rattle.bad_patterns.specs.declared.kind.Kind.TheVariants.{CyclicCO, ThinAirRead, WriteCOInitRead, WriteCORead, WriteHBInitRead, CyclicHB, CyclicCF}
 use Rattle.bad_patterns.specs.Kinds.{is_against, IsPresent, Shows}

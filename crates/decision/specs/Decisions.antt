@@ -1,7 +1,7 @@
 -- What a decision says of a memory history and a criterion. (This project's profile.)
 use Rattle.cert_check.specs.declared.criterion.Criterion.{Criterion}
 use Rattle.cert_check.specs.Criteria.{Meets}
-use Rattle.causal_order.specs.Memory.{MemoryHistory, IsDifferentiated, memory_answer}
+use Rattle.memory_order.specs.Memory.{MemoryHistory, IsDifferentiated, memory_answer}
 use Rattle.bad_patterns.specs.declared.kind.Kind.TheVariants.{ThinAirRead}
 use Rattle.bad_patterns.specs.Kinds.{IsPresent}
 use Rattle.bad_patterns.specs.Patterns.{IsBadPattern, IsTrueNo}

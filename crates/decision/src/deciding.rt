@@ -3,9 +3,10 @@
 ghost use Rattle.std.specs.Prelude.{IfOk};
 ghost use Rattle.decision.specs.Decisions.{IsDecided};
 
-use bad_patterns::{Kind, Pattern, find_in};
-use causal_order::IndexedMemory;
+use bad_patterns::{Kind, Pattern};
 use cert_check::Criterion;
+use memory_order::IndexedMemory;
+use pattern_search::find_in;
 use std::alloc::{AllocError, Global};
 
 /// What is decided of a memory history and a criterion.

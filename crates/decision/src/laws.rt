@@ -1,7 +1,7 @@
 //! What decides whether a memory history meets a criterion. The function does nothing: what it ensures is the law.
 
 ghost use Rattle.std.specs.Prelude.{◌↔◌, IsTrue};
-ghost use Rattle.causal_order.specs.Memory.{IsDifferentiated, memory_answer};
+ghost use Rattle.memory_order.specs.Memory.{IsDifferentiated, memory_answer};
 ghost use Rattle.cert_check.specs.Criteria.{Meets};
 ghost use Rattle.bad_patterns.specs.Kinds.{is_against, IsPresent};
 

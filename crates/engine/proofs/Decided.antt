@@ -2,7 +2,7 @@
 use Rattle.std.specs.Prelude.{◌≡◌, ◌↔◌}
 use Rattle.std.proofs.Common.{refl}
 use Rattle.bad_patterns.specs.declared.kind.Kind.{Kind}
-use Rattle.causal_order.specs.Memory.{MemoryHistory, IsDifferentiated, memory_answer}
+use Rattle.memory_order.specs.Memory.{MemoryHistory, IsDifferentiated, memory_answer}
 use Rattle.cert_check.specs.declared.criterion.Criterion.{Criterion}
 use Rattle.cert_check.specs.Criteria.{Meets}
 use Rattle.operations.specs.declared.any_history.AnyHistory.{AnyHistory}

@@ -13,7 +13,7 @@ use Rattle.objects.specs.AddRemoveSet.{answer as set_answer}
 use Rattle.objects.specs.Queue.{answer as queue_answer}
 use Rattle.objects.specs.Keyed.{answer as keyed_answer}
 use Rattle.history.specs.History.{Record}
-use Rattle.causal_order.specs.Memory.{IsDifferentiated, memory_answer}
+use Rattle.memory_order.specs.Memory.{IsDifferentiated, memory_answer}
 use Rattle.cert_check.specs.declared.certificate.Certificate.{Certificate}
 use Rattle.cert_check.specs.Certificates.{HasShapeOf, IsFirstUnexplained, criterion_of}
 use Rattle.cert_check.specs.Criteria.{Meets}

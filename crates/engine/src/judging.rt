@@ -1,7 +1,7 @@
 //! What is known of a history, for each criterion.
 
 ghost use Rattle.std.specs.Prelude.{◌≡◌, IfErr, IfOk, IfSome};
-ghost use Rattle.causal_order.specs.Memory.{memory_answer};
+ghost use Rattle.memory_order.specs.Memory.{memory_answer};
 ghost use Rattle.cert_check.specs.Certificates.{HasShapeOf, criterion_of};
 ghost use Rattle.cert_check.specs.Criteria.{Meets};
 ghost use Rattle.engine.specs.Report.{IsFounded, IsTrueOf, IsUnexplainedOf, NamesUnexplained, IsKnownOnDistinctValues, answer_for};
@@ -10,9 +10,9 @@ use crate::checking::answer_of_pieces;
 use crate::failure::RunError;
 use crate::report::{Answer, Report};
 use bad_patterns::laws::bad_patterns_exclude_criteria;
-use causal_order::IndexedMemory;
 use cert_check::{Certificate, Criterion};
 use decision::{Decision, decide};
+use memory_order::IndexedMemory;
 use object_trait::SeqObject;
 use objects::Memory;
 use operations::{AnyHistory, History};

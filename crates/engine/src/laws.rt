@@ -1,7 +1,7 @@
 //! Laws of runs: the contract of each function is the law, and the function does nothing.
 
 ghost use Rattle.std.specs.Prelude.{List, Option, Some, length, ◌+◌, ◌<◌, ◌≤◌, ◌≡◌, ◌↔◌, ◌⊎◌, ℕ};
-ghost use Rattle.causal_order.specs.Memory.{IsDifferentiated, MemoryHistory, memory_answer};
+ghost use Rattle.memory_order.specs.Memory.{IsDifferentiated, MemoryHistory, memory_answer};
 ghost use Rattle.cert_check.specs.Criteria.{Meets};
 ghost use Rattle.operations.specs.AnyForm.{form_of, IsAnyHistory, IsJson};
 ghost use Rattle.engine.specs.Failure.{failure_status};

@@ -2,8 +2,7 @@
 use Rattle.std.specs.Prelude.{◌≡◌, ℕ, ◌+◌, ◌<◌, List, [], length, slice_index_or}
 use Rattle.history.specs.declared.op_id.OpId.{OpId}
 use Rattle.history.specs.History.{Record, session}
-use Rattle.causal_order.specs.Sources.{IsListed}
-use Rattle.causal_order.specs.Vectors.{ByOperation, list_of}
+use Rattle.causal_order.specs.Vectors.{IsListed, ByOperation, list_of}
 
 module _ {S C R A : Type 0} where
   -- a list for each operation of the sessions before s, each with a property

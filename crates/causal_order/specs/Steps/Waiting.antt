@@ -1,11 +1,9 @@
 -- What the functions of a topological sort say to one another.
-use Rattle.std.specs.Prelude.{◌≡◌, ◌≢◌, ◌⊎◌, ℕ, ◌+◌, ◌-◌, ◌<◌, ◌≤◌, max, List, [], length, take, slice_get, Some, slice_index_or}
+use Rattle.std.specs.Prelude.{◌≡◌, ◌≢◌, ◌⊎◌, ℕ, ◌+◌, ◌-◌, ◌<◌, ◌≤◌, max, List, [], length, slice_index_or}
 use Rattle.history.specs.declared.op_id.OpId.{OpId}
-use Rattle.causal_order.specs.Orders.{op, StandsAt, IsEarlier}
-use Rattle.causal_order.specs.Relations.{IsPath}
-use Rattle.causal_order.specs.Sources.{Sources, HasSource, IsListed}
+use Rattle.causal_order.specs.Orders.{op, StandsAt, IsPath}
+use Rattle.causal_order.specs.Vectors.{IsListed, Counts, count}
 use Rattle.causal_order.specs.Topological.{placed, next_of}
-use Rattle.causal_order.specs.Vectors.{Counts, count}
 use Rattle.causal_order.specs.Waits.{AreAlike, CanFollow, IsAwaited, IsWaitEdge}
 
 -- one count for each of the sessions, and all are 0
@@ -18,10 +16,6 @@ pub record AddsWait (o a : OpId) (before after : Counts) : Type 0 where
   pub alike : AreAlike after before
   pub raised : count after o a.session ≡ max (count before o a.session) (a.index + 1)
   pub others : (p : OpId) (s : ℕ) → (count after p s ≡ count before p s) ⊎ ((p ≡ o) × (s ≡ a.session))
-
--- w is the source of o, which is earlier than an operation
-abbrev pub IsSourceBefore : Sources → OpId → OpId → OpId → Type 0
-IsSourceBefore sources end w o = HasSource sources o w × IsEarlier o end
 
 -- n is how many operations of the session s come before the first that waits for a later one of the session
 pub record IsLimit (waits : Counts) (s n : ℕ) : Type 0 where
@@ -63,12 +57,6 @@ pub record IsRepetition (ops : List OpId) (i j : ℕ) : Type 0 where
   pub ordered : i < j
   pub inside : j < length ops
   pub same : (a b : OpId) → StandsAt ops i a → StandsAt ops j b → a.session ≡ b.session
-
--- a schedule names operations that are there, each behind its source
-abbrev pub FollowsSources : Sources → List ℕ → Type 0
-FollowsSources sources schedule =
-    (k s : ℕ) → slice_get schedule k ≡ Some s → IsListed sources (next_of (take k schedule) s)
-    × ((w : OpId) → HasSource sources (next_of (take k schedule) s) w → w.index < placed (take k schedule) w.session)
 
 -- none of the operations before a place is of the session s
 abbrev pub AreOfOthers : List OpId → ℕ → ℕ → Type 0

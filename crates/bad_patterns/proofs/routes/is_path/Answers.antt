@@ -1,5 +1,5 @@
 use Rattle.std.proofs.Common.{arith, refl, ◌<◌, ◌≤◌, length}
-use Rattle.causal_order.specs.Relations.{IsEdge}
+use Rattle.memory_order.specs.Relations.{IsEdge}
 use Rattle.bad_patterns.proofs.Neighbours.{related-next, related-end}
 use Rattle.bad_patterns.proofs.routes.is_path.Goals as goal
 

@@ -1,4 +1,4 @@
-use Rattle.causal_order.specs.Relations.{IsEdge}
+use Rattle.memory_order.specs.Relations.{IsEdge}
 use Rattle.bad_patterns.proofs.Neighbours.{AreRelatedUpTo}
 use Rattle.bad_patterns.proofs.routes.is_path.Given as goal
 

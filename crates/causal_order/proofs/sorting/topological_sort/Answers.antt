@@ -1,4 +1,4 @@
-use Rattle.std.proofs.Common.{◌≤◌, ℕ, List, subst, subst₂, sym, get_or}
+use Rattle.std.proofs.Common.{◌≤◌, ℕ, List, subst₂, sym, get_or}
 use Rattle.std.specs.Prelude.{max}
 use Rattle.causal_order.specs.Topological.{placed, IsFullWalk}
 use Rattle.causal_order.specs.Vectors.{Counts}

@@ -1,4 +1,4 @@
-use Rattle.std.proofs.Common.{ℕ, arith, sym, subst, length, refl}
+use Rattle.std.proofs.Common.{ℕ, arith, sym, subst, refl}
 use Rattle.std.proofs.lemmas.List.{length_push}
 use Rattle.causal_order.specs.Topological.{next_of}
 use Rattle.causal_order.specs.Waits.{IsAwaited}

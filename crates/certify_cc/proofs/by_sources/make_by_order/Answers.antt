@@ -1,7 +1,7 @@
 use Rattle.std.proofs.Common.{◌∙◌, subst}
-use Rattle.causal_order.specs.Memory.{MemoryHistory}
-use Rattle.causal_order.specs.MemoryHistories.{IsMemoryHistory}
-use Rattle.causal_order.proofs.ReadAnswers.{history-fits}
+use Rattle.memory_order.specs.Memory.{MemoryHistory}
+use Rattle.memory_order.specs.MemoryHistories.{IsMemoryHistory}
+use Rattle.memory_order.proofs.ReadAnswers.{history-fits}
 use Rattle.cert_check.specs.declared.certificate.Certificate.TheVariants.{Cc}
 use Rattle.certify_cc.proofs.Explained.{sources-explain}
 use Rattle.certify_cc.proofs.by_sources.make_by_order.Goals as goal

@@ -1,10 +1,10 @@
 use Rattle.std.proofs.Common.{◌∙◌, subst, ⊎_elim}
 use Rattle.history.specs.declared.op_id.OpId.{OpId}
-use Rattle.causal_order.specs.Memory.{MemoryHistory, memory_answer}
-use Rattle.causal_order.specs.SourceOrder.{LacksSource, SourceOrder}
-use Rattle.causal_order.specs.OverwrittenReads.{HasOverwrittenRead, HasOverwrittenStart}
-use Rattle.causal_order.specs.Steps.Indexed.{IsUnordered}
-use Rattle.causal_order.proofs.FirstWrites.{CO-from_sources}
+use Rattle.memory_order.specs.Memory.{MemoryHistory, memory_answer}
+use Rattle.memory_order.specs.SourceOrder.{LacksSource, SourceOrder}
+use Rattle.memory_order.specs.OverwrittenReads.{HasOverwrittenRead, HasOverwrittenStart}
+use Rattle.memory_order.specs.Steps.Indexed.{IsUnordered}
+use Rattle.memory_order.proofs.FirstWrites.{CO-from_sources}
 use Rattle.cert_check.specs.Certificates.{IsExplainedThroughout}
 use Rattle.certify_cc.proofs.by_sources.make_memory.Goals as goal
 

@@ -1,8 +1,8 @@
 use Rattle.std.proofs.Common.{List, ℕ, sym, subst, arith}
 use Rattle.causal_order.specs.Orders.{op}
 use Rattle.causal_order.proofs.GatheredLaws.{gathered-push}
-use Rattle.causal_order.proofs.IndexedLaws.{if_any-source}
-use Rattle.causal_order.proofs.SourcedLaws.{listed-source}
+use Rattle.memory_order.proofs.IndexedLaws.{if_any-source}
+use Rattle.memory_order.proofs.SourcedLaws.{listed-source}
 use Rattle.certify_cc.specs.BySources.{IsScheduleFor}
 use Rattle.certify_cc.proofs.by_sources.push_schedules.Goals as goal
 

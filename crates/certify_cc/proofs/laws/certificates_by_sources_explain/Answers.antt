@@ -1,4 +1,4 @@
-use Rattle.causal_order.proofs.ReadAnswers.{history-fits}
+use Rattle.memory_order.proofs.ReadAnswers.{history-fits}
 use Rattle.certify_cc.proofs.Explained.{sources-explain}
 use Rattle.certify_cc.proofs.laws.certificates_by_sources_explain.Goals as goal
 

@@ -1,8 +1,8 @@
 use Rattle.std.proofs.Common.{◌∙◌, subst}
 use Rattle.std.specs.Prelude.{IfNone, IfOk}
 use Rattle.history.specs.declared.op_id.OpId.{OpId}
-use Rattle.causal_order.specs.Memory.{MemoryHistory}
-use Rattle.causal_order.specs.Relations.{Leads}
+use Rattle.memory_order.specs.Memory.{MemoryHistory}
+use Rattle.causal_order.specs.Orders.{Leads}
 use Rattle.certify_ccv.specs.ByConflicts.{ComesFirst}
 use Rattle.certify_ccv.proofs.by_conflicts.make_by_order.Goals as goal
 

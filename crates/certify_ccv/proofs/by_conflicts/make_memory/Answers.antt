@@ -1,14 +1,15 @@
 use Rattle.std.specs.Prelude.{IfNone, IfOk, IfSome}
 use Rattle.std.proofs.Common.{◌⊎◌, ◌∙◌, inl, inr, subst, ⊎_elim}
 use Rattle.history.specs.declared.op_id.OpId.{OpId}
-use Rattle.causal_order.specs.SourceOrder.{LacksSource, SourceOrder}
-use Rattle.causal_order.specs.Memory.{MemoryHistory, memory_answer}
-use Rattle.causal_order.specs.Relations.{Leads, CO, CF}
-use Rattle.causal_order.specs.Steps.Indexed.{IsUnordered}
-use Rattle.causal_order.proofs.FirstWrites.{CO-from_sources}
-use Rattle.causal_order.proofs.Outcomes.{none-weaker, some-weaker}
-use Rattle.causal_order.proofs.ReadAnswers.{history-fits}
-use Rattle.causal_order.proofs.RelationsLaws.{leads-edge, leads-wider}
+use Rattle.memory_order.specs.SourceOrder.{LacksSource, SourceOrder}
+use Rattle.memory_order.specs.Memory.{MemoryHistory, memory_answer}
+use Rattle.causal_order.specs.Orders.{Leads}
+use Rattle.memory_order.specs.Relations.{CO, CF}
+use Rattle.memory_order.specs.Steps.Indexed.{IsUnordered}
+use Rattle.memory_order.proofs.FirstWrites.{CO-from_sources}
+use Rattle.memory_order.proofs.Outcomes.{none-weaker, some-weaker}
+use Rattle.memory_order.proofs.ReadAnswers.{history-fits}
+use Rattle.causal_order.proofs.PathsLaws.{leads-edge, leads-wider}
 use Rattle.cert_check.specs.Certificates.{HasShapeOf, IsExplainedThroughout}
 use Rattle.certify_ccv.specs.ByConflicts.{ComesFirst, IsByConflicts}
 use Rattle.certify_ccv.proofs.ConflictCertificates.{first-conflict, some-unless}

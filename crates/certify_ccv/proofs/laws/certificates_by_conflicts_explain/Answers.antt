@@ -1,4 +1,4 @@
-use Rattle.causal_order.proofs.ReadAnswers.{history-fits}
+use Rattle.memory_order.proofs.ReadAnswers.{history-fits}
 use Rattle.certify_ccv.proofs.Explained.{conflicts-explain}
 use Rattle.certify_ccv.proofs.laws.certificates_by_conflicts_explain.Goals as goal
 

@@ -1,4 +1,4 @@
-use Rattle.causal_order.proofs.ReadAnswers.{history-fits}
+use Rattle.memory_order.proofs.ReadAnswers.{history-fits}
 use Rattle.cert_check.specs.declared.certificate.Certificate.TheVariants.{Cm}
 use Rattle.certify_cm.proofs.Explained.{turns-explain}
 use Rattle.certify_cm.proofs.by_happened_before.certificate_by.Goals as goal

@@ -1,12 +1,12 @@
 use Rattle.std.specs.Prelude.{IfNone, IfOk, IfSome}
 use Rattle.std.proofs.Common.{◌⊎◌, ◌∙◌, inl, inr, subst, ⊎_elim}
 use Rattle.history.specs.declared.op_id.OpId.{OpId}
-use Rattle.causal_order.specs.HappenedBeforePatterns.{HasHBCycle, HasStartOverwrittenInHB}
-use Rattle.causal_order.specs.Memory.{MemoryHistory, IsDifferentiated, memory_answer}
-use Rattle.causal_order.specs.SourceOrder.{IsCyclic, LacksSource, SourceOrder}
-use Rattle.causal_order.specs.Steps.Indexed.{IsUnordered}
-use Rattle.causal_order.proofs.FirstWrites.{CO-from_sources}
-use Rattle.causal_order.proofs.Outcomes.{none-weaker}
+use Rattle.memory_order.specs.HappenedBeforePatterns.{HasHBCycle, HasStartOverwrittenInHB}
+use Rattle.memory_order.specs.Memory.{MemoryHistory, IsDifferentiated, memory_answer}
+use Rattle.memory_order.specs.SourceOrder.{IsCyclic, LacksSource, SourceOrder}
+use Rattle.memory_order.specs.Steps.Indexed.{IsUnordered}
+use Rattle.memory_order.proofs.FirstWrites.{CO-from_sources}
+use Rattle.memory_order.proofs.Outcomes.{none-weaker}
 use Rattle.cert_check.specs.Certificates.{IsExplainedThroughout}
 use Rattle.certify_cm.specs.ByTurns.{HasNoTurns}
 use Rattle.certify_cm.proofs.by_happened_before.make_memory.Goals as goal

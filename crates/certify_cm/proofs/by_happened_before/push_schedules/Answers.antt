@@ -2,11 +2,11 @@ use Rattle.std.proofs.Math.Path.{ap₂}
 use Rattle.std.proofs.Common.{◌≡◌, Option, Some, List, ℕ, ◌+◌, inl, inr, ⊎_elim, sym, subst, subst₂, arith, ◌∙◌}
 use Rattle.history.specs.declared.op_id.OpId.{OpId}
 use Rattle.history.specs.History.{IsOp}
-use Rattle.causal_order.specs.declared.happened_before.Saturation.{Saturation}
-use Rattle.causal_order.specs.declared.happened_before.Saturation.TheVariants.{Saturated, Cyclic, GivenUp}
-use Rattle.causal_order.specs.HappenedBeforeVectors.{IsHBVectors}
+use Rattle.memory_order.specs.declared.happened_before.Saturation.{Saturation}
+use Rattle.memory_order.specs.declared.happened_before.Saturation.TheVariants.{Saturated, Cyclic, GivenUp}
+use Rattle.memory_order.specs.HappenedBeforeVectors.{IsHBVectors}
 use Rattle.causal_order.specs.Orders.{op}
-use Rattle.causal_order.specs.Steps.HappenedBefores.{Tells, IsOutcome, session_of, taken_of, most_of, vectors_of}
+use Rattle.memory_order.specs.Steps.HappenedBefores.{Tells, IsOutcome, session_of, taken_of, most_of, vectors_of}
 use Rattle.causal_order.specs.Vectors.{Counts}
 use Rattle.causal_order.proofs.GatheredLaws.{gathered-session, gathered-push, gathered-end}
 use Rattle.certify_cm.specs.ByTurns.{TakesTurns}

@@ -1,4 +1,4 @@
-use Rattle.causal_order.proofs.ReadAnswers.{history-fits}
+use Rattle.memory_order.proofs.ReadAnswers.{history-fits}
 use Rattle.certify_cm.proofs.Explained.{turns-explain}
 use Rattle.certify_cm.proofs.laws.certificates_by_turns_explain.Goals as goal
 

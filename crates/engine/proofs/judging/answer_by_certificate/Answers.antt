@@ -1,6 +1,6 @@
 use Rattle.std.proofs.Common.{◌∙◌, subst}
 use Rattle.std.specs.Prelude.{IfOk}
-use Rattle.causal_order.specs.Memory.{MemoryHistory, memory_answer}
+use Rattle.memory_order.specs.Memory.{MemoryHistory, memory_answer}
 use Rattle.cert_check.specs.Criteria.{Meets}
 use Rattle.engine.specs.Report.{IsFounded, IsUnexplainedOf}
 use Rattle.engine.proofs.judging.answer_by_certificate.Goals as goal

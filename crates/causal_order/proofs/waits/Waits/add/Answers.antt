@@ -1,7 +1,6 @@
 use Rattle.std.proofs.Common.{◌≡◌, ◌≤◌, ◌+◌, ℕ, List, get_or, ap, sym, subst, arith}
-use Rattle.causal_order.specs.Sources.{IsListed}
+use Rattle.causal_order.specs.Vectors.{IsListed, Counts, count, with_item}
 use Rattle.causal_order.specs.Steps.Waiting.{AddsWait}
-use Rattle.causal_order.specs.Vectors.{Counts, count, with_item}
 use Rattle.causal_order.specs.Waits.{AreWaits}
 use Rattle.causal_order.proofs.WaitsLaws.{added, added-waits}
 use Rattle.causal_order.proofs.waits.Waits.add.Goals as goal

@@ -1,5 +1,5 @@
 use Rattle.std.proofs.Common.{◌≡◌, length, arith}
-use Rattle.causal_order.proofs.WaitsLaws.{zeros-alike, zeros-count, zeros-waits}
+use Rattle.causal_order.proofs.WaitsLaws.{zeros-alike, zeros-count}
 use Rattle.causal_order.proofs.waits.Waits.of.Goals as goal
 
 pub returns-clause-alike : goal.returns-clause-alike

@@ -1,7 +1,0 @@
-use Rattle.bad_patterns.specs.Searches.{ComesTo, IsOpen}
-use Rattle.bad_patterns.specs.Steps.Relations.{IsClearBefore}
-use Rattle.bad_patterns.proofs.finding_happened_before.search_happened_before.Given as goal
-
--- what the sessions so far come to
-abbrev pub invariant-loop-session : goal.invariant-loop-session
-invariant-loop-session l = ComesTo l.order (IsOpen l.order l.most) (IsClearBefore l.order l.session) l.shown

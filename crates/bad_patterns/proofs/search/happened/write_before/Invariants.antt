@@ -1,8 +1,0 @@
-use Rattle.std.proofs.Common.{◌<◌}
-use Rattle.history.specs.declared.op_id.OpId.{OpId}
-use Rattle.bad_patterns.specs.Steps.Relations.{IsWriteHappened}
-use Rattle.bad_patterns.proofs.search.happened.write_before.Given as goal
-
--- the sessions so far have no such write
-abbrev pub invariant-loop-session : goal.invariant-loop-session
-invariant-loop-session l = (w : OpId) → w.session < l.session → ¬ IsWriteHappened l.order l.relation.0 l.read w

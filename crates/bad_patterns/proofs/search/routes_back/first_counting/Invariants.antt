@@ -1,8 +1,0 @@
-use Rattle.std.proofs.Common.{ℕ, ◌<◌}
-use Rattle.causal_order.specs.Orders.{op}
-use Rattle.causal_order.specs.Vectors.{IsCounted}
-use Rattle.bad_patterns.proofs.search.routes_back.first_counting.Given as goal
-
--- no operation so far counts it
-abbrev pub invariant-loop-index : goal.invariant-loop-index
-invariant-loop-index l = (i : ℕ) → i < l.index → ¬ IsCounted l.vectors (op l.op.session i) l.earlier

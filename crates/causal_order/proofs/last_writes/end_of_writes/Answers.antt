@@ -1,8 +1,0 @@
-use Rattle.std.proofs.Common.{arith}
-use Rattle.causal_order.proofs.last_writes.end_of_writes.Goals as goal
-
-pub overflow_cast-result : goal.overflow_cast-result
-overflow_cast-result c = let below = (c.in-Some.ensures.last c.in-Some.last.index).0 (omega arith) in let from = below.2 in let up_to = below.3 in omega arith
-
-pub overflow_add-result : goal.overflow_add-result
-overflow_add-result c = let below = (c.in-Some.ensures.last c.in-Some.last.index).0 (omega arith) in let from = below.2 in let up_to = below.3 in omega arith

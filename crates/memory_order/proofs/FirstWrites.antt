@@ -1,0 +1,254 @@
+-- The sources of a memory history: the first writes of what was read.
+use Rattle.std.specs.Prelude.{◌≡◌, ◌⊎◌, ◌↔◌, ℕ, ◌+◌, ◌<◌, ◌≤◌, List, [], ◌∷◌, ◌++◌, length, Option, Some, None, Contains, MatchOption, slice_get}
+use Rattle.std.specs.Option.{option_flatten}
+use Rattle.std.proofs.Common.{arith, get_or, sym, ap, subst, subst₂, ◌∙◌, inl, inr, ⊎_elim, refl, length-append}
+use Rattle.std.proofs.lemmas.Bool.{cases_lt, cases_order}
+use Rattle.std.proofs.lemmas.List.{get_or_past, get_or_append_left, get_or_push}
+use Rattle.std.proofs.lemmas.Option.{same_Some, slice_get-get_or, slice_get_within}
+use Rattle.history.specs.declared.op_id.OpId.{OpId}
+use Rattle.history.specs.History.{IsOp, Precedes, session}
+use Rattle.memory_order.specs.declared.writes.Write.{Write}
+use Rattle.memory_order.specs.Memory.{MemoryHistory, initial, Writes, Reads, IsDifferentiated}
+use Rattle.memory_order.proofs.MemoryLaws.{same_read, write-of_history, read-of_history}
+use Rattle.causal_order.specs.Orders.{op, IsEarlier}
+use Rattle.causal_order.proofs.OrdersLaws.{same_op}
+use Rattle.memory_order.specs.Relations.{ReadsFrom, IsEdge, CO}
+use Rattle.causal_order.proofs.PathsLaws.{leads-wider}
+use Rattle.memory_order.proofs.RelationsLaws.{CO-of_history}
+use Rattle.memory_order.specs.SourceOrder.{LacksSource, CountsSourceOrder, IsSource, IsSourceEdge, SourceOrder, IsSourceOf, ListsSourcesBelow, ListsSourcesSoFar, ListsSources}
+use Rattle.memory_order.specs.Sources.{Sources, HasSource, AreListed, IsStep, Comes, IsUnfinished, AreVectorsSoFar}
+use Rattle.causal_order.specs.Vectors.{IsListed, Counts, IsCounted}
+use Rattle.memory_order.specs.Steps.Written.{ListsWrites, IsLeastWrite}
+use Rattle.causal_order.proofs.PushedLaws.{listed-length}
+
+module _ (h : MemoryHistory) where
+  module _ (writes : List Write) (lists : ListsWrites h writes) (r : OpId) (x v : ℕ) (reads : Reads h r x v) where
+    -- the least write of what was read is its source
+    pub source-written : (v ≡ initial h x → ⊥) → (w : OpId) → IsLeastWrite writes x v w → IsSource h w r
+    source-written apart w least = (
+      (x, v, lists.no_other _ least.writes_it, reads, apart),
+      λ u from.
+          let same = same_read h r x v from.0 from.1 reads from.3 in
+          least.least (record { op = u; key = from.0; value = from.1 }) (lists.each u from.0 from.1 from.2) (sym same.0) (sym same.1),
+    )
+
+    -- where nobody wrote it, a source is missing
+    pub source-unwritten : (v ≡ initial h x → ⊥) → ((w : Write) → Contains writes w → w.key ≡ x → w.value ≡ v → ⊥) → LacksSource h
+    source-unwritten apart none = (r, x, v, reads, apart, λ w wrote. none (record { op = w; key = x; value = v }) (lists.each w x v wrote) refl refl)
+
+  -- the source of one operation more
+  pub ListsSourcesBelow-push : (s n : ℕ) (es after : List (Option OpId)) (e : Option OpId) → ListsSourcesBelow h s n es → n < 256
+      → IsSourceOf h (op s n) e → after ≡ es ++ e ∷ [] → ListsSourcesBelow h s (n + 1) after
+  ListsSourcesBelow-push s n es after e below room source is =
+      subst (λ (xs : List (Option OpId)). ListsSourcesBelow h s (n + 1) xs) (sym is) (record {
+        count = length-append es (e ∷ []) ∙ (let same = below.count in omega arith);
+        short = omega arith;
+        each = λ i f at.
+            let within = slice_get_within (es ++ e ∷ []) i f at in
+            let len = length-append es (e ∷ []) in
+            let count = below.count in
+            let here : get_or (es ++ e ∷ []) i f ≡ f = same_Some _ _ (sym (slice_get-get_or (es ++ e ∷ []) i f within) ∙ at) in
+            ⊎_elim
+            (λ (old : i < length es).
+            below.each i f (slice_get-get_or es i f old ∙ (λ j. Some ((sym (get_or_append_left es (e ∷ []) f i old) ∙ here) j))))
+            (λ (new : length es ≤ i).
+            let last : length es ≡ i = omega arith in
+            let place : n ≡ i = omega arith in
+            subst₂ (λ (k : ℕ) (g : Option OpId). IsSourceOf h (op s k) g) place (sym (get_or_push es e f i last) ∙ here) source)
+            (cases_lt i (length es));
+      })
+
+  -- where no source is missing, what was found is the source
+  pub source-flat : (r : OpId) → ¬ LacksSource h → (found : Option (Option OpId)) → MatchOption found (LacksSource h) (IsSourceOf h r) → IsSourceOf h r (option_flatten found)
+  source-flat r present None lacks = absurd (present lacks)
+  source-flat r present (Some e) is = is
+
+  -- the sources of one session more
+  pub ListsSourcesSoFar-push : (n : ℕ) (sources after : Sources) (es : List (Option OpId)) → ListsSourcesSoFar h n sources
+      → ListsSourcesBelow h n (length (session h n)) es → after ≡ sources ++ es ∷ [] → ListsSourcesSoFar h (n + 1) after
+  ListsSourcesSoFar-push n sources after es so_far below is =
+      subst (λ (xs : Sources). ListsSourcesSoFar h (n + 1) xs) (sym is) (record {
+        sessions = length-append sources (es ∷ []) ∙ (let same = so_far.sessions in omega arith);
+        each = λ s within. ⊎_elim
+            (λ (old : s < n).
+            let inside : s < length sources = let same = so_far.sessions in omega arith in
+            subst (λ (xs : List (Option OpId)). ListsSourcesBelow h s (length (session h s)) xs) (sym (get_or_append_left sources (es ∷ []) [] s inside)) (so_far.each s old))
+            (λ (new : n ≤ s).
+            let last : length sources ≡ s = let same = so_far.sessions in omega arith in
+            let place : n ≡ s = omega arith in
+            subst₂ (λ (k : ℕ) (xs : List (Option OpId)). ListsSourcesBelow h k (length (session h k)) xs) place (sym (get_or_push sources es [] s last)) below)
+            (cases_lt s n);
+      })
+
+  -- a read has one source
+  pub source-unique : (u w r : OpId) → IsSource h u r → IsSource h w r → u ≡ w
+  source-unique u w r first second =
+      let not_first = second.1 u first.0 in
+      let not_second = first.1 w second.0 in
+      ⊎_elim
+      (λ (same : u.session ≡ w.session). ⊎_elim
+      (λ (here : u.index ≡ w.index). same_op u w same here)
+      (λ (apart : (u.index < w.index) ⊎ (w.index < u.index)). ⊎_elim
+      (λ (before : u.index < w.index). absurd (not_first (inr (same, before))))
+      (λ (behind : w.index < u.index). absurd (not_second (inr (sym same, behind))))
+      apart)
+      (cases_order u.index w.index))
+      (λ (apart : (u.session < w.session) ⊎ (w.session < u.session)). ⊎_elim
+      (λ (before : u.session < w.session). absurd (not_first (inl before)))
+      (λ (behind : w.session < u.session). absurd (not_second (inl behind)))
+      apart)
+      (cases_order u.session w.session)
+
+  -- where values are distinct, what may be read from is the source
+  pub distinct-source : IsDifferentiated h → (w r : OpId) → ReadsFrom h w r → IsSource h w r
+  distinct-source distinct w r reads = (
+    reads,
+    λ u other earlier.
+        let same = same_read h r reads.0 reads.1 other.0 other.1 reads.3 other.3 in
+        let wrote : Writes h u reads.0 reads.1 = rw (same.0, same.1) other.2 in
+        let one = distinct.once u w reads.0 reads.1 wrote reads.2 in
+        let turned = subst (λ (o : OpId). IsEarlier u o) (sym one) earlier in
+        ⊎_elim
+        (λ (less : u.session < u.session). let none = less in omega arith)
+        (λ (less : (u.session ≡ u.session) × (u.index < u.index)). let none = less.1 in omega arith)
+        turned,
+  )
+
+  -- there the order by sources is CO
+  pub CO-from_sources : (a b : OpId) → SourceOrder h a b → CO h a b
+  CO-from_sources = leads-wider (IsSourceEdge h) (IsEdge h) (λ a b edge. ⊎_elim
+      (λ (before : Precedes a b × IsOp h b). inl before)
+      (λ (source : IsSource h a b). inr source.0)
+      edge)
+
+  pub CO-by_sources : IsDifferentiated h → (a b : OpId) → CO h a b → SourceOrder h a b
+  CO-by_sources distinct = leads-wider (IsEdge h) (IsSourceEdge h) (λ a b edge. ⊎_elim
+      (λ (before : Precedes a b × IsOp h b). inl before)
+      (λ (reads : ReadsFrom h a b). inr (distinct-source distinct a b reads))
+      edge)
+
+  module _ (sources : Sources) (lists : ListsSources h sources) where
+    pub sources-length : (s : ℕ) → length (get_or sources s []) ≡ length (session h s)
+    sources-length s = ⊎_elim
+        (λ (inside : s < length h.1). (lists.each s inside).count)
+        (λ (past : length h.1 ≤ s).
+        let here = get_or_past sources s [] (let same = lists.sessions in omega arith) in
+        let there = get_or_past h.1 s [] past in
+        ap (λ (xs : List (Option OpId)). length xs) here ∙ sym (ap (λ (xs : _). length xs) there))
+        (cases_lt s (length h.1))
+
+    entry-source : (r : OpId) (e : Option OpId) → slice_get (get_or sources r.session []) r.index ≡ Some e → IsSourceOf h r e
+    entry-source r e at =
+        let inside : r.session < length h.1 =
+        let below = listed-length sources r.session r.index (slice_get_within _ r.index e at) in
+        let same = lists.sessions in omega arith in
+        (lists.each r.session inside).each r.index e at
+
+    pub source-listed : (r w : OpId) → HasSource sources r w → IsSource h w r
+    source-listed r w has = entry-source r (Some w) has
+
+    read-entry : (r : OpId) (x v : ℕ) → Reads h r x v → (v ≡ initial h x → ⊥) → (w : OpId) × HasSource sources r w × IsSource h w r
+    read-entry r x v reads apart =
+        let is_op = read-of_history h r x v reads in
+        let below : r.index < length (get_or sources r.session []) = let same = sources-length r.session in omega arith in
+        let at = slice_get-get_or (get_or sources r.session []) r.index None below in
+        elim (get_or (get_or sources r.session []) r.index None)
+        as (λ e. slice_get (get_or sources r.session []) r.index ≡ Some e → (w : OpId) × HasSource sources r w × IsSource h w r) [
+          | None ↦ λ here. absurd (apart (entry-source r None here x v reads))
+          | Some w ↦ λ here. (w, here, source-listed r w here)
+        ] at
+
+    pub listed-source : (w r : OpId) → IsSource h w r → HasSource sources r w
+    listed-source w r source =
+        let entry = read-entry r source.0.0 source.0.1 source.0.3 source.0.4 in
+        subst (λ (o : OpId). HasSource sources r o) (source-unique entry.0 w r entry.2 source) entry.1
+
+    pub sources-present : ¬ LacksSource h
+    sources-present lacks =
+        let entry = read-entry lacks.0 lacks.1 lacks.2 lacks.3 lacks.4 in
+        let reads = entry.2.0 in
+        let same = same_read h lacks.0 lacks.1 lacks.2 reads.0 reads.1 lacks.3 reads.3 in
+        lacks.5 entry.0 (subst₂ (λ (x v : ℕ). Writes h entry.0 x v) (sym same.0) (sym same.1) reads.2)
+
+    pub sources-exist : AreListed sources
+    sources-exist o w has =
+        let from = (source-listed o w has).0 in
+        let is_op = write-of_history h w from.0 from.1 from.2 in
+        let same = sources-length w.session in
+        omega arith
+
+    pub order-from_steps : (a b : OpId) → Comes sources a b → SourceOrder h a b
+    order-from_steps = leads-wider (IsStep sources) (IsSourceEdge h) (λ a b edge. ⊎_elim
+        (λ (before : Precedes a b × IsListed sources b). inl (before.0, (let same = sources-length b.session in let below = before.1 in omega arith)))
+        (λ (has : HasSource sources b a). inr (source-listed b a has))
+        edge)
+
+    steps-from_order : (a b : OpId) → SourceOrder h a b → Comes sources a b
+    steps-from_order = leads-wider (IsSourceEdge h) (IsStep sources) (λ a b edge. ⊎_elim
+        (λ (before : Precedes a b × IsOp h b). inl (before.0, (let same = sources-length b.session in let below = before.1 in omega arith)))
+        (λ (source : IsSource h a b). inr (listed-source a b source))
+        edge)
+
+    module _ (v : Counts) (so_far : AreVectorsSoFar sources v) (finished : (s : ℕ) → ¬ IsUnfinished sources v s) where
+      vector-there : (o : OpId) → IsOp h o → IsListed v o
+      vector-there o is_op = ⊎_elim
+          (λ (there : IsListed v o). there)
+          (λ (past : length (get_or v o.session []) ≤ o.index).
+          absurd (finished o.session (let same = sources-length o.session in omega arith)))
+          (cases_lt o.index (length (get_or v o.session [])))
+
+      pub counts-exact : (o a : OpId) → IsOp h o → IsCounted v o a ↔ ((a ≡ o) ⊎ SourceOrder h a o)
+      counts-exact o a is_op =
+          let exact = so_far.exact o a (vector-there o is_op) in (
+            (λ counted. ⊎_elim
+                (λ (same : a ≡ o). inl same)
+                (λ (comes : Comes sources a o). inr (order-from_steps a o comes))
+                (exact.0 counted)),
+            λ before. exact.1 (⊎_elim
+                (λ (same : a ≡ o). inl same)
+                (λ (comes : SourceOrder h a o). inr (steps-from_order a o comes))
+                before),
+          )
+
+      pub counts-past : IsDifferentiated h → (o a : OpId) → IsOp h o → IsCounted v o a ↔ ((a ≡ o) ⊎ CO h a o)
+      counts-past distinct o a is_op =
+          let exact = counts-exact o a is_op in (
+            (λ counted. ⊎_elim
+                (λ (same : a ≡ o). inl same)
+                (λ (comes : SourceOrder h a o). inr (CO-from_sources a o comes))
+                (exact.0 counted)),
+            λ before. exact.1 (⊎_elim
+                (λ (same : a ≡ o). inl same)
+                (λ (comes : CO h a o). inr (CO-by_sources distinct a o comes))
+                before),
+          )
+
+      -- what comes before an operation is of the history, so an operation that comes before itself is
+      pub order-acyclic : (a : OpId) → ¬ SourceOrder h a a
+      order-acyclic a comes =
+          let is_op = (CO-of_history h a a (CO-from_sources a a comes)).1 in
+          so_far.acyclic a (vector-there a is_op) (steps-from_order a a comes)
+
+      vector-count : (s : ℕ) → length (get_or v s []) ≡ length (session h s)
+      vector-count s =
+          let same = sources-length s in
+          let within = so_far.within s in
+          ⊎_elim
+          (λ (less : length (get_or v s []) < length (get_or sources s [])). absurd (finished s less))
+          (λ (all : length (get_or sources s []) ≤ length (get_or v s [])). omega arith)
+          (cases_lt (length (get_or v s [])) (length (get_or sources s [])))
+
+      -- the vectors are those of the order
+      pub counts-order : CountsSourceOrder h v
+      counts-order = record {
+        vectors = record {
+          one_each = record {
+            sessions = let made = so_far.sessions in let listed = lists.sessions in omega arith;
+            operations = vector-count;
+          };
+          counts = λ o is_op. let made = so_far.counts o (vector-there o is_op) in let listed = lists.sessions in omega arith;
+        };
+        sources = sources-present;
+        acyclic = order-acyclic;
+        counted = counts-exact;
+      }

@@ -1,0 +1,343 @@
+-- What the steps of a state in which vectors grow come to.
+use Rattle.std.specs.Prelude.{◌≡◌, ◌≢◌, ◌⊎◌, ℕ, ◌+◌, ◌-◌, ◌<◌, ◌≤◌, ◌∷◌, ◌++◌, [], List, length, Contains, max, slice_index}
+use Rattle.std.proofs.Common.{zero, suc, arith, refl, sym, ap, subst, subst₂, ◌∙◌, ⊎_elim, inl, inr}
+use Rattle.std.proofs.lemmas.Bool.{cases_eq, cases_lt}
+use Rattle.std.proofs.lemmas.List.{get_or_past}
+use Rattle.std.proofs.lemmas.List.Elements.{All-push}
+use Rattle.history.specs.declared.op_id.OpId.{OpId}
+use Rattle.history.specs.History.{IsOp}
+use Rattle.memory_order.specs.declared.growing_order.GrowingOrder.{GrowingOrder}
+use Rattle.memory_order.specs.declared.growing_order.Raised.{Raised}
+use Rattle.memory_order.specs.Memory.{MemoryHistory}
+use Rattle.causal_order.specs.Orders.{op}
+use Rattle.memory_order.specs.Steps.GrowingOrders.{IsRaisedIn}
+use Rattle.memory_order.specs.Steps.GrowthSteps.{AreStraight, Grows, GrowsWithin, IsCovered, IsFirstBehind, IsFollowed, IsFresh, IsGrowing, IsIn, IsIncluded, IsMonotone, IsPastBefore, IsPastOf, IsPending, IsRaisedFrom, IsRaisedTo, IsReady, IsSettled, NoMore, NoReads, TakesPast, TakesUpTo, Waits}
+use Rattle.causal_order.specs.Vectors.{Counts, count}
+use Rattle.memory_order.proofs.GrowthLaws.{grows-same, grows-step, grows-then}
+use Rattle.causal_order.proofs.OrdersLaws.{same_op}
+use Rattle.memory_order.proofs.Raises.{grows-followed, grows-monotone, grows-outside, grows-pending, grows-sums, grows-untouched}
+
+-- no count falls along a session
+monotone-by : (v : Counts) (past : ℕ → ℕ) → IsMonotone v past → (n s j z : ℕ) → j + n < past s → count v (op s j) z ≤ count v (op s (j + n)) z
+monotone-by v past monotone zero s j z below = subst (λ (k : ℕ). count v (op s j) z ≤ count v (op s k) z) (let same : j ≡ j + zero = omega arith in same) (omega arith)
+monotone-by v past monotone (suc n) s j z below =
+    let next : j + suc n ≡ (j + n) + 1 = omega arith in
+    let before = monotone-by v past monotone n s j z (omega arith) in
+    let step = monotone s (j + n) z (omega arith) in
+    subst (λ (k : ℕ). count v (op s j) z ≤ count v (op s k) z) (sym next) (omega arith)
+
+pub monotone-to : (v : Counts) (past : ℕ → ℕ) → IsMonotone v past → (s j k z : ℕ) → j ≤ k → k < past s → count v (op s j) z ≤ count v (op s k) z
+monotone-to v past monotone s j k z up_to below =
+    let rest : j + (k - j) ≡ k = omega arith in
+    subst (λ (i : ℕ). count v (op s j) z ≤ count v (op s i) z) rest (monotone-by v past monotone (k - j) s j z (omega arith))
+
+-- after a raise to what another vector counts, one session more is counted
+pub past-more : (v w : Counts) (past s c : ℕ) (b m : OpId) → IsRaisedFrom v w past b.session b.index s c → b.index < past → c ≡ count v m s
+    → ((z : ℕ) → z < s → count v m z ≤ count v b z) → (z : ℕ) → z < s + 1 → count w m z ≤ count w b z
+past-more v w past s c b m raised is_in value before z below = ⊎_elim
+    (λ (last : z ≡ s).
+    let reached = raised.reached is_in in
+    let same : count w m s ≡ c = ⊎_elim
+    (λ (kept : count w m s ≡ count v m s). kept ∙ sym value)
+    (λ (change : (m.session ≡ b.session) × (b.index ≤ m.index) × (s ≡ s) × (count v m s < c) × (count w m s ≡ c)). change.4)
+    (raised.changes m s) in
+    subst (λ (k : ℕ). count w m k ≤ count w b k) (sym last) (omega arith))
+    (λ (apart : z ≢ s).
+    let less = before z (omega arith) in
+    let kept : (p : OpId) → count w p z ≡ count v p z = λ p. ⊎_elim
+    (λ (same : count w p z ≡ count v p z). same)
+    (λ (change : (p.session ≡ b.session) × (b.index ≤ p.index) × (z ≡ s) × (count v p z < c) × (count w p z ≡ c)). absurd (apart change.2))
+    (raised.changes p z) in
+    let of_m = kept m in
+    let of_b = kept b in
+    omega arith)
+    (cases_eq z s)
+
+-- after a raise from the first operation of a session that is behind p, one session more counts as much as p
+module _ (v w : Counts) (order after : GrowingOrder) (s n u c : ℕ) (p : OpId) (first : IsFirstBehind order s p n) (is : order.counts ≡ v)
+    (raised : IsRaisedFrom v w (slice_index order.past.items s) s n u c) (same_past : after.past.items ≡ order.past.items)
+    (monotone : IsMonotone w (λ t. slice_index after.past.items t)) where
+  pub behind-same : count v p u ≡ c → count w p u ≡ c
+  behind-same same = ⊎_elim
+      (λ (kept : count w p u ≡ count v p u). kept ∙ same)
+      (λ (change : (p.session ≡ s) × (n ≤ p.index) × (u ≡ u) × (count v p u < c) × (count w p u ≡ c)). change.4)
+      (raised.changes p u)
+
+  pub behind-more : ((b : OpId) → b.session < s → IsIn order b → p.index < count v b p.session → c ≤ count v b u)
+      → (b : OpId) → b.session < s + 1 → IsIn after b → p.index < count w b p.session → c ≤ count w b u
+  behind-more before b below is_in counts = ⊎_elim
+      (λ (here : b.session ≡ s).
+      let below_past : b.index < slice_index order.past.items b.session = subst (λ (es : List ℕ). b.index < slice_index es b.session) same_past is_in in
+      let inside : b.index < slice_index order.past.items s = subst (λ (t : ℕ). b.index < slice_index order.past.items t) here below_past in
+      let there : b.index < slice_index after.past.items s = subst (λ (t : ℕ). b.index < slice_index after.past.items t) here is_in in
+      ⊎_elim
+      (λ (under : b.index < n).
+      let none_order = first.before b.index under in
+      let none : count v (op s b.index) p.session ≤ p.index = subst (λ (x : Counts). count x (op s b.index) p.session ≤ p.index) is none_order in
+      let none_b : count v b p.session ≤ p.index = subst (λ (t : ℕ). count v (op t b.index) p.session ≤ p.index) (sym here) none in
+      absurd (⊎_elim
+      (λ (kept : count w b p.session ≡ count v b p.session). omega arith)
+      (λ (change : (b.session ≡ s) × (n ≤ b.index) × (p.session ≡ u) × (count v b p.session < c) × (count w b p.session ≡ c)). let from = change.1 in omega arith)
+      (raised.changes b p.session)))
+      (λ (from : n ≤ b.index).
+      let reached = raised.reached (omega arith) in
+      let rises = monotone-to w (λ t. slice_index after.past.items t) monotone s n b.index u from there in
+      subst (λ (t : ℕ). c ≤ count w (op t b.index) u) (sym here) (omega arith))
+      (cases_lt b.index n))
+      (λ (apart : b.session ≢ s).
+      let kept : (z : ℕ) → count w b z ≡ count v b z = λ z. ⊎_elim
+      (λ (same : count w b z ≡ count v b z). same)
+      (λ (change : (b.session ≡ s) × (n ≤ b.index) × (z ≡ u) × (count v b z < c) × (count w b z ≡ c)). absurd (apart change.0))
+      (raised.changes b z) in
+      let of_p = kept p.session in
+      let of_u = kept u in
+      let enough = before b (omega arith) (subst (λ (es : List ℕ). b.index < slice_index es b.session) same_past is_in) (omega arith) in
+      omega arith)
+      (cases_eq b.session s)
+
+-- where a raise is followed, a state that is settled but for it is settled
+pub settled-behind : (order : GrowingOrder) (raised : Raised) → IsSettled (λ e. e ≡ raised) order
+    → IsFollowed (Waits NoMore order) order.counts raised.op raised.session
+    → ((b : OpId) → IsIn order b → raised.op.index < count order.counts b raised.op.session → count order.counts raised.op raised.session ≤ count order.counts b raised.session)
+    → IsSettled NoMore order
+settled-behind order raised settled followed behind = record {
+  monotone = settled.monotone;
+  followed = λ b y is_in fresh i z ends. ⊎_elim
+      (λ (counts : count order.counts (op y i) z ≤ count order.counts b z). inl counts)
+      (λ (waiting : IsPending (Waits (λ e. e ≡ raised) order) b y ⊎ IsCovered (Waits (λ e. e ≡ raised) order) order.counts (op y i) z). ⊎_elim
+      (λ (is : IsPending (Waits (λ e. e ≡ raised) order) b y). ⊎_elim
+      (λ (held : Contains order.pending.items is.0). inr (inl (is.0, inl held, is.2, is.3)))
+      (λ (this : is.0 ≡ raised).
+      let of_op : b ≡ raised.op = sym is.2 ∙ ap (λ (e : Raised). e.op) this in
+      let of_session : y ≡ raised.session = sym is.3 ∙ ap (λ (e : Raised). e.session) this in
+      let here : IsFollowed (Waits NoMore order) order.counts b y =
+      subst₂ (λ (q : OpId) (t : ℕ). IsFollowed (Waits NoMore order) order.counts q t) (sym of_op) (sym of_session) followed in
+      here fresh i z ends)
+      is.1)
+      (λ (is : IsCovered (Waits (λ e. e ≡ raised) order) order.counts (op y i) z). ⊎_elim
+      (λ (held : Contains order.pending.items is.0). inr (inr (is.0, inl held, is.2, is.3, is.4, is.5)))
+      (λ (this : is.0 ≡ raised).
+      let of_session : raised.session ≡ z = sym (ap (λ (e : Raised). e.session) this) ∙ is.2 in
+      let of_op : raised.op.session ≡ y = sym (ap (λ (e : Raised). e.op.session) this) ∙ is.3 in
+      let from : raised.op.index ≤ i = subst (λ (e : Raised). e.op.index ≤ i) this is.4 in
+      let most : count order.counts (op y i) z ≤ count order.counts raised.op z = subst (λ (e : Raised). count order.counts (op y i) z ≤ count order.counts e.op z) this is.5 in
+      let counted : raised.op.index < count order.counts b raised.op.session =
+      subst (λ (t : ℕ). raised.op.index < count order.counts b t) (sym of_op) (omega arith) in
+      let enough : count order.counts raised.op z ≤ count order.counts b z =
+      subst (λ (t : ℕ). count order.counts raised.op t ≤ count order.counts b t) of_session (behind b is_in counted) in
+      inl (omega arith))
+      is.1)
+      waiting)
+      (settled.followed b y is_in fresh i z ends);
+}
+
+module _ (h : MemoryHistory) where
+  module _ (a b x : GrowingOrder) (t i e u c : ℕ) (raised : IsRaisedTo h a b t i e u c) (some : i < e) (is_op : IsOp h (op t i)) (exists : u < length h.1)
+      (counts : x.counts ≡ b.counts) (past : x.past.items ≡ b.past.items)
+      (pending : x.pending.items ≡ b.pending.items ++ record { op = op t i; end = e; session = u } ∷ []) (added : x.added ≡ b.added) where
+    -- the state speaks of the history when a raise waits
+    pub growing-pushed : IsGrowing h x
+    growing-pushed =
+        let inside = raised.inside some in
+        let same_past = ap (λ (es : List ℕ). slice_index es t) raised.past in
+        let most = raised.growing.past t in
+        let here : i < slice_index b.past.items t = omega arith in
+        let end : e ≤ slice_index b.past.items t = omega arith in
+        record {
+          counts = rw counts raised.growing.counts;
+          few = raised.growing.few;
+          short = raised.growing.short;
+          sessions = rw past raised.growing.sessions;
+          past = rw past raised.growing.past;
+          pending = rw pending (All-push (IsRaisedIn h) b.pending.items (record { op = op t i; end = e; session = u }) raised.growing.pending
+              (record { is_op = is_op; inside = omega arith; exists = exists }));
+          waiting = rw (pending, past) (All-push (λ (y : Raised). IsIn b y.op) b.pending.items (record { op = op t i; end = e; session = u }) raised.growing.waiting here);
+          added = rw (added, counts) raised.growing.added;
+        }
+
+  -- once a vector counts what the last one counts that it counted, that is followed, or a raise waits
+  pub last-followed : (a b : GrowingOrder) (p : OpId) (y i : ℕ) → GrowsWithin h NoReads a b → count a.counts p y ≡ i + 1 → IsPastOf b.counts p (op y i)
+      → IsFollowed (Waits NoMore b) b.counts p y
+  last-followed a b p y i within began past fresh j z ends = ⊎_elim
+      (λ (same : count b.counts p y ≡ i + 1).
+      let here : i ≡ j = omega arith in
+      inl (subst (λ (k : ℕ). count b.counts (op y k) z ≤ count b.counts p z) here (past z)))
+      (λ (pending : IsFresh (Waits NoMore b) b.counts p y → IsPending (Waits NoMore b) p y). inr (inl (pending fresh)))
+      (grows-pending h NoReads NoMore a b within.grows (i + 1) p y began)
+
+  straight-same : (v w : Counts) → ((p : OpId) (s : ℕ) → count w p s ≡ count v p s) → AreStraight h v → AreStraight h w
+  straight-same v w same straight = record {
+    monotone = λ s j z is_op.
+        let one = straight.monotone s j z is_op in
+        let first = same (op s j) z in
+        let second = same (op s (j + 1)) z in
+        omega arith;
+    within = λ b y i z is_op ends.
+        let one = straight.within b y i z is_op (sym (same b y) ∙ ends) in
+        let first = same (op y i) z in
+        let second = same b z in
+        omega arith;
+  }
+
+  -- vectors that are straight while nothing is added stay so
+  straight-grown : (a b : GrowingOrder) → Grows h ⊥ NoReads a b → (a.added ≡ 0 → AreStraight h a.counts) → b.added ≡ 0 → AreStraight h b.counts
+  straight-grown a b grows straight none =
+      let sums = grows-sums h ⊥ NoReads a b grows in
+      let first = sums.0 in
+      let second = sums.2 in
+      straight-same a.counts b.counts (grows-untouched h ⊥ NoReads a.counts a b grows (λ _ p s. refl) none) (straight (omega arith))
+
+  -- past the last session nothing is counted
+  past-none : (order : GrowingOrder) → IsGrowing h order → (p : OpId) (y : ℕ) → IsOp h p → length h.1 ≤ y → count order.counts p y ≡ 0
+  past-none order growing p y is_op past =
+      let none = ap (λ (es : _). length es) (get_or_past h.1 y [] past) in
+      let most = growing.counts.held p y is_op in
+      omega arith
+
+  module _ (a m : GrowingOrder) (o : OpId) (ready : IsReady h a) (is_op : IsOp h o) (next : o.index ≡ slice_index a.past.items o.session) (included : IsIncluded h a m o) where
+    included-grows : Grows h ⊥ NoReads a m
+    included-grows = grows-step h ⊥ NoReads a m included.growing (inr (inl included.inclusion))
+
+    -- it is in, or what was in
+    in-cases : (b : OpId) → IsIn m b → IsIn a b ⊎ (b ≡ o)
+    in-cases b is_in = ⊎_elim
+        (λ (same : b.session ≡ o.session).
+        let here = included.here in
+        let below : b.index < slice_index m.past.items o.session = subst (λ (t : ℕ). b.index < slice_index m.past.items t) same is_in in
+        ⊎_elim
+        (λ (last : b.index ≡ o.index). inr (same_op b o same last))
+        (λ (apart : b.index ≢ o.index).
+        inl (subst (λ (t : ℕ). b.index < slice_index a.past.items t) (sym same) (omega arith)))
+        (cases_eq b.index o.index))
+        (λ (apart : b.session ≢ o.session). let as_before = included.others b.session apart in inl (omega arith))
+        (cases_eq b.session o.session)
+
+    taken-here : slice_index m.past.items o.session ≡ max (slice_index a.past.items o.session) (o.index + 1)
+    taken-here = let here = included.here in omega arith
+
+    -- where nothing was added it is taken in as it is
+    pub taken-straight : m.added ≡ 0 → TakesUpTo h a m o.session (o.index + 1)
+    taken-straight none =
+        let straight = straight-grown a m included-grows ready.straight none in
+        record {
+          ready = record {
+            growing = included.growing;
+            settled = record {
+              monotone = λ s j z below. let most = included.growing.past s in straight.monotone s j z (omega arith);
+              followed = λ b y is_in fresh i z ends. let most = included.growing.past b.session in inl (straight.within b y i z (omega arith) ends);
+            };
+            straight = λ _. straight;
+          };
+          grows = included-grows;
+          here = taken-here;
+          others = included.others;
+        }
+
+    -- else its vector is raised
+    pub taken-raised : (x b : GrowingOrder) → GrowsWithin h NoReads m x → IsPastBefore x.counts o → GrowsWithin h NoReads x b
+        → ((y : ℕ) → y < length h.1 → IsFollowed (Waits NoMore b) b.counts o y) → TakesUpTo h a b o.session (o.index + 1)
+    taken-raised x b first before second followed =
+        let to_x = grows-then h ⊥ NoReads a m x included-grows first.grows in
+        let to_b = grows-then h ⊥ NoReads a x b to_x second.grows in
+        let of_m : b.past.items ≡ m.past.items = second.past ∙ first.past in
+        let monotone_x : IsMonotone x.counts (λ s. slice_index a.past.items s) =
+        grows-monotone h ⊥ NoReads (λ s. slice_index a.past.items s) a x to_x (λ s. omega arith) ready.settled.monotone in
+        let all_x : IsMonotone x.counts (λ s. slice_index m.past.items s) = λ s j z below. ⊎_elim
+        (λ (old : IsIn a (op s (j + 1))). monotone_x s j z old)
+        (λ (new : op s (j + 1) ≡ o).
+        let of_session : s ≡ o.session = ap (λ (p : OpId). p.session) new in
+        let of_index : j + 1 ≡ o.index = ap (λ (p : OpId). p.index) new in
+        let less = before j (sym of_index) z in
+        subst₂ (λ (t : ℕ) (q : OpId). count x.counts (op t j) z ≤ count x.counts q z) (sym of_session) (sym new) less)
+        (in-cases (op s (j + 1)) below) in
+        let all_b : IsMonotone b.counts (λ s. slice_index m.past.items s) =
+        grows-monotone h ⊥ NoReads (λ s. slice_index m.past.items s) x b second.grows
+        (λ s. let same = ap (λ (es : List ℕ). slice_index es s) first.past in omega arith) all_x in
+        let same_here = ap (λ (es : List ℕ). slice_index es o.session) of_m in
+        let here = taken-here in
+        record {
+          ready = record {
+            growing = second.grows.growing;
+            settled = record {
+              monotone = subst (λ (es : List ℕ). IsMonotone b.counts (λ s. slice_index es s)) (sym of_m) all_b;
+              followed = λ p y is_in. ⊎_elim
+                  (λ (old : IsIn a p). grows-followed h NoReads NoMore a b to_b p y (ready.settled.followed p y old))
+                  (λ (new : p ≡ o). ⊎_elim
+                  (λ (exists : y < length h.1). subst (λ (q : OpId). IsFollowed (Waits NoMore b) b.counts q y) (sym new) (followed y exists))
+                  (λ (past : length h.1 ≤ y). λ fresh i z ends.
+                  let none = past-none b second.grows.growing p y (subst (λ (q : OpId). IsOp h q) (sym new) is_op) past in
+                  absurd (omega arith))
+                  (cases_lt y (length h.1)))
+                  (in-cases p (subst (λ (es : List ℕ). p.index < slice_index es p.session) of_m is_in));
+            };
+            straight = straight-grown a b to_b ready.straight;
+          };
+          grows = to_b;
+          here = same_here ∙ here;
+          others = λ t apart. ap (λ (es : List ℕ). slice_index es t) of_m ∙ included.others t apart;
+        }
+
+  -- taking in up to one operation and then the next
+  pub takes-next : (a b x : GrowingOrder) (s n : ℕ) → TakesUpTo h a b s n → slice_index a.past.items s ≤ n → TakesUpTo h b x s (n + 1) → TakesUpTo h a x s (n + 1)
+  takes-next a b x s n first from second = record {
+    ready = second.ready;
+    grows = grows-then h ⊥ NoReads a b x first.grows second.grows;
+    here = let one = first.here in let two = second.here in omega arith;
+    others = λ t apart. second.others t apart ∙ first.others t apart;
+  }
+
+  -- nothing is taken in
+  pub takes-none : (a : GrowingOrder) (s n : ℕ) → IsReady h a → n ≤ slice_index a.past.items s → TakesUpTo h a a s n
+  takes-none a s n ready less = record {
+    ready = ready;
+    grows = grows-same h ⊥ NoReads a ready.growing;
+    here = omega arith;
+    others = λ t apart. refl;
+  }
+
+  -- up to no more than was taken in
+  pub takes-to : (a x : GrowingOrder) (s i n : ℕ) → TakesUpTo h a x s i → n ≤ i → i ≤ max (slice_index a.past.items s) n → TakesUpTo h a x s n
+  takes-to a x s i n takes less most = record {
+    ready = takes.ready;
+    grows = takes.grows;
+    here = let here = takes.here in omega arith;
+    others = takes.others;
+  }
+
+  -- taking in what the vector of an operation counts, session by session
+  module _ (a b : GrowingOrder) (o : OpId) (k : ℕ) (next : slice_index a.past.items o.session ≤ o.index) (own : count a.counts o o.session ≡ o.index)
+      (grows : Grows h ⊥ NoReads a b) (below : (s : ℕ) → s < k → slice_index b.past.items s ≡ max (slice_index a.past.items s) (count a.counts o s))
+      (rest : (s : ℕ) → k ≤ s → slice_index b.past.items s ≡ slice_index a.past.items s) where
+    still-out : slice_index b.past.items o.session ≤ o.index
+    still-out = ⊎_elim
+        (λ (done : o.session < k). let is = below o.session done in omega arith)
+        (λ (later : k ≤ o.session). let is = rest o.session later in omega arith)
+        (cases_lt o.session k)
+
+    still-counts : (s : ℕ) → count b.counts o s ≡ count a.counts o s
+    still-counts s = grows-outside h ⊥ NoReads a.counts a b grows (λ p t behind. refl) o s still-out
+
+    module _ (x : GrowingOrder) where
+      pub past-grows : (n : ℕ) → TakesUpTo h b x k n → Grows h ⊥ NoReads a x
+      past-grows n takes = grows-then h ⊥ NoReads a b x grows takes.grows
+
+      pub past-below : TakesUpTo h b x k (count b.counts o k) → (s : ℕ) → s < k + 1 → slice_index x.past.items s ≡ max (slice_index a.past.items s) (count a.counts o s)
+      past-below takes s under = ⊎_elim
+          (λ (last : s ≡ k).
+          let here = takes.here in
+          let before = rest k (omega arith) in
+          let same = still-counts k in
+          subst (λ (t : ℕ). slice_index x.past.items t ≡ max (slice_index a.past.items t) (count a.counts o t)) (sym last) (omega arith))
+          (λ (apart : s ≢ k). takes.others s apart ∙ below s (omega arith))
+          (cases_eq s k)
+
+      pub past-rest : (n : ℕ) → TakesUpTo h b x k n → (s : ℕ) → k + 1 ≤ s → slice_index x.past.items s ≡ slice_index a.past.items s
+      past-rest n takes s above = takes.others s (omega arith) ∙ rest s (omega arith)
+
+      pub past-all : length h.1 ≤ k → TakesUpTo h b x o.session (o.index + 1) → TakesPast h a x o
+      past-all ended takes = record {
+        ready = takes.ready;
+        grows = grows-then h ⊥ NoReads a b x grows takes.grows;
+        here = let here = takes.here in let out = still-out in omega arith;
+        others = λ t exists apart. takes.others t apart ∙ below t (omega arith);
+      }

@@ -1,0 +1,427 @@
+-- How the happened-before relation of an operation is made from that of the one before.
+use Rattle.std.specs.Prelude.{◌≡◌, ◌≢◌, ◌⊎◌, ℕ, ◌+◌, ◌<◌, ◌≤◌, List, length, true, false, Contains, MatchOption, Option, Some, None, slice_index}
+use Rattle.std.proofs.Common.{zero, suc, arith, refl, sym, ap, subst, subst₂, ◌∙◌, ⊎_elim, inl, inr, ltb-true}
+use Rattle.std.proofs.lemmas.Bool.{cases_eq, cases_lt}
+use Rattle.std.proofs.lemmas.List.{get_or_past}
+use Rattle.std.proofs.lemmas.List.Elements.{All-contains}
+use Rattle.history.specs.declared.op_id.OpId.{OpId}
+use Rattle.history.specs.History.{IsOp, session}
+use Rattle.memory_order.specs.declared.growing_order.GrowingOrder.{GrowingOrder}
+use Rattle.memory_order.specs.declared.growing_order.Raised.{Raised}
+use Rattle.memory_order.specs.declared.happened_before.HappenedBefore.{HappenedBefore}
+use Rattle.memory_order.specs.declared.happened_before.Saturation.{Saturation}
+use Rattle.memory_order.specs.declared.happened_before.Saturation.TheVariants.{Saturated, Cyclic, GivenUp}
+use Rattle.memory_order.specs.CountSums.{all_counted}
+use Rattle.memory_order.specs.HappenedBeforeVectors.{IsHBVectors}
+use Rattle.memory_order.specs.Memory.{MemoryHistory, IsDifferentiated}
+use Rattle.causal_order.specs.Orders.{op, program_past}
+use Rattle.memory_order.specs.Relations.{IsPast, HB}
+use Rattle.memory_order.specs.SourceOrder.{CountsSourceOrder, IsSource, IsSourceEdge, SourceOrder}
+use Rattle.memory_order.specs.Steps.GrowthSteps.{Always, Grows, IsCovered, IsFresh, IsGivenUp, IsIn, IsPending, IsReady, IsSettled, NoMore, NoReads, TakesPast, Waits}
+use Rattle.memory_order.specs.Steps.HappenedBefores.{AreReadsFollowed, AreSourcesIn, AreStrictOf, HasGrown, HasMorePairs, IsMade, IsOutcome, IsReadFollowed, IsReadDone, IsReadWaiting, IsSupported, TakesIn, TakesNext, Tells, last_of, past_count}
+use Rattle.causal_order.specs.Vectors.{Counts, count, list_of, IsCounted}
+use Rattle.memory_order.proofs.FirstWrites.{CO-from_sources, distinct-source}
+use Rattle.memory_order.proofs.FollowedReads.{grows-read}
+use Rattle.memory_order.proofs.GrowthLaws.{grows-then, grows-wider}
+use Rattle.memory_order.proofs.HappenedBeforeLaws.{HB-earlier, HB-inside, in_past-from, past-of_history, past-program, program_past-from, program_past-parts}
+use Rattle.memory_order.proofs.HappenedBeforeVectors.{IsFixed, fixed-exact, supported-strict}
+use Rattle.causal_order.proofs.OrdersLaws.{same_op, session-of_history}
+use Rattle.memory_order.proofs.Raises.{TellsCycles, grows-cyclic, grows-most, grows-outside, grows-rises, grows-sums, grows-supported, grows-untouched, settled-within}
+use Rattle.causal_order.proofs.PathsLaws.{leads-edge, leads-leads}
+use Rattle.memory_order.proofs.SourceVectors.{counts-before, counted-within, own-count, program-before}
+use Rattle.memory_order.proofs.StrictLaws.{strict-straight}
+
+-- nothing is in a list with no entries
+no-entry : (es : List Raised) → length es ≡ 0 → (e : Raised) → Contains es e → ⊥
+no-entry es none e held = All-contains (λ (x : Raised). ⊥) es e (λ k d below. absurd (omega arith)) held
+
+module _ (h : MemoryHistory) (v : Counts) (counts : CountsSourceOrder h v) where
+  -- past the last session nothing is counted
+  no-count : (p : OpId) (s : ℕ) → IsOp h p → length h.1 ≤ s → count v p s ≡ 0
+  no-count p s is_op past = let size = counts.vectors.counts p is_op in get_or_past (list_of v p) s 0 (omega arith)
+
+  module _ (happened : HappenedBefore) (made : IsMade h happened) (same : made.causal ≡ v) (next : happened.taken < length (session h happened.session)) where
+    abbrev next_op : OpId
+    next_op = op happened.session happened.taken
+
+    -- what is in is in the past of the next operation
+    past-before_next : (n s : ℕ) → n ≤ happened.taken → past_count v happened.session n s ≤ count v next_op s
+    past-before_next zero s below = omega arith
+    past-before_next (suc n) s below =
+        let before = counts-before h v counts next_op (op happened.session n) next (program-before h happened.session n happened.taken (omega arith) next) in
+        counted-within h v counts next_op (op happened.session n) next before s
+
+    own-past : (n : ℕ) → n ≤ happened.taken → past_count v happened.session n happened.session ≡ n
+    own-past zero below = refl
+    own-past (suc n) below = let own = own-count h v counts (op happened.session n) (omega arith) in omega arith
+
+    past-is : (s : ℕ) → slice_index happened.order.past.items s ≡ past_count v happened.session happened.taken s
+    past-is s = made.past s ∙ ap (λ (w : Counts). past_count w happened.session happened.taken s) same
+
+    begun-of : AreStrictOf h v made.strict
+    begun-of = subst (λ (w : Counts). AreStrictOf h w made.strict) same made.begun
+
+    -- the next operation may be taken in
+    pub next-ready : IsReady h happened.order
+    next-ready = record {
+      growing = made.well_formed.order;
+      settled = made.settled;
+      straight = λ none.
+          let straight = strict-straight h v made.strict counts begun-of in
+          let is = made.untouched none in
+          record {
+            monotone = λ s j z is_op.
+                let one = straight.monotone s j z is_op in let first = is (op s j) z in let second = is (op s (j + 1)) z in omega arith;
+            within = λ b y i z is_op ends.
+                let one = straight.within b y i z is_op (sym (is b y) ∙ ends) in let first = is (op y i) z in let second = is b z in omega arith;
+          };
+    }
+
+    pub next-outside : slice_index happened.order.past.items happened.session ≤ happened.taken
+    next-outside = let is = past-is happened.session in let own = own-past happened.taken (omega arith) in omega arith
+
+    next-strict : (s : ℕ) → count happened.order.counts next_op s ≡ count made.strict next_op s
+    next-strict s = made.outside next_op s next-outside
+
+    pub next-own : count happened.order.counts next_op happened.session ≡ happened.taken
+    next-own = next-strict happened.session ∙ begun-of.own next_op next
+
+    module _ (after : GrowingOrder) (takes : TakesPast h happened.order after next_op) where
+      -- then just its past is in
+      taken-past : (s : ℕ) → slice_index after.past.items s ≡ count v next_op s
+      taken-past s = ⊎_elim
+          (λ (here : s ≡ happened.session).
+          let own = own-count h v counts next_op next in
+          let is = takes.here in
+          subst (λ (t : ℕ). slice_index after.past.items t ≡ count v next_op t) (sym here) (omega arith))
+          (λ (apart : s ≢ happened.session). ⊎_elim
+          (λ (exists : s < length h.1).
+          let is = takes.others s exists apart in
+          let before = past-is s in
+          let less = past-before_next happened.taken s (omega arith) in
+          let counted = next-strict s ∙ begun-of.others next_op s next apart in
+          omega arith)
+          (λ (past : length h.1 ≤ s).
+          let none = no-count next_op s next past in
+          let size = takes.ready.growing.sessions in
+          let nothing : slice_index after.past.items s ≡ 0 = get_or_past after.past.items s 0 (omega arith) in
+          omega arith)
+          (cases_lt s (length h.1)))
+          (cases_eq s happened.session)
+
+      -- and so are the sources of the session's reads
+      taken-sources : (j : ℕ) (w : OpId) → j < happened.taken + 1 → IsSource h w (op happened.session j) → IsIn after w
+      taken-sources j w below source =
+          let edge = leads-edge (IsSourceEdge h) w (op happened.session j) (inr source) in
+          let before : SourceOrder h w next_op = ⊎_elim
+          (λ (last : j ≡ happened.taken). subst (λ (k : ℕ). SourceOrder h w (op happened.session k)) last edge)
+          (λ (apart : j ≢ happened.taken).
+          leads-leads (IsSourceEdge h) w (op happened.session j) next_op edge (program-before h happened.session j happened.taken (omega arith) next))
+          (cases_eq j happened.taken) in
+          let counted = counts-before h v counts next_op w next before in
+          let is = taken-past w.session in
+          omega arith
+
+    module _ (distinct : IsDifferentiated h) where
+      -- what is counted of the past of the operation before is in the relation of the next one
+      supported-in : (n : ℕ) → happened.taken ≡ n → (a b : OpId) → IsIn happened.order b → IsCounted happened.order.counts b a → HB h next_op a b
+      supported-in zero first a b is_in counted =
+          let is = past-is b.session in
+          let none : past_count v happened.session happened.taken b.session ≡ 0 = ap (λ (n : ℕ). past_count v happened.session n b.session) first in
+          absurd (omega arith)
+      supported-in (suc n) more a b is_in counted =
+          let p : OpId = op happened.session n in
+          let p_is_op : IsOp h p = omega arith in
+          let is = past-is b.session in
+          let before : past_count v happened.session happened.taken b.session ≡ count v p b.session = ap (λ (k : ℕ). past_count v happened.session k b.session) more in
+          let in_p : IsPast h p b = ⊎_elim
+          (λ (same_op : b ≡ p). inl same_op)
+          (λ (order : SourceOrder h b p). inr (CO-from_sources h b p order))
+          ((counts.counted p b p_is_op).0 (omega arith)) in
+          HB-earlier h next_op p next (program_past-from next_op p refl (omega arith)) a b
+          (made.supported distinct n (omega arith) a b in_p counted)
+
+      next-supported : IsSupported h next_op happened.order.counts
+      next-supported a b in_b counted = ⊎_elim
+          (λ (is_in : IsIn happened.order b). supported-in happened.taken refl a b is_in counted)
+          (λ (outside : slice_index happened.order.past.items b.session ≤ b.index).
+          let is = made.outside b a.session outside in
+          supported-strict h v counts distinct next_op next made.strict begun-of a b in_b (omega arith))
+          (cases_lt b.index (slice_index happened.order.past.items b.session))
+
+module _ (h : MemoryHistory) where
+  -- what is in stays in
+  pub grown-sources : (free : Type 0) (m x : HappenedBefore) → HasGrown h free m x → AreSourcesIn h m → AreSourcesIn h x
+  grown-sources free m x grown sources j w below source =
+      let taken = grown.taken in
+      let is_in = sources j w (omega arith) (subst (λ (s : ℕ). IsSource h w (op s j)) grown.session source) in
+      subst (λ (es : List ℕ). w.index < slice_index es w.session) (sym grown.past) is_in
+
+  -- a settled state stays so
+  pub grown-settled : (more : Raised → Type 0) (m x : HappenedBefore) → HasGrown h ⊥ m x → IsSettled more m.order → IsSettled more x.order
+  grown-settled more m x grown settled =
+      settled-within h (program_past (last_of m)) more m.order x.order (record { grows = grown.order; past = grown.past }) settled
+
+  -- and so do reads that are followed
+  pub grown-reads : (more : Raised → Type 0) (n : ℕ) (m x : HappenedBefore) → HasGrown h ⊥ m x → AreReadsFollowed h more n m → AreReadsFollowed h more n x
+  grown-reads more n m x grown reads j u below exists =
+      subst (λ (s : ℕ). IsReadFollowed h (Waits more x.order) x.order.counts (op s j) u) (sym grown.session)
+      (grows-read h (program_past (last_of m)) more m.order x.order grown.order (op m.session j) u (reads j u below exists))
+
+  pub grown-read : (more : Raised → Type 0) (m x : HappenedBefore) → HasGrown h ⊥ m x → (j u : ℕ)
+      → IsReadFollowed h (Waits more m.order) m.order.counts (op m.session j) u → IsReadFollowed h (Waits more x.order) x.order.counts (op x.session j) u
+  grown-read more m x grown j u read =
+      subst (λ (s : ℕ). IsReadFollowed h (Waits more x.order) x.order.counts (op s j) u) (sym grown.session)
+      (grows-read h (program_past (last_of m)) more m.order x.order grown.order (op m.session j) u read)
+
+  last-same : (free : Type 0) (m x : HappenedBefore) → HasGrown h free m x → last_of x ≡ last_of m
+  last-same free m x grown = let taken = grown.taken in same_op (last_of x) (last_of m) grown.session (omega arith)
+
+  -- no step at all, and steps after steps
+  pub grown-then : (free : Type 0) (a m x : HappenedBefore) → HasGrown h free a m → HasGrown h free m x → HasGrown h free a x
+  grown-then free a m x first second = record {
+    well_formed = second.well_formed;
+    order = grows-then h free (program_past (last_of a)) a.order m.order x.order first.order
+        (subst (λ (o : OpId). Grows h free (program_past o) m.order x.order) (last-same free a m first) second.order);
+    past = second.past ∙ first.past;
+    session = second.session ∙ first.session;
+    taken = second.taken ∙ first.taken;
+  }
+
+  pub grown-free : (a m : HappenedBefore) → HasGrown h ⊥ a m → HasGrown h Always a m
+  grown-free a m grown = record {
+    well_formed = grown.well_formed;
+    order = grows-wider h ⊥ Always (λ none. absurd none) (program_past (last_of a)) (program_past (last_of a)) (λ r is. is) a.order m.order grown.order;
+    past = grown.past;
+    session = grown.session;
+    taken = grown.taken;
+  }
+
+  module _ (a m : HappenedBefore) (made : IsMade h a) (next : a.taken < length (session h a.session)) (takes : TakesIn h a m) where
+    abbrev o : OpId
+    o = op a.session a.taken
+
+    pub sources-taken : AreSourcesIn h m
+    sources-taken j w below source =
+        let taken = takes.taken in
+        taken-sources h made.causal made.counts a made refl next m.order takes.past j w (omega arith)
+        (subst (λ (s : ℕ). IsSource h w (op s j)) takes.session source)
+
+    module _ (x : HappenedBefore) (grown : HasGrown h ⊥ m x)
+        (followed : (u : ℕ) → u < length h.1 → IsReadFollowed h (Waits NoMore x.order) x.order.counts (op x.session a.taken) u) where
+      pub reads-taken : AreReadsFollowed h NoMore x.taken x
+      reads-taken j u below exists = ⊎_elim
+          (λ (last : j ≡ a.taken). subst (λ (k : ℕ). IsReadFollowed h (Waits NoMore x.order) x.order.counts (op x.session k) u) (sym last) (followed u exists))
+          (λ (apart : j ≢ a.taken).
+          let taken = takes.taken in
+          let same = grown.taken in
+          let of_m : IsReadFollowed h (Waits NoMore m.order) m.order.counts (op a.session j) u =
+          grows-read h NoReads NoMore a.order m.order takes.past.grows (op a.session j) u (made.reads j u (omega arith) exists) in
+          grown-read NoMore m x grown j u (subst (λ (s : ℕ). IsReadFollowed h (Waits NoMore m.order) m.order.counts (op s j) u) (sym takes.session) of_m))
+          (cases_eq j a.taken)
+
+      module _ (b : HappenedBefore) (saturated : HasGrown h Always x b) (settled : IsSettled NoMore b.order) (reads : AreReadsFollowed h NoMore b.taken b) where
+        last-m : last_of m ≡ o
+        last-m = let taken = takes.taken in same_op (last_of m) o takes.session (omega arith)
+
+        -- all steps
+        steps : Grows h Always (program_past o) a.order b.order
+        steps =
+            let first = grows-wider h ⊥ Always (λ none. absurd none) NoReads (program_past o) (λ r none. absurd cc) a.order m.order takes.past.grows in
+            let second : Grows h Always (program_past o) m.order x.order = subst (λ (q : OpId). Grows h Always (program_past q) m.order x.order) last-m
+            (grows-wider h ⊥ Always (λ none. absurd none) (program_past (last_of m)) (program_past (last_of m)) (λ r is. is) m.order x.order grown.order) in
+            let third : Grows h Always (program_past o) x.order b.order = subst (λ (q : OpId). Grows h Always (program_past q) x.order b.order) (last-same ⊥ m x grown ∙ last-m) saturated.order in
+            grows-then h Always (program_past o) a.order x.order b.order (grows-then h Always (program_past o) a.order m.order x.order first second) third
+
+        same-session : b.session ≡ a.session
+        same-session = saturated.session ∙ grown.session ∙ takes.session
+
+        same-taken : b.taken ≡ suc a.taken
+        same-taken = let one = saturated.taken in let two = grown.taken in let three = takes.taken in omega arith
+
+        same-past : b.order.past.items ≡ m.order.past.items
+        same-past = saturated.past ∙ grown.past
+
+        past-next : (s : ℕ) → slice_index b.order.past.items s ≡ count made.causal o s
+        past-next s = ap (λ (es : List ℕ). slice_index es s) same-past ∙ taken-past h made.causal made.counts a made refl next m.order takes.past s
+
+        tells-before : TellsCycles h Always (program_past o) a.order
+        tells-before = (
+          (λ p is_op. let own = made.begun.own p is_op in let more = made.grown p p.session in omega arith),
+          made.cyclic,
+          made.acyclic,
+        )
+
+        tells-after : TellsCycles h Always (program_past o) b.order
+        tells-after = grows-cyclic h Always (program_past o) a.order b.order steps tells-before
+
+        supported-next : IsDifferentiated h → IsSupported h o b.order.counts
+        supported-next distinct = grows-supported h Always (program_past o) made.causal made.counts distinct o next (λ r is. is) a.order b.order steps
+            (next-supported h made.causal made.counts a made refl next distinct)
+
+        sums-next : b.order.added + all_counted h made.strict ≡ all_counted h b.order.counts
+        sums-next = let sums = (grows-sums h Always (program_past o) a.order b.order steps).0 in let before = made.added in omega arith
+
+        outside-next : (p : OpId) (s : ℕ) → slice_index b.order.past.items p.session ≤ p.index → count b.order.counts p s ≡ count made.strict p s
+        outside-next = grows-outside h Always (program_past o) made.strict a.order b.order steps made.outside
+
+        -- the relation is made
+        pub made-next : IsMade h b
+        made-next = record {
+          well_formed = saturated.well_formed;
+          causal = made.causal;
+          counts = made.counts;
+          strict = made.strict;
+          begun = made.begun;
+          grown = λ p s. let before = made.grown p s in let rises = grows-rises h Always (program_past o) a.order b.order steps p s in omega arith;
+          outside = outside-next;
+          untouched = grows-untouched h Always (program_past o) made.strict a.order b.order steps made.untouched;
+          added = sums-next;
+          past = λ s. past-next s ∙ subst₂ (λ (t n : ℕ). count made.causal o s ≡ past_count made.causal t n s) (sym same-session) (sym same-taken) refl;
+          cyclic = tells-after.1;
+          acyclic = tells-after.2;
+          supported = λ distinct n is.
+              let here : o ≡ op b.session n = let taken = same-taken in same_op o (op b.session n) (sym same-session) (omega arith) in
+              subst (λ (q : OpId). IsSupported h q b.order.counts) here (supported-next distinct);
+          settled = settled;
+          reads = reads;
+        }
+
+        -- what is in is in its past
+        past-in : (p : OpId) → IsIn b.order p → IsPast h o p
+        past-in p is_in = let is = past-next p.session in ⊎_elim
+            (λ (same : p ≡ o). inl same)
+            (λ (before : SourceOrder h p o). inr (CO-from_sources h p o before))
+            ((made.counts.counted o p next).0 (omega arith))
+
+        module _ (waits : length b.order.pending.items ≡ 0) where
+          -- where nothing waits, a vector counts what the last one counts that it counts
+          followed-end : (p : OpId) (u i z : ℕ) → IsFresh (Waits NoMore b.order) b.order.counts p u → IsIn b.order p → count b.order.counts p u ≡ i + 1
+              → count b.order.counts (op u i) z ≤ count b.order.counts p z
+          followed-end p u i z fresh is_in ends = ⊎_elim
+              (λ (counts : count b.order.counts (op u i) z ≤ count b.order.counts p z). counts)
+              (λ (waiting : IsPending (Waits NoMore b.order) p u ⊎ IsCovered (Waits NoMore b.order) b.order.counts (op u i) z). absurd (⊎_elim
+              (λ (is : IsPending (Waits NoMore b.order) p u). ⊎_elim
+              (λ (held : Contains b.order.pending.items is.0). no-entry b.order.pending.items waits is.0 held)
+              (λ (none : ⊥). none)
+              is.1)
+              (λ (is : IsCovered (Waits NoMore b.order) b.order.counts (op u i) z). ⊎_elim
+              (λ (held : Contains b.order.pending.items is.0). no-entry b.order.pending.items waits is.0 held)
+              (λ (none : ⊥). none)
+              is.1)
+              waiting))
+              (settled.followed p u is_in fresh i z ends)
+
+          last-from : (n : ℕ) (p : OpId) → p.index ≡ n → IsIn b.order p → (u i z : ℕ) → count b.order.counts p u ≡ i + 1
+              → count b.order.counts (op u i) z ≤ count b.order.counts p z
+          last-from zero p first is_in u i z ends = followed-end p u i z (λ j is. absurd (omega arith)) is_in ends
+          last-from (suc n) p place is_in u i z ends = ⊎_elim
+              (λ (less : count b.order.counts (op p.session n) u < count b.order.counts p u).
+              followed-end p u i z
+              (λ j is. subst (λ (k : ℕ). count b.order.counts (op p.session k) u < count b.order.counts p u) (let same : n ≡ j = omega arith in same) less)
+              is_in ends)
+              (λ (enough : count b.order.counts p u ≤ count b.order.counts (op p.session n) u).
+              let here : op p.session (n + 1) ≡ p = same_op (op p.session (n + 1)) p refl (omega arith) in
+              let below : n + 1 < slice_index b.order.past.items p.session = omega arith in
+              let rises = settled.monotone p.session n u below in
+              let rises_u : count b.order.counts (op p.session n) u ≤ count b.order.counts p u =
+              subst (λ (q : OpId). count b.order.counts (op p.session n) u ≤ count b.order.counts q u) here rises in
+              let last = last-from n (op p.session n) refl (omega arith) u i z (omega arith) in
+              let rises_z : count b.order.counts (op p.session n) z ≤ count b.order.counts p z =
+              subst (λ (q : OpId). count b.order.counts (op p.session n) z ≤ count b.order.counts q z) here (settled.monotone p.session n z below) in
+              omega arith)
+              (cases_lt (count b.order.counts (op p.session n) u) (count b.order.counts p u))
+
+          module _ (distinct : IsDifferentiated h) where
+            in-past : (p : OpId) → IsPast h o p → IsIn b.order p
+            in-past p in_p =
+                let counted = ltb-true p.index (count made.causal o p.session) (in_past-from h made.causal made.counts distinct o next p in_p) in
+                let is = past-next p.session in
+                omega arith
+
+            -- nothing is left to be added
+            fixed-next : IsFixed h made.causal o b.order.counts
+            fixed-next = record {
+              own = λ p in_p. tells-after.0 p (past-of_history h o p next in_p);
+              others = λ p u in_p apart.
+                  let begun = made.begun.others p u (past-of_history h o p next in_p) apart in
+                  let before = made.grown p u in
+                  let rises = grows-rises h Always (program_past o) a.order b.order steps p u in
+                  omega arith;
+              past = λ p u i in_p ends. (HB-inside h made.causal made.counts distinct o next (op u i) p (supported-next distinct (op u i) p in_p (omega arith))).0;
+              last = λ p u i in_p ends z. last-from p.index p refl (in-past p in_p) u i z ends;
+              next = λ s i in_next z. settled.monotone s i z (in-past (op s (i + 1)) in_next);
+              read = λ w r y t u m kept from wrote last apart.
+                  let parts = program_past-parts o r kept in
+                  let up_to = parts.1 in
+                  let taken = same-taken in
+                  let below = last.below in
+                  let r_is_op = past-of_history h o r next (past-program h o r next kept) in
+                  let most = saturated.well_formed.order.counts.held r u r_is_op in
+                  let exists = session-of_history h (op u m) (omega arith) in
+                  let here : op b.session r.index ≡ r = same_op (op b.session r.index) r (same-session ∙ sym parts.0) refl in
+                  let read : IsReadFollowed h (Waits NoMore b.order) b.order.counts r u =
+                  subst (λ (q : OpId). IsReadFollowed h (Waits NoMore b.order) b.order.counts q u) here (reads r.index u (omega arith) exists) in
+                  ⊎_elim
+                  (λ (done : IsReadDone h b.order.counts r u). done w y t m (distinct-source h distinct w r from) wrote last apart)
+                  (λ (waiting : IsReadWaiting (Waits NoMore b.order) r u). absurd (⊎_elim
+                  (λ (held : Contains b.order.pending.items waiting.0). no-entry b.order.pending.items waits waiting.0 held)
+                  (λ (none : ⊥). none)
+                  waiting.1))
+                  read;
+            }
+
+            -- the vectors are those of the relation
+            exact-next : IsHBVectors h o b.order.counts
+            exact-next = fixed-exact h made.causal made.counts distinct o next b.order.counts fixed-next saturated.well_formed.order.counts (supported-next distinct)
+
+            acyclic-next : b.order.is_cyclic ≡ false → (p : OpId) → ¬ HB h o p p
+            acyclic-next not p happened =
+                let in_p = (HB-inside h made.causal made.counts distinct o next p p happened).1 in
+                let counted = (exact-next.exact p p in_p).1 happened in
+                let own = tells-after.2 not p (past-of_history h o p next in_p) in
+                omega arith
+
+            cyclic-next : b.order.is_cyclic ≡ true → (p : OpId) × HB h o p p
+            cyclic-next is =
+                let cycle = tells-after.1 is in
+                (cycle.0, (exact-next.exact cycle.0 cycle.0 (past-in cycle.0 cycle.1)).0 cycle.2)
+
+        more-pairs : IsDifferentiated h → (most : Option ℕ) → MatchOption most ⊥ (λ n. n < b.order.added) → MatchOption most ⊥ (λ n. HasMorePairs h o n)
+        more-pairs distinct None given_up = given_up
+        more-pairs distinct (Some n) given_up = record {
+          causal = made.causal;
+          counts = made.counts;
+          strict = made.strict;
+          begun = made.begun;
+          now = b.order.counts;
+          held = saturated.well_formed.order.counts;
+          supported = supported-next distinct;
+          outside = λ p s not. outside-next p s (⊎_elim
+              (λ (is_in : IsIn b.order p). absurd (not (past-in p is_in)))
+              (λ (out : slice_index b.order.past.items p.session ≤ p.index). out)
+              (cases_lt p.index (slice_index b.order.past.items p.session)));
+          more = let sums = sums-next in omega arith;
+        }
+
+        module _ (ended : (length b.order.pending.items ≡ 0) ⊎ IsGivenUp b.order) where
+          waits-none : ¬ IsGivenUp b.order → length b.order.pending.items ≡ 0
+          waits-none not = ⊎_elim
+              (λ (none : length b.order.pending.items ≡ 0). none)
+              (λ (given_up : IsGivenUp b.order). absurd (not given_up))
+              ended
+
+          pub outcome-next : IsDifferentiated h → (told : Saturation) → Tells b told → IsOutcome h o b.order.most b.order.counts told
+          outcome-next distinct Saturated tells = let none = waits-none tells.0 in (exact-next none distinct, acyclic-next none distinct tells.1)
+          outcome-next distinct Cyclic tells = let none = waits-none tells.0 in (exact-next none distinct, cyclic-next none distinct tells.1)
+          outcome-next distinct GivenUp tells = more-pairs distinct b.order.most tells
+
+          pub takes-next : TakesNext h a b
+          takes-next = record {
+            made = made-next;
+            session = same-session;
+            taken = let taken = same-taken in omega arith;
+            most = grows-most h Always (program_past o) a.order b.order steps;
+            counts = λ p s. grows-rises h Always (program_past o) a.order b.order steps p s;
+            outcome = outcome-next;
+          }

@@ -1,0 +1,47 @@
+-- The sources of operations, and their vectors.
+use Rattle.std.specs.Prelude.{◌≡◌, Option, Some, None, MatchOption}
+use Rattle.std.specs.Option.{option_flatten}
+use Rattle.std.proofs.Common.{arith, sym, subst, refl}
+use Rattle.history.specs.declared.op_id.OpId.{OpId}
+use Rattle.history.specs.History.{Record, IsOp}
+use Rattle.memory_order.specs.Memory.{MemoryHistory}
+use Rattle.memory_order.proofs.MemoryLaws.{write-of_history}
+use Rattle.memory_order.specs.SourceOrder.{IsSource, IsSourceOf, LacksSource}
+use Rattle.causal_order.specs.Vectors.{IsListed, Counts, AreVectorsOf}
+use Rattle.causal_order.specs.Topological.{AreSquare}
+
+module _ {S C R : Type 0} (h : Record S C R) (v : Counts) (vectors : AreVectorsOf h v) where
+  -- an operation of the history has a vector
+  pub listed-op : (o : OpId) → IsOp h o → IsListed v o
+  listed-op o is_op = let same = vectors.one_each.operations o.session in omega arith
+
+  -- each vector has one count for each session
+  pub square-vectors : AreSquare v
+  square-vectors o listed =
+      let same = vectors.one_each.operations o.session in
+      let is_op : IsOp h o = omega arith in
+      let size = vectors.counts o is_op in
+      let sessions = vectors.one_each.sessions in
+      omega arith
+
+module _ (h : MemoryHistory) (o : OpId) where
+  -- what is found is the source, where no read lacks one
+  pub found-source : (found : Option (Option OpId)) (source : Option OpId) → ¬ LacksSource h
+      → MatchOption found (LacksSource h) (IsSourceOf h o) → source ≡ option_flatten found → IsSourceOf h o source
+  found-source None source sources lacks same = absurd (sources lacks)
+  found-source (Some e) source sources is_source same = subst (λ (s : Option OpId). IsSourceOf h o s) (sym same) is_source
+
+module _ (h : MemoryHistory) where
+  -- the source that an operation has, or that it has none
+  pub source-some : (o w : OpId) (e : Option OpId) → IsSourceOf h o e → e ≡ Some w → IsSource h w o
+  source-some o w e is same = subst (λ (s : Option OpId). IsSourceOf h o s) same is
+
+  pub source-none : (o : OpId) (e : Option OpId) → IsSourceOf h o e → ((w : OpId) → e ≡ Some w → ⊥) → (w : OpId) → ¬ IsSource h w o
+  source-none o None initial other w is = is.0.4 (initial is.0.0 is.0.1 is.0.3)
+  source-none o (Some a) initial other w is = other a refl
+
+-- a source has a vector
+pub listed-source : (h : MemoryHistory) (v : Counts) → AreVectorsOf h v → (o : OpId) (source : Option OpId) → IsSourceOf h o source → (w : OpId) → source ≡ Some w → IsListed v w
+listed-source h v vectors o source is_source w same =
+    let reads = subst (λ (s : Option OpId). IsSourceOf h o s) same is_source in
+    listed-op h v vectors w (write-of_history h w reads.0.0 reads.0.1 reads.0.2)

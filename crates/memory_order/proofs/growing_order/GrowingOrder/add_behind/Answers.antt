@@ -1,0 +1,47 @@
+use Rattle.std.proofs.Common.{◌≡◌, arith, inl, refl}
+use Rattle.memory_order.specs.Steps.GrowthSteps.{NoMore, NoReads}
+use Rattle.memory_order.proofs.GrowthLaws.{within-then}
+use Rattle.memory_order.proofs.GrowingSteps.{behind-more, behind-same, settled-behind}
+use Rattle.causal_order.proofs.OrdersLaws.{session-of_history}
+use Rattle.memory_order.proofs.Raises.{grows-followed, settled-within}
+use Rattle.memory_order.proofs.growing_order.GrowingOrder.add_behind.Goals as goal
+
+pub first_behind-index-requires-clause-monotone : goal.first_behind-index-requires-clause-monotone
+first_behind-index-requires-clause-monotone c =
+    (settled-within c.args.h.now NoReads (λ e. e ≡ c.args.raised) c.args.self.now c.loop-session.self c.loop-session.invariant.within c.requires.settled).monotone
+
+pub loop-session-preserved : goal.loop-session-preserved
+loop-session-preserved c =
+    let h = c.args.h.now in
+    let at = c.loop-session.self in
+    let new = c.raise_from.new.self in
+    let p = c.args.raised.op in
+    let u = c.args.raised.session in
+    let first = c.first_behind-index.ensures in
+    let same = c.loop-session.invariant.same in
+    let one = c.in_ok-raise_from.ensures.within NoReads (λ below. inl (p, inl (first.here below), omega arith)) in
+    let within = within-then h NoReads c.args.self.now at new c.loop-session.invariant.within one in
+    let monotone = (settled-within h NoReads (λ e. e ≡ c.args.raised) c.args.self.now new within c.requires.settled).monotone in
+    record {
+      within = within;
+      same = behind-same at.counts new.counts at new c.loop-session.session c.first_behind-index.result u c.count-count.result p first refl c.in_ok-raise_from.ensures.raised one.past monotone same;
+      behind = behind-more at.counts new.counts at new c.loop-session.session c.first_behind-index.result u c.count-count.result p first refl c.in_ok-raise_from.ensures.raised one.past monotone
+          c.loop-session.invariant.behind;
+    }
+
+pub returns-clause-settled : goal.returns-clause-settled
+returns-clause-settled c =
+    let h = c.args.h.now in
+    let at = c.loop-session.self in
+    let within = c.loop-session.invariant.within in
+    let same = c.loop-session.invariant.same in
+    let ended = c.loop-session-test.false in
+    let sessions = c.sessions-session-end.ensures.count in
+    settled-behind at c.args.raised
+    (settled-within h NoReads (λ e. e ≡ c.args.raised) c.args.self.now at within c.requires.settled)
+    (grows-followed h NoReads NoMore c.args.self.now at within.grows c.args.raised.op c.args.raised.session c.requires.followed)
+    (λ b is_in counts.
+    let most = within.grows.growing.past b.session in
+    let exists = session-of_history h b (omega arith) in
+    let enough = c.loop-session.invariant.behind b (omega arith) is_in counts in
+    omega arith)

@@ -1,0 +1,30 @@
+use Rattle.std.proofs.Common.{◌<◌, ℕ, List, arith, inl, inr, ⊎_elim, subst, sym}
+use Rattle.std.specs.Prelude.{slice_index}
+use Rattle.history.specs.History.{Precedes}
+use Rattle.memory_order.specs.Steps.GrowthSteps.{NoReads}
+use Rattle.causal_order.specs.Vectors.{IsCounted}
+use Rattle.memory_order.proofs.GrowthLaws.{within-then}
+use Rattle.memory_order.proofs.GrowingSteps.{past-more}
+use Rattle.memory_order.proofs.Raises.{grows-rises}
+use Rattle.memory_order.proofs.growing_order.GrowingOrder.add_past.Goals as goal
+
+pub loop-session-preserved : goal.loop-session-preserved
+loop-session-preserved c =
+    let h = c.args.h.now in
+    let at = c.loop-session.self in
+    let within = c.loop-session.invariant.within in
+    let value = c.count-count.ensures in
+    let is_in = subst (λ (es : List ℕ). c.args.op.index < slice_index es c.args.op.session) (sym within.past) c.requires.is_in in
+    let cause = ⊎_elim
+    (λ (counted : IsCounted c.args.self.now.counts c.args.op c.args.before).
+    let rises = grows-rises h ⊥ NoReads c.args.self.now at within.grows c.args.op c.args.before.session in
+    let now : IsCounted at.counts c.args.op c.args.before = omega arith in
+    inl now)
+    (λ (precedes : Precedes c.args.before c.args.op). inr precedes)
+    c.requires.cause in
+    record {
+      within = within-then h NoReads c.args.self.now at c.raise_from.new.self within
+          (c.in_ok-raise_from.ensures.within NoReads (λ _. inl (c.args.before, cause, omega arith)));
+      past = past-more at.counts c.raise_from.new.self.counts (slice_index at.past.items c.args.op.session) c.loop-session.session c.count-count.result c.args.op c.args.before
+          c.in_ok-raise_from.ensures.raised is_in value c.loop-session.invariant.past;
+    }

@@ -1,0 +1,11 @@
+use Rattle.std.proofs.Common.{ℕ, ◌<◌, ◌≤◌}
+use Rattle.memory_order.specs.Steps.GrowthSteps.{GrowsWithin, NoReads}
+use Rattle.causal_order.specs.Vectors.{count}
+use Rattle.memory_order.proofs.growing_order.GrowingOrder.add_past.Given as goal
+
+-- the sessions so far are counted
+abbrev pub invariant-loop-session : goal.invariant-loop-session
+invariant-loop-session l = record {
+  within : GrowsWithin l.h NoReads l.fn.self l.self;
+  past : (z : ℕ) → z < l.session → count l.self.counts l.before z ≤ count l.self.counts l.op z;
+}

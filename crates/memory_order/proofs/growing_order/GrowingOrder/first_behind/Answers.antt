@@ -1,0 +1,40 @@
+use Rattle.std.proofs.Common.{◌-◌, ◌/◌, ◌+◌, arith, ℕ}
+use Rattle.std.specs.Prelude.{slice_index}
+use Rattle.memory_order.proofs.GrowingSteps.{monotone-to}
+use Rattle.memory_order.proofs.growing_order.GrowingOrder.first_behind.Goals as goal
+
+pub loop-low-preserved-then-op-count : goal.loop-low-preserved-then-op-count
+loop-low-preserved-then-op-count c =
+    let order = c.args.self.now in
+    let middle : ℕ = c.loop-low.low + (c.loop-low.high - c.loop-low.low) / 2 in
+    let ordered = c.loop-low.invariant.ordered in
+    let inside = c.loop-low.invariant.inside in
+    let less = c.loop-low-test.true in
+    let counts = c.if-op-count.true in
+    let value = c.count.ensures in
+    record {
+      ordered = omega arith;
+      inside = omega arith;
+      before = c.loop-low.invariant.before;
+      behind = λ i above below.
+          let rises = monotone-to order.counts (λ s. slice_index order.past.items s) c.requires.monotone c.args.session middle i c.args.op.session above below in
+          omega arith;
+    }
+
+pub loop-low-preserved : goal.loop-low-preserved
+loop-low-preserved c =
+    let order = c.args.self.now in
+    let middle : ℕ = c.loop-low.low + (c.loop-low.high - c.loop-low.low) / 2 in
+    let ordered = c.loop-low.invariant.ordered in
+    let inside = c.loop-low.invariant.inside in
+    let less = c.loop-low-test.true in
+    let counts = c.if-op-count.false in
+    let value = c.count.ensures in
+    record {
+      ordered = omega arith;
+      inside = inside;
+      before = λ i below.
+          let rises = monotone-to order.counts (λ s. slice_index order.past.items s) c.requires.monotone c.args.session i middle c.args.op.session (omega arith) (omega arith) in
+          omega arith;
+      behind = c.loop-low.invariant.behind;
+    }

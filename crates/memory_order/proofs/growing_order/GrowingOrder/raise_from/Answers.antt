@@ -1,0 +1,62 @@
+use Rattle.std.proofs.Common.{◌<◌, arith, refl, inl, inr, zero}
+use Rattle.history.specs.History.{IsOp}
+use Rattle.causal_order.specs.Orders.{op}
+use Rattle.memory_order.proofs.GrowthLaws.{grows-step}
+use Rattle.memory_order.proofs.GrowingSteps.{growing-pushed}
+use Rattle.memory_order.proofs.RaisesMade.{raised-from, raise-made}
+use Rattle.memory_order.proofs.growing_order.GrowingOrder.raise_from.Goals as goal
+
+pub returns-then-end-index-clause-within : goal.returns-then-end-index-clause-within
+returns-then-end-index-clause-within c = λ reads cause.
+    let raised = c.in_ok-end.ensures.raised in
+    record {
+      grows = record { growing = raised.growing; steps = zero; made = raised.none c.if-end-index.true };
+      past = raised.past;
+    }
+
+pub returns-then-end-index-clause-raised : goal.returns-then-end-index-clause-raised
+returns-then-end-index-clause-raised c =
+    raised-from c.args.h.now c.args.self.now c.raise_up_to.new.self c.args.session c.args.index c.in_ok-end.end c.args.other c.args.number
+    c.in_ok-end.ensures.raised c.in_ok-end.ensures.stopped
+
+pub returns-then-session-other-clause-within : goal.returns-then-session-other-clause-within
+returns-then-session-other-clause-within c = λ reads cause.
+    let h = c.args.h.now in
+    let a = c.args.self.now in
+    let b = c.raise_up_to.new.self in
+    let raised = c.in_ok-end.ensures.raised in
+    let from = raised.from in
+    let apart = c.if-end-index.false in
+    let some : c.args.index < c.in_ok-end.end = omega arith in
+    let inside = raised.inside some in
+    let most = c.requires.growing.past c.args.session in
+    let is_op : IsOp h (op c.args.session c.args.index) = omega arith in
+    record {
+      grows = grows-step h ⊥ reads a _
+          (growing-pushed h a b _ c.args.session c.args.index c.in_ok-end.end c.args.other c.args.number raised some is_op c.requires.other
+          refl refl c.in_ok-push.ensures.items refl)
+          (inl (raise-made h a b c.args.session c.args.index c.in_ok-end.end c.args.other c.args.number raised c.in_ok-end.ensures.stopped reads _ some is_op
+          (cause (omega arith)) refl refl c.in_ok-push.ensures.items refl refl (inr (refl, c.if-session-other.true))));
+      past = raised.past;
+    }
+
+pub returns-else-session-other-clause-within : goal.returns-else-session-other-clause-within
+returns-else-session-other-clause-within c = λ reads cause.
+    let h = c.args.h.now in
+    let a = c.args.self.now in
+    let b = c.raise_up_to.new.self in
+    let raised = c.in_ok-end.ensures.raised in
+    let from = raised.from in
+    let apart = c.if-end-index.false in
+    let some : c.args.index < c.in_ok-end.end = omega arith in
+    let inside = raised.inside some in
+    let most = c.requires.growing.past c.args.session in
+    let is_op : IsOp h (op c.args.session c.args.index) = omega arith in
+    record {
+      grows = grows-step h ⊥ reads a _
+          (growing-pushed h a b _ c.args.session c.args.index c.in_ok-end.end c.args.other c.args.number raised some is_op c.requires.other
+          refl refl c.in_ok-push.ensures.items refl)
+          (inl (raise-made h a b c.args.session c.args.index c.in_ok-end.end c.args.other c.args.number raised c.in_ok-end.ensures.stopped reads _ some is_op
+          (cause (omega arith)) refl refl c.in_ok-push.ensures.items refl refl (inl (refl, c.if-session-other.false))));
+      past = raised.past;
+    }

@@ -1,0 +1,23 @@
+use Rattle.std.proofs.Common.{arith}
+use Rattle.std.proofs.lemmas.List.{get_or_read}
+use Rattle.memory_order.proofs.RaisesMade.{raised-next, raised-end}
+use Rattle.memory_order.proofs.growing_order.GrowingOrder.raise_up_to.Goals as goal
+
+pub loop-end-preserved : goal.loop-end-preserved
+loop-end-preserved c =
+    let before = c.loop-end.invariant in
+    let below = c.loop-end-test.true in
+    let sessions = before.growing.sessions in
+    let exists = c.requires.session in
+    let at = get_or_read c.loop-end.self.past.items _ _ (omega arith) c.index.ensures 0 in
+    let most = before.growing.past c.args.session in
+    let one = rw c.if-not-branch.false at c.in_ok-raise.ensures in
+    raised-next c.args.h.now c.args.self.now c.loop-end.self c.raise.new.self c.args.session c.args.index c.loop-end.end c.args.other c.args.number
+    before (omega arith) (omega arith) c.requires.other one
+
+pub returns-then-not-branch-clause-stopped : goal.returns-then-not-branch-clause-stopped
+returns-then-not-branch-clause-stopped c = λ _.
+    let kept = rw c.if-not-branch.true at c.in_ok-raise.ensures in
+    let enough = kept.1 in
+    let same = raised-end c.args.h.now c.args.self.now c.loop-end.self c.args.session c.args.index c.loop-end.end c.args.other c.args.number c.loop-end.invariant in
+    omega arith

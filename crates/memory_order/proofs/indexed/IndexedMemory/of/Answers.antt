@@ -1,0 +1,26 @@
+use Rattle.std.specs.Prelude.{◌≡◌, List}
+use Rattle.std.proofs.Common.{subst, sym, ◌∙◌}
+use Rattle.memory_order.specs.declared.writes.Write.{Write}
+use Rattle.memory_order.specs.SourceOrder.{CountsSourceOrder}
+use Rattle.memory_order.specs.Steps.Indexed.{IsUnordered}
+use Rattle.memory_order.specs.Steps.Written.{ListsWrites}
+use Rattle.memory_order.proofs.Listed.{ListsWrites-permutation}
+use Rattle.memory_order.proofs.Outcomes.{both-outcomes}
+use Rattle.memory_order.proofs.indexed.IndexedMemory.of.Goals as goal
+
+pub invariant_of-result : goal.invariant_of-result
+invariant_of-result c =
+    let copied : c.in_ok-by_variable.by_variable.items ≡ c.in_ok-writes.writes.items = c.in_ok-by_variable.ensures.items ∙ c.deref.ensures.value in
+    let before = subst (λ (ws : List Write). ListsWrites c.args.h.now ws) (sym copied) c.in_ok-writes.ensures.writes in
+    record {
+      writes = c.in_ok-writes.ensures.writes;
+      sorted = c.in_ok-writes.ensures.sorted;
+      in_order = c.in_ok-writes.ensures.in_order;
+      by_variable = ListsWrites-permutation c.args.h.now _ _ c.sort_by_variable.ensures.same before;
+      sorted_by_variable = c.sort_by_variable.ensures.sorted;
+      sources = c.in_ok-sources.ensures;
+      reads = c.in_ok-reads.ensures;
+      distinct = c.are_distinct-is_differentiated.ensures;
+      ordered = both-outcomes c.in_ok-order.order (IsUnordered c.args.h.now) (CountsSourceOrder c.args.h.now)
+          c.in_ok-order.ensures.none c.in_ok-order.ensures.order;
+    }

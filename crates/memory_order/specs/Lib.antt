@@ -1,0 +1,10 @@
+pub mod Memory
+pub mod Relations
+pub mod Sources
+pub mod SourceOrder
+pub mod OverwrittenReads
+pub mod HappenedBeforePatterns
+pub mod HappenedBeforeVectors
+pub mod MemoryHistories
+pub mod CountSums
+pub mod Steps

@@ -1,0 +1,9 @@
+-- What single functions say to one another, in terms of their own data: no promise to a reader rests on it.
+pub mod Written
+pub mod Listed
+pub mod GrowingOrders
+pub mod GrowthSteps
+pub mod HappenedBefores
+pub mod Indexed
+pub mod Conflicts
+pub mod SourceWaits

@@ -1,0 +1,53 @@
+ghost use Rattle.std.specs.Prelude.{◌≢◌, ◌↔◌, All, IfOk, IsTrue};
+ghost use Rattle.memory_order.specs.Memory.{initial, IsDifferentiated};
+ghost use Rattle.memory_order.specs.Steps.Written.{AreOnce, IsSorted, ListsWrites};
+
+use crate::reads::initial_value;
+use crate::writes::{Write, sorted_writes};
+use history::History;
+use objects::Memory;
+use std::alloc::{AllocError, Global};
+
+/// Whether the history has distinct values: no variable is written twice with one value, and no write writes its
+/// variable's initial value.
+///
+/// Fails for want of memory alone. O(n log n) for n operations.
+pub fn is_differentiated(alloc: Global, h: &History<Memory>) -> Result<bool, AllocError>
+    ensures { IfOk result (λ yes. IsTrue yes ↔ IsDifferentiated h.now) }
+{
+    let writes = sorted_writes(alloc, h)?;
+    Ok(are_distinct(h, &writes))
+}
+
+/// Whether the history has distinct values, from its writes. O(n log m) for n writes and m entries of the start.
+pub fn are_distinct(h: &History<Memory>, writes: &[Write]) -> bool
+    requires writes { ListsWrites h.now writes.now }
+    requires sorted { IsSorted writes.now }
+    ensures { IsTrue result ↔ IsDifferentiated h.now }
+{
+    are_once(writes) && are_not_initial(h, writes)
+}
+
+/// Whether no two operations among the writes, which are sorted, write one value to one variable.
+fn are_once(writes: &[Write]) -> bool
+    requires { IsSorted writes.now }
+    ensures { IsTrue result ↔ AreOnce writes.now }
+{
+    for i in 1..writes.len() {
+        let before = &writes[i - 1];
+        let after = &writes[i];
+        if before.key == after.key && before.value == after.value && before.op != after.op {
+            return false;
+        }
+    }
+    true
+}
+
+/// Whether none of the writes writes its variable's initial value.
+fn are_not_initial(h: &History<Memory>, writes: &[Write]) -> bool
+    ensures { IsTrue result ↔ All (λ w. w.value ≢ initial h.now w.key) writes.now }
+{
+    writes
+        .iter()
+        .all(|write| write.value != initial_value(h, write.key))
+}

@@ -1,0 +1,472 @@
+//! Orders of operations that contain program order, while they grow until they are transitive.
+
+ghost use Rattle.std.specs.Prelude.{◌≡◌, ◌<◌, ◌≤◌, ◌↔◌, ◌⊎◌, ◌+◌, [], ℕ, length, IfOk, IsTrue, MatchBool, MatchOption, OnOk, slice_index};
+ghost use Rattle.history.specs.History.{IsOp, Precedes, session as operations_of};
+ghost use Rattle.causal_order.specs.Orders.{op, Ops};
+ghost use Rattle.memory_order.specs.Steps.GrowingOrders.{AreHeldVectors};
+ghost use Rattle.memory_order.specs.Steps.GrowthSteps.{GrowsWithin, IsAtEnd, IsBegun, IsCaused, IsFirstBehind, IsFollowed, IsGivenUp, IsGrowing, IsIn, IsIncluded, IsMonotone, IsOneRaise, IsPastBefore, IsPastOf, IsRaisedFrom, IsRaisedTo, IsReady, IsRuled, IsSettled, NoMore, NoReads, TakesOut, TakesPast, TakesUpTo, Waits};
+ghost use Rattle.memory_order.specs.Steps.HappenedBefores.{AreStrictOf};
+ghost use Rattle.causal_order.specs.Vectors.{count, IsCounted};
+
+use crate::strict::strict_vectors;
+use causal_order::{Vectors, is_at_most};
+use history::{History, OpId};
+use objects::Memory;
+use std::alloc::{AllocError, Global};
+
+/// Counts that were raised: those of one session, in the vectors of neighbours in a session.
+#[derive(Clone, Copy, Debug)]
+pub(crate) struct Raised {
+    /// The first of the neighbours.
+    pub(crate) op: OpId,
+    /// The index behind the last of them.
+    pub(crate) end: usize,
+    /// The session that their vectors count more of.
+    pub(crate) session: usize,
+}
+
+/// Why the vector of an operation counts more of a session.
+#[derive(Clone, Copy, Debug, PartialEq, Eq)]
+pub enum Cause {
+    /// This operation is before it, and the vector of this operation counts as much.
+    Through(OpId),
+    /// It is the source of this read, and the last operation that is counted is another write of the variable and is
+    /// before the read.
+    Read(OpId),
+}
+
+/// A count that was raised.
+#[derive(Clone, Copy, Debug)]
+pub struct Raise {
+    /// The operation whose vector counts more.
+    pub op: OpId,
+    /// The session that it counts more of.
+    pub session: usize,
+    /// How many of its operations are counted now.
+    pub count: u16,
+    /// Why they are before the operation.
+    pub cause: Cause,
+}
+
+/// An order on the first operations of each session, as vectors: how many operations of each session are before each
+/// operation.
+///
+/// Within a session no count falls from one operation to the next. An operation comes before itself where its vector
+/// counts more of its own session than its index.
+///
+/// What a raise demands of other vectors is done when the raise is followed. Where nothing waits to be followed, the order
+/// is transitive.
+#[derive(Drop)]
+pub(crate) struct GrowingOrder {
+    /// The vectors.
+    pub(crate) counts: Vectors,
+    /// How many operations of each session are in the order.
+    pub(crate) past: Vec<u16>,
+    /// What was raised and isn't followed yet.
+    pub(crate) pending: Vec<Raised>,
+    /// What was raised, in turn.
+    pub(crate) raises: Vec<Raise>,
+    /// How many pairs may be added until the order is given up, or none where it never is.
+    pub(crate) most: Option<u32>,
+    /// How many pairs were added.
+    pub(crate) added: u32,
+    /// Whether some operation comes before itself.
+    pub(crate) is_cyclic: bool,
+}
+
+impl GrowingOrder {
+    /// The order that vectors count, with no operations in it yet. O(n k) for n operations of k sessions.
+    pub(crate) fn of(
+        alloc: Global,
+        h: &History<Memory>,
+        vectors: &Vectors,
+        most: Option<u32>,
+    ) -> Result<GrowingOrder, AllocError>
+        requires { AreHeldVectors h.now vectors.now }
+        ensures growing { IfOk result (IsGrowing h.now) }
+        ensures begun { IfOk result IsBegun }
+        ensures most { IfOk result (λ order. order.most ≡ most) }
+        ensures strict { IfOk result (λ order. AreStrictOf h.now vectors.now order.counts) }
+    {
+        let counts = strict_vectors(alloc, h, vectors)?;
+        let past = vec![in alloc; 0; h.sessions()]?;
+        Ok(GrowingOrder {
+            counts,
+            past,
+            pending: Vec::new(alloc),
+            raises: Vec::new(alloc),
+            most,
+            added: 0,
+            is_cyclic: false,
+        })
+    }
+
+    /// Whether more pairs were added than may be.
+    pub(crate) fn is_given_up(&self) -> bool
+        ensures { IsTrue result ↔ IsGivenUp self.now }
+    {
+        match self.most {
+            Some(most) => most < self.added,
+            None => false,
+        }
+    }
+
+    /// How many operations of a session are before an operation.
+    pub(crate) fn count(&self, h: &History<Memory>, op: OpId, session: usize) -> u16
+        requires growing { IsGrowing h.now self.now }
+        requires is_op { IsOp h.now op }
+        requires exists { session < length h.now.1 }
+        ensures { result ≡ count self.now.counts op session }
+    {
+        self.counts.get(op)[session]
+    }
+
+    /// What was raised last and isn't followed yet, or none where nothing waits or the order is given up.
+    pub(crate) fn next_raised(&mut self, h: &History<Memory>) -> Option<Raised>
+        requires { IsGrowing h.now self.old }
+        ensures { MatchOption result (IsAtEnd h.now self.old self.new) (TakesOut h.now self.old self.new) }
+    {
+        if self.is_given_up() {
+            return None;
+        }
+        self.pending.pop()
+    }
+
+    /// Takes in an operation and what its vector counts, as far as they aren't in the order yet.
+    ///
+    /// O(k^2) for each operation that is taken in, for k sessions, besides what is raised.
+    pub(crate) fn take_past(&mut self, h: &History<Memory>, op: OpId) -> Result<(), AllocError>
+        requires ready { IsReady h.now self.old }
+        requires is_op { IsOp h.now op }
+        requires next { slice_index self.old.past.items op.session ≤ op.index }
+        requires own { count self.old.counts op op.session ≡ op.index }
+        ensures { OnOk result (TakesPast h.now self.old self.new op) }
+    {
+        for session in 0..h.sessions() {
+            let count = self.count(h, op, session) as usize;
+            self.take_in_up_to(h, session, count)?;
+        }
+        self.take_in_up_to(h, op.session as usize, op.index as usize + 1)
+    }
+
+    /// Takes in operations of a session, up to an index.
+    fn take_in_up_to(
+        &mut self,
+        h: &History<Memory>,
+        session: usize,
+        end: usize,
+    ) -> Result<(), AllocError>
+        requires ready { IsReady h.now self.old }
+        requires session { session < length h.now.1 }
+        requires inside { end ≤ length (operations_of h.now session) }
+        ensures { OnOk result (TakesUpTo h.now self.old self.new session end) }
+    {
+        for index in self.past[session] as usize..end {
+            let op = OpId {
+                session: session as u64,
+                index: index as u64,
+            };
+            self.take_in(h, op)?;
+        }
+        Ok(())
+    }
+
+    /// Takes the next operation of a session in: all that is before the operations that its vector counts comes before it.
+    /// Where nothing was added yet, its vector counts all that already.
+    ///
+    /// O(1) where nothing was added, and O(k^2) else, for k sessions, besides what it raises.
+    fn take_in(&mut self, h: &History<Memory>, op: OpId) -> Result<(), AllocError>
+        requires ready { IsReady h.now self.old }
+        requires is_op { IsOp h.now op }
+        requires next { op.index ≡ slice_index self.old.past.items op.session }
+        ensures { OnOk result (TakesUpTo h.now self.old self.new op.session (op.index + 1)) }
+    {
+        self.include(h, op);
+        if self.added == 0 {
+            return Ok(());
+        }
+        self.add_before(h, op)?;
+        self.add_all_last(h, op)
+    }
+
+    /// Counts the next operation of a session among the operations of the order.
+    fn include(&mut self, h: &History<Memory>, op: OpId)
+        requires growing { IsGrowing h.now self.old }
+        requires is_op { IsOp h.now op }
+        requires next { op.index ≡ slice_index self.old.past.items op.session }
+        ensures { IsIncluded h.now self.old self.new op }
+    {
+        self.past[op.session as usize] = op.index as u16 + 1;
+    }
+
+    /// Puts all that is before the operation before an operation in its session before that.
+    fn add_before(&mut self, h: &History<Memory>, op: OpId) -> Result<(), AllocError>
+        requires growing { IsGrowing h.now self.old }
+        requires is_op { IsOp h.now op }
+        requires is_in { IsIn self.old op }
+        ensures within { OnOk result (GrowsWithin h.now NoReads self.old self.new) }
+        ensures before { OnOk result (IsPastBefore self.new.counts op) }
+    {
+        if op.index == 0 {
+            return Ok(());
+        }
+        let before = OpId {
+            session: op.session,
+            index: op.index - 1,
+        };
+        self.add_past(h, op, before)
+    }
+
+    /// Puts all that is before the last operations of each session that the vector of an operation counts before the
+    /// operation.
+    fn add_all_last(&mut self, h: &History<Memory>, op: OpId) -> Result<(), AllocError>
+        requires growing { IsGrowing h.now self.old }
+        requires is_op { IsOp h.now op }
+        requires is_in { IsIn self.old op }
+        ensures within { OnOk result (GrowsWithin h.now NoReads self.old self.new) }
+        ensures followed { OnOk result ((y : ℕ) → y < length h.now.1 → IsFollowed (Waits NoMore self.new) self.new.counts op y) }
+    {
+        for session in 0..h.sessions() {
+            self.add_last(h, op, session)?;
+        }
+        Ok(())
+    }
+
+    /// Follows what was raised: the operation comes behind all that is before the last one counted, and what comes
+    /// behind the operation counts as much.
+    pub(crate) fn follow(&mut self, h: &History<Memory>, raised: Raised) -> Result<(), AllocError>
+        requires growing { IsGrowing h.now self.old }
+        requires is_op { IsOp h.now raised.op }
+        requires is_in { IsIn self.old raised.op }
+        requires exists { raised.session < length h.now.1 }
+        requires settled { IsSettled (λ e. e ≡ raised) self.old }
+        ensures within { OnOk result (GrowsWithin h.now NoReads self.old self.new) }
+        ensures settled { OnOk result (IsSettled NoMore self.new) }
+    {
+        self.add_last(h, raised.op, raised.session)?;
+        self.add_behind(h, raised)
+    }
+
+    /// Lets what comes behind an operation that was raised count as much.
+    fn add_behind(&mut self, h: &History<Memory>, raised: Raised) -> Result<(), AllocError>
+        requires growing { IsGrowing h.now self.old }
+        requires is_op { IsOp h.now raised.op }
+        requires exists { raised.session < length h.now.1 }
+        requires settled { IsSettled (λ e. e ≡ raised) self.old }
+        requires followed { IsFollowed (Waits NoMore self.old) self.old.counts raised.op raised.session }
+        ensures within { OnOk result (GrowsWithin h.now NoReads self.old self.new) }
+        ensures settled { OnOk result (IsSettled NoMore self.new) }
+    {
+        let count = self.count(h, raised.op, raised.session);
+        for session in 0..h.sessions() {
+            let index = self.first_behind(h, session, raised.op);
+            let cause = Cause::Through(raised.op);
+            self.raise_from(h, session, index, raised.session, count, cause)?;
+        }
+        Ok(())
+    }
+
+    /// Puts all that is before the last operation of a session that the vector of an operation counts before the
+    /// operation.
+    fn add_last(&mut self, h: &History<Memory>, op: OpId, session: usize) -> Result<(), AllocError>
+        requires growing { IsGrowing h.now self.old }
+        requires is_op { IsOp h.now op }
+        requires is_in { IsIn self.old op }
+        requires exists { session < length h.now.1 }
+        ensures within { OnOk result (GrowsWithin h.now NoReads self.old self.new) }
+        ensures followed { OnOk result (IsFollowed (Waits NoMore self.new) self.new.counts op session) }
+    {
+        let count = self.count(h, op, session);
+        if count == 0 {
+            return Ok(());
+        }
+        let last = OpId {
+            session: session as u64,
+            index: count as u64 - 1,
+        };
+        self.add_past(h, op, last)
+    }
+
+    /// Puts a write that is before a read before the source of the read. What is before it follows.
+    pub(crate) fn add_rival(
+        &mut self,
+        h: &History<Memory>,
+        source: OpId,
+        write: OpId,
+        read: OpId,
+    ) -> Result<(), AllocError>
+        requires growing { IsGrowing h.now self.old }
+        requires source { IsOp h.now source }
+        requires is_in { IsIn self.old source }
+        requires write { IsOp h.now write }
+        ensures within { (reads : Ops) → IsRuled h.now reads self.old.counts source write.session (write.index + 1) → OnOk result (GrowsWithin h.now reads self.old self.new) }
+        ensures growing { OnOk result (IsGrowing h.now self.new) }
+        ensures counted { OnOk result (IsCounted self.new.counts source write) }
+    {
+        let session = source.session as usize;
+        let index = source.index as usize;
+        let other = write.session as usize;
+        let count = write.index as u16 + 1;
+        self.raise_from(h, session, index, other, count, Cause::Read(read))
+    }
+
+    /// Puts all that is before an operation before another one, which that one is before. O(k) for k sessions, besides what
+    /// it raises.
+    fn add_past(&mut self, h: &History<Memory>, op: OpId, before: OpId) -> Result<(), AllocError>
+        requires growing { IsGrowing h.now self.old }
+        requires is_op { IsOp h.now op }
+        requires is_in { IsIn self.old op }
+        requires before { IsOp h.now before }
+        requires cause { IsCounted self.old.counts op before ⊎ Precedes before op }
+        ensures within { OnOk result (GrowsWithin h.now NoReads self.old self.new) }
+        ensures past { OnOk result (IsPastOf self.new.counts op before) }
+    {
+        if is_at_most(self.counts.get(before), self.counts.get(op)) {
+            return Ok(());
+        }
+        for session in 0..h.sessions() {
+            let count = self.count(h, before, session);
+            let index = op.index as usize;
+            let cause = Cause::Through(before);
+            self.raise_from(h, op.session as usize, index, session, count, cause)?;
+        }
+        Ok(())
+    }
+
+    /// The index of the first operation of a session that comes behind an operation, or of the first one that isn't in
+    /// the order. O(log p) for p operations of the session.
+    fn first_behind(&self, h: &History<Memory>, session: usize, op: OpId) -> usize
+        requires growing { IsGrowing h.now self.now }
+        requires is_op { IsOp h.now op }
+        requires exists { session < length h.now.1 }
+        requires monotone { IsMonotone self.now.counts (λ s. slice_index self.now.past.items s) }
+        ensures { IsFirstBehind self.now session op result }
+    {
+        let mut low = 0;
+        let mut high = self.past[session] as usize;
+        while low < high {
+            let middle = low + (high - low) / 2;
+            let other = OpId {
+                session: session as u64,
+                index: middle as u64,
+            };
+            if op.index < self.count(h, other, op.session as usize) as u64 {
+                high = middle;
+            } else {
+                low = middle + 1;
+            }
+        }
+        low
+    }
+
+    /// Raises what the vectors of an operation and of those behind it in its session count of a session, up to the first
+    /// that counts as much, and notes what is to be followed.
+    fn raise_from(
+        &mut self,
+        h: &History<Memory>,
+        session: usize,
+        index: usize,
+        other: usize,
+        number: u16,
+        cause: Cause,
+    ) -> Result<(), AllocError>
+        requires growing { IsGrowing h.now self.old }
+        requires session { session < length h.now.1 }
+        requires inside { index ≤ length (operations_of h.now session) }
+        requires other { other < length h.now.1 }
+        requires held { number ≤ length (operations_of h.now other) }
+        ensures growing { OnOk result (IsGrowing h.now self.new) }
+        ensures within { (reads : Ops) → (index < slice_index self.old.past.items session → IsCaused h.now reads self.old.counts (op session index) other number) → OnOk result (GrowsWithin h.now reads self.old self.new) }
+        ensures raised { OnOk result (IsRaisedFrom self.old.counts self.new.counts (slice_index self.old.past.items session) session index other number) }
+    {
+        let end = self.raise_up_to(h, session, index, other, number, cause)?;
+        if end == index {
+            return Ok(());
+        }
+        let op = OpId {
+            session: session as u64,
+            index: index as u64,
+        };
+        self.pending.push(Raised {
+            op,
+            end,
+            session: other,
+        })?;
+        if session == other {
+            self.is_cyclic = true;
+        }
+        Ok(())
+    }
+
+    /// Raises what the vectors of an operation and of those behind it in its session count of a session, up to the first
+    /// that counts as much. The index of that one.
+    fn raise_up_to(
+        &mut self,
+        h: &History<Memory>,
+        session: usize,
+        index: usize,
+        other: usize,
+        number: u16,
+        cause: Cause,
+    ) -> Result<usize, AllocError>
+        requires growing { IsGrowing h.now self.old }
+        requires session { session < length h.now.1 }
+        requires inside { index ≤ length (operations_of h.now session) }
+        requires other { other < length h.now.1 }
+        requires held { number ≤ length (operations_of h.now other) }
+        ensures raised { IfOk result (λ end. IsRaisedTo h.now self.old self.new session index end other number) }
+        ensures stopped { IfOk result (λ end. end < slice_index self.old.past.items session → number ≤ count self.old.counts (op session end) other) }
+    {
+        let first = OpId {
+            session: session as u64,
+            index: index as u64,
+        };
+        let mut end = index;
+        while end < self.past[session] as usize {
+            let op = OpId {
+                session: session as u64,
+                index: end as u64,
+            };
+            let cause = if end == index {
+                cause
+            } else {
+                Cause::Through(first)
+            };
+            if !self.raise(h, op, other, number, cause)? {
+                return Ok(end);
+            }
+            end += 1;
+        }
+        Ok(end)
+    }
+
+    /// Raises what the vector of an operation counts of a session, where that is less. Whether it was raised.
+    fn raise(
+        &mut self,
+        h: &History<Memory>,
+        op: OpId,
+        session: usize,
+        number: u16,
+        cause: Cause,
+    ) -> Result<bool, AllocError>
+        requires growing { IsGrowing h.now self.old }
+        requires is_op { IsOp h.now op }
+        requires exists { session < length h.now.1 }
+        requires held { number ≤ length (operations_of h.now session) }
+        ensures { IfOk result (λ raised. MatchBool raised (IsOneRaise h.now self.old self.new op session number) ((self.new ≡ self.old) × (number ≤ count self.old.counts op session))) }
+    {
+        let before = self.count(h, op, session);
+        if number <= before {
+            return Ok(false);
+        }
+        self.raises.push(Raise {
+            op,
+            session,
+            count: number,
+            cause,
+        })?;
+        self.counts.set(op, session, number);
+        self.added += (number - before) as u32;
+        Ok(true)
+    }
+}

@@ -1,0 +1,68 @@
+//! The last writes of a variable.
+
+ghost use Rattle.std.specs.Prelude.{◌≡◌, ◌<◌, ◌↔◌, ℕ, IfOk, IfSome, IsPermutation};
+ghost use Rattle.memory_order.specs.Steps.Indexed.{end_of};
+ghost use Rattle.memory_order.specs.Steps.Written.{AreByVariable, IsBelowWrite, ListsWrites};
+
+use crate::writes::{Write, sorted_writes};
+use history::{History, OpId};
+use objects::Memory;
+use std::alloc::{AllocError, Global};
+
+/// The writes of a history, by variable and operation.
+///
+/// Fails for want of memory alone. O(n log n) for n operations.
+pub fn writes_by_variable(alloc: Global, h: &History<Memory>) -> Result<Vec<Write>, AllocError>
+    ensures writes { IfOk result (λ writes. ListsWrites h.now writes.items) }
+    ensures sorted { IfOk result (λ writes. AreByVariable writes.items) }
+{
+    let mut writes = sorted_writes(alloc, h)?;
+    sort_by_variable(&mut writes);
+    Ok(writes)
+}
+
+/// Sorts writes by variable and operation.
+pub(crate) fn sort_by_variable(writes: &mut Vec<Write>)
+    ensures same { IsPermutation writes.old.items writes.new.items }
+    ensures sorted { AreByVariable writes.new.items }
+{
+    writes.sort_unstable_by_key(|write| (write.key, write.op));
+}
+
+/// The last write of a variable in the session of `end` that stands before `end`.
+///
+/// The writes are those of a history, by variable and operation. O(log n) for n writes.
+pub(crate) fn last_write_before(writes: &[Write], key: u32, end: OpId) -> Option<OpId>
+    requires { AreByVariable writes.now }
+    ensures session { IfSome result (λ w. w.session ≡ end.session) }
+    ensures last { (i : ℕ) → (i < end_of result) ↔ IsBelowWrite writes.now key end.session end.index i }
+{
+    let at = writes.partition_point(|write| (write.key, write.op) < (key, end));
+    if at == 0 {
+        return None;
+    }
+    let last = &writes[at - 1];
+    if last.key == key && last.op.session == end.session {
+        Some(last.op)
+    } else {
+        None
+    }
+}
+
+/// How many operations of a session come up to the last write of a variable among the first `count` of them: 0 where none
+/// of these writes it.
+///
+/// The writes are those of a history, by variable and operation. O(log n) for n writes.
+pub fn end_of_writes(writes: &[Write], key: u32, session: u64, count: u16) -> u16
+    requires { AreByVariable writes.now }
+    ensures { (i : ℕ) → (i < result) ↔ IsBelowWrite writes.now key session count i }
+{
+    let end = OpId {
+        session,
+        index: count as u64,
+    };
+    match last_write_before(writes, key, end) {
+        Some(last) => last.index as u16 + 1,
+        None => 0,
+    }
+}

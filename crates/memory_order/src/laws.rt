@@ -1,0 +1,27 @@
+//! What holds of the relations on the operations of a memory history. The function does nothing: what it ensures is the
+//! law.
+
+ghost use Rattle.std.specs.Prelude.{◌↔◌};
+ghost use Rattle.history.specs.declared.op_id.OpId.{OpId as Operation};
+ghost use Rattle.history.specs.History.{IsOp};
+ghost use Rattle.memory_order.specs.HappenedBeforeVectors.{IsHBVectors};
+ghost use Rattle.memory_order.specs.Memory.{MemoryHistory, IsDifferentiated};
+ghost use Rattle.memory_order.specs.Relations.{HB, HBWithin, IsPast};
+ghost use Rattle.memory_order.specs.SourceOrder.{CountsSourceOrder};
+ghost use Rattle.causal_order.specs.Vectors.{Counts};
+
+/// The happened-before relation of an operation relates operations of its past in the causal order alone, and is the same
+/// where the orders of its definition may relate no others.
+///
+/// This is so where values are distinct and vectors count the causal order, as those of `memory_order` do.
+pub fn happened_before_is_on_the_past()
+    ensures past { (h : MemoryHistory) (v : Counts) (o a b : Operation) → IsDifferentiated h → CountsSourceOrder h v → HB h o a b → IsPast h o a × IsPast h o b }
+    ensures same { (h : MemoryHistory) (v : Counts) (o a b : Operation) → IsDifferentiated h → CountsSourceOrder h v → HB h o a b ↔ HBWithin h o a b }
+{}
+
+/// Each operation has vectors that count its happened-before relation.
+///
+/// This is so where values are distinct and vectors count the causal order, as those of `memory_order` do.
+pub fn happened_before_has_vectors()
+    ensures { (h : MemoryHistory) (v : Counts) (o : Operation) → IsDifferentiated h → CountsSourceOrder h v → IsOp h o → (now : Counts) × IsHBVectors h o now }
+{}

@@ -1,0 +1,36 @@
+//! What is known of a memory history: its writes, the sources of its reads, its causal order and happened-before.
+#![tactic(auto)]
+
+mod causal;
+mod conflicts;
+mod differentiation;
+mod found_sources;
+mod growing_order;
+mod happened_before;
+mod indexed;
+mod known_reads;
+mod last_writes;
+pub mod laws;
+mod order;
+mod placing;
+mod reads;
+mod reads_from;
+mod source_waits;
+mod strict;
+mod writes;
+
+pub use causal::CausalOrder;
+pub use conflicts::waits_with_conflicts;
+pub use differentiation::{are_distinct, is_differentiated};
+pub use found_sources::found_source;
+pub use growing_order::{Cause, Raise};
+pub use happened_before::{HappenedBefore, MOST_PAIRS, Saturation};
+pub use indexed::IndexedMemory;
+pub use known_reads::KnownRead;
+pub use last_writes::{end_of_writes, writes_by_variable};
+pub use order::memory_order;
+pub use placing::Sources;
+pub use reads::{initial_value, known_read};
+pub use reads_from::source_of;
+pub use source_waits::waits_for_sources;
+pub use writes::{Write, is_written, least_write, sorted_writes};

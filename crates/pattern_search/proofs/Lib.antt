@@ -1,0 +1,10 @@
+pub mod First
+pub mod KnownSources
+pub mod KnownCycles
+pub mod KnownConflicts
+pub mod ConflictLinks
+pub mod RoutesBack
+pub mod ReadPatterns
+pub mod NothingFound
+pub mod HappenedReads
+pub mod SearchedLaws

@@ -1,0 +1,15 @@
+use Rattle.std.specs.Prelude.{IfNone, IfOk}
+use Rattle.std.proofs.Common.{subst}
+use Rattle.memory_order.specs.Memory.{MemoryHistory}
+use Rattle.cert_check.specs.declared.criterion.Criterion.TheVariants.{Cc}
+use Rattle.bad_patterns.specs.Kinds.{IsFreeOf}
+use Rattle.pattern_search.proofs.finding.find.Goals as goal
+
+pub returns-clause-none : goal.returns-clause-none
+returns-clause-none c =
+    subst (λ (h : MemoryHistory). IfOk c.find_in.result (λ found. IfNone found (IsFreeOf h Cc))) c.in_ok-memory.ensures c.find_in.ensures.none
+
+pub returns-clause-exact : goal.returns-clause-exact
+returns-clause-exact c apart =
+    subst (λ (h : MemoryHistory). IfOk c.find_in.result (λ found. IfNone found (IsFreeOf h c.args.criterion))) c.in_ok-memory.ensures
+    (c.find_in.ensures.exact apart)

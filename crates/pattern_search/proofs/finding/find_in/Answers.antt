@@ -1,0 +1,18 @@
+use Rattle.std.specs.Prelude.{IfNone, IfOk}
+use Rattle.std.proofs.Common.{subst}
+use Rattle.memory_order.specs.Memory.{MemoryHistory}
+use Rattle.cert_check.specs.declared.criterion.Criterion.TheVariants.{Cc}
+use Rattle.bad_patterns.specs.Kinds.{IsFreeOf}
+use Rattle.pattern_search.proofs.finding.find_in.Goals as goal
+
+pub returns-in-Some-clause-none : goal.returns-in-Some-clause-none
+returns-in-Some-clause-none c =
+    subst (λ (h : MemoryHistory). IfOk c.find_in_order.result (λ found. IfNone found (IsFreeOf h Cc))) c.in-Some.ensures.order c.find_in_order.ensures.none
+
+pub returns-in-Some-clause-exact : goal.returns-in-Some-clause-exact
+returns-in-Some-clause-exact c apart =
+    subst (λ (h : MemoryHistory). IfOk c.find_in_order.result (λ found. IfNone found (IsFreeOf h c.args.criterion))) c.in-Some.ensures.order
+    (c.find_in_order.ensures.exact apart)
+
+pub returns-in_ok-find_without_order-in-None-clause-found : goal.returns-in_ok-find_without_order-in-None-clause-found
+returns-in_ok-find_without_order-in-None-clause-found c = c.in_ok-find_without_order-in-None.ensures.found c.args.criterion

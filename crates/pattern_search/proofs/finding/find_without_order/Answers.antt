@@ -1,0 +1,20 @@
+use Rattle.std.proofs.Common.{subst, sym}
+use Rattle.history.specs.declared.op_id.OpId.{OpId}
+use Rattle.memory_order.specs.Memory.{MemoryHistory}
+use Rattle.memory_order.specs.SourceOrder.{IsCyclic}
+use Rattle.bad_patterns.specs.Kinds.{IsThinAirRead}
+use Rattle.pattern_search.specs.Steps.KnownSources.{ListsKnownSources}
+use Rattle.pattern_search.proofs.KnownSources.{known-sources}
+use Rattle.pattern_search.proofs.NothingFound.{unordered-shown}
+use Rattle.pattern_search.proofs.finding.find_without_order.Goals as goal
+
+pub cyclic_order-requires-clause-sources : goal.cyclic_order-requires-clause-sources
+cyclic_order-requires-clause-sources c =
+    subst (λ (h : MemoryHistory). ListsKnownSources h c.sources.result.now) (sym c.history.ensures)
+    (known-sources c.args.memory.now c.sources.result.now c.sources.ensures)
+
+pub unreachable-requires : goal.unreachable-requires
+unreachable-requires c =
+    let acyclic = rw c.in_default.is at c.in_ok-path.ensures in
+    unordered-shown c.args.memory.now c.requires.unordered (subst (λ (h : MemoryHistory). ¬ IsCyclic h) c.history.ensures acyclic)
+    (subst (λ (h : MemoryHistory). (r : OpId) → ¬ IsThinAirRead h r) c.history-2.ensures c.in_default-first_thin_air_read.ensures)

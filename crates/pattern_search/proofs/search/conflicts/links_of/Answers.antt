@@ -1,0 +1,17 @@
+use Rattle.std.proofs.Common.{◌≡◌, ◌+◌, ◌∷◌, [], arith, length, length-append}
+use Rattle.pattern_search.proofs.ConflictLinks.{links-cycle, links-more}
+use Rattle.pattern_search.proofs.search.conflicts.links_of.Goals as goal
+
+pub loop-i-preserved : goal.loop-i-preserved
+loop-i-preserved c =
+    let before = c.loop-i.invariant in
+    let inside = c.loop-i-test.true in
+    let more = links-more c.args.order.now c.args.ops.now c.loop-i.i c.loop-i.links.items _ _ c.in_ok-link_of.field-0 before.2 before.1 inside c.in_ok-link_of.ensures in
+    let size = length-append c.loop-i.links.items (c.in_ok-link_of.field-0 ∷ []) in
+    rw c.in_ok-push.ensures.items ((omega arith), (omega arith), more)
+
+pub returns : goal.returns
+returns c =
+    let last = c.loop-i.invariant in
+    let ended : length c.loop-i.links.items + 1 ≡ length c.args.ops.now = omega arith in
+    rw c.of.ensures (links-cycle c.args.order.now c.args.ops.now c.requires c.loop-i.links.items last.2 ended)

@@ -1,0 +1,10 @@
+use Rattle.std.proofs.Common.{◌≡◌, ℕ, ◌<◌}
+use Rattle.std.specs.Prelude.{Some, slice_get}
+use Rattle.history.specs.declared.op_id.OpId.{OpId}
+use Rattle.memory_order.specs.declared.known_reads.KnownRead.{KnownRead}
+use Rattle.pattern_search.specs.Steps.Relations.{IsWriteHappened}
+use Rattle.pattern_search.proofs.search.happened.overwritten_start_in.Given as goal
+
+-- no write is found for the reads so far
+abbrev pub invariant-loop-read : goal.invariant-loop-read
+invariant-loop-read l = (i : ℕ) (k : KnownRead) (w : OpId) → i < l.read-index → slice_get l.reads i ≡ Some k → ¬ IsWriteHappened l.order l.relation.0 k w

@@ -1,0 +1,18 @@
+use Rattle.std.proofs.Common.{◌≤◌, length, arith}
+use Rattle.pattern_search.proofs.ReadPatterns.{pair-more, pair-last, pair-ended}
+use Rattle.pattern_search.proofs.search.reads.writes_before.Goals as goal
+use Rattle.pattern_search.proofs.search.reads.writes_before.Goals.{in-Some+else-has_before, in_default}
+
+pub loop-session-preserved : goal.loop-session-preserved
+loop-session-preserved c = elim c.match-last_write.branch [
+  | in-Some+else-has_before w ↦
+      pair-last c.args.order.now c.args.read.now c.loop-session.session c.in_ok-source.source w.in-Some.write c.loop-session.invariant
+      c.in_ok-source.was w.in-Some.ensures
+      (λ before. let yes = w.has_before.ensures.before.1 before in let no = w.if-has_before.false in absurd cc)
+  | in_default w ↦ pair-more c.args.order.now c.args.read.now c.loop-session.session c.loop-session.invariant w.in_default.ensures
+]
+
+pub returns : goal.returns
+returns c =
+    let ended : length c.args.order.now.1 ≤ c.loop-session.session = omega arith in
+    pair-ended c.args.order.now c.args.read.now c.loop-session.session ended c.loop-session.invariant

@@ -1,0 +1,72 @@
+use Rattle.std.proofs.Math.Path.{ap₂}
+use Rattle.std.proofs.Common.{◌≡◌, ℕ, ◌-◌, Option, ⊎_elim, arith, refl, ap, subst, subst₂, ◌∙◌}
+use Rattle.history.specs.declared.op_id.OpId.{OpId}
+use Rattle.history.specs.History.{IsOp}
+use Rattle.memory_order.specs.declared.happened_before.Saturation.TheVariants.{Saturated, Cyclic, GivenUp}
+use Rattle.memory_order.specs.HappenedBeforeVectors.{IsHBVectors}
+use Rattle.causal_order.specs.Orders.{op}
+use Rattle.memory_order.specs.Steps.HappenedBefores.{IsOutcome, most_of, session_of, taken_of, vectors_of}
+use Rattle.pattern_search.proofs.SearchedLaws.{given-up}
+use Rattle.pattern_search.proofs.search.relations.Relation.of_last.Goals as goal
+
+pub returns-in-GivenUp : goal.returns-in-GivenUp
+returns-in-GivenUp c =
+    let h = c.args.h.now in
+    let s = c.args.session in
+    let i = c.loop-index.index in
+    let before = c.loop-index.invariant in
+    let after = c.in_ok-happened-2.ensures in
+    let happened = c.in_ok-happened-2.happened in
+    let test = c.loop-index-test.true in
+    let count = c.len-operations.ensures.count in
+    let is_op : IsOp h (op s i) = omega arith in
+    let is : op (session_of c.loop-index.happened) (taken_of c.loop-index.happened) ≡ op s i = ap₂ op before.session before.taken in
+    let most : most_of happened ≡ c.args.most = after.most ∙ before.most in
+    let outcome : IsOutcome h (op s i) c.args.most (vectors_of happened) GivenUp =
+    subst₂ (λ (o : OpId) (n : Option ℕ). IsOutcome h o n (vectors_of happened) GivenUp) is most
+    (after.outcome c.requires.distinct GivenUp (rw c.in-GivenUp.is at c.saturation.ensures)) in
+    given-up h s i is_op c.args.most outcome
+
+pub loop-index-preserved : goal.loop-index-preserved
+loop-index-preserved c =
+    let h = c.args.h.now in
+    let s = c.args.session in
+    let i = c.loop-index.index in
+    let before = c.loop-index.invariant in
+    let after = c.in_ok-happened-2.ensures in
+    let happened = c.in_ok-happened-2.happened in
+    let is : op (session_of c.loop-index.happened) (taken_of c.loop-index.happened) ≡ op s i = ap₂ op before.session before.taken in
+    let exact : IsHBVectors h (op (session_of c.loop-index.happened) (taken_of c.loop-index.happened)) (vectors_of happened) =
+    ⊎_elim
+    (λ (saturated : c.saturation.result ≡ Saturated). (after.outcome c.requires.distinct Saturated (rw saturated at c.saturation.ensures)).0)
+    (λ (cyclic : c.saturation.result ≡ Cyclic). (after.outcome c.requires.distinct Cyclic (rw cyclic at c.saturation.ensures)).0)
+    c.in-Saturated.is in
+    record {
+      made = after.made;
+      session = after.session ∙ before.session;
+      taken = let more = after.taken in let was = before.taken in omega arith;
+      most = after.most ∙ before.most;
+      exact = λ n next.
+          let here : op s i ≡ op s n = ap (λ (j : ℕ). op s j) (omega arith) in
+          subst (λ (o : OpId). IsHBVectors h o (vectors_of happened)) (is ∙ here) exact;
+    }
+
+pub returns : goal.returns
+returns c =
+    let h = c.args.h.now in
+    let s = c.args.session in
+    let i = c.loop-index.index in
+    let some = c.if-operations-eq0.false in
+    let count = c.len-operations.ensures.count in
+    let up_to = c.loop-index.auto.index-end in
+    let ended = c.loop-index-test.false in
+    record {
+      relation_of = record {
+        is_op = omega arith;
+        causal = c.args.vectors.now;
+        order = c.requires.order;
+        counts = c.loop-index.invariant.exact (c.len-operations.result - 1) (omega arith);
+      };
+      of_session = refl;
+      last = omega arith;
+    }

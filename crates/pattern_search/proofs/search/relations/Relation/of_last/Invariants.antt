@@ -1,0 +1,15 @@
+use Rattle.std.proofs.Common.{◌≡◌, ℕ, ◌+◌}
+use Rattle.memory_order.specs.HappenedBeforeVectors.{IsHBVectors}
+use Rattle.causal_order.specs.Orders.{op}
+use Rattle.memory_order.specs.Steps.HappenedBefores.{IsMade, most_of, session_of, taken_of, vectors_of}
+use Rattle.pattern_search.proofs.search.relations.Relation.of_last.Given as goal
+
+-- the relation of the session's operation before the next one
+abbrev pub invariant-loop-index : goal.invariant-loop-index
+invariant-loop-index l = record {
+  made : IsMade l.h l.happened;
+  session : session_of l.happened ≡ l.session;
+  taken : taken_of l.happened ≡ l.index;
+  most : most_of l.happened ≡ l.fn.most;
+  exact : (n : ℕ) → l.index ≡ n + 1 → IsHBVectors l.h (op l.session n) (vectors_of l.happened);
+}

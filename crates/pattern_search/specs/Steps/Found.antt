@@ -1,0 +1,26 @@
+-- Which pattern is found, of those that show that a history does not meet a criterion.
+--
+-- What a pattern is and what it shows does not rest on these: they say which one the search answers.
+use Rattle.std.specs.Prelude.{◌≡◌, ℕ, ◌<◌}
+use Rattle.history.specs.declared.op_id.OpId.{OpId}
+use Rattle.bad_patterns.specs.declared.pattern.Pattern.{Pattern}
+use Rattle.bad_patterns.specs.declared.pattern.Pattern.TheVariants.{ThinAirRead}
+use Rattle.memory_order.specs.Memory.{MemoryHistory}
+use Rattle.bad_patterns.specs.Kinds.{IsThinAirRead}
+use Rattle.causal_order.specs.Orders.{op, IsEarlier}
+
+-- a thin-air read, and no earlier operation is one
+pub record IsFirst (h : MemoryHistory) (r : OpId) : Type 0 where
+  pub thin_air : IsThinAirRead h r
+  pub none_earlier : (a : OpId) → IsEarlier a r → ¬ IsThinAirRead h a
+
+-- a pattern that is a thin-air read is the first one
+abbrev pub IsFirstFound : MemoryHistory → Pattern → Type 0
+IsFirstFound h pattern = (r : OpId) → pattern ≡ ThinAirRead r → IsFirst h r
+
+-- a thin-air read of a session, and no earlier operation of that session is one: a private function alone names this in its
+-- contract
+pub record IsFirstOf (h : MemoryHistory) (s : ℕ) (r : OpId) : Type 0 where
+  pub thin_air : IsThinAirRead h r
+  pub of_session : r.session ≡ s
+  pub none_earlier : (i : ℕ) → i < r.index → ¬ IsThinAirRead h (op s i)

@@ -1,0 +1,59 @@
+-- The happened-before relation of one operation, as the search goes through it.
+--
+-- Private functions alone name these in their contracts: what a pattern is and what it shows does not rest on them.
+use Rattle.std.specs.Prelude.{◌≡◌, ◌⊎◌, ℕ, ◌+◌, ◌<◌, IsTrue, length, MatchOption, None, Option}
+use Rattle.history.specs.declared.op_id.OpId.{OpId}
+use Rattle.history.specs.History.{IsOp, session}
+use Rattle.memory_order.specs.declared.known_reads.KnownRead.{KnownRead}
+use Rattle.memory_order.specs.HappenedBeforeVectors.{IsHBVectors}
+use Rattle.memory_order.specs.Memory.{MemoryHistory, initial, Writes, Reads}
+use Rattle.causal_order.specs.Orders.{op, program_past}
+use Rattle.memory_order.specs.Relations.{HB}
+use Rattle.memory_order.specs.SourceOrder.{CountsSourceOrder}
+use Rattle.memory_order.specs.Steps.HappenedBefores.{HasMorePairs}
+use Rattle.causal_order.specs.Vectors.{Counts}
+
+module _ (h : MemoryHistory) where
+  -- the relation of an operation of the history, with vectors that count it
+  pub record IsRelation (relation : OpId × Counts) : Type 0 where
+    pub is_op : IsOp h relation.0
+    pub causal : Counts
+    pub order : CountsSourceOrder h causal
+    pub counts : IsHBVectors h relation.0 relation.1
+
+  -- that of the last operation of the session s
+  pub record IsRelationOfLast (s : ℕ) (relation : OpId × Counts) : Type 0 where
+    pub relation_of : IsRelation relation
+    pub of_session : relation.0.session ≡ s
+    pub last : relation.0.index + 1 ≡ length (session h s)
+
+  -- the session s has no operation, or the relation of one of its operations has more pairs than a number that the causal order
+  -- doesn't have
+  abbrev pub HasNoRelation : Option ℕ → ℕ → Type 0
+  HasNoRelation most s = (length (session h s) ≡ 0) ⊎ MatchOption most ⊥ (λ n. (i : ℕ) × IsOp h (op s i) × HasMorePairs h (op s i) n)
+
+  -- in the relation of o the write w is before r, a read of the initial value of its variable that is o or before o in program
+  -- order
+  abbrev pub IsStartOverwritten : OpId → OpId → OpId → Type 0
+  IsStartOverwritten o w r = (x v : ℕ) × Writes h w x v × Reads h r x (initial h x) × IsTrue (program_past o r) × HB h o w r
+
+  -- there is no such read
+  abbrev pub HasNoStart : OpId → Type 0
+  HasNoStart o = (w r : OpId) → ¬ IsStartOverwritten o w r
+
+  -- in the relation of o no operation is before itself
+  abbrev pub HasNoCycle : OpId → Type 0
+  HasNoCycle o = (a : OpId) → ¬ HB h o a a
+
+  -- neither is in the relations of the operations of the first n sessions
+  abbrev pub IsClearBefore : ℕ → Type 0
+  IsClearBefore n = (o : OpId) → o.session < n → HasNoStart o × HasNoCycle o
+
+  -- in the relation of o a write of the variable of a read that has no source is before the read, which is o or before o in
+  -- program order
+  pub record IsWriteHappened (o : OpId) (k : KnownRead) (w : OpId) : Type 0 where
+    pub initially : k.source ≡ None
+    pub value : ℕ
+    pub writes : Writes h w k.key value
+    pub kept : IsTrue (program_past o k.op)
+    pub before : HB h o w k.op

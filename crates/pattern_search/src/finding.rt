@@ -1,0 +1,208 @@
+ghost use Rattle.std.specs.Prelude.{◌↔◌, ◌≢◌, ℕ, IfNone, IfOk, IfSome, IsTrue, MatchOption};
+ghost use Rattle.bad_patterns.specs.Kinds.{IsFreeOf, IsThinAirRead, Shows, is_against};
+ghost use Rattle.bad_patterns.specs.Patterns.{IsBadPattern, IsShownBy, kind_of};
+ghost use Rattle.pattern_search.specs.Steps.Found.{IsFirst, IsFirstFound, IsFirstOf};
+ghost use Rattle.bad_patterns.specs.declared.kind.Kind.TheVariants.{CyclicCF};
+ghost use Rattle.memory_order.specs.Memory.{IsDifferentiated};
+ghost use Rattle.causal_order.specs.Orders.{op};
+ghost use Rattle.memory_order.specs.OverwrittenReads.{HasOverwrittenRead, HasOverwrittenStart};
+ghost use Rattle.memory_order.specs.Steps.Indexed.{IsOrdered, IsUnordered};
+ghost use Rattle.memory_order.specs.Steps.Written.{IsSorted, ListsWrites};
+ghost use Rattle.cert_check.specs.declared.criterion.Criterion.{Criterion as AnyCriterion};
+ghost use Rattle.cert_check.specs.declared.criterion.Criterion.TheVariants.{Cc, Cm};
+
+use crate::finding_happened_before::find_happened_before;
+use crate::search::{cycle_with_conflicts, cyclic_order, overwritten_read, overwritten_start};
+use bad_patterns::{Kind, Pattern, is_shown, is_thin_air_read};
+use cert_check::Criterion;
+use history::{History, OpId};
+use memory_order::{CausalOrder, IndexedMemory, Write};
+use objects::Memory;
+use std::alloc::{AllocError, Global};
+
+/// A pattern that shows that the history does not meet the criterion, where the search finds one.
+///
+/// Against causal consistency and against causal convergence one is found exactly where a kind that is against the criterion
+/// is present in the history. Against causal memory one is found where a kind against causal consistency is present; of
+/// the two kinds of happened-before one may be missed. In a history that does not have distinct values no kind is present.
+///
+/// Kinds are tried in turn, those alone that are against the criterion: a cycle of the causal order, a read of a value that
+/// nobody wrote, a read of the initial value after a write, a read from an overwritten write, a read of the initial value
+/// that a happened-before relation puts after a write, a happened-before relation with a cycle, and a cycle with
+/// conflicts. A thin-air read that is found is the first one. For the kinds of happened-before the relation of each
+/// session's last operation is searched: one with more than 100,000 pairs that the causal order doesn't have is left out,
+/// and so is a pattern whose derivation would have more than 100,000 lines.
+///
+/// Fails for want of memory alone. O(n log n + n k) for n operations of k sessions, besides what `find_in` costs.
+pub fn find(
+    alloc: Global,
+    h: &History<Memory>,
+    criterion: Criterion,
+) -> Result<Option<Pattern>, AllocError>
+    ensures found { IfOk result (λ found. IfSome found (IsBadPattern h.now criterion)) }
+    ensures first { IfOk result (λ found. IfSome found (IsFirstFound h.now)) }
+    ensures none { IfOk result (λ found. IfNone found (IsFreeOf h.now Cc)) }
+    ensures exact { criterion ≢ Cm → IfOk result (λ found. IfNone found (IsFreeOf h.now criterion)) }
+{
+    let memory = IndexedMemory::of(alloc, h)?;
+    find_in(alloc, &memory, criterion)
+}
+
+/// What `find` answers, for a caller that knows of the history already what it asks: exact against causal consistency and
+/// causal convergence, and of the kinds against causal consistency also against causal memory.
+///
+/// Fails for want of memory alone. O(n k (k + log n)) for n operations of k sessions, and against causal memory for each
+/// session what its happened-before relations cost, and O(m log m + l n) for m pairs that they have more than the causal
+/// order and l lines of a derivation.
+pub fn find_in(
+    alloc: Global,
+    memory: &IndexedMemory,
+    criterion: Criterion,
+) -> Result<Option<Pattern>, AllocError>
+    ensures found { IfOk result (λ found. IfSome found (IsBadPattern memory.now criterion)) }
+    ensures first { IfOk result (λ found. IfSome found (IsFirstFound memory.now)) }
+    ensures none { IfOk result (λ found. IfNone found (IsFreeOf memory.now Cc)) }
+    ensures exact { criterion ≢ Cm → IfOk result (λ found. IfNone found (IsFreeOf memory.now criterion)) }
+{
+    if !memory.is_differentiated() {
+        return Ok(None);
+    }
+    match memory.order() {
+        Some(order) => find_in_order(alloc, &order, criterion),
+        None => Ok(Some(find_without_order(alloc, memory)?)),
+    }
+}
+
+/// A pattern of a history that has no causal order without a cycle, or a thin-air read. They are against every criterion.
+///
+/// A cycle of the causal order is tried, and then a thin-air read, of which the first one is found.
+///
+/// Fails for want of memory alone. O(n (k + log n)) for n operations of k sessions.
+fn find_without_order(alloc: Global, memory: &IndexedMemory) -> Result<Pattern, AllocError>
+    requires differentiated { IsDifferentiated memory.now }
+    requires unordered { IsUnordered memory.now }
+    ensures found { IfOk result (λ pattern. (criterion : AnyCriterion) → IsBadPattern memory.now criterion pattern) }
+    ensures first { IfOk result (IsFirstFound memory.now) }
+{
+    if let Some(path) = cyclic_order(alloc, memory.history(), memory.sources())? {
+        return Ok(Pattern::CyclicCO(path));
+    }
+    let Some(read) = first_thin_air_read(memory.history(), memory.writes()) else {
+        unreachable!();
+    };
+    Ok(Pattern::ThinAirRead(read))
+}
+
+/// A pattern of a history that has a causal order without a cycle, and no thin-air read.
+///
+/// The other kinds are tried in the order that `find` names, those alone that are against the criterion.
+fn find_in_order(
+    alloc: Global,
+    order: &CausalOrder,
+    criterion: Criterion,
+) -> Result<Option<Pattern>, AllocError>
+    requires differentiated { IsDifferentiated order.now }
+    requires ordered { IsOrdered order.now }
+    ensures found { IfOk result (λ found. IfSome found (IsBadPattern order.now criterion)) }
+    ensures first { IfOk result (λ found. IfSome found (IsFirstFound order.now)) }
+    ensures none { IfOk result (λ found. IfNone found (IsFreeOf order.now Cc)) }
+    ensures exact { criterion ≢ Cm → IfOk result (λ found. IfNone found (IsFreeOf order.now criterion)) }
+{
+    if let Some(pattern) = find_overwritten(alloc, order)? {
+        return Ok(Some(pattern));
+    }
+    if let Some(pattern) = find_happened_before(alloc, order, criterion)? {
+        return Ok(Some(pattern));
+    }
+    find_conflicts(alloc, order, criterion)
+}
+
+/// A read of the initial value after a write, or a read from an overwritten write, where there is one. They are against
+/// every criterion.
+fn find_overwritten(alloc: Global, order: &CausalOrder) -> Result<Option<Pattern>, AllocError>
+    requires { IsDifferentiated order.now }
+    ensures found { IfOk result (λ found. IfSome found (λ pattern. (criterion : AnyCriterion) → IsBadPattern order.now criterion pattern)) }
+    ensures first { IfOk result (λ found. IfSome found (IsFirstFound order.now)) }
+    ensures start { IfOk result (λ found. IfNone found (¬ HasOverwrittenStart order.now)) }
+    ensures read { IfOk result (λ found. IfNone found (¬ HasOverwrittenRead order.now)) }
+{
+    if let Some(path) = overwritten_start(alloc, order)? {
+        return Ok(Some(Pattern::WriteCOInitRead(path)));
+    }
+    match overwritten_read(alloc, order)? {
+        Some((above, below)) => Ok(Some(Pattern::WriteCORead(above, below))),
+        None => Ok(None),
+    }
+}
+
+/// A cycle of the causal order and of conflicts, where such cycles are against the criterion and there is one.
+fn find_conflicts(
+    alloc: Global,
+    order: &CausalOrder,
+    criterion: Criterion,
+) -> Result<Option<Pattern>, AllocError>
+    requires { IsDifferentiated order.now }
+    ensures found { IfOk result (λ found. IfSome found (IsBadPattern order.now criterion)) }
+    ensures first { IfOk result (λ found. IfSome found (IsFirstFound order.now)) }
+    ensures none { IfOk result (λ found. IfNone found (IsTrue (is_against CyclicCF criterion) → ¬ Shows order.now CyclicCF)) }
+{
+    if !Kind::CyclicCF.is_against(criterion) {
+        return Ok(None);
+    }
+    match cycle_with_conflicts(alloc, order)? {
+        Some(links) => Ok(Some(Pattern::CyclicCF(links))),
+        None => Ok(None),
+    }
+}
+
+/// The pattern, where it shows that a history of distinct values does not meet the criterion: the test of `check_pattern`.
+pub fn tested(
+    alloc: Global,
+    memory: &IndexedMemory,
+    criterion: Criterion,
+    pattern: Pattern,
+) -> Result<Option<Pattern>, AllocError>
+    requires differentiated { IsDifferentiated memory.now }
+    requires first { IsFirstFound memory.now pattern }
+    ensures found { IfOk result (λ found. IfSome found (IsBadPattern memory.now criterion)) }
+    ensures first { IfOk result (λ found. IfSome found (IsFirstFound memory.now)) }
+    ensures none { IfOk result (λ found. IfNone found (IsTrue (is_against (kind_of pattern) criterion) → ¬ IsShownBy memory.now pattern)) }
+{
+    if !pattern.kind().is_against(criterion) {
+        return Ok(None);
+    }
+    if is_shown(alloc, memory.history(), memory.writes(), &pattern)? {
+        Ok(Some(pattern))
+    } else {
+        Ok(None)
+    }
+}
+
+/// The first thin-air read of the history. O(n log n) for n operations.
+fn first_thin_air_read(h: &History<Memory>, writes: &[Write]) -> Option<OpId>
+    requires writes { ListsWrites h.now writes.now }
+    requires sorted { IsSorted writes.now }
+    ensures { MatchOption result ((r : OpId) → ¬ IsThinAirRead h.now r) (IsFirst h.now) }
+{
+    for session in 0..h.sessions() as u64 {
+        if let Some(read) = first_thin_air_read_of(h, writes, session) {
+            return Some(read);
+        }
+    }
+    None
+}
+
+/// The first thin-air read of a session.
+fn first_thin_air_read_of(h: &History<Memory>, writes: &[Write], session: u64) -> Option<OpId>
+    requires writes { ListsWrites h.now writes.now }
+    requires sorted { IsSorted writes.now }
+    ensures { MatchOption result ((i : ℕ) → ¬ IsThinAirRead h.now (op session i)) (IsFirstOf h.now session) }
+{
+    for index in 0..h.len(session) as u64 {
+        let read = OpId { session, index };
+        if is_thin_air_read(h, writes, read) {
+            return Some(read);
+        }
+    }
+    None
+}

@@ -1,0 +1,84 @@
+ghost use Rattle.std.specs.Prelude.{IfNone, IfOk, IfSome, MatchOption};
+ghost use Rattle.bad_patterns.specs.Patterns.{ArePathsToOverwrittenRead, IsPathToInitialRead};
+ghost use Rattle.pattern_search.specs.Steps.Routes.{AreWritesBefore, IsWriteBefore};
+ghost use Rattle.memory_order.specs.Memory.{IsDifferentiated};
+ghost use Rattle.memory_order.specs.OverwrittenReads.{HasOverwrittenRead, HasOverwrittenStart};
+ghost use Rattle.memory_order.specs.Steps.Indexed.{IsKnownRead};
+ghost use Rattle.history.specs.declared.op_id.OpId.{OpId as Operation};
+
+use crate::search::routes_back::path_between;
+use bad_patterns::Path;
+use history::OpId;
+use memory_order::{CausalOrder, KnownRead};
+use std::alloc::{AllocError, Global};
+
+/// A path from a write to a read of the initial value of its variable: there is none exactly where values are distinct and
+/// there is no such read.
+///
+/// Fails for want of memory alone. O(n k log n) for n operations of k sessions.
+pub fn overwritten_start(alloc: Global, order: &CausalOrder) -> Result<Option<Path>, AllocError>
+    ensures found { IfOk result (λ found. IfSome found (IsPathToInitialRead order.now)) }
+    ensures none { IsDifferentiated order.now → IfOk result (λ found. IfNone found (¬ HasOverwrittenStart order.now)) }
+{
+    let reads = order.reads();
+    for read in reads {
+        if let Some(write) = write_before(order, read) {
+            return Ok(Some(path_between(alloc, order, write, read.op)?));
+        }
+    }
+    Ok(None)
+}
+
+/// A write in the past of a read of the initial value of its variable.
+fn write_before(order: &CausalOrder, read: &KnownRead) -> Option<OpId>
+    requires { IsKnownRead order.now read.now }
+    ensures { MatchOption result ((w : Operation) → ¬ IsWriteBefore order.now read.now w) (IsWriteBefore order.now read.now) }
+{
+    if read.source.is_some() {
+        return None;
+    }
+    for session in 0..order.sessions() {
+        if let Some(write) = order.last_write(read, session) {
+            return Some(write);
+        }
+    }
+    None
+}
+
+/// A path from a write to another write of its variable, and one from there to a read that reads from the first.
+///
+/// Fails for want of memory alone. O(n k log n) for n operations of k sessions.
+pub fn overwritten_read(
+    alloc: Global,
+    order: &CausalOrder,
+) -> Result<Option<(Path, Path)>, AllocError>
+    ensures found { IfOk result (λ found. IfSome found (λ paths. ArePathsToOverwrittenRead order.now paths.0 paths.1)) }
+    ensures none { IsDifferentiated order.now → IfOk result (λ found. IfNone found (¬ HasOverwrittenRead order.now)) }
+{
+    let reads = order.reads();
+    for read in reads {
+        if let Some(writes) = writes_before(order, read) {
+            let above = path_between(alloc, order, writes.0, writes.1)?;
+            let below = path_between(alloc, order, writes.1, read.op)?;
+            return Ok(Some((above, below)));
+        }
+    }
+    Ok(None)
+}
+
+/// The write that a read reads from, and another write of its variable that has this one in its past and is in the past of
+/// the read.
+fn writes_before(order: &CausalOrder, read: &KnownRead) -> Option<(OpId, OpId)>
+    requires { IsKnownRead order.now read.now }
+    ensures { MatchOption result ((a b : Operation) → ¬ AreWritesBefore order.now read.now a b) (λ writes. AreWritesBefore order.now read.now writes.0 writes.1) }
+{
+    let source = read.source?;
+    for session in 0..order.sessions() {
+        if let Some(write) = order.last_write(read, session) {
+            if order.has_before((source, write)) {
+                return Some((source, write));
+            }
+        }
+    }
+    None
+}
