@@ -4,15 +4,14 @@ use Rattle.std.specs.Prelude.{IfOk, MatchOption, None, Option, Some}
 use Rattle.std.proofs.lemmas.Bool.{cases_lt}
 use Rattle.history.specs.declared.op_id.OpId.{OpId}
 use Rattle.history.specs.History.{IsOp, session}
-use Rattle.memory_order.specs.HappenedBeforePatterns.{HasHBCycle, HasStartOverwrittenInHB}
 use Rattle.memory_order.specs.Memory.{MemoryHistory}
 use Rattle.causal_order.specs.Orders.{op}
 use Rattle.memory_order.specs.Steps.HappenedBefores.{HasMorePairs}
 use Rattle.memory_order.proofs.HappenedBeforeLaws.{HB-earlier, HB-of_history, program_past-earlier, program_past-from}
 use Rattle.causal_order.proofs.OrdersLaws.{session-of_history}
 use Rattle.pattern_search.specs.declared.searched.Searched.{Searched}
-use Rattle.pattern_search.specs.declared.searched.Searched.TheVariants.{Pattern, Open, Nothing}
-use Rattle.pattern_search.specs.Searches.{ComesTo, HasPattern, IsClear, IsOpen, either}
+use Rattle.pattern_search.specs.declared.searched.Searched.TheVariants.{Pattern, Present, Open, Nothing}
+use Rattle.pattern_search.specs.Searches.{ComesTo, HasPattern, IsClear, HasLargeHB, either}
 use Rattle.pattern_search.specs.Steps.Relations.{HasNoCycle, HasNoRelation, HasNoStart, IsClearBefore}
 
 -- what holds of each result holds of a result
@@ -23,21 +22,29 @@ ok-weaker (Err e) P Q weaker p = p
 module _ (h : MemoryHistory) where
   pub comes-weaker : (A B C D : Type 0) → (A → C) → (B → D) → (s : Searched) → ComesTo h A B s → ComesTo h C D s
   comes-weaker A B C D undecided nothing (Pattern pattern) comes = comes
+  comes-weaker A B C D undecided nothing (Present kind) comes = comes
   comes-weaker A B C D undecided nothing Open comes = undecided comes
   comes-weaker A B C D undecided nothing Nothing comes = nothing comes
 
   pub comes-pattern : (A B C D : Type 0) (s : Searched) → HasPattern s → ComesTo h A B s → ComesTo h C D s
   comes-pattern A B C D (Pattern pattern) shown comes = comes
+  comes-pattern A B C D (Present kind) shown comes = absurd shown
   comes-pattern A B C D Open shown comes = absurd shown
   comes-pattern A B C D Nothing shown comes = absurd shown
 
   -- two searches come to nothing where both do
   pub comes-either : (A B C : Type 0) (s t : Searched) → ComesTo h A B s → ComesTo h A C t → ComesTo h A (B × C) (either s t)
   comes-either A B C (Pattern pattern) t first second = first
+  comes-either A B C (Present kind) (Pattern pattern) first second = second
+  comes-either A B C (Present kind) (Present other) first second = first
+  comes-either A B C (Present kind) Open first second = first
+  comes-either A B C (Present kind) Nothing first second = first
   comes-either A B C Open (Pattern pattern) first second = second
+  comes-either A B C Open (Present kind) first second = second
   comes-either A B C Open Open first second = first
   comes-either A B C Open Nothing first second = first
   comes-either A B C Nothing (Pattern pattern) first second = second
+  comes-either A B C Nothing (Present kind) first second = second
   comes-either A B C Nothing Open first second = second
   comes-either A B C Nothing Nothing first second = (first, second)
 
@@ -47,14 +54,14 @@ module _ (h : MemoryHistory) where
   given-up s i is_op (Some n) more = inr (i, is_op, more)
 
   -- a session with operations and no relation leaves the search open
-  pub no-relation : (most : Option ℕ) (s : ℕ) → ¬ (length (session h s) ≡ 0) → HasNoRelation h most s → IsOpen h most
+  pub no-relation : (most : Option ℕ) (s : ℕ) → ¬ (length (session h s) ≡ 0) → HasNoRelation h most s → HasLargeHB h most
   no-relation None s some none = ⊎_elim
       (λ (empty : length (session h s) ≡ 0). absurd (some empty))
       (λ (more : ⊥). absurd more)
       none
   no-relation (Some n) s some none = ⊎_elim
       (λ (empty : length (session h s) ≡ 0). absurd (some empty))
-      (λ (more : (i : ℕ) × IsOp h (op s i) × HasMorePairs h (op s i) n). inr (op s more.0, more.1, more.2))
+      (λ (more : (i : ℕ) × IsOp h (op s i) × HasMorePairs h (op s i) n). (op s more.0, more.1, more.2))
       none
 
   -- the relation of an operation has nothing where that of the last of its session has nothing
@@ -110,30 +117,30 @@ module _ (h : MemoryHistory) where
   )
 
   -- what a search of sessions and one of a relation come to
-  pub comes-start : (most : Option ℕ) (A : Type 0) (o : OpId) (s t : Searched) → ComesTo h (IsOpen h most) A s
-      → ComesTo h (HasStartOverwrittenInHB h) (HasNoStart h o) t → ComesTo h (IsOpen h most) (A × HasNoStart h o) (either s t)
+  pub comes-start : (most : Option ℕ) (A : Type 0) (o : OpId) (s t : Searched) → ComesTo h (HasLargeHB h most) A s
+      → ComesTo h ⊥ (HasNoStart h o) t → ComesTo h (HasLargeHB h most) (A × HasNoStart h o) (either s t)
   comes-start most A o s t first second =
-      comes-either (IsOpen h most) A (HasNoStart h o) s t first
-      (comes-weaker (HasStartOverwrittenInHB h) (HasNoStart h o) (IsOpen h most) (HasNoStart h o) (λ start. inl (inr start)) (λ none. none) t second)
+      comes-either (HasLargeHB h most) A (HasNoStart h o) s t first
+      (comes-weaker ⊥ (HasNoStart h o) (HasLargeHB h most) (HasNoStart h o) (λ large. absurd large) (λ none. none) t second)
 
-  pub comes-cycle : (most : Option ℕ) (A : Type 0) (o : OpId) (s t : Searched) → ComesTo h (IsOpen h most) A s
-      → ComesTo h (HasHBCycle h) (HasNoCycle h o) t → ComesTo h (IsOpen h most) (A × HasNoCycle h o) (either s t)
+  pub comes-cycle : (most : Option ℕ) (A : Type 0) (o : OpId) (s t : Searched) → ComesTo h (HasLargeHB h most) A s
+      → ComesTo h ⊥ (HasNoCycle h o) t → ComesTo h (HasLargeHB h most) (A × HasNoCycle h o) (either s t)
   comes-cycle most A o s t first second =
-      comes-either (IsOpen h most) A (HasNoCycle h o) s t first
-      (comes-weaker (HasHBCycle h) (HasNoCycle h o) (IsOpen h most) (HasNoCycle h o) (λ cycle. inl (inl cycle)) (λ none. none) t second)
+      comes-either (HasLargeHB h most) A (HasNoCycle h o) s t first
+      (comes-weaker ⊥ (HasNoCycle h o) (HasLargeHB h most) (HasNoCycle h o) (λ large. absurd large) (λ none. none) t second)
 
   -- a session that leaves the search open
-  pub comes-open : (most : Option ℕ) (A B : Type 0) (s : Searched) → IsOpen h most → ComesTo h (IsOpen h most) A s
-      → ComesTo h (IsOpen h most) B (either s Open)
+  pub comes-open : (most : Option ℕ) (A B : Type 0) (s : Searched) → HasLargeHB h most → ComesTo h (HasLargeHB h most) A s
+      → ComesTo h (HasLargeHB h most) B (either s Open)
   comes-open most A B s undecided first =
-      comes-weaker (IsOpen h most) (A × ⊥) (IsOpen h most) B (λ is. is) (λ (is : A × ⊥). absurd is.1) (either s Open)
-      (comes-either (IsOpen h most) A ⊥ s Open first undecided)
+      comes-weaker (HasLargeHB h most) (A × ⊥) (HasLargeHB h most) B (λ is. is) (λ (is : A × ⊥). absurd is.1) (either s Open)
+      (comes-either (HasLargeHB h most) A ⊥ s Open first undecided)
 
   -- a session whose relation is searched whole
   pub comes-last : (most : Option ℕ) (o : OpId) → IsOp h o → o.index + 1 ≡ length (session h o.session) → (s : Searched)
-      → ComesTo h (IsOpen h most) ((IsClearBefore h o.session × HasNoStart h o) × HasNoCycle h o) s
-      → ComesTo h (IsOpen h most) (IsClearBefore h (o.session + 1)) s
+      → ComesTo h (HasLargeHB h most) ((IsClearBefore h o.session × HasNoStart h o) × HasNoCycle h o) s
+      → ComesTo h (HasLargeHB h most) (IsClearBefore h (o.session + 1)) s
   comes-last most o is_op last s comes =
-      comes-weaker (IsOpen h most) ((IsClearBefore h o.session × HasNoStart h o) × HasNoCycle h o) (IsOpen h most) (IsClearBefore h (o.session + 1))
+      comes-weaker (HasLargeHB h most) ((IsClearBefore h o.session × HasNoStart h o) × HasNoCycle h o) (HasLargeHB h most) (IsClearBefore h (o.session + 1))
       (λ is. is)
       (λ (clear : (IsClearBefore h o.session × HasNoStart h o) × HasNoCycle h o). clear-last o is_op last clear.0.1 clear.1 clear.0.0) s comes

@@ -1,13 +1,13 @@
 //! The search for patterns that happened-before relations show.
 
 ghost use Rattle.std.specs.Prelude.{◌≡◌, ◌+◌, ◌<◌, ℕ, length, IfOk, IfSome, IsTrue, Option};
-ghost use Rattle.bad_patterns.specs.Patterns.{IsBadPattern};
-ghost use Rattle.pattern_search.specs.Searches.{ComesTo, HasPattern, IsClear, IsOpen};
+ghost use Rattle.bad_patterns.specs.Kinds.{is_against, IsPresent};
+ghost use Rattle.bad_patterns.specs.Patterns.{IsBadPattern, kind_of};
+ghost use Rattle.cert_check.specs.declared.criterion.Criterion.TheVariants.{Cm};
+ghost use Rattle.pattern_search.specs.Searches.{ComesTo, HasPattern, IsClear, HasLargeHB};
 ghost use Rattle.pattern_search.specs.Steps.Found.{IsFirstFound};
 ghost use Rattle.pattern_search.specs.Steps.Relations.{HasNoCycle, HasNoStart, IsClearBefore, IsRelation, IsRelationOfLast};
-ghost use Rattle.memory_order.specs.HappenedBeforePatterns.{HasHBCycle, HasStartOverwrittenInHB};
 ghost use Rattle.memory_order.specs.Memory.{IsDifferentiated};
-ghost use Rattle.memory_order.specs.Steps.GrowthSteps.{Always};
 
 use crate::finding::tested;
 use crate::search::{Relation, cycle_in, derivation_of, overwritten_start_in};
@@ -34,7 +34,7 @@ pub fn find_happened_before(
     }
     match search_happened_before(alloc, order, Some(MOST_PAIRS))? {
         Searched::Pattern(pattern) => Ok(Some(pattern)),
-        Searched::Open | Searched::Nothing => Ok(None),
+        Searched::Present(_) | Searched::Open | Searched::Nothing => Ok(None),
     }
 }
 
@@ -44,9 +44,9 @@ pub fn find_happened_before(
 /// For each session the relation of its last operation is searched: it has what those of the operations before it have. A
 /// session is left out where one of its relations has more pairs than it may have, if a number is given, that the causal
 /// order doesn't have. A cycle is shown only where no session has a read of the initial value after a write. It comes to
-/// nothing only where none of these kinds is in the history. It is open where one of them is and the derivation that was
-/// made of it did not pass the test, as one of more than 100,000 lines, or where a session was left out: so without a
-/// number only where one of the kinds is in the history.
+/// nothing only where none of these kinds is present. Where one is and the derivation that was made of it did not pass the
+/// test, as one of more than 100,000 lines, it comes to that kind. It is open only where a session was left out: so never
+/// without a number.
 ///
 /// Fails for want of memory alone. For each of k sessions O(n (log n + k^2) + m k log n) for n operations and m pairs that
 /// its relation has more than the causal order, and for each derivation O(m log m + l n) for l lines.
@@ -56,7 +56,7 @@ pub fn search_happened_before(
     most: Option<u32>,
 ) -> Result<Searched, AllocError>
     requires { IsDifferentiated order.now }
-    ensures { IfOk result (ComesTo order.now (IsOpen order.now most) (IsClear order.now)) }
+    ensures { IfOk result (ComesTo order.now (HasLargeHB order.now most) (IsClear order.now)) }
 {
     let mut shown = Searched::Nothing;
     for session in 0..order.memory().history().sessions() {
@@ -74,7 +74,7 @@ fn is_start(shown: &Searched) -> bool
 {
     match shown {
         Searched::Pattern(pattern) => pattern.kind() == Kind::WriteHBInitRead,
-        Searched::Open | Searched::Nothing => false,
+        Searched::Present(_) | Searched::Open | Searched::Nothing => false,
     }
 }
 
@@ -88,8 +88,8 @@ fn search_session(
 ) -> Result<Searched, AllocError>
     requires distinct { IsDifferentiated order.now }
     requires exists { session < length order.now.1 }
-    requires so_far { ComesTo order.now (IsOpen order.now most) (IsClearBefore order.now session) so_far }
-    ensures { IfOk result (ComesTo order.now (IsOpen order.now most) (IsClearBefore order.now (session + 1))) }
+    requires so_far { ComesTo order.now (HasLargeHB order.now most) (IsClearBefore order.now session) so_far }
+    ensures { IfOk result (ComesTo order.now (HasLargeHB order.now most) (IsClearBefore order.now (session + 1))) }
 {
     let h = order.memory().history();
     match Relation::of_last(alloc, h, order.vectors(), session, most)? {
@@ -108,8 +108,8 @@ fn search_relation(
 ) -> Result<Searched, AllocError>
     requires distinct { IsDifferentiated order.now }
     requires relation { IsRelationOfLast order.now relation.now.0.session relation.now }
-    ensures { (most : Option ℕ) → ComesTo order.now (IsOpen order.now most) (IsClearBefore order.now relation.now.0.session) so_far
-        → IfOk result (ComesTo order.now (IsOpen order.now most) (IsClearBefore order.now (relation.now.0.session + 1))) }
+    ensures { (most : Option ℕ) → ComesTo order.now (HasLargeHB order.now most) (IsClearBefore order.now relation.now.0.session) so_far
+        → IfOk result (ComesTo order.now (HasLargeHB order.now most) (IsClearBefore order.now (relation.now.0.session + 1))) }
 {
     match find_start(alloc, order, relation)? {
         Searched::Pattern(start) => Ok(Searched::Pattern(start)),
@@ -127,8 +127,8 @@ fn search_cycle(
     requires distinct { IsDifferentiated order.now }
     requires relation { IsRelation order.now relation.now }
     ensures { (most : Option ℕ) (s : ℕ)
-        → ComesTo order.now (IsOpen order.now most) (IsClearBefore order.now s × HasNoStart order.now relation.now.0) so_far
-        → IfOk result (ComesTo order.now (IsOpen order.now most)
+        → ComesTo order.now (HasLargeHB order.now most) (IsClearBefore order.now s × HasNoStart order.now relation.now.0) so_far
+        → IfOk result (ComesTo order.now (HasLargeHB order.now most)
         ((IsClearBefore order.now s × HasNoStart order.now relation.now.0) × HasNoCycle order.now relation.now.0)) }
 {
     match so_far {
@@ -148,14 +148,14 @@ fn find_start(
 ) -> Result<Searched, AllocError>
     requires distinct { IsDifferentiated order.now }
     requires relation { IsRelation order.now relation.now }
-    ensures { IfOk result (ComesTo order.now (HasStartOverwrittenInHB order.now) (HasNoStart order.now relation.now.0)) }
+    ensures { IfOk result (ComesTo order.now ⊥ (HasNoStart order.now relation.now.0)) }
 {
     let Some(pair) = overwritten_start_in(order, relation) else {
         return Ok(Searched::Nothing);
     };
     let derivation = derivation_of(alloc, order, relation, pair)?;
     let pattern = Pattern::WriteHBInitRead(relation.op(), derivation);
-    tested_or_open(alloc, order, pattern)
+    tested_or_present(alloc, order, pattern)
 }
 
 /// An operation that a relation puts before itself.
@@ -166,28 +166,31 @@ fn find_cycle(
 ) -> Result<Searched, AllocError>
     requires distinct { IsDifferentiated order.now }
     requires relation { IsRelation order.now relation.now }
-    ensures { IfOk result (ComesTo order.now (HasHBCycle order.now) (HasNoCycle order.now relation.now.0)) }
+    ensures { IfOk result (ComesTo order.now ⊥ (HasNoCycle order.now relation.now.0)) }
 {
     let Some(pair) = cycle_in(order, relation) else {
         return Ok(Searched::Nothing);
     };
     let derivation = derivation_of(alloc, order, relation, pair)?;
     let pattern = Pattern::CyclicHB(relation.op(), derivation);
-    tested_or_open(alloc, order, pattern)
+    tested_or_present(alloc, order, pattern)
 }
 
-/// The pattern, where it passes the test, or else that the search is open.
-fn tested_or_open(
+/// The pattern of a kind that is present, where it passes the test, or else its kind.
+fn tested_or_present(
     alloc: Global,
     order: &CausalOrder,
     pattern: Pattern,
 ) -> Result<Searched, AllocError>
     requires differentiated { IsDifferentiated order.now }
     requires first { IsFirstFound order.now pattern }
-    ensures { IfOk result (ComesTo order.now Always ⊥) }
+    requires against { IsTrue (is_against (kind_of pattern) Cm) }
+    requires present { IsPresent order.now (kind_of pattern) }
+    ensures { IfOk result (ComesTo order.now ⊥ ⊥) }
 {
+    let kind = pattern.kind();
     match tested(alloc, order.memory(), Criterion::Cm, pattern)? {
         Some(pattern) => Ok(Searched::Pattern(pattern)),
-        None => Ok(Searched::Open),
+        None => Ok(Searched::Present(kind)),
     }
 }
