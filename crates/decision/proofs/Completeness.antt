@@ -9,24 +9,20 @@ use Rattle.memory_order.specs.MemoryHistories.{IsMemoryHistory}
 use Rattle.memory_order.specs.SourceOrder.{LacksSource}
 use Rattle.bad_patterns.specs.declared.kind.Kind.{Kind}
 use Rattle.bad_patterns.specs.declared.kind.Kind.TheVariants.{CyclicCO, ThinAirRead, WriteCOInitRead, WriteCORead, WriteHBInitRead, CyclicHB, CyclicCF}
-use Rattle.bad_patterns.specs.Kinds.{is_against, IsPresent, Shows}
+use Rattle.bad_patterns.specs.Kinds.{is_against, IsFreeOf, Shows}
 use Rattle.certify_cc.proofs.SourceCertificates.{consistency-met}
 use Rattle.certify_cm.proofs.MemoryMet.{memory-met}
 use Rattle.certify_ccv.proofs.ConflictCertificates.{convergence-met}
 
 module _ (h : MemoryHistory) (history : IsMemoryHistory h) (distinct : IsDifferentiated h) where
-  -- no kind against the criterion is present
-  abbrev pub IsFreeOf : Criterion → Type 0
-  IsFreeOf criterion = (kind : Kind) → IsTrue (is_against kind criterion) → ¬ IsPresent h kind
-
-  none-shown : (criterion : Criterion) → IsFreeOf criterion → (kind : Kind) → IsTrue (is_against kind criterion) → ¬ Shows h kind
+  none-shown : (criterion : Criterion) → IsFreeOf h criterion → (kind : Kind) → IsTrue (is_against kind criterion) → ¬ Shows h kind
   none-shown criterion free kind against shown = free kind against (distinct, shown)
 
   -- no source is missing
-  all-sourced : (criterion : Criterion) → IsFreeOf criterion → ¬ LacksSource h
+  all-sourced : (criterion : Criterion) → IsFreeOf h criterion → ¬ LacksSource h
   all-sourced criterion free lacks = none-shown criterion free ThinAirRead refl (lacks.0, (lacks.1, lacks.2, lacks.3, lacks.4, lacks.5))
 
-  pub free-meets : (criterion : Criterion) → IsFreeOf criterion → Meets memory_answer h criterion
+  pub free-meets : (criterion : Criterion) → IsFreeOf h criterion → Meets memory_answer h criterion
   free-meets Cc free = consistency-met h history (none-shown Cc free CyclicCO refl) (all-sourced Cc free)
       (none-shown Cc free WriteCOInitRead refl) (none-shown Cc free WriteCORead refl)
   free-meets Cm free = memory-met h history distinct (none-shown Cm free CyclicCO refl) (all-sourced Cm free)

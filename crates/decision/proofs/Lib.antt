@@ -1,1 +1,2 @@
 pub mod Completeness
+pub mod Decided

@@ -2,8 +2,6 @@
 use Rattle.cert_check.specs.declared.criterion.Criterion.{Criterion}
 use Rattle.cert_check.specs.Criteria.{Meets}
 use Rattle.memory_order.specs.Memory.{MemoryHistory, IsDifferentiated, memory_answer}
-use Rattle.bad_patterns.specs.declared.kind.Kind.TheVariants.{ThinAirRead}
-use Rattle.bad_patterns.specs.Kinds.{IsPresent}
 use Rattle.bad_patterns.specs.Patterns.{IsBadPattern, IsTrueNo}
 use Rattle.decision.specs.declared.deciding.Decision.{Decision}
 use Rattle.decision.specs.declared.deciding.Decision.TheVariants as decisions
@@ -13,4 +11,4 @@ abbrev pub IsDecided : MemoryHistory → Criterion → Decision → Type 0
 IsDecided h criterion decisions.Meets = Meets memory_answer h criterion
 IsDecided h criterion (decisions.Excluded pattern) = IsBadPattern h criterion pattern
 IsDecided h criterion (decisions.ExcludedBy kind) = IsTrueNo h criterion kind
-IsDecided h criterion decisions.Open = ¬ IsPresent h ThinAirRead
+IsDecided h criterion decisions.Open = ¬ IsDifferentiated h

@@ -1,12 +1,16 @@
 //! The decision whether a memory history meets a criterion.
 
-ghost use Rattle.std.specs.Prelude.{IfOk};
+ghost use Rattle.std.specs.Prelude.{◌≢◌, IfOk};
+ghost use Rattle.bad_patterns.specs.Kinds.{IsFreeOf};
+ghost use Rattle.cert_check.specs.declared.criterion.Criterion.TheVariants.{Cc, Cm};
 ghost use Rattle.decision.specs.Decisions.{IsDecided};
+ghost use Rattle.memory_order.specs.Memory.{IsDifferentiated};
 
+use bad_patterns::laws::present_kinds_exclude_criteria;
 use bad_patterns::{Kind, Pattern};
 use cert_check::Criterion;
 use memory_order::IndexedMemory;
-use pattern_search::find_in;
+use pattern_search::{Searched, find_in, search_happened_before};
 use std::alloc::{AllocError, Global};
 
 /// What is decided of a memory history and a criterion.
@@ -16,17 +20,22 @@ pub enum Decision {
     Meets,
     /// It does not meet the criterion: the pattern shows that.
     Excluded(Pattern),
-    /// It does not meet the criterion: this kind is present, and no derivation was found that shows it.
+    /// It does not meet the criterion, since this kind is present; the derivation that would show it was not accepted, as one
+    /// of more than 100,000 lines.
     ExcludedBy(Kind),
     /// Its values are not distinct, and nothing is decided.
     Open,
 }
 
-/// Whether a memory history meets a criterion.
+/// Whether a memory history of distinct values meets a criterion.
 ///
-/// No certificate is made.
-/// Fails for want of memory alone. O(n k (k + log n)) for n operations of k sessions, and for causal memory besides what the
-/// happened-before relations of each session's last operation take.
+/// It does exactly where no kind of bad pattern against the criterion is present (Bouajjani, Enea, Guerraoui and Hamza, "On
+/// Verifying Causal Consistency", POPL 2017), so kinds are looked for, and no certificate is made. Happened-before relations
+/// are made without a limit on their pairs. `Open` exactly where values are not distinct.
+///
+/// Fails for want of memory alone. O(n k (k + log n)) for n operations of k sessions, and for causal memory besides, for each
+/// session, O(n (log n + k^2) + m k log n) for m pairs that the happened-before relation of its last operation has more than
+/// the causal order.
 pub fn decide(
     alloc: Global,
     memory: &IndexedMemory,
@@ -34,8 +43,59 @@ pub fn decide(
 ) -> Result<Decision, AllocError>
     ensures { IfOk result (IsDecided memory.now criterion) }
 {
+    if !memory.is_differentiated() {
+        return Ok(Decision::Open);
+    }
+    match criterion {
+        Criterion::Cc => decide_by_patterns(alloc, memory, Criterion::Cc),
+        Criterion::Cm => decide_causal_memory(alloc, memory),
+        Criterion::Ccv => decide_by_patterns(alloc, memory, Criterion::Ccv),
+    }
+}
+
+/// Whether a memory history of distinct values meets a criterion against which the search for patterns misses none.
+fn decide_by_patterns(
+    alloc: Global,
+    memory: &IndexedMemory,
+    criterion: Criterion,
+) -> Result<Decision, AllocError>
+    requires distinct { IsDifferentiated memory.now }
+    requires apart { criterion ≢ Cm }
+    ensures { IfOk result (IsDecided memory.now criterion) }
+{
+    memory.history().value_is_history();
     match find_in(alloc, memory, criterion)? {
         Some(pattern) => Ok(Decision::Excluded(pattern)),
-        None => Ok(Decision::Open),
+        None => Ok(Decision::Meets),
+    }
+}
+
+/// Whether a memory history of distinct values meets causal memory: what is against causal consistency is looked for first.
+fn decide_causal_memory(alloc: Global, memory: &IndexedMemory) -> Result<Decision, AllocError>
+    requires distinct { IsDifferentiated memory.now }
+    ensures { IfOk result (IsDecided memory.now Cm) }
+{
+    if let Some(pattern) = find_in(alloc, memory, Criterion::Cc)? {
+        return Ok(Decision::Excluded(pattern));
+    }
+    decide_consistent(alloc, memory)
+}
+
+/// Whether a memory history that no pattern against causal consistency is in meets causal memory.
+fn decide_consistent(alloc: Global, memory: &IndexedMemory) -> Result<Decision, AllocError>
+    requires distinct { IsDifferentiated memory.now }
+    requires free { IsFreeOf memory.now Cc }
+    ensures { IfOk result (IsDecided memory.now Cm) }
+{
+    let Some(order) = memory.order() else {
+        unreachable!();
+    };
+    memory.history().value_is_history();
+    present_kinds_exclude_criteria();
+    match search_happened_before(alloc, &order, None)? {
+        Searched::Pattern(pattern) => Ok(Decision::Excluded(pattern)),
+        Searched::Present(kind) => Ok(Decision::ExcludedBy(kind)),
+        Searched::Open => unreachable!(),
+        Searched::Nothing => Ok(Decision::Meets),
     }
 }

@@ -1,11 +1,10 @@
 //! What decides whether a memory history meets a criterion. The function does nothing: what it ensures is the law.
 
-ghost use Rattle.std.specs.Prelude.{◌↔◌, IsTrue};
+ghost use Rattle.std.specs.Prelude.{◌↔◌};
 ghost use Rattle.memory_order.specs.Memory.{IsDifferentiated, memory_answer};
 ghost use Rattle.cert_check.specs.Criteria.{Meets};
-ghost use Rattle.bad_patterns.specs.Kinds.{is_against, IsPresent};
+ghost use Rattle.bad_patterns.specs.Kinds.{IsFreeOf};
 
-use bad_patterns::Kind;
 use bad_patterns::laws::present_kinds_exclude_criteria;
 use cert_check::Criterion;
 use history::History;
@@ -18,7 +17,7 @@ use objects::Memory;
 /// histories with any initial values and with unknown returns.
 pub fn met_exactly_where_no_kind_is_present(h: &History<Memory>, criterion: Criterion)
     requires distinct { IsDifferentiated h.now }
-    ensures { Meets memory_answer h.now criterion ↔ ((kind : Kind) → IsTrue (is_against kind criterion) → ¬ IsPresent h.now kind) }
+    ensures { Meets memory_answer h.now criterion ↔ IsFreeOf h.now criterion }
 {
     h.value_is_history();
     present_kinds_exclude_criteria();

@@ -1,0 +1,50 @@
+-- What is decided where no kind against causal consistency is present.
+use Rattle.std.specs.Prelude.{IsTrue}
+use Rattle.std.proofs.Common.{refl, ⊎_elim}
+use Rattle.bad_patterns.specs.declared.kind.Kind.{Kind}
+use Rattle.bad_patterns.specs.declared.kind.Kind.TheVariants.{CyclicCO, ThinAirRead, WriteCOInitRead, WriteCORead, WriteHBInitRead, CyclicHB, CyclicCF}
+use Rattle.bad_patterns.specs.declared.pattern.Pattern.{Pattern}
+use Rattle.bad_patterns.specs.Kinds.{is_against, IsFreeOf}
+use Rattle.bad_patterns.specs.Patterns.{IsBadPattern, kind_of}
+use Rattle.cert_check.specs.declared.criterion.Criterion.TheVariants.{Cc, Cm}
+use Rattle.history.specs.declared.op_id.OpId.{OpId}
+use Rattle.memory_order.specs.Memory.{MemoryHistory, IsDifferentiated}
+use Rattle.memory_order.specs.SourceOrder.{LacksSource, SourceOrder}
+use Rattle.memory_order.specs.Steps.Indexed.{IsUnordered}
+use Rattle.memory_order.proofs.FirstWrites.{CO-from_sources}
+use Rattle.pattern_search.specs.Searches.{IsClear}
+
+-- what is against causal consistency is against causal memory
+against-memory : (kind : Kind) → IsTrue (is_against kind Cc) → IsTrue (is_against kind Cm)
+against-memory CyclicCO against = refl
+against-memory ThinAirRead against = refl
+against-memory WriteCOInitRead against = refl
+against-memory WriteCORead against = refl
+against-memory WriteHBInitRead against = absurd cc
+against-memory CyclicHB against = absurd cc
+against-memory CyclicCF against = absurd cc
+
+module _ (h : MemoryHistory) where
+  pub bad-memory : (pattern : Pattern) → IsBadPattern h Cc pattern → IsBadPattern h Cm pattern
+  bad-memory pattern bad = record {
+    differentiated = bad.differentiated;
+    against = against-memory (kind_of pattern) bad.against;
+    shown = bad.shown;
+  }
+
+  -- a history of distinct values without these kinds has a causal order
+  pub free-ordered : IsDifferentiated h → IsFreeOf h Cc → ¬ IsUnordered h
+  free-ordered distinct free unordered = ⊎_elim
+      (λ (cyclic : (a : OpId) × SourceOrder h a a). free CyclicCO refl (distinct, (cyclic.0, CO-from_sources h cyclic.0 cyclic.0 cyclic.1)))
+      (λ (lacks : LacksSource h). free ThinAirRead refl (distinct, (lacks.0, (lacks.1, lacks.2, lacks.3, lacks.4, lacks.5))))
+      unordered
+
+  -- without those of happened-before it has no kind against causal memory
+  pub free-memory : IsFreeOf h Cc → IsClear h → IsFreeOf h Cm
+  free-memory free clear CyclicCO against present = free CyclicCO against present
+  free-memory free clear ThinAirRead against present = free ThinAirRead against present
+  free-memory free clear WriteCOInitRead against present = free WriteCOInitRead against present
+  free-memory free clear WriteCORead against present = free WriteCORead against present
+  free-memory free clear WriteHBInitRead against present = clear.1 present.1
+  free-memory free clear CyclicHB against present = clear.0 present.1
+  free-memory free clear CyclicCF against present = absurd cc

@@ -1,0 +1,32 @@
+use Rattle.std.proofs.Common.{subst}
+use Rattle.cert_check.specs.declared.criterion.Criterion.TheVariants.{Cm}
+use Rattle.memory_order.specs.Memory.{MemoryHistory}
+use Rattle.memory_order.specs.MemoryHistories.{IsMemoryHistory}
+use Rattle.pattern_search.specs.Searches.{IsClear}
+use Rattle.bad_patterns.specs.Kinds.{is_against, IsPresent}
+use Rattle.std.specs.Prelude.{IsTrue}
+use Rattle.decision.proofs.Completeness.{free-meets}
+use Rattle.decision.proofs.Decided.{free-memory, free-ordered}
+use Rattle.decision.proofs.deciding.decide_consistent.Goals as goal
+
+pub unreachable-requires : goal.unreachable-requires
+unreachable-requires c =
+    free-ordered c.args.memory.now c.requires.distinct c.requires.free (rw c.in_default.is at c.order.ensures.order)
+
+pub returns-in-Present : goal.returns-in-Present
+returns-in-Present c =
+    let same = rw c.in-Some.is at c.order.ensures.order in
+    let comes = rw c.in-Present.is at c.in_ok-pattern.ensures in
+    let shown = subst (λ (h : MemoryHistory). IsTrue (is_against c.in-Present.kind Cm) × IsPresent h c.in-Present.kind) same comes in
+    record {
+      against = shown.0;
+      present = shown.1;
+      not_met = c.present_kinds_exclude_criteria.ensures c.args.memory.now Cm c.in-Present.kind shown.0 shown.1;
+    }
+
+pub returns-in-Nothing : goal.returns-in-Nothing
+returns-in-Nothing c =
+    let same = rw c.in-Some.is at c.order.ensures.order in
+    let clear = subst (λ (h : MemoryHistory). IsClear h) same (rw c.in-Nothing.is at c.in_ok-pattern.ensures) in
+    let is_history = subst (λ (h : MemoryHistory). IsMemoryHistory h) c.history.ensures c.value_is_history.ensures in
+    free-meets c.args.memory.now is_history c.requires.distinct Cm (free-memory c.args.memory.now c.requires.free clear)
