@@ -5,7 +5,6 @@ use Rattle.bad_patterns.specs.declared.kind.Kind.{Kind}
 use Rattle.memory_order.specs.Memory.{MemoryHistory, IsDifferentiated, memory_answer}
 use Rattle.cert_check.specs.declared.criterion.Criterion.{Criterion}
 use Rattle.cert_check.specs.Criteria.{Meets}
-use Rattle.operations.specs.declared.any_history.AnyHistory.{AnyHistory}
 use Rattle.operations.specs.declared.any_history.AnyHistory.TheVariants as histories
 use Rattle.engine.specs.declared.report.Answer.{Answer}
 use Rattle.engine.specs.declared.report.Answer.TheVariants.{Yes, No, Unknown}
