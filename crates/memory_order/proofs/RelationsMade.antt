@@ -20,6 +20,7 @@ use Rattle.memory_order.specs.SourceOrder.{CountsSourceOrder, IsSource, IsSource
 use Rattle.memory_order.specs.Steps.GrowthSteps.{Always, Grows, IsCovered, IsFresh, IsGivenUp, IsIn, IsPending, IsReady, IsSettled, NoMore, NoReads, TakesPast, Waits}
 use Rattle.memory_order.specs.Steps.HappenedBefores.{AreReadsFollowed, AreSourcesIn, AreStrictOf, HasGrown, HasMorePairs, IsMade, IsOutcome, IsReadFollowed, IsReadDone, IsReadWaiting, IsSupported, TakesIn, TakesNext, Tells, last_of, past_count}
 use Rattle.causal_order.specs.Vectors.{Counts, count, list_of, IsCounted}
+use Rattle.memory_order.proofs.CountSumsLaws.{counted-within as all-within}
 use Rattle.memory_order.proofs.FirstWrites.{CO-from_sources, distinct-source}
 use Rattle.memory_order.proofs.FollowedReads.{grows-read}
 use Rattle.memory_order.proofs.GrowthLaws.{grows-then, grows-wider}
@@ -148,6 +149,31 @@ module _ (h : MemoryHistory) (v : Counts) (counts : CountsSourceOrder h v) where
           let is = made.outside b a.session outside in
           supported-strict h v counts distinct next_op next made.strict begun-of a b in_b (omega arith))
           (cases_lt b.index (slice_index happened.order.past.items b.session))
+
+-- vectors that count the causal order are the same everywhere
+counts-least : (h : MemoryHistory) (v w : Counts) → CountsSourceOrder h v → CountsSourceOrder h w → (p : OpId) → IsOp h p → (s : ℕ)
+    → count w p s ≤ count v p s
+counts-least h v w of_v of_w p is_op s = ⊎_elim
+    (λ (less : count v p s < count w p s).
+    let again : count v p s < count v p s = (of_v.counted p (op s (count v p s)) is_op).1 ((of_w.counted p (op s (count v p s)) is_op).0 less) in
+    absurd (omega arith))
+    (λ (up_to : count w p s ≤ count v p s). up_to)
+    (cases_lt (count v p s) (count w p s))
+
+strict-least : (h : MemoryHistory) (v w a b : Counts) → CountsSourceOrder h v → CountsSourceOrder h w → AreStrictOf h v a → AreStrictOf h w b
+    → (p : OpId) (s : ℕ) → IsOp h p → count b p s ≤ count a p s
+strict-least h v w a b of_v of_w strict_a strict_b p s is_op = ⊎_elim
+    (λ (same : s ≡ p.session).
+    let one = strict_a.own p is_op in
+    let two = strict_b.own p is_op in
+    let here : count b p p.session ≤ count a p p.session = omega arith in
+    subst (λ (t : ℕ). count b p t ≤ count a p t) (sym same) here)
+    (λ (apart : s ≢ p.session).
+    let one = strict_a.others p s is_op apart in
+    let two = strict_b.others p s is_op apart in
+    let least = counts-least h v w of_v of_w p is_op s in
+    omega arith)
+    (cases_eq s p.session)
 
 module _ (h : MemoryHistory) where
   -- what is in stays in
@@ -387,6 +413,37 @@ module _ (h : MemoryHistory) where
                 let cycle = tells-after.1 is in
                 (cycle.0, (exact-next.exact cycle.0 cycle.0 (past-in cycle.0 cycle.1)).0 cycle.2)
 
+            -- other vectors of pairs of the relation count no more
+            least-next : (n : ℕ) (more : HasMorePairs h o n) (p : OpId) (s : ℕ) → IsOp h p → count more.now p s ≤ count b.order.counts p s
+            least-next n more p s is_op = ⊎_elim
+                (λ (is_in : IsIn b.order p). ⊎_elim
+                (λ (less : count b.order.counts p s < count more.now p s).
+                let a : OpId = op s (count b.order.counts p s) in
+                let again : count b.order.counts p s < count b.order.counts p s =
+                (exact-next.exact a p (past-in p is_in)).1 (more.supported a p (past-in p is_in) less) in
+                absurd (omega arith))
+                (λ (up_to : count more.now p s ≤ count b.order.counts p s). up_to)
+                (cases_lt (count b.order.counts p s) (count more.now p s)))
+                (λ (out : slice_index b.order.past.items p.session ≤ p.index).
+                let other = more.outside p s (λ in_p. let is_in = in-past p in_p in omega arith) in
+                let same = outside-next p s out in
+                let strict = strict-least h made.causal more.causal made.strict more.strict made.counts more.counts made.begun more.begun p s is_op in
+                omega arith)
+                (cases_lt p.index (slice_index b.order.past.items p.session))
+
+            no-more : (n : ℕ) → ¬ (n < b.order.added) → ¬ HasMorePairs h o n
+            no-more n not more =
+                let now = all-within h more.now b.order.counts (λ p s is_op. least-next n more p s is_op) in
+                let strict = all-within h made.strict more.strict
+                (λ p s is_op. strict-least h more.causal made.causal more.strict made.strict more.counts made.counts more.begun made.begun p s is_op) in
+                let sums = sums-next in
+                let most = more.more in
+                not (omega arith)
+
+            few-next : (most : Option ℕ) → ¬ MatchOption most ⊥ (λ n. n < b.order.added) → MatchOption most Always (λ n. ¬ HasMorePairs h o n)
+            few-next None not = tt
+            few-next (Some n) not = no-more n not
+
         more-pairs : IsDifferentiated h → (most : Option ℕ) → MatchOption most ⊥ (λ n. n < b.order.added) → MatchOption most ⊥ (λ n. HasMorePairs h o n)
         more-pairs distinct None given_up = given_up
         more-pairs distinct (Some n) given_up = record {
@@ -424,4 +481,5 @@ module _ (h : MemoryHistory) where
             most = grows-most h Always (program_past o) a.order b.order steps;
             counts = λ p s. grows-rises h Always (program_past o) a.order b.order steps p s;
             outcome = outcome-next;
+            few = λ distinct not. few-next (waits-none not) distinct b.order.most not;
           }

@@ -16,7 +16,7 @@ use Rattle.causal_order.specs.Orders.{op, program_past}
 use Rattle.memory_order.specs.Relations.{IsPast, HB}
 use Rattle.memory_order.specs.SourceOrder.{CountsSourceOrder, IsSource, ListsSourcesBelow}
 use Rattle.memory_order.specs.Steps.GrowingOrders.{AreHeldVectors}
-use Rattle.memory_order.specs.Steps.GrowthSteps.{IsIn, Waits, NoMore, IsSettled, IsGrowing, IsGivenUp, Grows, TakesPast}
+use Rattle.memory_order.specs.Steps.GrowthSteps.{Always, IsIn, Waits, NoMore, IsSettled, IsGrowing, IsGivenUp, Grows, TakesPast}
 use Rattle.memory_order.specs.Steps.Written.{AreByVariable, ListsWrites}
 use Rattle.causal_order.specs.Vectors.{Counts, count, IsCounted}
 
@@ -151,6 +151,10 @@ module _ (h : MemoryHistory) where
     pub outside : (p : OpId) (s : ℕ) → ¬ IsPast h o p → count now p s ≡ count strict p s
     pub more : most + all_counted h strict < all_counted h now
 
+  -- it has no more than that, if a number is given
+  abbrev pub HasFewPairs : OpId → Option ℕ → Type 0
+  HasFewPairs o most = MatchOption most Always (λ n. ¬ HasMorePairs o n)
+
   -- what the relation of o came to, where it may have so many pairs more
   abbrev pub IsOutcome : OpId → Option ℕ → Counts → Saturation → Type 0
   IsOutcome o most now Saturated = IsHBVectors h o now × ((a : OpId) → ¬ HB h o a a)
@@ -173,3 +177,4 @@ module _ (h : MemoryHistory) where
     pub counts : (o : OpId) (s : ℕ) → count (vectors_of before) o s ≤ count (vectors_of after) o s
     pub outcome : IsDifferentiated h → (told : Saturation) → Tells after told
         → IsOutcome h (op (session_of before) (taken_of before)) (most_of after) (vectors_of after) told
+    pub few : IsDifferentiated h → ¬ IsGivenUp after.order → HasFewPairs h (op (session_of before) (taken_of before)) (most_of after)
