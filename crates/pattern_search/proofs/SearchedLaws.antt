@@ -1,18 +1,20 @@
 -- What follows for what a search of happened-before relations comes to.
-use Rattle.std.proofs.Common.{◌≡◌, ℕ, ◌+◌, ◌<◌, ◌≤◌, Ok, Err, Result, length, inr, ⊎_elim, sym, arith, subst, eq-or-lt_of_le}
-use Rattle.std.specs.Prelude.{IfOk, MatchOption, None, Option, Some}
+use Rattle.std.proofs.Common.{◌≡◌, ℕ, ◌+◌, ◌-◌, ◌<◌, ◌≤◌, Ok, Err, Result, length, inl, inr, ⊎_elim, refl, sym, arith, lt-ltb, ltb-true, subst, eq-or-lt_of_le}
+use Rattle.std.specs.Prelude.{IfOk, IsTrue, None, Option, Some}
 use Rattle.std.proofs.lemmas.Bool.{cases_lt}
 use Rattle.history.specs.declared.op_id.OpId.{OpId}
 use Rattle.history.specs.History.{IsOp, session}
-use Rattle.memory_order.specs.Memory.{MemoryHistory}
-use Rattle.causal_order.specs.Orders.{op}
+use Rattle.memory_order.specs.Memory.{MemoryHistory, IsDifferentiated}
+use Rattle.causal_order.specs.Orders.{op, program_past}
+use Rattle.causal_order.specs.Vectors.{count}
 use Rattle.memory_order.specs.Steps.HappenedBefores.{HasMorePairs}
-use Rattle.memory_order.proofs.HappenedBeforeLaws.{HB-earlier, HB-of_history, program_past-earlier, program_past-from}
+use Rattle.memory_order.proofs.HappenedBeforeLaws.{HB-earlier, HB-of_history, in_past-from, in_past-true, past-of_history, past-past, past-program, program_past-earlier, program_past-from}
+use Rattle.memory_order.proofs.HappenedBeforeVectors.{supported-strict}
 use Rattle.causal_order.proofs.OrdersLaws.{session-of_history}
 use Rattle.pattern_search.specs.declared.searched.Searched.{Searched}
 use Rattle.pattern_search.specs.declared.searched.Searched.TheVariants.{Pattern, Present, Open, Nothing}
-use Rattle.pattern_search.specs.Searches.{ComesTo, HasPattern, IsClear, HasLargeHB, either}
-use Rattle.pattern_search.specs.Steps.Relations.{HasNoCycle, HasNoRelation, HasNoStart, IsClearBefore}
+use Rattle.pattern_search.specs.Searches.{ComesTo, HasLargeHB, HasPattern, IsClear, either}
+use Rattle.pattern_search.specs.Steps.Relations.{HasNoCycle, HasLarge, HasNoRelation, HasNoStart, IsClearBefore}
 
 -- what holds of each result holds of a result
 pub ok-weaker : {A E : Type 0} (r : Result A E) (P Q : A → Type 0) → ((x : A) → P x → Q x) → IfOk r P → IfOk r Q
@@ -48,20 +50,54 @@ module _ (h : MemoryHistory) where
   comes-either A B C Nothing Open first second = second
   comes-either A B C Nothing Nothing first second = (first, second)
 
-  -- a relation that is given up is one of the session
-  pub given-up : (s i : ℕ) → IsOp h (op s i) → (most : Option ℕ) → MatchOption most ⊥ (λ n. HasMorePairs h (op s i) n) → HasNoRelation h most s
-  given-up s i is_op None more = absurd more
-  given-up s i is_op (Some n) more = inr (i, is_op, more)
+  -- a relation that has so many pairs has them later in its session too
+  more-later : IsDifferentiated h → (o p : OpId) → IsOp h o → IsTrue (program_past o p) → (n : ℕ) → HasMorePairs h p n → HasMorePairs h o n
+  more-later distinct o p is_op before n more =
+      let p_past = past-program h o p is_op before in
+      let p_is_op = past-of_history h o p is_op p_past in
+      let v = more.causal in
+      record {
+        causal = v;
+        counts = more.counts;
+        strict = more.strict;
+        begun = more.begun;
+        now = more.now;
+        held = more.held;
+        supported = λ a b in_b counted. ⊎_elim
+            (λ (inside : b.index < count v p b.session).
+            let in_p = in_past-true h v more.counts distinct p p_is_op b (lt-ltb b.index (count v p b.session) inside) in
+            HB-earlier h o p is_op before a b (more.supported a b in_p counted))
+            (λ (out : count v p b.session ≤ b.index).
+            let same = more.outside b a.session (λ in_p.
+            let inside = ltb-true b.index (count v p b.session) (in_past-from h v more.counts distinct p p_is_op b in_p) in omega arith) in
+            supported-strict h v more.counts distinct o is_op more.strict more.begun a b in_b (omega arith))
+            (cases_lt b.index (count v p b.session));
+        outside = λ q s not. more.outside q s (λ in_p. not (past-past h o p q p_past in_p));
+        more = more.more;
+      }
+
+  -- a relation of the session that is given up leaves none for its last operation
+  given-up-last : IsDifferentiated h → (s i j : ℕ) → i ≤ j → j + 1 ≡ length (session h s) → (most : Option ℕ) → HasLarge h most (op s i) → HasLarge h most (op s j)
+  given-up-last distinct s i j up_to last None more = more
+  given-up-last distinct s i j up_to last (Some n) more =
+      more-later distinct (op s j) (op s i) (omega arith) (program_past-from (op s j) (op s i) refl up_to) n more
+
+  pub given-up : IsDifferentiated h → (s i : ℕ) → IsOp h (op s i) → (most : Option ℕ) → HasLarge h most (op s i) → HasNoRelation h most s
+  given-up distinct s i is_op most more =
+      let j : ℕ = length (session h s) - 1 in
+      let last : j + 1 ≡ length (session h s) = omega arith in
+      inr (j, last, given-up-last distinct s i j (omega arith) last most more)
 
   -- a session with operations and no relation leaves the search open
+  large-open : (most : Option ℕ) (o : OpId) → IsOp h o → HasLarge h most o → HasLargeHB h most
+  large-open None o is_op more = more
+  large-open (Some n) o is_op more = (o, is_op, more)
+
   pub no-relation : (most : Option ℕ) (s : ℕ) → ¬ (length (session h s) ≡ 0) → HasNoRelation h most s → HasLargeHB h most
-  no-relation None s some none = ⊎_elim
+  no-relation most s some none = ⊎_elim
       (λ (empty : length (session h s) ≡ 0). absurd (some empty))
-      (λ (more : ⊥). absurd more)
-      none
-  no-relation (Some n) s some none = ⊎_elim
-      (λ (empty : length (session h s) ≡ 0). absurd (some empty))
-      (λ (more : (i : ℕ) × IsOp h (op s i) × HasMorePairs h (op s i) n). (op s more.0, more.1, more.2))
+      (λ (large : (i : ℕ) × (i + 1 ≡ length (session h s)) × HasLarge h most (op s i)).
+      let last = large.1 in large-open most (op s large.0) (omega arith) large.2)
       none
 
   -- the relation of an operation has nothing where that of the last of its session has nothing

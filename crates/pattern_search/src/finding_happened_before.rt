@@ -42,11 +42,11 @@ pub fn find_happened_before(
 /// none.
 ///
 /// For each session the relation of its last operation is searched: it has what those of the operations before it have. A
-/// session is left out where one of its relations has more pairs than it may have, if a number is given, that the causal
-/// order doesn't have. A cycle is shown only where no session has a read of the initial value after a write. It comes to
-/// nothing only where none of these kinds is present. Where one is and the derivation that was made of it did not pass the
-/// test, as one of more than 100,000 lines, it comes to that kind. It is open only where a session was left out: so never
-/// without a number.
+/// session is left out where this relation has more pairs than it may have, if a number is given, that the causal order
+/// doesn't have. A cycle is shown only where no session has a read of the initial value after a write. It comes to nothing
+/// only where none of these kinds is present. Where one is and the derivation that was made of it did not pass the test, as
+/// one of more than 100,000 lines, it comes to that kind. It is open only where a session was left out: so never without a
+/// number.
 ///
 /// Fails for want of memory alone. For each of k sessions O(n (log n + k^2) + m k log n) for n operations and m pairs that
 /// its relation has more than the causal order, and for each derivation O(m log m + l n) for l lines.

@@ -10,7 +10,7 @@ use Rattle.memory_order.specs.Memory.{MemoryHistory, initial, Writes, Reads}
 use Rattle.causal_order.specs.Orders.{op, program_past}
 use Rattle.memory_order.specs.Relations.{HB}
 use Rattle.memory_order.specs.SourceOrder.{CountsSourceOrder}
-use Rattle.memory_order.specs.Steps.HappenedBefores.{HasMorePairs}
+use Rattle.memory_order.specs.Steps.HappenedBefores.{HasFewPairs, HasMorePairs}
 use Rattle.causal_order.specs.Vectors.{Counts}
 
 module _ (h : MemoryHistory) where
@@ -27,10 +27,18 @@ module _ (h : MemoryHistory) where
     pub of_session : relation.0.session ≡ s
     pub last : relation.0.index + 1 ≡ length (session h s)
 
-  -- the session s has no operation, or the relation of one of its operations has more pairs than a number that the causal order
-  -- doesn't have
+  -- and it has no more pairs than a number that the causal order doesn't have, if one is given
+  pub record IsMadeForLast (most : Option ℕ) (s : ℕ) (relation : OpId × Counts) : Type 0 where
+    pub made : IsRelationOfLast s relation
+    pub few : HasFewPairs h relation.0 most
+
+  -- the relation of o has more pairs than a number that the causal order doesn't have
+  abbrev pub HasLarge : Option ℕ → OpId → Type 0
+  HasLarge most o = MatchOption most ⊥ (λ n. HasMorePairs h o n)
+
+  -- the session s has no operation, or the relation of its last one has so many pairs
   abbrev pub HasNoRelation : Option ℕ → ℕ → Type 0
-  HasNoRelation most s = (length (session h s) ≡ 0) ⊎ MatchOption most ⊥ (λ n. (i : ℕ) × IsOp h (op s i) × HasMorePairs h (op s i) n)
+  HasNoRelation most s = (length (session h s) ≡ 0) ⊎ ((i : ℕ) × (i + 1 ≡ length (session h s)) × HasLarge most (op s i))
 
   -- in the relation of o the write w is before r, a read of the initial value of its variable that is o or before o in program
   -- order

@@ -1,5 +1,5 @@
 ghost use Rattle.std.specs.Prelude.{◌≡◌, ◌<◌, length, IfOk, MatchOption};
-ghost use Rattle.pattern_search.specs.Steps.Relations.{HasNoRelation, IsRelationOfLast};
+ghost use Rattle.pattern_search.specs.Steps.Relations.{HasNoRelation, IsMadeForLast};
 ghost use Rattle.memory_order.specs.Memory.{IsDifferentiated};
 ghost use Rattle.memory_order.specs.SourceOrder.{CountsSourceOrder};
 ghost use Rattle.causal_order.specs.Vectors.{count as counted};
@@ -34,8 +34,8 @@ impl Model for Relation {
 impl Relation {
     /// The relation of the last operation of a session, from the vectors of the causal order.
     ///
-    /// `None` where the session has no operation, or the relation of one of its operations has more pairs than it may have,
-    /// if a number is given, that the causal order doesn't have. Fails for want of memory alone. O(n (log n + k^2) + m k log n)
+    /// `None` exactly where the session has no operation, or the relation has more pairs than it may have, if a number is
+    /// given, that the causal order doesn't have. Fails for want of memory alone. O(n (log n + k^2) + m k log n)
     /// for n operations of k sessions and m pairs more than the causal order has.
     pub fn of_last(
         alloc: Global,
@@ -47,7 +47,7 @@ impl Relation {
         requires order { CountsSourceOrder h.now vectors.now }
         requires distinct { IsDifferentiated h.now }
         requires exists { session < length h.now.1 }
-        ensures { IfOk result (λ made. MatchOption made (HasNoRelation h.now most session) (IsRelationOfLast h.now session)) }
+        ensures { IfOk result (λ made. MatchOption made (HasNoRelation h.now most session) (IsMadeForLast h.now most session)) }
     {
         let mut happened = HappenedBefore::of(alloc, h, vectors, session, most)?;
         let operations = h.len(session as u64);

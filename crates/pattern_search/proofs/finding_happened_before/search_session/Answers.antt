@@ -12,7 +12,7 @@ returns-in-Some c =
     let most = c.args.most in
     let s = c.in-Some.relation.0.session in
     let of_last = rw c.in-Some.is at c.in_ok-relation.ensures in
-    let same : s ≡ c.args.session = of_last.of_session in
+    let same : s ≡ c.args.session = of_last.made.of_session in
     subst (λ (t : ℕ). IfOk c.search_relation.result (ComesTo h (HasLargeHB h most) (IsClearBefore h (t + 1)))) same
     (c.search_relation.ensures most (subst (λ (t : ℕ). ComesTo h (HasLargeHB h most) (IsClearBefore h t) c.args.so_far) (sym same) c.requires.so_far))
 

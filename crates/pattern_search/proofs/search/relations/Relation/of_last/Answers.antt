@@ -5,7 +5,8 @@ use Rattle.history.specs.History.{IsOp}
 use Rattle.memory_order.specs.declared.happened_before.Saturation.TheVariants.{Saturated, Cyclic, GivenUp}
 use Rattle.memory_order.specs.HappenedBeforeVectors.{IsHBVectors}
 use Rattle.causal_order.specs.Orders.{op}
-use Rattle.memory_order.specs.Steps.HappenedBefores.{IsOutcome, most_of, session_of, taken_of, vectors_of}
+use Rattle.memory_order.specs.Steps.GrowthSteps.{IsGivenUp}
+use Rattle.memory_order.specs.Steps.HappenedBefores.{HasFewPairs, IsOutcome, most_of, session_of, taken_of, vectors_of}
 use Rattle.pattern_search.proofs.SearchedLaws.{given-up}
 use Rattle.pattern_search.proofs.search.relations.Relation.of_last.Goals as goal
 
@@ -25,7 +26,7 @@ returns-in-GivenUp c =
     let outcome : IsOutcome h (op s i) c.args.most (vectors_of happened) GivenUp =
     subst₂ (λ (o : OpId) (n : Option ℕ). IsOutcome h o n (vectors_of happened) GivenUp) is most
     (after.outcome c.requires.distinct GivenUp (rw c.in-GivenUp.is at c.saturation.ensures)) in
-    given-up h s i is_op c.args.most outcome
+    given-up h c.requires.distinct s i is_op c.args.most outcome
 
 pub loop-index-preserved : goal.loop-index-preserved
 loop-index-preserved c =
@@ -41,6 +42,11 @@ loop-index-preserved c =
     (λ (saturated : c.saturation.result ≡ Saturated). (after.outcome c.requires.distinct Saturated (rw saturated at c.saturation.ensures)).0)
     (λ (cyclic : c.saturation.result ≡ Cyclic). (after.outcome c.requires.distinct Cyclic (rw cyclic at c.saturation.ensures)).0)
     c.in-Saturated.is in
+    let kept : ¬ IsGivenUp happened.order =
+    ⊎_elim
+    (λ (saturated : c.saturation.result ≡ Saturated). (rw saturated at c.saturation.ensures).0)
+    (λ (cyclic : c.saturation.result ≡ Cyclic). (rw cyclic at c.saturation.ensures).0)
+    c.in-Saturated.is in
     record {
       made = after.made;
       session = after.session ∙ before.session;
@@ -49,6 +55,9 @@ loop-index-preserved c =
       exact = λ n next.
           let here : op s i ≡ op s n = ap (λ (j : ℕ). op s j) (omega arith) in
           subst (λ (o : OpId). IsHBVectors h o (vectors_of happened)) (is ∙ here) exact;
+      few = λ n next.
+          let here : op s i ≡ op s n = ap (λ (j : ℕ). op s j) (omega arith) in
+          subst₂ (λ (o : OpId) (m : Option ℕ). HasFewPairs h o m) (is ∙ here) (after.most ∙ before.most) (after.few c.requires.distinct kept);
     }
 
 pub returns : goal.returns
@@ -61,12 +70,15 @@ returns c =
     let up_to = c.loop-index.auto.index-end in
     let ended = c.loop-index-test.false in
     record {
-      relation_of = record {
-        is_op = omega arith;
-        causal = c.args.vectors.now;
-        order = c.requires.order;
-        counts = c.loop-index.invariant.exact (c.len-operations.result - 1) (omega arith);
+      made = record {
+        relation_of = record {
+          is_op = omega arith;
+          causal = c.args.vectors.now;
+          order = c.requires.order;
+          counts = c.loop-index.invariant.exact (c.len-operations.result - 1) (omega arith);
+        };
+        of_session = refl;
+        last = omega arith;
       };
-      of_session = refl;
-      last = omega arith;
+      few = c.loop-index.invariant.few (c.len-operations.result - 1) (omega arith);
     }

@@ -1,7 +1,7 @@
 use Rattle.std.proofs.Common.{◌≡◌, ℕ, ◌+◌}
 use Rattle.memory_order.specs.HappenedBeforeVectors.{IsHBVectors}
 use Rattle.causal_order.specs.Orders.{op}
-use Rattle.memory_order.specs.Steps.HappenedBefores.{IsMade, most_of, session_of, taken_of, vectors_of}
+use Rattle.memory_order.specs.Steps.HappenedBefores.{HasFewPairs, IsMade, most_of, session_of, taken_of, vectors_of}
 use Rattle.pattern_search.proofs.search.relations.Relation.of_last.Given as goal
 
 -- the relation of the session's operation before the next one
@@ -12,4 +12,5 @@ invariant-loop-index l = record {
   taken : taken_of l.happened ≡ l.index;
   most : most_of l.happened ≡ l.fn.most;
   exact : (n : ℕ) → l.index ≡ n + 1 → IsHBVectors l.h (op l.session n) (vectors_of l.happened);
+  few : (n : ℕ) → l.index ≡ n + 1 → HasFewPairs l.h (op l.session n) l.fn.most;
 }
