@@ -1,12 +1,12 @@
 -- The certificate of causal memory of a memory history by its happened-before relations (this project's profile).
-use Rattle.std.specs.Prelude.{ℕ, ◌+◌, ◌⊎◌, List}
+use Rattle.std.specs.Prelude.{ℕ, ◌+◌, ◌⊎◌, List, Some}
 use Rattle.history.specs.declared.op_id.OpId.{OpId}
 use Rattle.history.specs.History.{IsOp}
 use Rattle.memory_order.specs.HappenedBeforeVectors.{IsHBVectors}
 use Rattle.memory_order.specs.Memory.{MemoryHistory, IsDifferentiated}
 use Rattle.memory_order.specs.Relations.{HB}
 use Rattle.memory_order.specs.SourceOrder.{CountsSourceOrder}
-use Rattle.memory_order.specs.Steps.HappenedBefores.{HasMorePairs}
+use Rattle.memory_order.specs.Steps.HappenedBefores.{HasFewPairs, HasMorePairs}
 use Rattle.causal_order.specs.Vectors.{Counts, list_of}
 use Rattle.cert_check.specs.declared.certificate.Certificate.{Certificate}
 use Rattle.cert_check.specs.declared.certificate.Certificate.TheVariants.{Cc, Cm, Ccv}
@@ -19,9 +19,14 @@ module _ (h : MemoryHistory) where
     pub happened : IsHBVectors h o vectors
     pub turns : AreTurns vectors o.session (o.index + 1) schedule
 
-  -- so they do where values are distinct
+  -- in happened-before of o no operation is before itself, and it has at most 100,000 pairs that the causal order doesn't have
+  pub record MayTakeTurns (o : OpId) : Type 0 where
+    pub acyclic : (a : OpId) → ¬ HB h o a a
+    pub few : HasFewPairs h o (Some 100000)
+
+  -- where values are distinct, o may take turns, and so it is in the schedule
   abbrev pub TakesTurns : OpId → List ℕ → Type 0
-  TakesTurns o schedule = IsDifferentiated h → TakesHBTurns o schedule
+  TakesTurns o schedule = IsDifferentiated h → TakesHBTurns o schedule × MayTakeTurns o
 
   -- in happened-before of some operation an operation is before itself, or it has more than 100,000 pairs that the causal order
   -- doesn't have

@@ -3,7 +3,7 @@
 ghost use Rattle.std.specs.Prelude.{◌≡◌, ◌⊎◌, ◌+◌, ◌<◌, ◌≤◌, length, IfNone, IfOk, IfSome, IsTrue, IsFalse};
 ghost use Rattle.history.specs.History.{IsOp};
 ghost use Rattle.history.specs.declared.op_id.OpId.{OpId as Operation};
-ghost use Rattle.memory_order.specs.HappenedBeforePatterns.{HasHBCycle, HasStartOverwrittenInHB};
+ghost use Rattle.memory_order.specs.HappenedBeforePatterns.{HasStartOverwrittenInHB};
 ghost use Rattle.memory_order.specs.Memory.{memory_answer, IsDifferentiated};
 ghost use Rattle.causal_order.specs.Steps.Gathered.{AreGatheredBefore};
 ghost use Rattle.memory_order.specs.SourceOrder.{CountsSourceOrder, IsCyclic, LacksSource};
@@ -24,20 +24,24 @@ use std::alloc::{AllocError, Global};
 /// operation.
 ///
 /// The source of a known read of a value that is not the initial one is the first write of that value. The schedule takes
-/// the operations of its session in turn, up to it. Before each comes what the relation puts before it
-/// and isn't placed yet, by the topological rule. `None` where the order is cyclic, where a read has no source, or where
-/// the relation of some operation is cyclic or has more than 100,000 pairs that the order doesn't have. On distinct values,
-/// where no bad pattern against causal memory is present, the certificate explains all known returns, and there is one
-/// unless a relation has so many pairs. Where values are not distinct, whether it explains is for the checker of
-/// certificates to say. Fails for want of memory alone. O(n p k + n k (k^2 + log n) + m k^2 log p) for n operations of k
-/// sessions, pasts of at most p operations and m pairs more in each relation.
+/// the operations of its session in turn, up to it. Before each comes what the relation puts before it and isn't placed
+/// yet, by the topological rule. `None` where the order is cyclic, where a read has no source, or where the relation of some
+/// operation is cyclic or has more than 100,000 pairs that the order doesn't have.
+///
+/// On distinct values the certificate explains all known returns where no relation puts a write before a read of the
+/// initial value. So where no bad pattern against causal memory is present, it shows the criterion, and there is one unless
+/// a relation has so many pairs.
+/// Where values are not distinct, whether it explains is for the checker of certificates to say. Fails for want of memory
+/// alone. O(n p k + n k (k^2 + log n) + m k^2 log p) for n operations of k sessions, pasts of at most p operations and m
+/// pairs more in each relation.
 pub fn make_memory(alloc: Global, h: &History<Memory>) -> Result<Option<Certificate>, AllocError>
     ensures criterion { IfOk result (λ made. IfSome made (λ c. criterion_of c ≡ Criterion.Cm)) }
     ensures shape { IfOk result (λ made. IfSome made (HasShapeOf h.now)) }
     ensures vectors { IfOk result (λ made. IfSome made (λ c. CountsSourceOrder h.now (vectors_of c))) }
     ensures turns { IsDifferentiated h.now → IfOk result (λ made. IfSome made (IsByTurns h.now)) }
     ensures none { IsDifferentiated h.now → IfOk result (λ made. IfNone made ((IsCyclic h.now ⊎ LacksSource h.now) ⊎ HasNoTurns h.now)) }
-    ensures explained { IsDifferentiated h.now → ¬ HasHBCycle h.now → ¬ HasStartOverwrittenInHB h.now
+    ensures some { IsDifferentiated h.now → IfOk result (λ made. IfSome made (λ _. ¬ HasNoTurns h.now)) }
+    ensures explained { IsDifferentiated h.now → ¬ HasStartOverwrittenInHB h.now
         → IfOk result (λ made. IfSome made (IsExplainedThroughout memory_answer h.now)) }
 {
     let memory = IndexedMemory::of(alloc, h)?;
@@ -58,7 +62,8 @@ pub fn make_by_order(alloc: Global, order: &CausalOrder) -> Result<Option<Certif
     ensures vectors { IfOk result (λ made. IfSome made (λ c. CountsSourceOrder order.now (vectors_of c))) }
     ensures turns { IsDifferentiated order.now → IfOk result (λ made. IfSome made (IsByTurns order.now)) }
     ensures none { IsDifferentiated order.now → IfOk result (λ made. IfNone made (HasNoTurns order.now)) }
-    ensures explained { IsDifferentiated order.now → ¬ HasHBCycle order.now → ¬ HasStartOverwrittenInHB order.now
+    ensures some { IsDifferentiated order.now → IfOk result (λ made. IfSome made (λ _. ¬ HasNoTurns order.now)) }
+    ensures explained { IsDifferentiated order.now → ¬ HasStartOverwrittenInHB order.now
         → IfOk result (λ made. IfSome made (IsExplainedThroughout memory_answer order.now)) }
 {
     let vectors = order.vectors().copy(alloc)?;
@@ -77,7 +82,8 @@ fn certificate_by(
     ensures vectors { IfOk result (λ made. IfSome made (λ c. CountsSourceOrder h.now (vectors_of c))) }
     ensures turns { IsDifferentiated h.now → IfOk result (λ made. IfSome made (IsByTurns h.now)) }
     ensures none { IsDifferentiated h.now → IfOk result (λ made. IfNone made (HasNoTurns h.now)) }
-    ensures explained { IsDifferentiated h.now → ¬ HasHBCycle h.now → ¬ HasStartOverwrittenInHB h.now
+    ensures some { IsDifferentiated h.now → IfOk result (λ made. IfSome made (λ _. ¬ HasNoTurns h.now)) }
+    ensures explained { IsDifferentiated h.now → ¬ HasStartOverwrittenInHB h.now
         → IfOk result (λ made. IfSome made (IsExplainedThroughout memory_answer h.now)) }
 {
     h.value_is_history();

@@ -86,8 +86,8 @@ impl HappenedBefore {
 
     /// Goes on to the happened-before relation of the session's next operation.
     ///
-    /// Where values are distinct, its vectors then count exactly this relation, or it is given up: then it has more pairs than
-    /// it may have that the causal order doesn't have. After a cyclic relation those of the later operations are cyclic or
+    /// Where values are distinct, its vectors then count exactly this relation, or it is given up: exactly where it has more
+    /// pairs than it may have that the causal order doesn't have. After a cyclic relation those of the later operations are cyclic or
     /// given up, and after one that is given up all are. Fails for want of memory alone, and nothing is left then. O(q k^2 +
     /// m k log p) for q operations and m pairs that the relation has more than before, and k sessions of at most p operations.
     pub fn take_next(mut self, h: &History<Memory>) -> Result<HappenedBefore, AllocError>

@@ -1,7 +1,7 @@
 use Rattle.std.specs.Prelude.{IfNone, IfOk, IfSome}
 use Rattle.std.proofs.Common.{◌⊎◌, ◌∙◌, inl, inr, subst, ⊎_elim}
 use Rattle.history.specs.declared.op_id.OpId.{OpId}
-use Rattle.memory_order.specs.HappenedBeforePatterns.{HasHBCycle, HasStartOverwrittenInHB}
+use Rattle.memory_order.specs.HappenedBeforePatterns.{HasStartOverwrittenInHB}
 use Rattle.memory_order.specs.Memory.{MemoryHistory, IsDifferentiated, memory_answer}
 use Rattle.memory_order.specs.SourceOrder.{IsCyclic, LacksSource, SourceOrder}
 use Rattle.memory_order.specs.Steps.Indexed.{IsUnordered}
@@ -27,10 +27,15 @@ returns-clause-none c = λ distinct.
     none-weaker c.make_by_order.result (HasNoTurns h) ((IsCyclic h ⊎ LacksSource h) ⊎ HasNoTurns h) (λ no_turns. inr no_turns)
     (subst (λ (m : MemoryHistory). IsDifferentiated m → IfOk c.make_by_order.result (λ made. IfNone made (HasNoTurns m))) same c.make_by_order.ensures.none distinct)
 
+pub returns-clause-some : goal.returns-clause-some
+returns-clause-some c =
+    let same = (rw c.in-Some.is at c.order.ensures.order) ∙ c.in_ok-memory.ensures in
+    subst (λ (m : MemoryHistory). IsDifferentiated m → IfOk c.make_by_order.result (λ made. IfSome made (λ _. ¬ HasNoTurns m))) same c.make_by_order.ensures.some
+
 pub returns-clause-explained : goal.returns-clause-explained
 returns-clause-explained c =
     let same = (rw c.in-Some.is at c.order.ensures.order) ∙ c.in_ok-memory.ensures in
     subst
-    (λ (m : MemoryHistory). IsDifferentiated m → ¬ HasHBCycle m → ¬ HasStartOverwrittenInHB m
-    → IfOk c.make_by_order.result (λ made. IfSome made (IsExplainedThroughout memory_answer m)))
+    (λ (m : MemoryHistory). IsDifferentiated m → ¬ HasStartOverwrittenInHB m
+        → IfOk c.make_by_order.result (λ made. IfSome made (IsExplainedThroughout memory_answer m)))
     same c.make_by_order.ensures.explained

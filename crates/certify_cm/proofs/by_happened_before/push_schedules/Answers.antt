@@ -6,7 +6,8 @@ use Rattle.memory_order.specs.declared.happened_before.Saturation.{Saturation}
 use Rattle.memory_order.specs.declared.happened_before.Saturation.TheVariants.{Saturated, Cyclic, GivenUp}
 use Rattle.memory_order.specs.HappenedBeforeVectors.{IsHBVectors}
 use Rattle.causal_order.specs.Orders.{op}
-use Rattle.memory_order.specs.Steps.HappenedBefores.{Tells, IsOutcome, session_of, taken_of, most_of, vectors_of}
+use Rattle.memory_order.specs.Relations.{HB}
+use Rattle.memory_order.specs.Steps.HappenedBefores.{HasFewPairs, Tells, IsOutcome, session_of, taken_of, most_of, vectors_of}
 use Rattle.causal_order.specs.Vectors.{Counts}
 use Rattle.causal_order.proofs.GatheredLaws.{gathered-session, gathered-push, gathered-end}
 use Rattle.certify_cm.specs.ByTurns.{TakesTurns}
@@ -32,11 +33,18 @@ loop-index-preserved c =
     let taken = c.in_ok-happened-2.ensures in
     let told : Tells c.in_ok-happened-2.happened Saturated = rw c.in-Saturated.is at c.saturation.ensures in
     let is : op (session_of c.loop-index.happened) (taken_of c.loop-index.happened) ≡ op s i = ap₂ op before.session before.taken in
-    let turns : TakesTurns h (op s i) c.schedule.result.now = λ distinct. record {
-      vectors = v;
-      happened = subst₂ (λ (o : OpId) (now : Counts). IsHBVectors h o now) is (sym c.vectors.ensures) (taken.outcome distinct Saturated told).0;
-      turns = subst (λ (xs : List ℕ). AreTurns v s (i + 1) xs) (sym c.schedule.ensures) c.in_ok-walk.ensures;
-    } in
+    let turns : TakesTurns h (op s i) c.schedule.result.now = λ distinct.
+    let outcome = taken.outcome distinct Saturated told in (
+      record {
+        vectors = v;
+        happened = subst₂ (λ (o : OpId) (now : Counts). IsHBVectors h o now) is (sym c.vectors.ensures) outcome.0;
+        turns = subst (λ (xs : List ℕ). AreTurns v s (i + 1) xs) (sym c.schedule.ensures) c.in_ok-walk.ensures;
+      },
+      record {
+        acyclic = subst (λ (o : OpId). (a : OpId) → ¬ HB h o a a) is outcome.1;
+        few = subst₂ (λ (o : OpId) (n : Option ℕ). HasFewPairs h o n) is (taken.most ∙ before.most) (taken.few distinct told.0);
+      },
+    ) in
     record {
       so_far = rw c.in_ok-push.ensures.ok
           (gathered-push h (TakesTurns h) s i c.loop-index.schedules c.schedule.result.now before.so_far turns);
