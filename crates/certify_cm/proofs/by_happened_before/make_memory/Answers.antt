@@ -37,5 +37,5 @@ returns-clause-explained c =
     let same = (rw c.in-Some.is at c.order.ensures.order) ∙ c.in_ok-memory.ensures in
     subst
     (λ (m : MemoryHistory). IsDifferentiated m → ¬ HasStartOverwrittenInHB m
-        → IfOk c.make_by_order.result (λ made. IfSome made (IsExplainedThroughout memory_answer m)))
+    → IfOk c.make_by_order.result (λ made. IfSome made (IsExplainedThroughout memory_answer m)))
     same c.make_by_order.ensures.explained
