@@ -1,5 +1,7 @@
 use crate::lane_pairs::lane_pairs;
+use crate::lane_seals::lane_seals;
 use crate::locked_pairs::locked_pairs;
+use crate::locked_seals::locked_seals;
 use crate::span::Span;
 use anyhow::Result;
 use std::alloc::Global;
@@ -15,6 +17,10 @@ pub(crate) enum Measure {
     LanePairs,
     /// The same by lists under one lock.
     LockedPairs,
+    /// Seals of a recorder while its sessions record.
+    LaneSeals,
+    /// Copies of lists under one lock meanwhile.
+    LockedSeals,
 }
 
 impl Measure {
@@ -22,6 +28,8 @@ impl Measure {
         match self {
             Measure::LanePairs => "a pair, recorder",
             Measure::LockedPairs => "a pair, one lock",
+            Measure::LaneSeals => "a seal, recorder",
+            Measure::LockedSeals => "a seal, one lock",
         }
     }
 }
@@ -55,6 +63,8 @@ impl Figure {
         let round = match self.measure {
             Measure::LanePairs => lane_pairs(rt, alloc, self.threads)?,
             Measure::LockedPairs => locked_pairs(rt, alloc, self.threads)?,
+            Measure::LaneSeals => lane_seals(rt, alloc, self.threads)?,
+            Measure::LockedSeals => locked_seals(rt, alloc, self.threads)?,
         };
         if let Some(span) = round {
             self.take_in(span);

@@ -8,8 +8,11 @@
 mod figure;
 mod gate;
 mod lane_pairs;
+mod lane_seals;
 mod locked_pairs;
+mod locked_seals;
 mod operation;
+mod pace;
 mod plain_lists;
 mod sizes;
 mod span;
@@ -43,7 +46,7 @@ fn rounds_of(rt: &(impl Env + Alloc)) -> Result<Option<u32>> {
     }
 }
 
-fn figures() -> [Figure; 6] {
+fn figures() -> [Figure; 8] {
     [
         Figure::new(Measure::LanePairs, 1),
         Figure::new(Measure::LockedPairs, 1),
@@ -51,6 +54,8 @@ fn figures() -> [Figure; 6] {
         Figure::new(Measure::LockedPairs, 2),
         Figure::new(Measure::LanePairs, 4),
         Figure::new(Measure::LockedPairs, 4),
+        Figure::new(Measure::LaneSeals, 4),
+        Figure::new(Measure::LockedSeals, 4),
     ]
 }
 

@@ -38,6 +38,18 @@ impl PlainLists {
         })
     }
 
+    /// A copy of what is recorded.
+    pub(crate) fn copy(&self, alloc: Global) -> Result<PlainLists, AllocError> {
+        let mut lists = Vec::with_capacity(alloc, self.sessions.len())?;
+        for session in &self.sessions {
+            lists.push(copy_of(alloc, session)?)?;
+        }
+        Ok(PlainLists {
+            sessions: lists,
+            places: self.places,
+        })
+    }
+
     /// Begins an operation.
     pub(crate) fn begin(&mut self, session: usize, call: MemoryCall) -> Result<usize, RecordError> {
         let Some(list) = self.sessions.get_mut(session) else {
@@ -76,5 +88,26 @@ impl PlainLists {
         }
         entry.reply = Some((ret, advice));
         Ok(at)
+    }
+}
+
+fn copy_of(alloc: Global, entries: &Vec<Entry>) -> Result<Vec<Entry>, AllocError> {
+    let mut copied = Vec::with_capacity(alloc, entries.len())?;
+    for entry in entries {
+        copied.push(Entry {
+            call: entry.call,
+            reply: reply_of(alloc, &entry.reply)?,
+        })?;
+    }
+    Ok(copied)
+}
+
+fn reply_of(
+    alloc: Global,
+    reply: &Option<(RegisterRet, Advice)>,
+) -> Result<Option<(RegisterRet, Advice)>, AllocError> {
+    match reply {
+        Some((ret, advice)) => Ok(Some((*ret, advice.copy(alloc)?))),
+        None => Ok(None),
     }
 }

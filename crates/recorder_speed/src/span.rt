@@ -37,3 +37,12 @@ pub(crate) fn whole(spans: Vec<Result<Span>>) -> Result<Option<Span>> {
     }
     Ok(whole)
 }
+
+/// The span of the one thread that was measured.
+pub(crate) fn only(spans: Vec<Result<Option<Span>>>) -> Result<Option<Span>> {
+    let mut measured = None;
+    for span in spans {
+        measured = span?.or(measured);
+    }
+    Ok(measured)
+}
