@@ -12,8 +12,5 @@ pub mod Standing
 pub mod Sealings
 pub mod TableLemmas
 pub mod Walked
-pub mod ConsistentCuts
-pub mod Filtered
-pub mod FoundPlaces
 pub mod RunPlaces
 pub mod SealedSessions
