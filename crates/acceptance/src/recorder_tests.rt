@@ -1,6 +1,7 @@
 //! What a recorder refuses, in which order, and what each refusal leaves.
 
-use history::{Advice, OpId, TakenIn};
+use crate::recordings::advice;
+use history::{Advice, OpId};
 use objects::{Register, RegisterCall, RegisterRet};
 use recorder::{Receipt, RecordError, Session, new_recorder};
 use std::alloc::Global;
@@ -11,14 +12,6 @@ const FIRST: OpId = OpId {
     session: 1,
     index: 0,
 };
-
-fn advice(alloc: Global, stamp: u64) -> Advice {
-    Advice {
-        counts: [0; 16],
-        stamp,
-        order: TakenIn::of(Vec::new(alloc)),
-    }
-}
 
 /// The number of the refusal, or 0.
 fn refusal_of_limits(alloc: Global, k: usize, cap: usize) -> u8 {

@@ -1,0 +1,28 @@
+//! Steps of sessions that are made again where memory was refused.
+
+use history::{Advice, TakenIn};
+use object_trait::SeqObject;
+use recorder::{RecordError, Session};
+use std::alloc::Global;
+
+/// Advice that tells nothing but a stamp.
+pub fn advice(alloc: Global, stamp: u64) -> Advice {
+    Advice {
+        counts: [0; 16],
+        stamp,
+        order: TakenIn::of(Vec::new(alloc)),
+    }
+}
+
+/// Begins a call, at the second time of asking where memory was refused at the first.
+pub fn begun<O: SeqObject>(session: &mut Session<O>, call: O::Call) -> bool {
+    match session.begin(call) {
+        Err(RecordError::Memory) => session.begin(call).is_ok(),
+        outcome => outcome.is_ok(),
+    }
+}
+
+/// Ends the pending call, with advice that nothing was taken in.
+pub fn ended<O: SeqObject>(alloc: Global, session: &mut Session<O>, ret: O::Ret) -> bool {
+    session.finish(ret, advice(alloc, 0)).is_ok()
+}
