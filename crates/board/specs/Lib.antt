@@ -1,0 +1,3 @@
+pub mod BoardErrors
+pub mod Boards
+pub mod Events
