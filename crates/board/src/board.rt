@@ -1,5 +1,6 @@
 ghost use Rattle.std.specs.Prelude.{◌≡◌, ◌<◌, ◌≤◌, ◌∷◌, ◌++◌, ℕ, [], length, IfOk, IfErr, IfSome, IsNone, OnOk, OnErr, MatchOption, None, Some, slice_get};
 ghost use Rattle.board.specs.Boards.{CaseState, fresh_case, handed_out, with_verdict, refuted};
+ghost use Rattle.board.specs.Steps.InSessions.{HasRowAt};
 ghost use Rattle.board.specs.Events.{IsChanged, IsDueOf, IsIdleAt, IsStanding, put_refusal, refute_refusal, ask_refusal};
 
 use crate::board_error::BoardError;
@@ -10,6 +11,7 @@ use crate::piece::Piece;
 use crate::standing::Standing;
 use bad_patterns::Pattern;
 use cert_check::Outcome;
+use history::OpId;
 use std::alloc::{AllocError, Global};
 use std::marker::Model;
 
@@ -72,29 +74,38 @@ impl<M: Mark> Board<M> {
         Ok(number)
     }
 
-    /// Hands out the next piece: the first row that was not handed out and has no verdict, of the first case that no pattern
-    /// refutes and that has such a row.
+    /// Hands out the next piece: the first operation, by session and then by index, that was not handed out and has no
+    /// verdict, of the first case that no pattern refutes and that has such a row.
     ///
-    /// O(c + n) for c cases and n rows that got a verdict without being handed out.
-    #[tactic(auto, using(crate::proofs::Due::due_row_inside))]
+    /// O(c k + n) for c cases of k sessions and n rows that got a verdict without being handed out.
+    #[tactic(auto, using(crate::proofs::Due::due_is_row))]
     pub fn take(&mut self) -> Option<Piece>
         ensures none { IsNone result → self.new ≡ self.old }
         ensures idle { IsNone result → (number : ℕ) → IsIdleAt self.old number }
         ensures due { IfSome result (λ p. IsDueOf self.old p) }
-        ensures taken { IfSome result (λ p. IsChanged p.number (λ s. handed_out s p.row) self.old self.new) }
+        ensures taken { IfSome result (λ p. IsChanged p.number (λ s. handed_out s p.op) self.old self.new) }
     {
         let due = self.due()?;
-        self.hand_out(due.number, due.row);
+        self.hand_out(due.number, due.op);
         Some(due)
     }
 
-    /// Hands out a row of a case.
-    fn hand_out(&mut self, number: usize, row: usize)
+    /// Hands out an operation of a case.
+    fn hand_out(&mut self, number: usize, op: OpId)
         requires filed { number < length self.old }
-        requires inside { (s : CaseState M) → slice_get self.old number ≡ Some s → row < length s.rows }
-        ensures { IsChanged number (λ s. handed_out s row) self.old self.new }
+        requires inside { HasRowAt self.old number op }
+        ensures { IsChanged number (λ s. handed_out s op) self.old self.new }
     {
-        self.cases[number].hand_out(row);
+        self.cases[number].hand_out(op);
+    }
+
+    /// Puts a verdict on an operation into a row of a case.
+    fn fill(&mut self, number: usize, op: OpId, outcome: Outcome)
+        requires filed { number < length self.old }
+        requires inside { HasRowAt self.old number op }
+        ensures { IsChanged number (λ s. with_verdict s op outcome) self.old self.new }
+    {
+        self.cases[number].fill(op, outcome);
     }
 
     /// The piece that is due.
@@ -102,43 +113,44 @@ impl<M: Mark> Board<M> {
         ensures { MatchOption result ((number : ℕ) → IsIdleAt self.now number) (IsDueOf self.now) }
     {
         for number in 0..self.cases.len() {
-            if let Some(row) = self.cases[number].due() {
-                return Some(Piece { number, row });
+            if let Some(op) = self.cases[number].due() {
+                return Some(Piece { number, op });
             }
         }
         None
     }
 
-    /// Puts a verdict into the row of a case, where the mark is that of the file that the verdict is of.
+    /// Puts a verdict on an operation into a row of a case. The mark is that of the file that the verdict is of.
     ///
     /// Refused in this order: `NoSuch` where there is no such case, `Stranger` where its mark is of another place, `NoSuch`
     /// where it has no such row, `Doubled` where the row has a verdict. The board is then as before. O(1).
+    #[tactic(auto, using(crate::proofs::Due::put_is_filed, crate::proofs::Due::put_is_row))]
     pub fn put(
         &mut self,
         number: usize,
         mark: &M,
-        row: usize,
+        op: OpId,
         outcome: Outcome,
     ) -> Result<(), BoardError>
-        ensures accepted { IfOk result (λ _. put_refusal M.place (slice_get self.old number) mark.now row ≡ None) }
-        ensures filled { OnOk result (IsChanged number (λ s. with_verdict s row outcome) self.old self.new) }
-        ensures refused { IfErr result (λ e. put_refusal M.place (slice_get self.old number) mark.now row ≡ Some e) }
+        ensures accepted { IfOk result (λ _. put_refusal M.place (slice_get self.old number) mark.now op ≡ None) }
+        ensures filled { OnOk result (IsChanged number (λ s. with_verdict s op outcome) self.old self.new) }
+        ensures refused { IfErr result (λ e. put_refusal M.place (slice_get self.old number) mark.now op ≡ Some e) }
         ensures unchanged { OnErr result (self.new ≡ self.old) }
     {
-        if let Some(refusal) = self.put_refusal(number, mark, row) {
+        if let Some(refusal) = self.put_refusal(number, mark, op) {
             return Err(refusal);
         }
-        self.cases[number].fill(row, outcome);
+        self.fill(number, op, outcome);
         Ok(())
     }
 
     /// Why a verdict is refused.
-    fn put_refusal(&self, number: usize, mark: &M, row: usize) -> Option<BoardError>
-        ensures { result ≡ put_refusal M.place (slice_get self.now number) mark.now row }
+    fn put_refusal(&self, number: usize, mark: &M, op: OpId) -> Option<BoardError>
+        ensures { result ≡ put_refusal M.place (slice_get self.now number) mark.now op }
     {
         match self.cases.get(number) {
             None => Some(BoardError::NoSuch),
-            Some(filed) => filed.put_refusal(mark, row),
+            Some(filed) => filed.put_refusal(mark, op),
         }
     }
 

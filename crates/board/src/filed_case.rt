@@ -1,14 +1,16 @@
 ghost use Rattle.std.specs.Prelude.{◌≡◌, ◌<◌, ◌↔◌, ℕ, length, option_copied, IsTrue, MatchOption, Some};
-ghost use Rattle.board.specs.Boards.{fresh_case, open_rows, with_verdict, handed_out, refuted};
-ghost use Rattle.board.specs.Events.{IsDue, IsIdle, AllExplained, IsFirstUnexplained, IsStanding};
+ghost use Rattle.board.specs.Boards.{fresh_case, row_of, open_rows, with_verdict, handed_out, refuted};
+ghost use Rattle.board.specs.Events.{IsDue, IsIdle, IsRow, AllExplained, IsFirstUnexplained, IsStanding};
 ghost use Rattle.board.specs.Events.{put_refusal_of, refute_refusal_of, ask_refusal_of};
 
 use crate::board_error::BoardError;
 use crate::case_rows::CaseRows;
+use crate::case_session::CaseSession;
 use crate::mark::Mark;
 use crate::standing::Standing;
 use bad_patterns::Pattern;
 use cert_check::Outcome;
+use history::OpId;
 use std::marker::Model;
 
 /// A case of a board.
@@ -16,78 +18,91 @@ use std::marker::Model;
 pub struct FiledCase<M: Mark> {
     mark: M,
     has_certificate: bool,
-    rows: Vec<Option<Outcome>>,
-    next: usize,
+    sessions: Vec<CaseSession>,
     pattern: Option<Pattern>,
 }
 
 impl<M: Mark> Model for FiledCase<M> {
+    ghost use Rattle.std.specs.Prelude.{◌≤◌, length};
     ghost use Rattle.board.specs.Boards.{CaseState};
 
     ghost Value = { CaseState M };
 
-    ghost view = { λ c. record { mark = c.mark; has_certificate = c.has_certificate; rows = c.rows.items; next = c.next; pattern = c.pattern } };
+    ghost view = { λ c. record { mark = c.mark; has_certificate = c.has_certificate; sessions = c.sessions.items; pattern = c.pattern } };
+
+    ghost invariant = { λ c. length c.sessions.items ≤ 16 };
 }
 
 impl<M: Mark> FiledCase<M> {
-    /// A case with these rows, of which none was handed out, and with no pattern.
+    /// A case with these rows, and with no pattern.
     pub(crate) fn new(mark: M, rows: CaseRows) -> FiledCase<M>
         ensures { result ≡ fresh_case mark rows }
     {
-        let (has_certificate, rows) = rows.into_parts();
+        let (has_certificate, sessions) = rows.into_parts();
         FiledCase {
             mark,
             has_certificate,
-            rows,
-            next: 0,
+            sessions,
             pattern: None,
         }
     }
 
-    /// The row that is due: the first from the next on without a verdict, where no pattern was accepted.
-    pub(crate) fn due(&self) -> Option<usize>
+    /// The operation that is due: the first free one, where no pattern was accepted.
+    pub(crate) fn due(&self) -> Option<OpId>
         ensures { MatchOption result (IsIdle self.now) (IsDue self.now) }
     {
         if self.pattern.is_some() {
             return None;
         }
-        for row in self.next..self.rows.len() {
-            if self.rows[row].is_none() {
-                return Some(row);
+        for session in 0..self.sessions.len() {
+            if let Some(index) = self.sessions[session].due() {
+                return Some(OpId::at(session, index));
             }
         }
         None
     }
 
-    /// Hands a row out.
-    pub(crate) fn hand_out(&mut self, row: usize)
-        requires { row < length self.old.rows }
-        ensures { self.new ≡ handed_out self.old row }
+    /// Hands an operation out.
+    #[tactic(auto, using(crate::proofs::Due::is_inside))]
+    pub(crate) fn hand_out(&mut self, op: OpId)
+        requires { IsRow self.old op }
+        ensures { self.new ≡ handed_out self.old op }
     {
-        let _rows = self.rows.len();
-        self.next = row + 1;
+        self.sessions[op.session as usize].hand_out(op.index as usize);
+    }
+
+    /// The row of an operation.
+    fn row(&self, op: OpId) -> Option<Option<Outcome>>
+        ensures { result ≡ row_of self.now op }
+    {
+        if op.session < self.sessions.len() as u64 {
+            self.sessions[op.session as usize].get(op.index as usize)
+        } else {
+            None
+        }
     }
 
     /// Why a verdict on a row is refused.
-    pub(crate) fn put_refusal(&self, mark: &M, row: usize) -> Option<BoardError>
-        ensures { result ≡ put_refusal_of M.place self.now mark.now row }
+    pub(crate) fn put_refusal(&self, mark: &M, op: OpId) -> Option<BoardError>
+        ensures { result ≡ put_refusal_of M.place self.now mark.now op }
     {
         if self.mark.place() != mark.place() {
             return Some(BoardError::Stranger);
         }
-        match self.rows.get(row) {
+        match self.row(op) {
             None => Some(BoardError::NoSuch),
             Some(None) => None,
             Some(Some(_)) => Some(BoardError::Doubled),
         }
     }
 
-    /// Puts a verdict into a row.
-    pub(crate) fn fill(&mut self, row: usize, outcome: Outcome)
-        requires { row < length self.old.rows }
-        ensures { self.new ≡ with_verdict self.old row outcome }
+    /// Puts a verdict on an operation into its row.
+    #[tactic(auto, using(crate::proofs::Due::is_inside))]
+    pub(crate) fn fill(&mut self, op: OpId, outcome: Outcome)
+        requires { IsRow self.old op }
+        ensures { self.new ≡ with_verdict self.old op outcome }
     {
-        self.rows[row] = Some(outcome);
+        self.sessions[op.session as usize].fill(op.index as usize, outcome);
     }
 
     /// Why a pattern is refused.
@@ -147,36 +162,30 @@ impl<M: Mark> FiledCase<M> {
         }
         match self.first_unexplained() {
             None => Standing::Yes,
-            Some(row) => Standing::Unknown(Some(row)),
+            Some(op) => Standing::Unknown(Some(op)),
         }
     }
 
     /// How many rows have no verdict.
-    fn open_rows(&self) -> usize
+    fn open_rows(&self) -> u32
         ensures { result ≡ open_rows self.now }
     {
-        self.rows.iter().filter(|row| row.is_none()).count()
+        let mut open = 0;
+        for session in 0..self.sessions.len() {
+            open += self.sessions[session].open() as u32;
+        }
+        open
     }
 
-    /// The first row that has no verdict which explains its operation.
-    fn first_unexplained(&self) -> Option<usize>
+    /// The first operation whose row has no verdict which explains it.
+    fn first_unexplained(&self) -> Option<OpId>
         ensures { MatchOption result (AllExplained self.now) (IsFirstUnexplained self.now) }
     {
-        for row in 0..self.rows.len() {
-            if !is_explained(self.rows[row]) {
-                return Some(row);
+        for session in 0..self.sessions.len() {
+            if let Some(index) = self.sessions[session].first_unexplained() {
+                return Some(OpId::at(session, index));
             }
         }
         None
-    }
-}
-
-/// Whether a row has a verdict that explains its operation.
-fn is_explained(row: Option<Outcome>) -> bool
-    ensures { IsTrue result ↔ (row ≡ Some Outcome.Explained) }
-{
-    match row {
-        Some(Outcome::Explained) => true,
-        Some(Outcome::Unexplained) | None => false,
     }
 }

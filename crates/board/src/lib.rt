@@ -5,6 +5,7 @@
 mod board;
 mod board_error;
 mod case_rows;
+mod case_session;
 mod filed_case;
 mod mark;
 mod piece;

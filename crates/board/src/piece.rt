@@ -1,8 +1,10 @@
-/// One piece of a case: the number of the case, and the row of the operation.
+use history::OpId;
+
+/// One piece of a case: the number of the case, and the operation.
 #[derive(Clone, Copy, Debug, PartialEq, Eq)]
 pub struct Piece {
     /// The number of the case, in the order of filing from 0.
     pub number: usize,
-    /// The row, which is the place of the operation in the order by session and then by index.
-    pub row: usize,
+    /// The operation.
+    pub op: OpId,
 }

@@ -1,4 +1,5 @@
 use bad_patterns::Kind;
+use history::OpId;
 
 /// What a board answers of a case.
 #[derive(Clone, Copy, Debug, PartialEq, Eq)]
@@ -7,9 +8,9 @@ pub enum Standing {
     Yes,
     /// A pattern of this kind was accepted.
     No(Kind),
-    /// Every row has a verdict, and this is the first that does not explain its operation; or none, where the case has no
-    /// certificate.
-    Unknown(Option<usize>),
+    /// Every row has a verdict, and this is the first operation that its verdict does not explain; or none, where the case
+    /// has no certificate.
+    Unknown(Option<OpId>),
     /// So many rows have no verdict.
-    Open(usize),
+    Open(u32),
 }
