@@ -36,7 +36,7 @@ module _ {M : Type 0} where
   pub is_inside : (s : CaseState M) (o : OpId) → IsRow s o → o.session < length s.sessions
   is_inside s o inside = session_inside s.sessions o.session o.index inside
 
-  waiting_row : (s : CaseState M) (o : OpId) → row_of s o ≡ Some None → IsRow s o
+  pub waiting_row : (s : CaseState M) (o : OpId) → row_of s o ≡ Some None → IsRow s o
   waiting_row s o at = slice_get_within (session_of s o.session).rows o.index None at
 
   -- the piece that is handed out

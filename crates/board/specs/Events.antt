@@ -1,6 +1,6 @@
 -- What the events of a board answer and change.
 use Rattle.std.specs.Prelude.{◌≡◌, ℕ, ◌==◌, ◌<◌, ◌≤◌, Bool, true, false, if◌then◌else◌, List, length, Option, Some, None, option_map, slice_get, slice_set}
-use Rattle.cert_check.specs.declared.checking.Outcome.TheVariants.{Explained}
+use Rattle.cert_check.specs.declared.checking.Outcome.TheVariants.{Explained, Unexplained}
 use Rattle.bad_patterns.specs.Patterns.{kind_of}
 use Rattle.history.specs.declared.op_id.OpId.{OpId}
 use Rattle.causal_order.specs.Orders.{IsEarlier}
@@ -84,10 +84,9 @@ module _ {M : Type 0} where
   abbrev pub AllExplained : CaseState M → Type 0
   AllExplained s = (o : OpId) → IsRow s o → IsExplained s o
 
-  -- the first operation whose row has no verdict which explains it
+  -- the first operation that its verdict does not explain
   pub record IsFirstUnexplained (s : CaseState M) (o : OpId) : Type 0 where
-    pub inside : IsRow s o
-    pub unexplained : ¬ IsExplained s o
+    pub unexplained : row_of s o ≡ Some (Some Unexplained)
     pub earlier : (a : OpId) → IsRow s a → IsEarlier a o → IsExplained s a
 
   -- nothing refutes the case, and it has a certificate

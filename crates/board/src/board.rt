@@ -1,4 +1,4 @@
-ghost use Rattle.std.specs.Prelude.{◌≡◌, ◌<◌, ◌≤◌, ◌∷◌, ◌++◌, ℕ, [], length, IfOk, IfErr, IfSome, IsNone, OnOk, OnErr, MatchOption, None, Some, slice_get};
+ghost use Rattle.std.specs.Prelude.{◌≡◌, ◌<◌, ◌≤◌, ◌∷◌, ◌++◌, ℕ, [], length, IfOk, IfErr, IfSome, IsNone, OnOk, OnErr, MatchOption, None, Some, option_copied, slice_get};
 ghost use Rattle.board.specs.Boards.{CaseState, fresh_case, handed_out, with_verdict, refuted};
 ghost use Rattle.board.specs.Steps.InSessions.{HasRowAt};
 ghost use Rattle.board.specs.Events.{IsChanged, IsDueOf, IsIdleAt, IsStanding, put_refusal, refute_refusal, ask_refusal};
@@ -203,6 +203,23 @@ impl<M: Mark> Board<M> {
         match filed.ask_refusal(mark) {
             Some(refusal) => Err(refusal),
             None => Ok(filed.standing()),
+        }
+    }
+
+    /// The pattern that was accepted against a case, where there is one.
+    ///
+    /// Refused in this order: `NoSuch` where there is no such case, `Stranger` where its mark is of another place. O(1).
+    pub fn pattern(&self, number: usize, mark: &M) -> Result<Option<&Pattern>, BoardError>
+        ensures accepted { IfOk result (λ _. ask_refusal M.place (slice_get self.now number) mark.now ≡ None) }
+        ensures pattern { IfOk result (λ p. (s : CaseState M) → slice_get self.now number ≡ Some s → option_copied p ≡ s.pattern) }
+        ensures refused { IfErr result (λ e. ask_refusal M.place (slice_get self.now number) mark.now ≡ Some e) }
+    {
+        let Some(filed) = self.cases.get(number) else {
+            return Err(BoardError::NoSuch);
+        };
+        match filed.ask_refusal(mark) {
+            Some(refusal) => Err(refusal),
+            None => Ok(filed.pattern()),
         }
     }
 }

@@ -1,5 +1,6 @@
-ghost use Rattle.std.specs.Prelude.{◌≡◌, ◌<◌, ◌↔◌, ℕ, length, option_copied, IsTrue, MatchOption, Some};
+ghost use Rattle.std.specs.Prelude.{◌≡◌, ◌==◌, ◌<◌, ◌↔◌, ℕ, length, option_copied, IsTrue, MatchOption, Some};
 ghost use Rattle.board.specs.Boards.{fresh_case, row_of, open_rows, with_verdict, handed_out, refuted};
+ghost use Rattle.board.specs.Steps.InSessions.{IsFirstLeft};
 ghost use Rattle.board.specs.Events.{IsDue, IsIdle, IsRow, AllExplained, IsFirstUnexplained, IsStanding};
 ghost use Rattle.board.specs.Events.{put_refusal_of, refute_refusal_of, ask_refusal_of};
 
@@ -47,6 +48,13 @@ impl<M: Mark> FiledCase<M> {
         }
     }
 
+    /// Whether a mark is of the place of the case's own.
+    fn is_of(&self, mark: &M) -> bool
+        ensures { result ≡ (M.place self.now.mark == M.place mark.now) }
+    {
+        self.mark.place() == mark.place()
+    }
+
     /// The operation that is due: the first free one, where no pattern was accepted.
     pub(crate) fn due(&self) -> Option<OpId>
         ensures { MatchOption result (IsIdle self.now) (IsDue self.now) }
@@ -86,7 +94,7 @@ impl<M: Mark> FiledCase<M> {
     pub(crate) fn put_refusal(&self, mark: &M, op: OpId) -> Option<BoardError>
         ensures { result ≡ put_refusal_of M.place self.now mark.now op }
     {
-        if self.mark.place() != mark.place() {
+        if !self.is_of(mark) {
             return Some(BoardError::Stranger);
         }
         match self.row(op) {
@@ -109,7 +117,7 @@ impl<M: Mark> FiledCase<M> {
     pub(crate) fn refute_refusal(&self, mark: &M, passes: bool) -> Option<BoardError>
         ensures { result ≡ refute_refusal_of M.place self.now mark.now passes }
     {
-        if self.mark.place() != mark.place() {
+        if !self.is_of(mark) {
             return Some(BoardError::Stranger);
         }
         if passes {
@@ -132,10 +140,10 @@ impl<M: Mark> FiledCase<M> {
     pub(crate) fn ask_refusal(&self, mark: &M) -> Option<BoardError>
         ensures { result ≡ ask_refusal_of M.place self.now mark.now }
     {
-        if self.mark.place() != mark.place() {
-            Some(BoardError::Stranger)
-        } else {
+        if self.is_of(mark) {
             None
+        } else {
+            Some(BoardError::Stranger)
         }
     }
 
@@ -147,6 +155,7 @@ impl<M: Mark> FiledCase<M> {
     }
 
     /// How the case stands.
+    #[tactic(auto, using(crate::proofs::Verdicts::first_verdict))]
     pub(crate) fn standing(&self) -> Standing
         ensures { IsStanding self.now result }
     {
@@ -179,7 +188,7 @@ impl<M: Mark> FiledCase<M> {
 
     /// The first operation whose row has no verdict which explains it.
     fn first_unexplained(&self) -> Option<OpId>
-        ensures { MatchOption result (AllExplained self.now) (IsFirstUnexplained self.now) }
+        ensures { MatchOption result (AllExplained self.now) (IsFirstLeft self.now) }
     {
         for session in 0..self.sessions.len() {
             if let Some(index) = self.sessions[session].first_unexplained() {
