@@ -1,5 +1,5 @@
 ghost use Rattle.std.specs.Prelude.{◌≡◌, ◌<◌, ◌≤◌, ◌∷◌, ◌++◌, ℕ, [], length, IfOk, IfErr, IfSome, IsNone, OnOk, OnErr, MatchOption, None, Some, option_copied, slice_get};
-ghost use Rattle.board.specs.Boards.{CaseState, fresh_case, handed_out, with_verdict, refuted};
+ghost use Rattle.board.specs.Boards.{CaseState, fresh_case, row_of, handed_out, with_verdict, refuted};
 ghost use Rattle.board.specs.Steps.InSessions.{HasRowAt};
 ghost use Rattle.board.specs.Events.{IsChanged, IsDueOf, IsIdleAt, IsStanding, put_refusal, refute_refusal, ask_refusal};
 
@@ -220,6 +220,28 @@ impl<M: Mark> Board<M> {
         match filed.ask_refusal(mark) {
             Some(refusal) => Err(refusal),
             None => Ok(filed.pattern()),
+        }
+    }
+
+    /// The row of an operation of a case, where there is one: the outcome of its piece, or none as long as no verdict came.
+    ///
+    /// Refused in this order: `NoSuch` where there is no such case, `Stranger` where its mark is of another place. O(1).
+    pub fn row(
+        &self,
+        number: usize,
+        mark: &M,
+        op: OpId,
+    ) -> Result<Option<Option<Outcome>>, BoardError>
+        ensures accepted { IfOk result (λ _. ask_refusal M.place (slice_get self.now number) mark.now ≡ None) }
+        ensures row { IfOk result (λ r. (s : CaseState M) → slice_get self.now number ≡ Some s → r ≡ row_of s op) }
+        ensures refused { IfErr result (λ e. ask_refusal M.place (slice_get self.now number) mark.now ≡ Some e) }
+    {
+        let Some(filed) = self.cases.get(number) else {
+            return Err(BoardError::NoSuch);
+        };
+        match filed.ask_refusal(mark) {
+            Some(refusal) => Err(refusal),
+            None => Ok(filed.row(op)),
         }
     }
 }

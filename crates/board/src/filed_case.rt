@@ -80,7 +80,7 @@ impl<M: Mark> FiledCase<M> {
     }
 
     /// The row of an operation.
-    fn row(&self, op: OpId) -> Option<Option<Outcome>>
+    pub(crate) fn row(&self, op: OpId) -> Option<Option<Outcome>>
         ensures { result ≡ row_of self.now op }
     {
         if op.session < self.sessions.len() as u64 {
