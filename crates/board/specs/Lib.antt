@@ -1,0 +1,4 @@
+pub mod BoardErrors
+pub mod Boards
+pub mod Events
+pub mod Steps

@@ -1,0 +1,19 @@
+//! The board of a desk: for each case what is known of its pieces, and the five events that change or read it. It keeps
+//! marks of case files and rows of outcomes, no file, and waits for nobody.
+#![tactic(auto)]
+
+mod board;
+mod board_error;
+mod case_rows;
+mod case_session;
+mod filed_case;
+mod mark;
+mod piece;
+mod standing;
+
+pub use board::{Board, MOST_CASES};
+pub use board_error::BoardError;
+pub use case_rows::CaseRows;
+pub use mark::Mark;
+pub use piece::Piece;
+pub use standing::Standing;

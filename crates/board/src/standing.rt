@@ -1,0 +1,16 @@
+use bad_patterns::Kind;
+use history::OpId;
+
+/// What a board answers of a case.
+#[derive(Clone, Copy, Debug, PartialEq, Eq)]
+pub enum Standing {
+    /// Every row has a verdict, and each explains its operation.
+    Yes,
+    /// A pattern of this kind was accepted.
+    No(Kind),
+    /// Every row has a verdict, and this is the first operation that its verdict does not explain; or none, where the case
+    /// has no certificate.
+    Unknown(Option<OpId>),
+    /// So many rows have no verdict.
+    Open(u32),
+}
