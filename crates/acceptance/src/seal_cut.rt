@@ -1,10 +1,11 @@
 //! Seals that are taken while sessions record on other threads.
 
 use crate::recordings::{begun, ended};
-use bad_patterns::{Kind, find};
+use bad_patterns::Kind;
 use cert_check::Criterion;
 use object_trait::SeqObject;
 use objects::{KeyedCall, Memory, RegisterCall, RegisterRet};
+use pattern_search::find;
 use recorder::{Lanes, RecordError, Session, new_recorder};
 use snapshot::seal;
 use std::alloc::Global;
