@@ -1,6 +1,5 @@
 //! What the cases over histories of a memory share.
 
-use cert_check::Criterion;
 use objects::Memory;
 use operations::{AnyHistory, History, read_history};
 use std::alloc::Global;
@@ -9,16 +8,6 @@ use std::alloc::Global;
 pub fn memory(alloc: Global, text: &str) -> Option<History<Memory>> {
     match read_history(alloc, text.as_bytes()) {
         Ok(AnyHistory::Memory(history)) => Some(history),
-        _ => None,
-    }
-}
-
-/// The criterion of a name.
-pub fn criterion_named(name: &str) -> Option<Criterion> {
-    match name {
-        "cc" => Some(Criterion::Cc),
-        "cm" => Some(Criterion::Cm),
-        "ccv" => Some(Criterion::Ccv),
         _ => None,
     }
 }

@@ -1,7 +1,7 @@
 //! What certificates are made of small histories.
 
 use crate::cases::{Question, failures};
-use crate::histories::{criterion_named, memory};
+use crate::histories::memory;
 use causal_order::ByOperation;
 use cert_check::{CaseFile, Certificate, Criterion, first_unexplained};
 use objects::Memory;
@@ -116,7 +116,7 @@ pub fn explained(alloc: Global, input: &str) -> Result<String, AllocError> {
 
 fn criterion_and_history(alloc: Global, input: &str) -> Option<(Criterion, History<Memory>)> {
     let (criterion, history) = input.split_once(' ')?;
-    Some((criterion_named(criterion)?, memory(alloc, history)?))
+    Some((Criterion::named(criterion)?, memory(alloc, history)?))
 }
 
 fn asked(alloc: Global, input: &str) -> Option<(Criterion, OpId, History<Memory>)> {
@@ -127,7 +127,7 @@ fn asked(alloc: Global, input: &str) -> Option<(Criterion, OpId, History<Memory>
         session: session.parse().ok()?,
         index: index.parse().ok()?,
     };
-    Some((criterion_named(criterion)?, op, memory(alloc, history)?))
+    Some((Criterion::named(criterion)?, op, memory(alloc, history)?))
 }
 
 fn made_for(

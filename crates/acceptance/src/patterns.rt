@@ -1,7 +1,7 @@
 //! What `check_pattern` says of patterns as JSON.
 
 use crate::cases::{Question, failures};
-use crate::histories::{criterion_named, memory};
+use crate::histories::memory;
 use bad_patterns::{check_pattern, is_differentiated, read_pattern};
 use cert_check::Criterion;
 use objects::Memory;
@@ -70,7 +70,7 @@ fn asked(alloc: Global, input: &str) -> Option<(Criterion, History<Memory>, &str
     let (criterion, rest) = input.split_once(' ')?;
     let (history, pattern) = rest.split_once(' ')?;
     Some((
-        criterion_named(criterion)?,
+        Criterion::named(criterion)?,
         memory(alloc, history)?,
         pattern,
     ))

@@ -1,4 +1,5 @@
 pub mod Kinds
+pub mod KindNames
 pub mod Paths
 pub mod Derivations
 pub mod Patterns

@@ -1,4 +1,6 @@
 ghost use Rattle.std.specs.Prelude.{◌≡◌};
+ghost use Rattle.operations.specs.Reads.{IsRead};
+ghost use Rattle.bad_patterns.specs.KindNames.{kind_name};
 ghost use Rattle.bad_patterns.specs.Kinds.{is_against};
 
 use cert_check::Criterion;
@@ -34,6 +36,44 @@ impl Kind {
             Kind::CyclicCO | Kind::ThinAirRead | Kind::WriteCOInitRead | Kind::WriteCORead => true,
             Kind::WriteHBInitRead | Kind::CyclicHB => criterion == Criterion::Cm,
             Kind::CyclicCF => criterion == Criterion::Ccv,
+        }
+    }
+
+    /// The name, as patterns and reports have it.
+    pub fn name(self) -> &'static str
+        ensures { result.now ≡ kind_name self }
+    {
+        match self {
+            Kind::CyclicCO => "CyclicCO",
+            Kind::ThinAirRead => "ThinAirRead",
+            Kind::WriteCOInitRead => "WriteCOInitRead",
+            Kind::WriteCORead => "WriteCORead",
+            Kind::WriteHBInitRead => "WriteHBInitRead",
+            Kind::CyclicHB => "CyclicHB",
+            Kind::CyclicCF => "CyclicCF",
+        }
+    }
+
+    /// The kind of this name, or none where the word is the name of none.
+    pub fn named(word: &str) -> Option<Kind>
+        ensures { IsRead kind_name word.now result }
+    {
+        if word == "CyclicCO" {
+            Some(Kind::CyclicCO)
+        } else if word == "ThinAirRead" {
+            Some(Kind::ThinAirRead)
+        } else if word == "WriteCOInitRead" {
+            Some(Kind::WriteCOInitRead)
+        } else if word == "WriteCORead" {
+            Some(Kind::WriteCORead)
+        } else if word == "WriteHBInitRead" {
+            Some(Kind::WriteHBInitRead)
+        } else if word == "CyclicHB" {
+            Some(Kind::CyclicHB)
+        } else if word == "CyclicCF" {
+            Some(Kind::CyclicCF)
+        } else {
+            None
         }
     }
 }

@@ -1,16 +1,19 @@
 //! Reading a pattern from a JSON value.
 
-ghost use Rattle.std.specs.Prelude.{◌≡◌, ◌≢◌, ℕ, List, ◌∷◌, [], codes, map, IfOk, MatchOption};
-ghost use Rattle.serde_json.specs.Data.{Data};
+ghost use Rattle.std.specs.Prelude.{◌≡◌, ◌≢◌, ◌∷◌, [], map, IfOk};
 ghost use Rattle.serde_json.specs.View.{view};
-ghost use Rattle.bad_patterns.specs.PatternForm.{form_of, link_form, links_form, op_form, path_form, worded, IsRead};
+ghost use Rattle.operations.specs.Reads.{worded, IsRead};
+ghost use Rattle.bad_patterns.specs.declared.kind.Kind.TheVariants.{WriteCORead};
+ghost use Rattle.bad_patterns.specs.KindNames.{kind_name};
+ghost use Rattle.bad_patterns.specs.PatternForm.{form_of, link_form, links_form, op_form, path_form};
 
+use crate::kind::Kind;
 use crate::link::{Link, Links};
 use crate::path::Path;
 use crate::pattern::Pattern;
 use crate::reading_lines::read_lines;
 use history::OpId;
-use operations::elements_of;
+use operations::{elements_of, word_and_rest};
 use serde_json::Value;
 use std::alloc::{AllocError, Global};
 
@@ -26,43 +29,42 @@ use std::alloc::{AllocError, Global};
 pub fn read_pattern(alloc: Global, value: &Value) -> Result<Option<Pattern>, AllocError>
     ensures { IfOk result (IsRead form_of (view value.now)) }
 {
-    match word_and_rest(value) {
-        Some((word, rest)) => read_worded(alloc, word, rest),
+    let Some((word, rest)) = word_and_rest(value) else {
+        return Ok(None);
+    };
+    match Kind::named(word) {
+        Some(kind) => read_kind(alloc, kind, rest),
         None => Ok(None),
     }
 }
 
-/// The pattern of a kind that has this name, and of what shows it.
-fn read_worded(alloc: Global, name: &str, rest: &[Value]) -> Result<Option<Pattern>, AllocError>
-    ensures { IfOk result (IsRead form_of (worded name.now (map view rest.now))) }
+/// The pattern of a kind, of what shows it.
+fn read_kind(alloc: Global, kind: Kind, rest: &[Value]) -> Result<Option<Pattern>, AllocError>
+    ensures { IfOk result (IsRead form_of (worded (kind_name kind) (map view rest.now))) }
 {
     match rest {
-        [part] => read_part(alloc, name, part),
+        [part] => read_part(alloc, kind, part),
         [first, second] => {
-            if name == "WriteCORead" {
+            if kind == Kind::WriteCORead {
                 read_two_paths(alloc, first, second)
             } else {
-                read_derived(alloc, name, first, second)
+                read_derived(alloc, kind, first, second)
             }
         }
         _ => Ok(None),
     }
 }
 
-/// The pattern of a kind that has this name, and of the one thing that shows it.
-fn read_part(alloc: Global, name: &str, part: &Value) -> Result<Option<Pattern>, AllocError>
-    ensures { IfOk result (IsRead form_of (worded name.now (view part.now ∷ []))) }
+/// The pattern of a kind, of the one thing that shows it.
+fn read_part(alloc: Global, kind: Kind, part: &Value) -> Result<Option<Pattern>, AllocError>
+    ensures { IfOk result (IsRead form_of (worded (kind_name kind) (view part.now ∷ []))) }
 {
-    if name == "CyclicCO" {
-        Ok(read_path(alloc, part)?.map(Pattern::CyclicCO))
-    } else if name == "ThinAirRead" {
-        Ok(read_op(part).map(Pattern::ThinAirRead))
-    } else if name == "WriteCOInitRead" {
-        Ok(read_path(alloc, part)?.map(Pattern::WriteCOInitRead))
-    } else if name == "CyclicCF" {
-        Ok(read_links(alloc, part)?.map(Pattern::CyclicCF))
-    } else {
-        Ok(None)
+    match kind {
+        Kind::CyclicCO => Ok(read_path(alloc, part)?.map(Pattern::CyclicCO)),
+        Kind::ThinAirRead => Ok(read_op(part).map(Pattern::ThinAirRead)),
+        Kind::WriteCOInitRead => Ok(read_path(alloc, part)?.map(Pattern::WriteCOInitRead)),
+        Kind::CyclicCF => Ok(read_links(alloc, part)?.map(Pattern::CyclicCF)),
+        Kind::WriteCORead | Kind::WriteHBInitRead | Kind::CyclicHB => Ok(None),
     }
 }
 
@@ -72,7 +74,7 @@ fn read_two_paths(
     first: &Value,
     second: &Value,
 ) -> Result<Option<Pattern>, AllocError>
-    ensures { IfOk result (IsRead form_of (worded (codes "WriteCORead") (view first.now ∷ view second.now ∷ []))) }
+    ensures { IfOk result (IsRead form_of (worded (kind_name WriteCORead) (view first.now ∷ view second.now ∷ []))) }
 {
     let Some(above) = read_path(alloc, first)? else {
         return Ok(None);
@@ -83,25 +85,25 @@ fn read_two_paths(
     Ok(Some(Pattern::WriteCORead(above, below)))
 }
 
-/// The pattern of a kind that has this name, and of the operation and the derivation that show it.
+/// The pattern of a kind, of the operation and the derivation that show it.
 fn read_derived(
     alloc: Global,
-    name: &str,
+    kind: Kind,
     first: &Value,
     second: &Value,
 ) -> Result<Option<Pattern>, AllocError>
-    requires derived { name.now ≢ codes "WriteCORead" }
-    ensures { IfOk result (IsRead form_of (worded name.now (view first.now ∷ view second.now ∷ []))) }
+    requires derived { kind ≢ WriteCORead }
+    ensures { IfOk result (IsRead form_of (worded (kind_name kind) (view first.now ∷ view second.now ∷ []))) }
 {
     let Some(op) = read_op(first) else {
         return Ok(None);
     };
-    if name == "WriteHBInitRead" {
-        Ok(read_lines(alloc, second)?.map(|lines| Pattern::WriteHBInitRead(op, lines)))
-    } else if name == "CyclicHB" {
-        Ok(read_lines(alloc, second)?.map(|lines| Pattern::CyclicHB(op, lines)))
-    } else {
-        Ok(None)
+    match kind {
+        Kind::WriteHBInitRead => {
+            Ok(read_lines(alloc, second)?.map(|lines| Pattern::WriteHBInitRead(op, lines)))
+        }
+        Kind::CyclicHB => Ok(read_lines(alloc, second)?.map(|lines| Pattern::CyclicHB(op, lines))),
+        _ => Ok(None),
     }
 }
 
@@ -184,13 +186,4 @@ pub fn read_op(value: &Value) -> Option<OpId>
         }),
         _ => None,
     }
-}
-
-/// The word that a list begins with, and what stands behind it.
-pub fn word_and_rest(value: &Value) -> Option<(&str, &[Value])>
-    ensures { MatchOption result ((word : List ℕ) (ds : List Data) → view value.now ≢ worded word ds)
-        (λ p. view value.now ≡ worded p.0.now (map view p.1.now)) }
-{
-    let (word, rest) = elements_of(value)?.split_first()?;
-    Some((word.as_str()?, rest))
 }

@@ -2,11 +2,12 @@
 
 ghost use Rattle.std.specs.Prelude.{◌≡◌, ◌∷◌, [], codes, IfOk};
 ghost use Rattle.serde_json.specs.View.{view};
-ghost use Rattle.bad_patterns.specs.PatternForm.{line_form, lines_form, number_form, worded, IsRead};
+ghost use Rattle.operations.specs.Reads.{number_form, worded, IsRead};
+ghost use Rattle.bad_patterns.specs.PatternForm.{line_form, lines_form};
 
 use crate::derivation::{Derivation, Line};
-use crate::reading::{read_op, read_path, word_and_rest};
-use operations::elements_of;
+use crate::reading::{read_op, read_path};
+use operations::{elements_of, word_and_rest};
 use serde_json::Value;
 use std::alloc::{AllocError, Global};
 

@@ -1,176 +1,145 @@
--- Reading undoes the form of a certificate, and nothing else is read.
-use Rattle.std.proofs.Common.{◌≡◌, ℕ, ◌<◌, ◌^◌, List, [], ◌∷◌, All, true, false, Option, Some, None, refl, ap, sym, subst, ◌∙◌}
-use Rattle.std.specs.Prelude.{Result, IfOk, IfErr, MatchResult, nat_eq, nat_lt, codes, option_and_then, if◌then◌else◌}
-use Rattle.std.specs.Cmp.Lexicographic.{pointwise, same_text}
-use Rattle.std.proofs.lemmas.Bool.{ltb-true, lt-ltb}
+-- A value is the form of one certificate, and of none where one of its parts is the form of nothing.
+use Rattle.std.proofs.Common.{◌≡◌, ℕ, ◌^◌, List, [], ◌∷◌, length, map, refl, ap, sym, ◌∙◌, arith}
+use Rattle.std.specs.Prelude.{◌≢◌, Option, Some, nat_eq, codes, if◌then◌else◌}
+use Rattle.std.specs.Cmp.Lexicographic.{pointwise}
+use Rattle.std.proofs.lemmas.List.{length-map}
 use Rattle.std.proofs.lemmas.Option.{same_Some}
-use Rattle.std.proofs.lemmas.Result.{IfOk-weaker, IfErr-weaker, MatchResult-from_both}
-use Rattle.serde_json.specs.Data.{Data, string}
-use Rattle.serde_json.specs.Find.{as_str}
-use Rattle.operations.specs.Json.{list, elements, whole_number}
-use Rattle.operations.specs.JsonLaws.{and_then_from, map_from, chosen, whole_number-read, as_str-read, list_from_elements}
+use Rattle.serde_json.specs.Data.{Data}
+use Rattle.operations.specs.Json.{elements, whole_number}
+use Rattle.operations.specs.JsonLaws.{elements-list}
+use Rattle.operations.specs.Reads.{number_form, list_form, worded}
+use Rattle.operations.proofs.ReadForms.{one_word}
 use Rattle.causal_order.specs.Vectors.{ByOperation}
-use Rattle.cert_check.specs.declared.cert_error.CertError.{CertError}
-use Rattle.cert_check.specs.declared.cert_error.CertError.TheVariants.{Memory, BadCertificate}
 use Rattle.cert_check.specs.declared.criterion.Criterion.{Criterion}
 use Rattle.cert_check.specs.declared.criterion.Criterion.TheVariants as criteria
 use Rattle.cert_check.specs.declared.certificate.Certificate.{Certificate}
 use Rattle.cert_check.specs.declared.certificate.Certificate.TheVariants.{Cc, Cm, Ccv}
-use Rattle.cert_check.specs.CertificateForm.{number_form, list_form, lists_form, form_of, AreBelow, IsCertificate, IsRefusedFor}
-use Rattle.cert_check.specs.Steps.CertificateReading.{below, list_at, lists_at, criterion_at, parts_among, parts_at, certificate_with, certificate_by, certificate_at, IsRefusedAs}
-use Rattle.cert_check.proofs.ListForms.{list_read, list_again}
+use Rattle.cert_check.specs.CriterionNames.{name_of}
+use Rattle.cert_check.specs.Certificates.{criterion_of, vectors_of}
+use Rattle.cert_check.specs.CertificateForm.{lists_form, form_of, AreBelow, IsCertificate}
 
--- ---- numbers and their lists
+-- ---- one list has one form
 
-module _ (limit : ℕ) where
-  below_read : (d : Data) (n : ℕ) → below limit d ≡ Some n → (d ≡ number_form n) × (n < limit)
-  below_read d n read =
-      let p = and_then_from (λ (m : ℕ). if nat_lt m limit then Some m else None) (whole_number d) n read in
-      let q = chosen (nat_lt p.0 limit) (Some p.0) n p.2 in
-      let same : p.0 ≡ n = same_Some p.0 n q.1 in
-      rw (← same) (whole_number-read d p.0 p.1, ltb-true p.0 limit q.0)
+one_number : (m n : ℕ) → number_form m ≡ number_form n → m ≡ n
+one_number m n same = same_Some m n (ap whole_number same)
 
-  below_again : (n : ℕ) → n < limit → below limit (number_form n) ≡ Some n
-  below_again n small = rw (lt-ltb n limit small) refl
+module _ {A : Type 0} (form : A → Data) (one : (a b : A) → form a ≡ form b → a ≡ b) where
+  same_elements : (xs ys : List A) → map form xs ≡ map form ys → xs ≡ ys
+  same_elements [] [] same = refl
+  same_elements [] (y ∷ ys) same = absurd cc
+  same_elements (x ∷ xs) [] same = absurd cc
+  same_elements (x ∷ xs) (y ∷ ys) same =
+      let first : form x ≡ form y = cc in
+      let rest : map form xs ≡ map form ys = cc in
+      rw (one x y first, same_elements xs ys rest) refl
 
-  pub numbers_read : (d : Data) (ns : List ℕ) → list_at (below limit) d ≡ Some ns → (d ≡ list_form number_form ns) × All (λ n. n < limit) ns
-  numbers_read = list_read (below limit) number_form (λ n. n < limit) below_read
+  one_list : (xs ys : List A) → list_form form xs ≡ list_form form ys → xs ≡ ys
+  one_list xs ys same = same_elements xs ys (same_Some _ _ (sym (elements-list (map form xs)) ∙ ap elements same ∙ elements-list (map form ys)))
 
-  pub numbers_again : (ns : List ℕ) → All (λ n. n < limit) ns → list_at (below limit) (list_form number_form ns) ≡ Some ns
-  numbers_again = list_again (below limit) number_form (λ n. n < limit) below_again
+one_list_of_numbers : (xs ys : List ℕ) → list_form number_form xs ≡ list_form number_form ys → xs ≡ ys
+one_list_of_numbers = one_list number_form one_number
 
-  pub lists_read : (d : Data) (ls : ByOperation ℕ) → lists_at (below limit) d ≡ Some ls → (d ≡ lists_form ls) × AreBelow limit ls
-  lists_read =
-      list_read (list_at (list_at (below limit))) (list_form (list_form number_form)) (All (All (λ n. n < limit)))
-      (list_read (list_at (below limit)) (list_form number_form) (All (λ n. n < limit)) numbers_read)
+one_by_operation : (xs ys : ByOperation ℕ) → lists_form xs ≡ lists_form ys → xs ≡ ys
+one_by_operation = one_list (list_form (list_form number_form)) (one_list (list_form number_form) one_list_of_numbers)
 
-  pub lists_again : (ls : ByOperation ℕ) → AreBelow limit ls → lists_at (below limit) (lists_form ls) ≡ Some ls
-  lists_again =
-      list_again (list_at (list_at (below limit))) (list_form (list_form number_form)) (All (All (λ n. n < limit)))
-      (list_again (list_at (below limit)) (list_form number_form) (All (λ n. n < limit)) numbers_again)
+-- ---- the parts of a certificate
 
--- ---- the parts
+-- the form of what stands behind its vectors
+abbrev explained_form : Certificate → Data
+explained_form (Cc vectors schedules) = lists_form schedules
+explained_form (Cm vectors schedules) = lists_form schedules
+explained_form (Ccv vectors arbitration) = list_form number_form arbitration
 
--- the word of a criterion
-abbrev word_of : Criterion → List ℕ
-word_of criteria.Cc = codes "cc"
-word_of criteria.Cm = codes "cm"
-word_of criteria.Ccv = codes "ccv"
+has_parts : (c : Certificate) → form_of c ≡ worded (name_of (criterion_of c)) (lists_form (vectors_of c) ∷ explained_form c ∷ [])
+has_parts (Cc vectors schedules) = refl
+has_parts (Cm vectors schedules) = refl
+has_parts (Ccv vectors arbitration) = refl
 
-criterion_read : (word : List ℕ) (criterion : Criterion) → criterion_at word ≡ Some criterion → word ≡ word_of criterion
-criterion_read word criterion =
-    elim (pointwise nat_eq word (codes "cc")) as (λ t. pointwise nat_eq word (codes "cc") ≡ t
-    → (if t then Some criteria.Cc else (if pointwise nat_eq word (codes "cm") then Some criteria.Cm else (if pointwise nat_eq word (codes "ccv") then Some criteria.Ccv else None))) ≡ Some criterion
-    → word ≡ word_of criterion) [
-      | true ↦ λ is. λ read. let same : criteria.Cc ≡ criterion = same_Some criteria.Cc criterion read in rw (← same) (same_text word (codes "cc") (sym is))
-      | false ↦ λ _. elim (pointwise nat_eq word (codes "cm")) as (λ t. pointwise nat_eq word (codes "cm") ≡ t
-          → (if t then Some criteria.Cm else (if pointwise nat_eq word (codes "ccv") then Some criteria.Ccv else None)) ≡ Some criterion
-          → word ≡ word_of criterion) [
-            | true ↦ λ is. λ read. let same : criteria.Cm ≡ criterion = same_Some criteria.Cm criterion read in rw (← same) (same_text word (codes "cm") (sym is))
-            | false ↦ λ _. λ read. let q = chosen (pointwise nat_eq word (codes "ccv")) (Some criteria.Ccv) criterion read in
-                let same : criteria.Ccv ≡ criterion = same_Some criteria.Ccv criterion q.1 in rw (← same) (same_text word (codes "ccv") (sym q.0))
-          ] refl
-    ] refl
+has_counts : (c : Certificate) → IsCertificate c → AreBelow (2 ^ 16) (vectors_of c)
+has_counts (Cc vectors schedules) good = good.0
+has_counts (Cm vectors schedules) good = good.0
+has_counts (Ccv vectors arbitration) good = good.0
 
-parts_among_read : (ds : List Data) (p : Criterion × Data × Data) → parts_among ds ≡ Some p → ds ≡ string (word_of p.0) ∷ p.1 ∷ p.2 ∷ []
-parts_among_read [] p read = absurd cc
-parts_among_read (w ∷ []) p read = absurd cc
-parts_among_read (w ∷ v ∷ []) p read = absurd cc
-parts_among_read (w ∷ v ∷ e ∷ []) p read =
-    let q = map_from (λ (criterion : Criterion). (criterion, v, e)) (option_and_then criterion_at (as_str w)) p read in
-    let r = and_then_from criterion_at (as_str w) q.0 q.1 in
-    let word = criterion_read r.0 q.0 r.2 in
-    rw (← q.2) (ap (λ (x : Data). x ∷ v ∷ e ∷ []) (as_str-read w r.0 r.1 ∙ ap string word))
-parts_among_read (w ∷ v ∷ e ∷ d ∷ ds) p read = absurd cc
+-- a criterion by its name
+abbrev criterion_at : List ℕ → Option Criterion
+criterion_at word =
+    if pointwise nat_eq word (codes "cc") then Some criteria.Cc else (if pointwise nat_eq word (codes "cm") then Some criteria.Cm else Some criteria.Ccv)
 
-parts_read : (d : Data) (p : Criterion × Data × Data) → parts_at d ≡ Some p → d ≡ list (string (word_of p.0) ∷ p.1 ∷ p.2 ∷ [])
-parts_read d p read =
-    let q = and_then_from parts_among (elements d) p read in
-    list_from_elements d q.0 q.1 ∙ ap list (parts_among_read q.0 p q.2)
+at_name : (a : Criterion) → criterion_at (name_of a) ≡ Some a
+at_name criteria.Cc = refl
+at_name criteria.Cm = refl
+at_name criteria.Ccv = refl
 
--- ---- certificates
+one_name : (a b : Criterion) → name_of a ≡ name_of b → a ≡ b
+one_name a b same = same_Some a b (sym (at_name a) ∙ ap criterion_at same ∙ at_name b)
 
--- a certificate has these parts
-abbrev IsOf : Criterion → Data → Data → Certificate → Type 0
-IsOf criterion v e c = (list (string (word_of criterion) ∷ v ∷ e ∷ []) ≡ form_of c) × IsCertificate c
+module _ (word : List ℕ) (ds : List Data) (c : Certificate) (same : worded word ds ≡ form_of c) where
+  parts_are : (word ≡ name_of (criterion_of c)) × (ds ≡ lists_form (vectors_of c) ∷ explained_form c ∷ [])
+  parts_are = one_word word (name_of (criterion_of c)) ds (lists_form (vectors_of c) ∷ explained_form c ∷ []) (same ∙ has_parts c)
 
-is_of : {A : Type 0} (make : A → Certificate) (form : A → Data) (criterion : Criterion) (v e : Data) (x : A) (c : Certificate)
-    → e ≡ form x → make x ≡ c → list (string (word_of criterion) ∷ v ∷ form x ∷ []) ≡ form_of (make x) → IsCertificate (make x)
-    → IsOf criterion v e c
-is_of make form criterion v e x c form_is same whole good = rw (← same) (rw form_is (whole, good))
+module _ (criterion : Criterion) (v e : Data) (c : Certificate) (same : worded (name_of criterion) (v ∷ e ∷ []) ≡ form_of c) where
+  of_criterion : criterion ≡ criterion_of c
+  of_criterion = one_name criterion (criterion_of c) (parts_are (name_of criterion) (v ∷ e ∷ []) c same).0
 
-certificate_read-with : (criterion : Criterion) (e : Data) (vectors : ByOperation ℕ) (c : Certificate) → AreBelow (2 ^ 16) vectors
-    → certificate_with criterion e vectors ≡ Some c → IsOf criterion (lists_form vectors) e c
-certificate_read-with criteria.Cc e vectors c counts read =
-    let make = λ (schedules : ByOperation ℕ). Cc vectors schedules in
-    let p = map_from make (lists_at (below 16) e) c read in
-    let q = lists_read 16 e p.0 p.1 in
-    is_of make lists_form criteria.Cc (lists_form vectors) e p.0 c q.0 p.2 refl (counts, q.1)
-certificate_read-with criteria.Cm e vectors c counts read =
-    let make = λ (schedules : ByOperation ℕ). Cm vectors schedules in
-    let p = map_from make (lists_at (below 16) e) c read in
-    let q = lists_read 16 e p.0 p.1 in
-    is_of make lists_form criteria.Cm (lists_form vectors) e p.0 c q.0 p.2 refl (counts, q.1)
-certificate_read-with criteria.Ccv e vectors c counts read =
-    let make = λ (arbitration : List ℕ). Ccv vectors arbitration in
-    let p = map_from make (list_at (below 16) e) c read in
-    let q = numbers_read 16 e p.0 p.1 in
-    is_of make (list_form number_form) criteria.Ccv (lists_form vectors) e p.0 c q.0 p.2 refl (counts, q.1)
+  both : v ∷ e ∷ [] ≡ lists_form (vectors_of c) ∷ explained_form c ∷ []
+  both = (parts_are (name_of criterion) (v ∷ e ∷ []) c same).1
 
-certificate_read-by : (criterion : Criterion) (v e : Data) (c : Certificate) → certificate_by criterion v e ≡ Some c → IsOf criterion v e c
-certificate_read-by criterion v e c read =
-    let p = and_then_from (certificate_with criterion e) (lists_at (below (2 ^ 16)) v) c read in
-    let q = lists_read (2 ^ 16) v p.0 p.1 in
-    subst (λ (d : Data). IsOf criterion d e c) (sym q.0) (certificate_read-with criterion e p.0 c q.1 p.2)
+  of_vectors : v ≡ lists_form (vectors_of c)
+  of_vectors = let parts = both in cc
 
-pub certificate_read : (d : Data) (c : Certificate) → certificate_at d ≡ Some c → (d ≡ form_of c) × IsCertificate c
-certificate_read d c read =
-    let p = and_then_from (λ (p : Criterion × Data × Data). certificate_by p.0 p.1 p.2) (parts_at d) c read in
-    let q = certificate_read-by p.0.0 p.0.1 p.0.2 c p.2 in
-    (parts_read d p.0 p.1 ∙ q.0, q.1)
+  of_explained : e ≡ explained_form c
+  of_explained = let parts = both in cc
 
-pub certificate_again : (c : Certificate) → IsCertificate c → certificate_at (form_of c) ≡ Some c
-certificate_again (Cc vectors schedules) good = rw (lists_again (2 ^ 16) vectors good.0) (rw (lists_again 16 schedules good.1) refl)
-certificate_again (Cm vectors schedules) good = rw (lists_again (2 ^ 16) vectors good.0) (rw (lists_again 16 schedules good.1) refl)
-certificate_again (Ccv vectors arbitration) good = rw (lists_again (2 ^ 16) vectors good.0) (rw (numbers_again 16 arbitration good.1) refl)
+-- a value is the form of one certificate
+one_of_parts : (b c : Certificate) → criterion_of b ≡ criterion_of c → vectors_of b ≡ vectors_of c → explained_form b ≡ explained_form c → b ≡ c
+one_of_parts (Cc vs x) (Cc ws y) kind vectors explained = rw (vectors, one_by_operation x y explained) refl
+one_of_parts (Cc vs x) (Cm ws y) kind vectors explained = absurd cc
+one_of_parts (Cc vs x) (Ccv ws y) kind vectors explained = absurd cc
+one_of_parts (Cm vs x) (Cc ws y) kind vectors explained = absurd cc
+one_of_parts (Cm vs x) (Cm ws y) kind vectors explained = rw (vectors, one_by_operation x y explained) refl
+one_of_parts (Cm vs x) (Ccv ws y) kind vectors explained = absurd cc
+one_of_parts (Ccv vs x) (Cc ws y) kind vectors explained = absurd cc
+one_of_parts (Ccv vs x) (Cm ws y) kind vectors explained = absurd cc
+one_of_parts (Ccv vs x) (Ccv ws y) kind vectors explained = rw (vectors, one_list_of_numbers x y explained) refl
 
--- ---- what a reader owes
+pub one_certificate : (b c : Certificate) → form_of b ≡ form_of c → b ≡ c
+one_certificate b c same =
+    let is = sym (has_parts b) ∙ same in
+    one_of_parts b c (of_criterion (criterion_of b) (lists_form (vectors_of b)) (explained_form b) c is)
+    (one_by_operation (vectors_of b) (vectors_of c) (of_vectors (criterion_of b) (lists_form (vectors_of b)) (explained_form b) c is))
+    (of_explained (criterion_of b) (lists_form (vectors_of b)) (explained_form b) c is)
 
-refused_for : (d : Data) (e : CertError) → IsRefusedAs (certificate_at d) e → IsRefusedFor d e
-refused_for d Memory refused = tt
-refused_for d BadCertificate refused = λ c good same.
-    let read : certificate_at d ≡ Some c = rw same (certificate_again c good) in
-    absurd cc
+-- ---- what is the form of no certificate
 
-out_of_memory : (o : Option Certificate) (c : Certificate) (e : CertError) → o ≡ Some c → IsRefusedAs o e → e ≡ Memory
-out_of_memory o c Memory read refused = refl
-out_of_memory o c BadCertificate read refused = absurd cc
+pub no_certificate-unworded : (d : Data) → ((word : List ℕ) (ds : List Data) → d ≢ worded word ds) → (c : Certificate) → IsCertificate c → d ≢ form_of c
+no_certificate-unworded d none c good same = none (name_of (criterion_of c)) (lists_form (vectors_of c) ∷ explained_form c ∷ []) (same ∙ has_parts c)
 
--- a value with these parts reads as the certificate of them
-by_parts : (d : Data) (p : Criterion × Data × Data) → parts_at d ≡ Some p → certificate_by p.0 p.1 p.2 ≡ certificate_at d
-by_parts d p parts = rw parts refl
+pub no_certificate-unnamed : (d : Data) (word : List ℕ) (ds : List Data) → d ≡ worded word ds → ((criterion : Criterion) → word ≢ name_of criterion)
+    → (c : Certificate) → IsCertificate c → d ≢ form_of c
+no_certificate-unnamed d word ds is none c good same = none (criterion_of c) (parts_are word ds c (sym is ∙ same)).0
 
-module _ (d : Data) (p : Criterion × Data × Data) (parts : parts_at d ≡ Some p) (r : Result Certificate CertError)
-    (read : IfOk r (λ c. certificate_by p.0 p.1 p.2 ≡ Some c)) where
-  whole_read : IfOk r (λ c. certificate_at d ≡ Some c)
-  whole_read = rw (← by_parts d p parts) read
+pub no_certificate-sized : {V : Type 0} (view : V → Data) (word : List ℕ) (values : List V) → length values ≢ 2
+    → (c : Certificate) → IsCertificate c → worded word (map view values) ≢ form_of c
+no_certificate-sized view word values two c good same =
+    let counted = ap length (parts_are word (map view values) c same).1 in
+    let mapped : length (map view values) ≡ length values = simp length-map in
+    two (omega arith)
 
-  pub read_form : IfOk r (λ c. d ≡ form_of c)
-  read_form = IfOk-weaker r (λ c. certificate_at d ≡ Some c) (λ c. d ≡ form_of c) (λ c is. (certificate_read d c is).0) whole_read
+module _ (criterion : Criterion) (v e : Data) where
+  pub no_certificate-vectors : ((vectors : ByOperation ℕ) → AreBelow (2 ^ 16) vectors → v ≢ lists_form vectors)
+      → (c : Certificate) → IsCertificate c → worded (name_of criterion) (v ∷ e ∷ []) ≢ form_of c
+  no_certificate-vectors none c good same = none (vectors_of c) (has_counts c good) (of_vectors criterion v e c same)
 
-  pub read_ranges : IfOk r IsCertificate
-  read_ranges = IfOk-weaker r (λ c. certificate_at d ≡ Some c) IsCertificate (λ c is. (certificate_read d c is).1) whole_read
+-- behind the vectors stands the form of no schedules
+module _ (v e : Data) where
+  pub no_cc_certificate : ((schedules : ByOperation ℕ) → AreBelow 16 schedules → e ≢ lists_form schedules)
+      → (c : Certificate) → IsCertificate c → worded (name_of criteria.Cc) (v ∷ e ∷ []) ≢ form_of c
+  no_cc_certificate none (Cc vectors schedules) good same = none schedules good.1 (of_explained criteria.Cc v e (Cc vectors schedules) same)
+  no_cc_certificate none (Cm vectors schedules) good same = let no = of_criterion criteria.Cc v e (Cm vectors schedules) same in absurd cc
+  no_cc_certificate none (Ccv vectors arbitration) good same = let no = of_criterion criteria.Cc v e (Ccv vectors arbitration) same in absurd cc
 
-  module _ (refused : IfErr r (IsRefusedAs (certificate_by p.0 p.1 p.2))) where
-    whole_refused : IfErr r (IsRefusedAs (certificate_at d))
-    whole_refused = rw (← by_parts d p parts) refused
-
-    pub read_only : (c : Certificate) → IsCertificate c → d ≡ form_of c → MatchResult r (λ b. b ≡ c) (λ e. e ≡ Memory)
-    read_only c good same =
-        let whole : certificate_at d ≡ Some c = rw same (certificate_again c good) in
-        MatchResult-from_both r (λ b. b ≡ c) (λ e. e ≡ Memory)
-        (IfOk-weaker r (λ b. certificate_at d ≡ Some b) (λ b. b ≡ c) (λ b is. same_Some b c (sym is ∙ whole)) whole_read)
-        (IfErr-weaker r (IsRefusedAs (certificate_at d)) (λ e. e ≡ Memory) (λ e because. out_of_memory (certificate_at d) c e whole because) whole_refused)
-
-    pub read_refused : IfErr r (IsRefusedFor d)
-    read_refused = IfErr-weaker r (IsRefusedAs (certificate_at d)) (IsRefusedFor d) (refused_for d) whole_refused
+  pub no_cm_certificate : ((schedules : ByOperation ℕ) → AreBelow 16 schedules → e ≢ lists_form schedules)
+      → (c : Certificate) → IsCertificate c → worded (name_of criteria.Cm) (v ∷ e ∷ []) ≢ form_of c
+  no_cm_certificate none (Cc vectors schedules) good same = let no = of_criterion criteria.Cm v e (Cc vectors schedules) same in absurd cc
+  no_cm_certificate none (Cm vectors schedules) good same = none schedules good.1 (of_explained criteria.Cm v e (Cm vectors schedules) same)
+  no_cm_certificate none (Ccv vectors arbitration) good same = let no = of_criterion criteria.Cm v e (Ccv vectors arbitration) same in absurd cc

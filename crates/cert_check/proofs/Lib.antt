@@ -10,7 +10,6 @@ pub mod Shapes
 pub mod ReplaySteps
 pub mod SchedulePieces
 pub mod CutSteps
-pub mod ListForms
 pub mod ListReading
 pub mod CertificateForms
 pub mod ConvergentLaws

@@ -1,21 +1,15 @@
 -- The JSON form of a certificate: `["cc", vectors, schedules]`, `["cm", vectors, schedules]` or `["ccv", vectors, list]`
 -- (this project's profile).
-use Rattle.std.specs.Prelude.{◌≡◌, ⊤, ℕ, ◌<◌, ◌^◌, List, [], ◌∷◌, All, map, codes}
-use Rattle.serde_json.specs.Data.{Data, number, string, unsigned}
-use Rattle.operations.specs.Json.{list}
+use Rattle.std.specs.Prelude.{◌≡◌, ⊤, ℕ, ◌<◌, ◌^◌, [], ◌∷◌, All}
+use Rattle.serde_json.specs.Data.{Data}
+use Rattle.operations.specs.Reads.{number_form, list_form, worded}
 use Rattle.causal_order.specs.Vectors.{ByOperation}
 use Rattle.cert_check.specs.declared.cert_error.CertError.{CertError}
 use Rattle.cert_check.specs.declared.cert_error.CertError.TheVariants.{Memory, BadCertificate}
+use Rattle.cert_check.specs.declared.criterion.Criterion.TheVariants as criteria
 use Rattle.cert_check.specs.declared.certificate.Certificate.{Certificate}
 use Rattle.cert_check.specs.declared.certificate.Certificate.TheVariants.{Cc, Cm, Ccv}
-
--- a whole number
-abbrev pub number_form : ℕ → Data
-number_form n = number (unsigned n)
-
--- a list, of the forms of its elements
-abbrev pub list_form : {A : Type 0} → (A → Data) → List A → Data
-list_form form xs = list (map form xs)
+use Rattle.cert_check.specs.CriterionNames.{name_of}
 
 -- a list for each session, in it one list of numbers for each of its operations
 abbrev pub lists_form : ByOperation ℕ → Data
@@ -23,9 +17,9 @@ lists_form = list_form (list_form (list_form number_form))
 
 -- the form of a certificate
 abbrev pub form_of : Certificate → Data
-form_of (Cc vectors schedules) = list (string (codes "cc") ∷ lists_form vectors ∷ lists_form schedules ∷ [])
-form_of (Cm vectors schedules) = list (string (codes "cm") ∷ lists_form vectors ∷ lists_form schedules ∷ [])
-form_of (Ccv vectors arbitration) = list (string (codes "ccv") ∷ lists_form vectors ∷ list_form number_form arbitration ∷ [])
+form_of (Cc vectors schedules) = worded (name_of criteria.Cc) (lists_form vectors ∷ lists_form schedules ∷ [])
+form_of (Cm vectors schedules) = worded (name_of criteria.Cm) (lists_form vectors ∷ lists_form schedules ∷ [])
+form_of (Ccv vectors arbitration) = worded (name_of criteria.Ccv) (lists_form vectors ∷ list_form number_form arbitration ∷ [])
 
 -- numbers below a limit, in each list
 abbrev pub AreBelow : ℕ → ByOperation ℕ → Type 0

@@ -1,3 +1,7 @@
+ghost use Rattle.std.specs.Prelude.{◌≡◌};
+ghost use Rattle.operations.specs.Reads.{IsRead};
+ghost use Rattle.cert_check.specs.CriterionNames.{name_of};
+
 /// What a history can be judged by.
 ///
 /// In each, some causal order explains the known returns: of each operation alone (`Cc`), of it and of the operations
@@ -11,4 +15,32 @@ pub enum Criterion {
     Cm,
     /// Causal convergence.
     Ccv,
+}
+
+impl Criterion {
+    /// The name, as certificates and reports have it: `cc`, `cm` or `ccv`.
+    pub fn name(self) -> &'static str
+        ensures { result.now ≡ name_of self }
+    {
+        match self {
+            Criterion::Cc => "cc",
+            Criterion::Cm => "cm",
+            Criterion::Ccv => "ccv",
+        }
+    }
+
+    /// The criterion of this name, or none where the word is the name of none.
+    pub fn named(word: &str) -> Option<Criterion>
+        ensures { IsRead name_of word.now result }
+    {
+        if word == "cc" {
+            Some(Criterion::Cc)
+        } else if word == "cm" {
+            Some(Criterion::Cm)
+        } else if word == "ccv" {
+            Some(Criterion::Ccv)
+        } else {
+            None
+        }
+    }
 }

@@ -1,7 +1,7 @@
-ghost use Rattle.std.specs.Prelude.{◌≡◌, ◌^◌, Option};
+ghost use Rattle.std.specs.Prelude.{ℕ, ◌<◌, ◌^◌};
 ghost use Rattle.serde_json.specs.Data.{Data};
 ghost use Rattle.serde_json.specs.View.{view};
-ghost use Rattle.cert_check.specs.Steps.CertificateReading.{below};
+ghost use Rattle.operations.specs.Reads.{number_form, IsReadWithin};
 
 use serde_json::Value;
 
@@ -10,16 +10,21 @@ const SESSIONS: u8 = 16;
 
 /// A number in the lists of a certificate: a count of a vector, or a session number.
 pub trait Number: Copy {
-    /// The number that a value is, where it is one in range.
-    ghost number_at: { Data → Option Self };
+    /// Its form.
+    ghost form: { Self → Data };
+
+    /// It is in range.
+    ghost fits: { Self → Type 0 };
 
     fn read(value: &Value) -> Option<Self>
-        ensures { result ≡ number_at (view value.now) };
+        ensures { IsReadWithin fits form (view value.now) result };
 }
 
 /// A count.
 impl Number for u16 {
-    ghost number_at = { below (2 ^ 16) };
+    ghost form = { number_form };
+
+    ghost fits = { λ n. n < 2 ^ 16 };
 
     fn read(value: &Value) -> Option<u16> {
         u16::try_from(value.as_u64()?).ok()
@@ -28,7 +33,9 @@ impl Number for u16 {
 
 /// A session number.
 impl Number for u8 {
-    ghost number_at = { below 16 };
+    ghost form = { number_form };
+
+    ghost fits = { λ n. n < 16 };
 
     fn read(value: &Value) -> Option<u8> {
         let session = u8::try_from(value.as_u64()?).ok()?;

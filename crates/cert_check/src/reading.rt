@@ -1,73 +1,19 @@
 //! Reading a certificate from a JSON value.
 
-ghost use Rattle.std.specs.Prelude.{◌≡◌, Some, option_map, IfOk, IfErr, MatchResult};
+ghost use Rattle.std.specs.Prelude.{◌≡◌, ◌∷◌, [], map, IfOk, IfErr, MatchResult};
 ghost use Rattle.serde_json.specs.View.{view};
+ghost use Rattle.operations.specs.Reads.{worded, IsReadWithin};
+ghost use Rattle.cert_check.specs.CriterionNames.{name_of};
 ghost use Rattle.cert_check.specs.CertificateForm.{form_of, IsCertificate, IsRefusedFor};
-ghost use Rattle.cert_check.specs.Steps.CertificateReading.{criterion_at, certificate_by, parts_at, IsRefusedAs};
 
 use crate::arbitration::Arbitration;
 use crate::cert_error::CertError;
 use crate::certificate::Certificate;
 use crate::criterion::Criterion;
 use crate::reading_lists::{read_lists, read_numbers};
-use operations::elements_of;
+use operations::word_and_rest;
 use serde_json::Value;
-use std::alloc::Global;
-
-/// The criterion that a word stands for.
-fn criterion_of(word: &str) -> Option<Criterion>
-    ensures { result ≡ criterion_at word.now }
-{
-    if word == "cc" {
-        Some(Criterion::Cc)
-    } else if word == "cm" {
-        Some(Criterion::Cm)
-    } else if word == "ccv" {
-        Some(Criterion::Ccv)
-    } else {
-        None
-    }
-}
-
-/// The criterion and the two elements behind it, where the value is a list of three and begins with such a word.
-fn parts_of(value: &Value) -> Option<(Criterion, &Value, &Value)>
-    ensures { option_map (λ p. (p.0, view p.1.now, view p.2.now)) result ≡ parts_at (view value.now) }
-{
-    match elements_of(value)? {
-        [word, vectors, explained] => {
-            let criterion = criterion_of(word.as_str()?)?;
-            Some((criterion, vectors, explained))
-        }
-        _ => None,
-    }
-}
-
-/// The certificate for a criterion, from the vectors and what stands behind them.
-fn read_parts(
-    alloc: Global,
-    criterion: Criterion,
-    vectors: &Value,
-    explained: &Value,
-) -> Result<Certificate, CertError>
-    ensures read { IfOk result (λ c. certificate_by criterion (view vectors.now) (view explained.now) ≡ Some c) }
-    ensures refused { IfErr result (IsRefusedAs (certificate_by criterion (view vectors.now) (view explained.now))) }
-{
-    let vectors = read_lists::<u16>(alloc, vectors)?;
-    match criterion {
-        Criterion::Cc => {
-            let schedules = read_lists::<u8>(alloc, explained)?;
-            Ok(Certificate::Cc(vectors, schedules))
-        }
-        Criterion::Cm => {
-            let schedules = read_lists::<u8>(alloc, explained)?;
-            Ok(Certificate::Cm(vectors, schedules))
-        }
-        Criterion::Ccv => {
-            let sessions = read_numbers::<u8>(alloc, explained)?;
-            Ok(Certificate::Ccv(vectors, Arbitration::of(sessions)))
-        }
-    }
-}
+use std::alloc::{AllocError, Global};
 
 /// The certificate whose form the value is.
 ///
@@ -85,8 +31,63 @@ pub fn read_certificate(alloc: Global, value: &Value) -> Result<Certificate, Cer
         → MatchResult result (λ d. d ≡ c) (λ e. e ≡ CertError.Memory) }
     ensures refused { IfErr result (IsRefusedFor (view value.now)) }
 {
-    let Some((criterion, vectors, explained)) = parts_of(value) else {
-        return Err(CertError::BadCertificate);
+    match read_form(alloc, value)? {
+        Some(certificate) => Ok(certificate),
+        None => Err(CertError::BadCertificate),
+    }
+}
+
+/// The certificate that a value is the form of.
+fn read_form(alloc: Global, value: &Value) -> Result<Option<Certificate>, AllocError>
+    ensures { IfOk result (IsReadWithin IsCertificate form_of (view value.now)) }
+{
+    let Some((word, rest)) = word_and_rest(value) else {
+        return Ok(None);
     };
-    read_parts(alloc, criterion, vectors, explained)
+    match Criterion::named(word) {
+        Some(criterion) => read_parts(alloc, criterion, rest),
+        None => Ok(None),
+    }
+}
+
+/// The certificate for a criterion, of what stands behind its name.
+fn read_parts(
+    alloc: Global,
+    criterion: Criterion,
+    rest: &[Value],
+) -> Result<Option<Certificate>, AllocError>
+    ensures { IfOk result (IsReadWithin IsCertificate form_of (worded (name_of criterion) (map view rest.now))) }
+{
+    match rest {
+        [vectors, explained] => read_vectors(alloc, criterion, vectors, explained),
+        _ => Ok(None),
+    }
+}
+
+/// The certificate for a criterion, of the vectors and what stands behind them.
+fn read_vectors(
+    alloc: Global,
+    criterion: Criterion,
+    vectors: &Value,
+    explained: &Value,
+) -> Result<Option<Certificate>, AllocError>
+    ensures { IfOk result (IsReadWithin IsCertificate form_of (worded (name_of criterion) (view vectors.now ∷ view explained.now ∷ []))) }
+{
+    let Some(vectors) = read_lists::<u16>(alloc, vectors)? else {
+        return Ok(None);
+    };
+    match criterion {
+        Criterion::Cc => match read_lists::<u8>(alloc, explained)? {
+            Some(schedules) => Ok(Some(Certificate::Cc(vectors, schedules))),
+            None => Ok(None),
+        },
+        Criterion::Cm => match read_lists::<u8>(alloc, explained)? {
+            Some(schedules) => Ok(Some(Certificate::Cm(vectors, schedules))),
+            None => Ok(None),
+        },
+        Criterion::Ccv => match read_numbers::<u8>(alloc, explained)? {
+            Some(sessions) => Ok(Some(Certificate::Ccv(vectors, Arbitration::of(sessions)))),
+            None => Ok(None),
+        },
+    }
 }

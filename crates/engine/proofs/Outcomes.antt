@@ -12,8 +12,7 @@ use Rattle.operations.specs.Refusals.{IsFirst}
 use Rattle.operations.proofs.AnyForms.{any_forms_are_distinct}
 use Rattle.cert_check.specs.declared.certificate.Certificate.{Certificate}
 use Rattle.cert_check.specs.CertificateForm.{IsCertificate, form_of as certificate_form}
-use Rattle.cert_check.specs.Steps.CertificateReading.{certificate_at}
-use Rattle.cert_check.proofs.CertificateForms.{certificate_again}
+use Rattle.cert_check.proofs.CertificateForms.{one_certificate}
 use Rattle.engine.specs.declared.command_line.Order.{Order}
 use Rattle.engine.specs.declared.command_line.Order.TheVariants.{Judge, Check}
 use Rattle.engine.specs.declared.failure.RunError.{RunError}
@@ -31,9 +30,6 @@ one_value text d e first second = same_Some d e (sym first.1 ∙ second.1)
 
 one_history : (text : List ℕ) (g h : AnyHistory) → IsAnyHistory g → IsAnyHistory h → IsJson text (form_of g) → IsJson text (form_of h) → g ≡ h
 one_history text g h is_g is_h first second = any_forms_are_distinct g h is_g is_h (one_value text (form_of g) (form_of h) first second)
-
-one_certificate : (b c : Certificate) → IsCertificate b → IsCertificate c → certificate_form b ≡ certificate_form c → b ≡ c
-one_certificate b c is_b is_c same = same_Some b c (sym (certificate_again b is_b) ∙ ap certificate_at same ∙ certificate_again c is_c)
 
 two_elements : (a b x y : Data) → a ∷ x ∷ [] ≡ b ∷ y ∷ [] → (a ≡ b) × (x ≡ y)
 two_elements a b x y same = let first : a ≡ b = cc in let second : x ≡ y = cc in (first, second)
@@ -184,7 +180,7 @@ check_not_refused text answer ShapeMismatch report is_e =
     let same = one_pair (form_of is_e.0) (form_of report.history) (certificate_form is_e.1) (certificate_form report.certificate)
     (one_value text _ _ is_e.4 report.read) in
     let history : report.history ≡ is_e.0 = sym (any_forms_are_distinct is_e.0 report.history is_e.2 report.is_history same.0) in
-    let certificate : report.certificate ≡ is_e.1 = sym (one_certificate is_e.1 report.certificate is_e.3 report.is_certificate same.1) in
+    let certificate : report.certificate ≡ is_e.1 = sym (one_certificate is_e.1 report.certificate same.1) in
     absurd (is_e.5 (subst (λ (h : AnyHistory). HasShape h is_e.1) history (subst (λ (c : Certificate). HasShape report.history c) certificate report.shape)))
 check_not_refused text answer TooLong report is_e = absurd is_e
 check_not_refused text answer Memory report is_e = refl

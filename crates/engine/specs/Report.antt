@@ -6,7 +6,7 @@ use Rattle.cert_check.specs.declared.criterion.Criterion.TheVariants.{Cc, Cm, Cc
 use Rattle.operations.specs.declared.any_history.AnyHistory.{AnyHistory}
 use Rattle.operations.specs.declared.any_history.AnyHistory.TheVariants as histories
 use Rattle.bad_patterns.specs.declared.kind.Kind.{Kind}
-use Rattle.bad_patterns.specs.declared.kind.Kind.TheVariants.{CyclicCO, ThinAirRead, WriteCOInitRead, WriteCORead, WriteHBInitRead, CyclicHB, CyclicCF}
+use Rattle.bad_patterns.specs.declared.kind.Kind.TheVariants.{ThinAirRead}
 use Rattle.objects.specs.Register.{answer as register_answer}
 use Rattle.objects.specs.Counter.{answer as counter_answer}
 use Rattle.objects.specs.AddRemoveSet.{answer as set_answer}
@@ -17,6 +17,8 @@ use Rattle.memory_order.specs.Memory.{IsDifferentiated, memory_answer}
 use Rattle.cert_check.specs.declared.certificate.Certificate.{Certificate}
 use Rattle.cert_check.specs.Certificates.{HasShapeOf, IsFirstUnexplained, criterion_of}
 use Rattle.cert_check.specs.Criteria.{Meets}
+use Rattle.cert_check.specs.CriterionNames.{name_of}
+use Rattle.bad_patterns.specs.KindNames.{kind_name}
 use Rattle.bad_patterns.specs.Patterns.{IsTrueNo}
 use Rattle.engine.specs.declared.report.Answer.{Answer}
 use Rattle.engine.specs.declared.report.Answer.TheVariants.{Yes, No, Unknown}
@@ -91,20 +93,6 @@ abbrev pub answer_for : Report → Criterion → Answer
 answer_for report Cc = report.cc
 answer_for report Cm = report.cm
 answer_for report Ccv = report.ccv
-
-abbrev pub name_of : Criterion → List ℕ
-name_of Cc = codes "cc"
-name_of Cm = codes "cm"
-name_of Ccv = codes "ccv"
-
-abbrev pub kind_name : Kind → List ℕ
-kind_name CyclicCO = codes "CyclicCO"
-kind_name ThinAirRead = codes "ThinAirRead"
-kind_name WriteCOInitRead = codes "WriteCOInitRead"
-kind_name WriteCORead = codes "WriteCORead"
-kind_name WriteHBInitRead = codes "WriteHBInitRead"
-kind_name CyclicHB = codes "CyclicHB"
-kind_name CyclicCF = codes "CyclicCF"
 
 -- the criterion, a space, the answer, and a line feed
 abbrev pub line_for : Criterion → Answer → List ℕ

@@ -1,7 +1,7 @@
 //! What is said of a history, and the lines that say it.
 
 ghost use Rattle.std.specs.Prelude.{◌≡◌, IfOk, string_bytes};
-ghost use Rattle.engine.specs.Report.{kind_name, line_for, name_of, text_for};
+ghost use Rattle.engine.specs.Report.{line_for, text_for};
 
 use bad_patterns::Kind;
 use cert_check::Criterion;
@@ -67,40 +67,16 @@ pub fn report_line(
 ) -> Result<String, AllocError>
     ensures { IfOk result (λ text. string_bytes text ≡ line_for criterion answer) }
 {
-    let name = criterion_name(criterion);
+    let name = criterion.name();
     match answer {
         Answer::Yes => format!(in alloc; "{name} yes\n"),
         Answer::No(kind) => {
-            let kind = name_of_kind(kind);
+            let kind = kind.name();
             format!(in alloc; "{name} no {kind}\n")
         }
         Answer::Unknown(None) => format!(in alloc; "{name} unknown\n"),
         Answer::Unknown(Some(OpId { session, index })) => {
             format!(in alloc; "{name} unknown {session}.{index}\n")
         }
-    }
-}
-
-fn criterion_name(criterion: Criterion) -> &'static str
-    ensures { result.now ≡ name_of criterion }
-{
-    match criterion {
-        Criterion::Cc => "cc",
-        Criterion::Cm => "cm",
-        Criterion::Ccv => "ccv",
-    }
-}
-
-fn name_of_kind(kind: Kind) -> &'static str
-    ensures { result.now ≡ kind_name kind }
-{
-    match kind {
-        Kind::CyclicCO => "CyclicCO",
-        Kind::ThinAirRead => "ThinAirRead",
-        Kind::WriteCOInitRead => "WriteCOInitRead",
-        Kind::WriteCORead => "WriteCORead",
-        Kind::WriteHBInitRead => "WriteHBInitRead",
-        Kind::CyclicHB => "CyclicHB",
-        Kind::CyclicCF => "CyclicCF",
     }
 }

@@ -9,5 +9,6 @@ pub mod HistoryReading
 pub mod JsonLists
 pub mod PartsForm
 pub mod PartsWritten
+pub mod ReadForms
 pub mod SessionReading
 pub mod ListLaws

@@ -11,6 +11,7 @@ pub mod PlainFormLaws
 pub mod QueueForm
 pub mod QueueFormLaws
 pub mod Reading
+pub mod Reads
 pub mod Refusals
 pub mod RegisterForm
 pub mod RegisterFormLaws

@@ -31,3 +31,4 @@ pub use plain_history::PlainHistory;
 pub use read_error::ReadError;
 pub use reader::{history_of, read_history, value_of, write_history};
 pub use spelled::Spelled;
+pub use words::word_and_rest;

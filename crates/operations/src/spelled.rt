@@ -9,7 +9,7 @@ ghost use Rattle.operations.specs.Spelling.{entries_at, entry_at, entry_form, pl
 use crate::json::elements_of;
 use crate::keys::{entry_of, is_above, key_of};
 use crate::unknown::{is_question_mark_alone, push_question_mark};
-use crate::words::{plain_parts, word_alone};
+use crate::words::{word_alone, word_and_rest};
 use object_trait::SeqObject;
 use objects::Table;
 use serde_json::Value;
@@ -112,7 +112,7 @@ pub trait Spelled: SeqObject {
     final fn read_plain(value: &Value) -> Option<(Self::Call, Option<Self::Ret>)>
         ensures { result ≡ plain_at call_at ret_at (view value.now) }
     {
-        let (word, rest) = plain_parts(value)?;
+        let (word, rest) = word_and_rest(value)?;
         Self::read_spelled(word, rest)
     }
 

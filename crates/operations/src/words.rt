@@ -1,19 +1,22 @@
 //! The word of an operation, and a number behind it.
 
-ghost use Rattle.std.specs.Prelude.{◌≡◌, [], ◌∷◌, map, option_map, option_and_then, IfOk};
-ghost use Rattle.serde_json.specs.Data.{string};
+ghost use Rattle.std.specs.Prelude.{◌≡◌, ◌≢◌, ℕ, List, [], ◌∷◌, map, option_map, option_and_then, IfOk, MatchOption};
+ghost use Rattle.serde_json.specs.Data.{Data, string};
 ghost use Rattle.serde_json.specs.View.{view};
 ghost use Rattle.operations.specs.Json.{elements};
+ghost use Rattle.operations.specs.Reads.{worded};
 ghost use Rattle.operations.specs.Spelling.{first_number as number_at_first, word_rest};
 
 use crate::json::elements_of;
 use serde_json::Value;
 use std::alloc::{AllocError, Global};
 
-/// The word and the rest of an operation without a key.
-pub fn plain_parts(value: &Value) -> Option<(&str, &[Value])>
-    ensures { option_map (λ p. (p.0.now, map view p.1.now)) result
+/// The word that a list begins with, and what stands behind it.
+pub fn word_and_rest(value: &Value) -> Option<(&str, &[Value])>
+    ensures parts { option_map (λ p. (p.0.now, map view p.1.now)) result
         ≡ option_and_then word_rest (elements (view value.now)) }
+    ensures read { MatchOption result ((word : List ℕ) (ds : List Data) → view value.now ≢ worded word ds)
+        (λ p. view value.now ≡ worded p.0.now (map view p.1.now)) }
 {
     let (word, rest) = elements_of(value)?.split_first()?;
     Some((word.as_str()?, rest))

@@ -5,11 +5,11 @@ use Rattle.bad_patterns.proofs.reading.read_link.Goals as goal
 use Rattle.bad_patterns.proofs.reading.read_link.Goals.{in_default-rest-via-then-rest-lt2, in_default-rest-via-else-rest-lt2+else-rest-lt3}
 
 pub returns-in_default : goal.returns-in_default
-returns-in_default c = no_link-unworded (view c.args.value.now) c.in_default.ensures
+returns-in_default c = no_link-unworded (view c.args.value.now) c.in_default.ensures.read
 
 pub returns-in_default-rest : goal.returns-in_default-rest
 returns-in_default-rest c =
-    let of_other_size = no_link-sized view (view c.args.value.now) c.in-Some.word.now c.in-Some.rest.now c.in-Some.ensures in
+    let of_other_size = no_link-sized view (view c.args.value.now) c.in-Some.word.now c.in-Some.rest.now c.in-Some.ensures.read in
     elim c.in_default-rest.branch [
       | in_default-rest-via-then-rest-lt2 w ↦ of_other_size (λ two. absurd (grind arith))
       | in_default-rest-via-else-rest-lt2+else-rest-lt3 w ↦ of_other_size (λ two. absurd (grind arith))

@@ -1,7 +1,7 @@
 use Rattle.std.proofs.Common.{arith, ◌≤◌, length, ap, ◌∙◌, sym}
 use Rattle.serde_json.specs.View.{view}
 use Rattle.bad_patterns.specs.PatternForm.{op_form, path_form}
-use Rattle.bad_patterns.proofs.PatternReading.{list-read, no_list}
+use Rattle.operations.proofs.ReadForms.{list-read, no_list}
 use Rattle.bad_patterns.proofs.reading.read_path.Goals as goal
 
 pub returns-in_default-read_op : goal.returns-in_default-read_op

@@ -1,28 +1,23 @@
-use Rattle.std.proofs.Common.{map, sym}
-use Rattle.std.proofs.lemmas.Result.{err_from_is_err_and}
+use Rattle.std.proofs.Common.{arith, ◌≤◌, length, All}
 use Rattle.serde_json.specs.View.{view}
-use Rattle.operations.proofs.ListLaws.{slice_get-mapped}
-use Rattle.cert_check.specs.Steps.CertificateReading.{list_at}
-use Rattle.cert_check.proofs.ListReading.{no_element, reads_behind, refused_too, list_of_none}
+use Rattle.operations.specs.Reads.{list_form}
+use Rattle.cert_check.proofs.ListReading.{all_read, none_fits, one_more_behind}
 use Rattle.cert_check.proofs.reading_lists.read_lists.Goals as goal
 
-pub returns-in_err-read_session-clause-refused : goal.returns-in_err-read_session-clause-refused
-returns-in_err-read_session-clause-refused g c =
-    let at = list_at (list_at g.T.Number.number_at) in
-    let ds = map view c.in-Some.values.now in
-    let v = c.element-item.result in
-    let here = slice_get-mapped view c.in-Some.values.now c.loop-element.element-index v c.element-item.is c.loop-element-test.true in
-    let p = err_from_is_err_and c.from_residual.result c.from_residual.ensures.1 in
-    rw (p.1, p.2) (refused_too (at (view v)) (list_at at (view c.args.value.now)) _
-    (λ bad. list_of_none at (view c.args.value.now) ds (sym c.in-Some.ensures)
-    (no_element at ds c.loop-element.lists c.loop-element.element-index (view v) c.loop-element.invariant here bad))
-    c.in_err-read_session.ensures.refused)
+pub returns-then-not-branch : goal.returns-then-not-branch
+returns-then-not-branch g c =
+    let none = rw c.if-not-branch.true at c.in_ok-read_session.ensures in
+    none_fits view (All (All g.T.Number.fits)) (list_form (list_form g.T.Number.form)) c.in-Some.values.now (view c.args.value.now) c.in-Some.ensures c.loop-element.element-index
+    c.element-item.result c.element-item.is c.loop-element-test.true none
 
 pub loop-element-preserved : goal.loop-element-preserved
 loop-element-preserved g c =
-    let at = list_at (list_at g.T.Number.number_at) in
-    let ds = map view c.in-Some.values.now in
-    let v = c.element-item.result in
-    let here = slice_get-mapped view c.in-Some.values.now c.loop-element.element-index v c.element-item.is c.loop-element-test.true in
-    reads_behind at ds c.loop-element.lists c.loop-element.element-index (view v) c.loop-element.invariant here
-    c.read_session.new.lists c.in_ok-read_session.ensures.read
+    let read = rw c.if-not-branch.false at c.in_ok-read_session.ensures in
+    one_more_behind view (All (All g.T.Number.fits)) (list_form (list_form g.T.Number.form)) c.in-Some.values.now c.loop-element.element-index c.element-item.result c.loop-element.lists
+    c.read_session.new.lists c.element-item.is c.loop-element-test.true read c.loop-element.invariant
+
+pub returns : goal.returns
+returns g c =
+    let ended : length c.in-Some.values.now ≤ c.loop-element.element-index = omega arith in
+    all_read view (All (All g.T.Number.fits)) (list_form (list_form g.T.Number.form)) c.in-Some.values.now (view c.args.value.now) c.in-Some.ensures c.loop-element.element-index c.loop-element.lists ended
+    c.loop-element.invariant

@@ -1,9 +1,9 @@
-use Rattle.std.proofs.Common.{map}
+use Rattle.std.proofs.Common.{All}
 use Rattle.serde_json.specs.View.{view}
-use Rattle.cert_check.specs.Steps.CertificateReading.{list_at}
-use Rattle.cert_check.proofs.ListReading.{ReadsOn}
+use Rattle.operations.specs.Reads.{list_form}
+use Rattle.cert_check.proofs.ListReading.{AreReadUpTo}
 use Rattle.cert_check.proofs.reading_lists.read_lists.Given as goal
 
--- the whole is what was read, and behind it what the rest reads as
+-- the elements so far are the forms of the lists of the sessions
 abbrev pub invariant-loop-element : goal.invariant-loop-element
-invariant-loop-element g l = ReadsOn (list_at (list_at g.T.Number.number_at)) (map view l.values) l.lists l.element-index
+invariant-loop-element g l = AreReadUpTo view (All (All g.T.Number.fits)) (list_form (list_form g.T.Number.form)) l.values l.element-index l.lists

@@ -1,23 +1,15 @@
-use Rattle.std.proofs.Common.{map, sym, ◌∙◌}
+use Rattle.std.proofs.Common.{arith, ◌≤◌, length}
 use Rattle.serde_json.specs.View.{view}
-use Rattle.operations.proofs.ListLaws.{slice_get-mapped}
-use Rattle.cert_check.proofs.ListReading.{no_element, reads_more, list_of_none}
+use Rattle.cert_check.proofs.ListReading.{all_read, none_fits}
 use Rattle.cert_check.proofs.reading_lists.read_numbers.Goals as goal
 
-pub returns-in_default-read-clause-refused : goal.returns-in_default-read-clause-refused
-returns-in_default-read-clause-refused g c =
-    let at = g.T.Number.number_at in
-    let ds = map view c.in-Some.values.now in
-    let v = c.element-item.result in
-    let here = slice_get-mapped view c.in-Some.values.now c.loop-element.element-index v c.element-item.is c.loop-element-test.true in
-    list_of_none at (view c.args.value.now) ds (sym c.in-Some.ensures)
-    (no_element at ds c.loop-element.numbers.items c.loop-element.element-index (view v) c.loop-element.invariant here (sym c.read.ensures ∙ c.in_default-read.is))
+pub returns-in_default-read : goal.returns-in_default-read
+returns-in_default-read g c =
+    none_fits view g.T.Number.fits g.T.Number.form c.in-Some.values.now (view c.args.value.now) c.in-Some.ensures c.loop-element.element-index c.element-item.result c.element-item.is
+    c.loop-element-test.true c.in_default-read.ensures
 
-pub loop-element-preserved : goal.loop-element-preserved
-loop-element-preserved g c =
-    let at = g.T.Number.number_at in
-    let ds = map view c.in-Some.values.now in
-    let v = c.element-item.result in
-    let here = slice_get-mapped view c.in-Some.values.now c.loop-element.element-index v c.element-item.is c.loop-element-test.true in
-    rw c.in_ok-push.ensures.items (reads_more at ds c.loop-element.numbers.items c.loop-element.element-index (view v) c.loop-element.invariant here
-    c.in-Some-read.number (sym c.in-Some-read.ensures))
+pub returns : goal.returns
+returns g c =
+    let ended : length c.in-Some.values.now ≤ c.loop-element.element-index = omega arith in
+    all_read view g.T.Number.fits g.T.Number.form c.in-Some.values.now (view c.args.value.now) c.in-Some.ensures c.loop-element.element-index c.loop-element.numbers.items ended
+    c.loop-element.invariant

@@ -1,8 +1,7 @@
-use Rattle.std.proofs.Common.{map}
 use Rattle.serde_json.specs.View.{view}
-use Rattle.cert_check.proofs.ListReading.{ReadsOn}
+use Rattle.cert_check.proofs.ListReading.{AreReadUpTo}
 use Rattle.cert_check.proofs.reading_lists.read_numbers.Given as goal
 
--- the whole is what was read, and behind it what the rest reads as
+-- the elements so far are the forms of the numbers
 abbrev pub invariant-loop-element : goal.invariant-loop-element
-invariant-loop-element g l = ReadsOn g.T.Number.number_at (map view l.values) l.numbers.items l.element-index
+invariant-loop-element g l = AreReadUpTo view g.T.Number.fits g.T.Number.form l.values l.element-index l.numbers.items

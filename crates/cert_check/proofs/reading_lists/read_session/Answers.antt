@@ -1,29 +1,25 @@
-use Rattle.std.proofs.Common.{map, sym}
-use Rattle.std.proofs.lemmas.Result.{err_from_is_err_and}
+use Rattle.std.proofs.Common.{arith, ◌≤◌, length, All}
 use Rattle.serde_json.specs.View.{view}
-use Rattle.operations.proofs.ListLaws.{slice_get-mapped}
-use Rattle.cert_check.specs.Steps.CertificateReading.{list_at}
-use Rattle.cert_check.proofs.ListReading.{pushed, not_pushed, refused_too, list_of_none}
+use Rattle.operations.specs.Reads.{list_form}
+use Rattle.cert_check.proofs.ListReading.{all_read, none_fits, one_more_pushed}
 use Rattle.cert_check.proofs.reading_lists.read_session.Goals as goal
 
-pub returns-in_err-numbers-clause-refused : goal.returns-in_err-numbers-clause-refused
-returns-in_err-numbers-clause-refused g c =
-    let at = list_at g.T.Number.number_at in
-    let ds = map view c.in-Some.values.now in
-    let v = c.element-item.result in
-    let here = slice_get-mapped view c.in-Some.values.now c.loop-element.element-index v c.element-item.is c.loop-element-test.true in
-    let p = err_from_is_err_and c.from_residual-in_err-numbers.result c.from_residual-in_err-numbers.ensures.1 in
-    rw (p.1, p.2) (refused_too (at (view v)) (list_at at (view c.args.value.now)) _
-    (λ bad. list_of_none at (view c.args.value.now) ds (sym c.in-Some.ensures)
-    (not_pushed at ds c.args.lists.now c.loop-element.lists c.loop-element.element-index (view v) c.loop-element.invariant here bad))
-    c.in_err-numbers.ensures.refused)
+pub returns-in_default-2 : goal.returns-in_default-2
+returns-in_default-2 g c =
+    let none = rw c.in_default-2.is at c.in_ok-numbers.ensures in
+    none_fits view (All g.T.Number.fits) (list_form g.T.Number.form) c.in-Some.values.now (view c.args.value.now) c.in-Some.ensures c.loop-element.element-index c.element-item.result c.element-item.is
+    c.loop-element-test.true none
 
 pub loop-element-preserved : goal.loop-element-preserved
 loop-element-preserved g c =
-    let at = list_at g.T.Number.number_at in
-    let ds = map view c.in-Some.values.now in
-    let v = c.element-item.result in
-    let here = slice_get-mapped view c.in-Some.values.now c.loop-element.element-index v c.element-item.is c.loop-element-test.true in
-    pushed at ds c.args.lists.now c.loop-element.lists c.loop-element.element-index (view v) c.loop-element.invariant here
-    c.in_ok-numbers.numbers.items c.push.new.self c.in_ok-numbers.ensures.read
-    (rw (← c.as_slice.ensures.value, ← c.sessions-session.ensures) c.in_ok-push.ensures.ok)
+    let read = rw c.in-Some-2.is at c.in_ok-numbers.ensures in
+    one_more_pushed view (All g.T.Number.fits) (list_form g.T.Number.form) c.in-Some.values.now c.args.lists.now c.loop-element.lists c.push.new.self c.loop-element.element-index
+    c.element-item.result c.in-Some-2.numbers.items c.element-item.is c.loop-element-test.true read (rw (← c.as_slice.ensures.value, ← c.sessions-session.ensures) c.in_ok-push.ensures.ok)
+    c.loop-element.invariant
+
+pub returns : goal.returns
+returns g c =
+    let ended : length c.in-Some.values.now ≤ c.loop-element.element-index = omega arith in
+    let pushed = c.loop-element.invariant in
+    let all = all_read view (All g.T.Number.fits) (list_form g.T.Number.form) c.in-Some.values.now (view c.args.value.now) c.in-Some.ensures c.loop-element.element-index pushed.items ended pushed.so_far in
+    (pushed.items, pushed.lists_are, all.0, all.1)
