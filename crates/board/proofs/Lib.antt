@@ -1,2 +1,3 @@
+pub mod BoardsLaws
 pub mod Due
 pub mod Verdicts

@@ -1,4 +1,5 @@
-ghost use Rattle.std.specs.Prelude.{◌≡◌, ◌<◌, ◌≤◌, ◌∷◌, ◌++◌, ℕ, [], length, IfOk, IfErr, IfSome, IsNone, OnOk, OnErr, MatchOption, None, Some, option_copied, slice_get};
+ghost use Rattle.std.specs.Prelude.{◌≡◌, ◌<◌, ◌≤◌, ◌∷◌, ◌++◌, ℕ, [], length, IfOk, IfErr, IfSome, IsNone, OnOk, OnErr};
+ghost use Rattle.std.specs.Prelude.{MatchOption, None, Some, option_copied, slice_get};
 ghost use Rattle.board.specs.Boards.{CaseState, fresh_case, row_of, handed_out, with_verdict, refuted};
 ghost use Rattle.board.specs.Steps.InSessions.{HasRowAt};
 ghost use Rattle.board.specs.Events.{IsChanged, IsDueOf, IsIdleAt, IsStanding, put_refusal, refute_refusal, ask_refusal};

@@ -7,6 +7,7 @@ mod board_error;
 mod case_rows;
 mod case_session;
 mod filed_case;
+pub mod laws;
 mod mark;
 mod piece;
 mod standing;
