@@ -67,27 +67,27 @@ pub fn make_by_order(alloc: Global, order: &CausalOrder) -> Result<Option<Certif
         → IfOk result (λ made. IfSome made (IsExplainedThroughout memory_answer order.now)) }
 {
     let vectors = order.vectors().copy(alloc)?;
-    certificate_by(alloc, order.memory().history(), vectors)
+    certificate_by(alloc, order, vectors)
 }
 
 /// The certificate by vectors of the causal order.
 fn certificate_by(
     alloc: Global,
-    h: &History<Memory>,
+    order: &CausalOrder,
     vectors: Vectors,
 ) -> Result<Option<Certificate>, AllocError>
-    requires order { CountsSourceOrder h.now vectors }
+    requires counts { CountsSourceOrder order.now vectors }
     ensures criterion { IfOk result (λ made. IfSome made (λ c. criterion_of c ≡ Criterion.Cm)) }
-    ensures shape { IfOk result (λ made. IfSome made (HasShapeOf h.now)) }
-    ensures vectors { IfOk result (λ made. IfSome made (λ c. CountsSourceOrder h.now (vectors_of c))) }
-    ensures turns { IsDifferentiated h.now → IfOk result (λ made. IfSome made (IsByTurns h.now)) }
-    ensures none { IsDifferentiated h.now → IfOk result (λ made. IfNone made (HasNoTurns h.now)) }
-    ensures some { IsDifferentiated h.now → IfOk result (λ made. IfSome made (λ _. ¬ HasNoTurns h.now)) }
-    ensures explained { IsDifferentiated h.now → ¬ HasStartOverwrittenInHB h.now
-        → IfOk result (λ made. IfSome made (IsExplainedThroughout memory_answer h.now)) }
+    ensures shape { IfOk result (λ made. IfSome made (HasShapeOf order.now)) }
+    ensures vectors { IfOk result (λ made. IfSome made (λ c. CountsSourceOrder order.now (vectors_of c))) }
+    ensures turns { IsDifferentiated order.now → IfOk result (λ made. IfSome made (IsByTurns order.now)) }
+    ensures none { IsDifferentiated order.now → IfOk result (λ made. IfNone made (HasNoTurns order.now)) }
+    ensures some { IsDifferentiated order.now → IfOk result (λ made. IfSome made (λ _. ¬ HasNoTurns order.now)) }
+    ensures explained { IsDifferentiated order.now → ¬ HasStartOverwrittenInHB order.now
+        → IfOk result (λ made. IfSome made (IsExplainedThroughout memory_answer order.now)) }
 {
-    h.value_is_history();
-    let Some(schedules) = schedules_by_happened_before(alloc, h, &vectors)? else {
+    order.history().value_is_history();
+    let Some(schedules) = schedules_by_happened_before(alloc, order)? else {
         return Ok(None);
     };
     Ok(Some(Certificate::Cm(vectors, schedules)))
@@ -96,18 +96,17 @@ fn certificate_by(
 /// For each operation, the schedule of its past, or `None` where a happened-before relation is cyclic or given up.
 fn schedules_by_happened_before(
     alloc: Global,
-    h: &History<Memory>,
-    vectors: &Vectors,
+    order: &CausalOrder,
 ) -> Result<Option<Schedules>, AllocError>
-    requires order { CountsSourceOrder h.now vectors.now }
-    ensures shape { IfOk result (λ made. IfSome made (HasOneEach h.now)) }
+    ensures shape { IfOk result (λ made. IfSome made (HasOneEach order.now)) }
     ensures each { IfOk result (λ made. IfSome made (λ schedules.
-        (o : Operation) → IsOp h.now o → TakesTurns h.now o (list_of schedules o))) }
-    ensures none { IsDifferentiated h.now → IfOk result (λ made. IfNone made (HasNoTurns h.now)) }
+        (o : Operation) → IsOp order.now o → TakesTurns order.now o (list_of schedules o))) }
+    ensures none { IsDifferentiated order.now → IfOk result (λ made. IfNone made (HasNoTurns order.now)) }
 {
+    let h = order.history();
     let mut schedules = Schedules::new(alloc);
     for session in 0..h.sessions() {
-        if !push_schedules(alloc, h, vectors, session, &mut schedules)? {
+        if !push_schedules(alloc, order, session, &mut schedules)? {
             return Ok(None);
         }
     }
@@ -118,22 +117,21 @@ fn schedules_by_happened_before(
 /// relations is cyclic or given up.
 fn push_schedules(
     alloc: Global,
-    h: &History<Memory>,
-    vectors: &Vectors,
+    order: &CausalOrder,
     session: usize,
     schedules: &mut Schedules,
 ) -> Result<bool, AllocError>
-    requires order { CountsSourceOrder h.now vectors.now }
-    requires few { length h.now.1 ≤ 16 }
-    requires exists { session < length h.now.1 }
-    requires so_far { AreGatheredBefore h.now (TakesTurns h.now) session schedules.old }
-    ensures all { IfOk result (λ all. IsTrue all → AreGatheredBefore h.now (TakesTurns h.now) (session + 1) schedules.new) }
-    ensures none { IsDifferentiated h.now → IfOk result (λ all. IsFalse all → HasNoTurns h.now) }
+    requires few { length order.now.1 ≤ 16 }
+    requires exists { session < length order.now.1 }
+    requires so_far { AreGatheredBefore order.now (TakesTurns order.now) session schedules.old }
+    ensures all { IfOk result (λ all. IsTrue all → AreGatheredBefore order.now (TakesTurns order.now) (session + 1) schedules.new) }
+    ensures none { IsDifferentiated order.now → IfOk result (λ all. IsFalse all → HasNoTurns order.now) }
 {
-    let mut happened = HappenedBefore::of(alloc, h, vectors, session, Some(MOST_PAIRS))?;
+    let h = order.history();
+    let mut happened = HappenedBefore::of(alloc, order, session, Some(MOST_PAIRS))?;
     schedules.push_session()?;
     for index in 0..h.len(session as u64) {
-        happened = happened.take_next(h)?;
+        happened = happened.take_next(order)?;
         match happened.saturation() {
             Saturation::Saturated => {}
             Saturation::Cyclic | Saturation::GivenUp => return Ok(false),

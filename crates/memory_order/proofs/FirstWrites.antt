@@ -1,6 +1,5 @@
 -- The sources of a memory history: the first writes of what was read.
-use Rattle.std.specs.Prelude.{◌≡◌, ◌⊎◌, ◌↔◌, ℕ, ◌+◌, ◌<◌, ◌≤◌, List, [], ◌∷◌, ◌++◌, length, Option, Some, None, Contains, MatchOption, slice_get}
-use Rattle.std.specs.Option.{option_flatten}
+use Rattle.std.specs.Prelude.{◌≡◌, ◌⊎◌, ◌↔◌, ℕ, ◌+◌, ◌<◌, ◌≤◌, List, [], ◌∷◌, ◌++◌, length, Option, Some, None, Contains, slice_get}
 use Rattle.std.proofs.Common.{arith, get_or, sym, ap, subst, subst₂, ◌∙◌, inl, inr, ⊎_elim, refl, length-append}
 use Rattle.std.proofs.lemmas.Bool.{cases_lt, cases_order}
 use Rattle.std.proofs.lemmas.List.{get_or_past, get_or_append_left, get_or_push}
@@ -57,11 +56,6 @@ module _ (h : MemoryHistory) where
             subst₂ (λ (k : ℕ) (g : Option OpId). IsSourceOf h (op s k) g) place (sym (get_or_push es e f i last) ∙ here) source)
             (cases_lt i (length es));
       })
-
-  -- where no source is missing, what was found is the source
-  pub source-flat : (r : OpId) → ¬ LacksSource h → (found : Option (Option OpId)) → MatchOption found (LacksSource h) (IsSourceOf h r) → IsSourceOf h r (option_flatten found)
-  source-flat r present None lacks = absurd (present lacks)
-  source-flat r present (Some e) is = is
 
   -- the sources of one session more
   pub ListsSourcesSoFar-push : (n : ℕ) (sources after : Sources) (es : List (Option OpId)) → ListsSourcesSoFar h n sources

@@ -120,13 +120,13 @@ module _ (h : MemoryHistory) where
         write-of_history h f source.0.0 last.value (subst (λ (s : ℕ). Writes h (op s f.index) source.0.0 last.value) (sym is_found.0) last.writes)
 
     -- else it is a rival
-    pub rival-ruled : (kept : Ops) → IsTrue (kept r) → IsRuled h kept v w f.session (f.index + 1)
+    pub rival-ruled : (kept : Ops) → IsTrue (kept r) → IsRuled h kept v w r f.session (f.index + 1)
     rival-ruled kept is =
         let last = is_found.1 in
         let of_session = is_found.0 in
         let wrote : Writes h f source.0.0 last.value = subst (λ (s : ℕ). Writes h (op s f.index) source.0.0 last.value) (sym of_session) last.writes in
         let counted : IsCounted v r f = subst (λ (s : ℕ). f.index < count v r s) (sym of_session) last.below in
-        (r, f.index, refl, is, source.0, (apart, (source.0.0, last.value, source.0.1, wrote, source.0.2)), counted)
+        (f.index, refl, is, source.0, (apart, (source.0.0, last.value, source.0.1, wrote, source.0.2)), counted)
 
     -- and once the source counts it, the read is followed, or a raise waits
     pub rival-followed : (kept : Ops) (a b : GrowingOrder) → a.counts ≡ v → Grows h ⊥ kept a b → IsCounted b.counts w f → IsReadFollowed h (Waits NoMore b) b.counts r u

@@ -6,6 +6,7 @@ use Rattle.std.proofs.lemmas.List.{get_or_past}
 use Rattle.std.proofs.lemmas.List.Elements.{All-push}
 use Rattle.history.specs.declared.op_id.OpId.{OpId}
 use Rattle.history.specs.History.{IsOp}
+use Rattle.memory_order.specs.declared.growing_order.Cause.{Cause}
 use Rattle.memory_order.specs.declared.growing_order.GrowingOrder.{GrowingOrder}
 use Rattle.memory_order.specs.declared.growing_order.Raised.{Raised}
 use Rattle.memory_order.specs.Memory.{MemoryHistory}
@@ -132,7 +133,7 @@ settled-behind order raised settled followed behind = record {
 }
 
 module _ (h : MemoryHistory) where
-  module _ (a b x : GrowingOrder) (t i e u c : ℕ) (raised : IsRaisedTo h a b t i e u c) (some : i < e) (is_op : IsOp h (op t i)) (exists : u < length h.1)
+  module _ (a b x : GrowingOrder) (t i e u c : ℕ) (cause : Cause) (raised : IsRaisedTo h a b t i e u c cause) (some : i < e) (is_op : IsOp h (op t i)) (exists : u < length h.1)
       (counts : x.counts ≡ b.counts) (past : x.past.items ≡ b.past.items)
       (pending : x.pending.items ≡ b.pending.items ++ record { op = op t i; end = e; session = u } ∷ []) (added : x.added ≡ b.added) where
     -- the state speaks of the history when a raise waits

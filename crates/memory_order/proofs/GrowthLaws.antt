@@ -2,10 +2,13 @@
 use Rattle.std.specs.Prelude.{◌⊎◌, ℕ, IsTrue}
 use Rattle.std.proofs.Common.{zero, suc, refl, sym, subst, ⊎_elim, inl, inr, ◌∙◌}
 use Rattle.history.specs.declared.op_id.OpId.{OpId}
+use Rattle.memory_order.specs.declared.growing_order.Cause.{Cause}
+use Rattle.memory_order.specs.declared.growing_order.Cause.TheVariants.{Through, Read}
 use Rattle.memory_order.specs.declared.growing_order.GrowingOrder.{GrowingOrder}
 use Rattle.memory_order.specs.Memory.{MemoryHistory}
 use Rattle.causal_order.specs.Orders.{Ops}
-use Rattle.memory_order.specs.Steps.GrowthSteps.{IsGrowing, IsRaise, IsInclusion, IsRelease, IsStep, HasSteps, Grows, GrowsWithin}
+use Rattle.causal_order.specs.Vectors.{Counts}
+use Rattle.memory_order.specs.Steps.GrowthSteps.{IsCaused, IsGrowing, IsRaise, IsInclusion, IsRelease, IsStep, HasSteps, Grows, GrowsWithin}
 
 module _ (h : MemoryHistory) where
   module _ (free : Type 0) (reads : Ops) where
@@ -54,6 +57,10 @@ module _ (h : MemoryHistory) where
     within-then a b c first second = record { grows = grows-then ⊥ reads a b c first.grows second.grows; past = second.past ∙ first.past }
 
   module _ (taken free : Type 0) (freer : taken → free) (few more : Ops) (wider : (r : OpId) → IsTrue (few r) → IsTrue (more r)) where
+    caused-wider : (v : Counts) (b : OpId) (u c : ℕ) (cause : Cause) → IsCaused h few v b u c cause → IsCaused h more v b u c cause
+    caused-wider v b u c (Through m) through = through
+    caused-wider v b u c (Read r) ruled = (ruled.0, ruled.1, wider r ruled.2, ruled.3, ruled.4, ruled.5)
+
     raise-wider : (a b : GrowingOrder) → IsRaise h few a b → IsRaise h more a b
     raise-wider a b raise = record {
       raised = raise.raised;
@@ -64,10 +71,9 @@ module _ (h : MemoryHistory) where
       inside = raise.inside;
       range = raise.range;
       stopped = raise.stopped;
-      cause = ⊎_elim
-          (λ (through : _). inl through)
-          (λ (ruled : _). inr (ruled.0, ruled.1, ruled.2, wider ruled.0 ruled.3, ruled.4, ruled.5, ruled.6))
-          raise.cause;
+      named = raise.named;
+      cause = caused-wider a.counts raise.raised.op raise.raised.session raise.number raise.named raise.cause;
+      raises = raise.raises;
       pending = raise.pending;
       past = raise.past;
       added = raise.added;

@@ -11,7 +11,7 @@ use Rattle.memory_order.specs.declared.writes.Write.{Write}
 use Rattle.memory_order.specs.Memory.{MemoryHistory, initial, Writes, Reads}
 use Rattle.causal_order.specs.Orders.{op}
 use Rattle.memory_order.specs.Relations.{ReadsFrom}
-use Rattle.memory_order.specs.SourceOrder.{LacksSource, IsSourceOf}
+use Rattle.memory_order.specs.SourceOrder.{LacksSource, IsSourceOf, ListsSourcesBelow}
 use Rattle.memory_order.specs.Sources.{Sources}
 use Rattle.memory_order.specs.Steps.Indexed.{IsSourceIfAny, ListsIfAnyBelow, ListsIfAnySoFar, ListsSourcesIfAny, IsKnownRead, ListsReadsBefore, ListsReads, end_of, listed_source, HasNoWriteBefore, IsLastWriteBefore}
 use Rattle.memory_order.specs.Steps.Written.{IsBelowWrite, IsLeastWrite, ListsWrites}
@@ -54,6 +54,13 @@ module _ (h : MemoryHistory) where
       (λ (same : v ≡ initial h x). same)
       (λ (apart : v ≡ initial h x → ⊥). absurd (present (r, x, v, reads, apart, λ w wrote. none w (x, v, wrote, reads, apart))))
       (cases_eq v (initial h x))
+
+  pub below-sourced : ¬ LacksSource h → (s n : ℕ) (es : List (Option OpId)) → ListsIfAnyBelow h s n es → ListsSourcesBelow h s n es
+  below-sourced present s n es below = record {
+    count = below.count;
+    short = below.short;
+    each = λ i e at. if_any-source present (op s i) e (below.each i e at);
+  }
 
   -- the source of one operation more
   pub ListsIfAnyBelow-push : (s n : ℕ) (es after : List (Option OpId)) (e : Option OpId) → ListsIfAnyBelow h s n es → n < 256

@@ -7,6 +7,7 @@ pub mod Least
 pub mod Places
 pub mod NextVector
 pub mod StrictVectors
+pub mod Stale
 pub mod EarlierLaws
 pub mod GrowingOrdersLaws
 pub mod HappenedBeforeLaws
@@ -32,6 +33,9 @@ pub mod GrowthLaws
 pub mod Raises
 pub mod Ranges
 pub mod RaisesMade
+pub mod RaiseLists
+pub mod RightRaises
+pub mod RaisesCaused
 pub mod Released
 pub mod GrowingSteps
 pub mod FollowedReads

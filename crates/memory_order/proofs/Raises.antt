@@ -5,6 +5,8 @@ use Rattle.std.proofs.lemmas.Bool.{cases_eq}
 use Rattle.std.proofs.lemmas.List.Elements.{Contains-append_left, Contains-push}
 use Rattle.history.specs.declared.op_id.OpId.{OpId}
 use Rattle.history.specs.History.{IsOp, Precedes}
+use Rattle.memory_order.specs.declared.growing_order.Cause.{Cause}
+use Rattle.memory_order.specs.declared.growing_order.Cause.TheVariants.{Through, Read}
 use Rattle.memory_order.specs.declared.growing_order.GrowingOrder.{GrowingOrder}
 use Rattle.memory_order.specs.declared.growing_order.Raised.{Raised}
 use Rattle.memory_order.specs.CountSums.{all_counted}
@@ -12,7 +14,7 @@ use Rattle.memory_order.specs.Memory.{MemoryHistory, IsDifferentiated}
 use Rattle.causal_order.specs.Orders.{op, Ops, program_past}
 use Rattle.memory_order.specs.Relations.{IsEdge, IsPast, HB}
 use Rattle.memory_order.specs.SourceOrder.{CountsSourceOrder}
-use Rattle.memory_order.specs.Steps.GrowthSteps.{IsIn, IsThrough, IsRuled, Waits, IsPending, IsFresh, IsFollowed, IsMonotone, IsSettled, IsRaise, Grows, GrowsWithin, left_of}
+use Rattle.memory_order.specs.Steps.GrowthSteps.{IsCaused, IsIn, Waits, IsPending, IsFresh, IsFollowed, IsMonotone, IsSettled, IsRaise, Grows, GrowsWithin, left_of}
 use Rattle.memory_order.specs.Steps.HappenedBefores.{IsSupported}
 use Rattle.causal_order.specs.Vectors.{Counts, count, IsCounted}
 use Rattle.memory_order.proofs.CountSumsLaws.{counted-most}
@@ -73,6 +75,7 @@ module _ (h : MemoryHistory) (free : Type 0) (reads : Ops) where
       × (all_counted h a.counts ≤ all_counted h x.counts))
       (λ x y before raise.
       let sums = raise.added in
+      let some = raise.some in
       let more = raise.more in
       let one = ap (λ (es : List Raised). length es) raise.pending ∙ length-append x.pending.items (raise.raised ∷ []) in
       let first = before.0 in
@@ -156,7 +159,7 @@ module _ (h : MemoryHistory) (free : Type 0) (reads : Ops) where
         → b.added ≡ 0 → (p : OpId) (s : ℕ) → count b.counts p s ≡ count strict p s
     grows-untouched a b grows = grows-keep h free reads
         (λ (x : GrowingOrder). x.added ≡ 0 → (p : OpId) (s : ℕ) → count x.counts p s ≡ count strict p s)
-        (λ x y before raise none. let sums = raise.added in let more = raise.more in absurd (omega arith))
+        (λ x y before raise none. let sums = raise.added in let some = raise.some in let more = raise.more in absurd (omega arith))
         (λ x y before included none p s.
         let same = included.added in
         ap (λ (v : Counts). count v p s) included.counts ∙ before (omega arith) p s)
@@ -237,21 +240,19 @@ module _ (h : MemoryHistory) (free : Type 0) (reads : Ops) where
           let in_m = past-before h o m p leads in_p in
           (in_m, HB-causal h o m p in_m in_p leads)
 
-      caused-HB : (f : OpId) (u c : ℕ) → IsPast h o f → IsThrough now f u c ⊎ IsRuled h reads now f u c → (j : ℕ) → j < c → HB h o (op u j) f
-      caused-HB f u c in_f cause j below = ⊎_elim
-          (λ (through : IsThrough now f u c).
-          let before : IsPast h o through.0 × HB h o through.0 f = ⊎_elim
-          (λ (counted : IsCounted now f through.0).
-          let happened = supported through.0 f in_f counted in
-          ((HB-inside h v counts distinct o is_op through.0 f happened).0, happened))
-          (λ (precedes : Precedes through.0 f). earlier-HB through.0 f precedes in_f)
-          through.1 in
-          supported-through h v counts distinct o is_op now supported through.0 f u c before.0 before.1 through.2 j below)
-          (λ (ruled : IsRuled h reads now f u c).
-          let last = ruled.2 in
-          supported-rival h v counts distinct o is_op now supported f ruled.0 u ruled.1 ruled.5 ruled.4 (kept ruled.0 ruled.3)
-          (past-program h o ruled.0 is_op (kept ruled.0 ruled.3)) ruled.6 j (omega arith))
-          cause
+      caused-HB : (f : OpId) (u c : ℕ) → IsPast h o f → (cause : Cause) → IsCaused h reads now f u c cause → (j : ℕ) → j < c → HB h o (op u j) f
+      caused-HB f u c in_f (Through m) through j below =
+          let before : IsPast h o m × HB h o m f = ⊎_elim
+          (λ (counted : IsCounted now f m).
+          let happened = supported m f in_f counted in
+          ((HB-inside h v counts distinct o is_op m f happened).0, happened))
+          (λ (precedes : Precedes m f). earlier-HB m f precedes in_f)
+          through.0 in
+          supported-through h v counts distinct o is_op now supported m f u c before.0 before.1 through.1 j below
+      caused-HB f u c in_f (Read r) ruled j below =
+          let last = ruled.1 in
+          supported-rival h v counts distinct o is_op now supported f r u ruled.0 ruled.4 ruled.3 (kept r ruled.2)
+          (past-program h o r is_op (kept r ruled.2)) ruled.5 j (omega arith)
 
     supported-raise : (x y : GrowingOrder) → IsSupported h o x.counts → IsRaise h reads x y → IsSupported h o y.counts
     supported-raise x y supported raise a p in_p counted = ⊎_elim
@@ -263,7 +264,7 @@ module _ (h : MemoryHistory) (free : Type 0) (reads : Ops) where
         let in_here : IsPast h o (op raise.raised.op.session p.index) =
         subst (λ (q : OpId). IsPast h o q) (same_op p (op raise.raised.op.session p.index) change.0 refl) in_p in
         let in_f : IsPast h o f = past-session h v counts distinct o is_op raise.raised.op.session raise.raised.op.index p.index from in_here in
-        let first = caused-HB x.counts supported f raise.raised.session raise.number in_f raise.cause a.index (omega arith) in
+        let first = caused-HB x.counts supported f raise.raised.session raise.number in_f raise.named raise.cause a.index (omega arith) in
         let here : HB h o a f = subst (λ (q : OpId). HB h o q f) (sym (same_op a (op raise.raised.session a.index) change.3 refl)) first in
         ⊎_elim
         (λ (same : p.index ≡ raise.raised.op.index). subst (λ (q : OpId). HB h o a q) (sym (same_op p f change.0 same)) here)

@@ -1,18 +1,20 @@
 -- How a raise is made of single counts.
-use Rattle.std.specs.Prelude.{◌≡◌, ◌≢◌, ◌⊎◌, ℕ, ◌+◌, ◌<◌, ◌≤◌, ◌∷◌, ◌++◌, [], List, true, length, slice_index}
-use Rattle.std.proofs.Common.{arith, refl, sym, ap, subst, ◌∙◌, ⊎_elim, inl, inr}
+use Rattle.std.specs.Prelude.{◌≡◌, ◌≢◌, ◌⊎◌, ℕ, ◌+◌, ◌-◌, ◌<◌, ◌≤◌, ◌∷◌, ◌++◌, [], List, true, length, slice_index}
+use Rattle.std.proofs.Common.{arith, refl, sym, ap, subst, ◌∙◌, ⊎_elim, inl, inr, append-nil}
 use Rattle.std.proofs.lemmas.Bool.{cases_eq, cases_lt}
 use Rattle.history.specs.declared.op_id.OpId.{OpId}
 use Rattle.history.specs.History.{IsOp}
+use Rattle.memory_order.specs.declared.growing_order.Cause.{Cause}
 use Rattle.memory_order.specs.declared.growing_order.GrowingOrder.{GrowingOrder}
 use Rattle.memory_order.specs.declared.growing_order.Raised.{Raised}
 use Rattle.memory_order.specs.CountSums.{all_counted}
 use Rattle.memory_order.specs.Memory.{MemoryHistory}
 use Rattle.causal_order.specs.Orders.{op, Ops}
 use Rattle.causal_order.specs.Vectors.{IsListed, Counts, count, list_of, with_item}
-use Rattle.memory_order.specs.Steps.GrowthSteps.{IsRange, IsGrowing, IsCaused, IsRaise, IsOneRaise, IsRaisedTo, IsRaisedFrom}
+use Rattle.memory_order.specs.Steps.GrowthSteps.{IsRange, IsGrowing, IsCaused, IsRaise, IsOneRaise, IsRaisedTo, IsRaisedFrom, cause_behind, raises_from}
 use Rattle.causal_order.proofs.Items.{item-cases, item-here}
 use Rattle.memory_order.proofs.HeldItems.{listed-held}
+use Rattle.memory_order.proofs.RaiseLists.{raises-next}
 use Rattle.memory_order.proofs.Ranges.{range-rises}
 
 -- a range of one more
@@ -51,8 +53,8 @@ range-next v w t i e u c range from listed inside less =
 
 module _ (h : MemoryHistory) where
   -- nothing is raised yet
-  pub raised-none : (a : GrowingOrder) (t i u c : ℕ) → IsGrowing h a → IsRaisedTo h a a t i i u c
-  raised-none a t i u c growing = record {
+  pub raised-none : (a : GrowingOrder) (t i u c : ℕ) (cause : Cause) → IsGrowing h a → IsRaisedTo h a a t i i u c cause
+  raised-none a t i u c cause growing = record {
     growing = growing;
     from = omega arith;
     inside = λ some. absurd (omega arith);
@@ -61,17 +63,19 @@ module _ (h : MemoryHistory) where
     pending = refl;
     past = refl;
     added = refl;
-    more = λ some. absurd (omega arith);
-    least = omega arith;
+    more = omega arith;
+    raises =
+        let none : 0 ≡ i - i = omega arith in
+        subst (λ (n : ℕ). a.raises.items ≡ a.raises.items ++ raises_from (op t i) u c cause n) none (sym (append-nil a.raises.items));
     none = λ _. refl;
     cyclic = refl;
     most = refl;
   }
 
   -- one count more is raised
-  pub raised-next : (a b x : GrowingOrder) (t i e u c : ℕ) → IsRaisedTo h a b t i e u c → e < slice_index b.past.items t → IsOp h (op t e) → u < length h.1
-      → IsOneRaise h b x (op t e) u c → IsRaisedTo h a x t i (e + 1) u c
-  raised-next a b x t i e u c before inside is_op exists one =
+  pub raised-next : (a b x : GrowingOrder) (t i e u c : ℕ) (cause named : Cause) → IsRaisedTo h a b t i e u c cause
+      → e < slice_index b.past.items t → IsOp h (op t e) → u < length h.1 → cause_behind cause (op t i) (e - i) ≡ named → IsOneRaise h b x (op t e) u c named → IsRaisedTo h a x t i (e + 1) u c cause
+  raised-next a b x t i e u c cause named before inside is_op exists is one =
       let listed = listed-held h b.counts before.growing.counts (op t e) is_op u c exists in
       let size = before.growing.counts.vectors.counts (op t e) is_op in
       let from = before.from in
@@ -96,25 +100,23 @@ module _ (h : MemoryHistory) where
         pending = one.pending ∙ before.pending;
         past = one.past ∙ before.past;
         added = let first = before.added in let second = one.added in omega arith;
-        more = λ some. ⊎_elim
-            (λ (begun : i < e). let first = before.more begun in let second = one.more in omega arith)
-            (λ (none : e ≤ i). let second = one.more in let first = before.least in omega arith)
-            (cases_lt i e);
-        least = let second = one.more in let first = before.least in omega arith;
+        more = let first = before.more in let second = one.more in omega arith;
+        raises = raises-next (op t i) u c cause i e refl before.from a.raises.items b.raises.items x.raises.items named is before.raises one.raises;
         none = λ last. absurd (omega arith);
         cyclic = one.cyclic ∙ before.cyclic;
         most = one.most ∙ before.most;
       }
 
   -- behind the range a count is as it was
-  pub raised-end : (a b : GrowingOrder) (t i e u c : ℕ) → IsRaisedTo h a b t i e u c → count b.counts (op t e) u ≡ count a.counts (op t e) u
-  raised-end a b t i e u c raised = ⊎_elim
+  pub raised-end : (a b : GrowingOrder) (t i e u c : ℕ) (cause : Cause) → IsRaisedTo h a b t i e u c cause → count b.counts (op t e) u ≡ count a.counts (op t e) u
+  raised-end a b t i e u c cause raised = ⊎_elim
       (λ (same : count b.counts (op t e) u ≡ count a.counts (op t e) u). same)
       (λ (change : (t ≡ t) × (i ≤ e) × (e < e) × (u ≡ u) × (count a.counts (op t e) u < c) × (count b.counts (op t e) u ≡ c)).
       let none = change.2 in absurd (omega arith))
       (raised.range.each (op t e) u)
 
-  module _ (a b : GrowingOrder) (t i e u c : ℕ) (raised : IsRaisedTo h a b t i e u c) (stopped : e < slice_index a.past.items t → c ≤ count a.counts (op t e) u) where
+  module _ (a b : GrowingOrder) (t i e u c : ℕ) (cause : Cause) (raised : IsRaisedTo h a b t i e u c cause)
+      (stopped : e < slice_index a.past.items t → c ≤ count a.counts (op t e) u) where
     -- what is raised so far is raised from its first operation on
     pub raised-from : IsRaisedFrom a.counts b.counts (slice_index a.past.items t) t i u c
     raised-from = record {
@@ -135,10 +137,10 @@ module _ (h : MemoryHistory) where
     }
 
     -- and it is a raise, once it waits to be followed
-    pub raise-made : (reads : Ops) (x : GrowingOrder) → i < e → IsOp h (op t i) → IsCaused h reads a.counts (op t i) u c → x.counts ≡ b.counts → x.past.items ≡ b.past.items
-        → x.pending.items ≡ b.pending.items ++ record { op = op t i; end = e; session = u } ∷ [] → x.added ≡ b.added → x.most ≡ b.most
+    pub raise-made : (reads : Ops) (x : GrowingOrder) → i < e → IsOp h (op t i) → IsCaused h reads a.counts (op t i) u c cause → x.counts ≡ b.counts → x.past.items ≡ b.past.items
+        → x.pending.items ≡ b.pending.items ++ record { op = op t i; end = e; session = u } ∷ [] → x.added ≡ b.added → x.raises.items ≡ b.raises.items → x.most ≡ b.most
         → (((x.is_cyclic ≡ b.is_cyclic) × (t ≢ u)) ⊎ ((x.is_cyclic ≡ true) × (t ≡ u))) → IsRaise h reads a x
-    raise-made reads x some is_op cause counts past pending added most cyclic = record {
+    raise-made reads x some is_op caused counts past pending added raises most cyclic = record {
       raised = record { op = op t i; end = e; session = u };
       number = c;
       is_op = is_op;
@@ -147,11 +149,13 @@ module _ (h : MemoryHistory) where
       inside = raised.inside some;
       range = subst (λ (v : Counts). IsRange a.counts v t i e u c) (sym counts) raised.range;
       stopped = stopped;
-      cause = cause;
+      named = cause;
+      cause = caused;
+      raises = raises ∙ raised.raises;
       pending = pending ∙ ap (λ (es : List Raised). es ++ record { op = op t i; end = e; session = u } ∷ []) raised.pending;
       past = past ∙ raised.past;
       added = subst (λ (v : Counts). x.added + all_counted h a.counts ≡ a.added + all_counted h v) (sym counts) (let sums = raised.added in omega arith);
-      more = subst (λ (v : Counts). all_counted h a.counts < all_counted h v) (sym counts) (raised.more some);
+      more = subst (λ (v : Counts). all_counted h a.counts + (e - i) ≤ all_counted h v) (sym counts) raised.more;
       cyclic = ⊎_elim
           (λ (same : (x.is_cyclic ≡ b.is_cyclic) × (t ≢ u)). inl (same.0 ∙ raised.cyclic, same.1))
           (λ (cycle : (x.is_cyclic ≡ true) × (t ≡ u)). inr cycle)

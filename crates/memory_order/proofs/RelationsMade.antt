@@ -15,6 +15,7 @@ use Rattle.memory_order.specs.CountSums.{all_counted}
 use Rattle.memory_order.specs.HappenedBeforeVectors.{IsHBVectors}
 use Rattle.memory_order.specs.Memory.{MemoryHistory, IsDifferentiated}
 use Rattle.causal_order.specs.Orders.{op, program_past}
+use Rattle.memory_order.specs.Raises.{AreReached, AreRightRaises}
 use Rattle.memory_order.specs.Relations.{IsPast, HB}
 use Rattle.memory_order.specs.SourceOrder.{CountsSourceOrder, IsSource, IsSourceEdge, SourceOrder}
 use Rattle.memory_order.specs.Steps.GrowthSteps.{Always, Grows, IsCovered, IsFresh, IsGivenUp, IsIn, IsPending, IsReady, IsSettled, NoMore, NoReads, TakesPast, Waits}
@@ -28,6 +29,8 @@ use Rattle.memory_order.proofs.HappenedBeforeLaws.{HB-earlier, HB-inside, in_pas
 use Rattle.memory_order.proofs.HappenedBeforeVectors.{IsFixed, fixed-exact, supported-strict}
 use Rattle.causal_order.proofs.OrdersLaws.{same_op, session-of_history}
 use Rattle.memory_order.proofs.Raises.{TellsCycles, grows-cyclic, grows-most, grows-outside, grows-rises, grows-sums, grows-supported, grows-untouched, settled-within}
+use Rattle.memory_order.proofs.RaisesCaused.{grows-few, grows-right}
+use Rattle.memory_order.proofs.RightRaises.{right-later}
 use Rattle.causal_order.proofs.PathsLaws.{leads-edge, leads-leads}
 use Rattle.memory_order.proofs.SourceVectors.{counts-before, counted-within, own-count, program-before}
 use Rattle.memory_order.proofs.StrictLaws.{strict-straight}
@@ -291,6 +294,21 @@ module _ (h : MemoryHistory) where
         outside-next : (p : OpId) (s : ℕ) → slice_index b.order.past.items p.session ≤ p.index → count b.order.counts p s ≡ count made.strict p s
         outside-next = grows-outside h Always (program_past o) made.strict a.order b.order steps made.outside
 
+        -- what is in is in its past
+        past-in : (p : OpId) → IsIn b.order p → IsPast h o p
+        past-in p is_in = let is = past-next p.session in ⊎_elim
+            (λ (same : p ≡ o). inl same)
+            (λ (before : SourceOrder h p o). inr (CO-from_sources h p o before))
+            ((made.counts.counted o p next).0 (omega arith))
+
+        -- its raises are right, and reach what is counted
+        right-next : AreRightRaises h o made.strict b.order.raises.items × AreReached made.strict b.order.raises.items b.order.counts
+        right-next = grows-right h Always (program_past o) o made.strict (λ r is. is) b.order saturated.well_formed.order past-in a.order steps
+            (made.right a.taken next (omega arith)) made.reached
+
+        few-raises : length b.order.raises.items ≤ b.order.added
+        few-raises = grows-few h Always (program_past o) a.order b.order steps made.few
+
         -- the relation is made
         pub made-next : IsMade h b
         made-next = record {
@@ -309,16 +327,13 @@ module _ (h : MemoryHistory) where
           supported = λ distinct n is.
               let here : o ≡ op b.session n = let taken = same-taken in same_op o (op b.session n) (sym same-session) (omega arith) in
               subst (λ (q : OpId). IsSupported h q b.order.counts) here (supported-next distinct);
+          right = λ n is_op from. right-later h (op b.session n) o made.strict b.order.raises.items is_op
+              (program_past-from (op b.session n) o (sym same-session) (let taken = same-taken in omega arith)) right-next.0;
+          reached = right-next.1;
+          few = few-raises;
           settled = settled;
           reads = reads;
         }
-
-        -- what is in is in its past
-        past-in : (p : OpId) → IsIn b.order p → IsPast h o p
-        past-in p is_in = let is = past-next p.session in ⊎_elim
-            (λ (same : p ≡ o). inl same)
-            (λ (before : SourceOrder h p o). inr (CO-from_sources h p o before))
-            ((made.counts.counted o p next).0 (omega arith))
 
         module _ (waits : length b.order.pending.items ≡ 0) where
           -- where nothing waits, a vector counts what the last one counts that it counts
@@ -444,9 +459,9 @@ module _ (h : MemoryHistory) where
             few-next None not = tt
             few-next (Some n) not = no-more n not
 
-        more-pairs : IsDifferentiated h → (most : Option ℕ) → MatchOption most ⊥ (λ n. n < b.order.added) → MatchOption most ⊥ (λ n. HasMorePairs h o n)
-        more-pairs distinct None given_up = given_up
-        more-pairs distinct (Some n) given_up = record {
+        -- what was added are pairs of the relation
+        added-pairs : IsDifferentiated h → (n : ℕ) → n < b.order.added → HasMorePairs h o n
+        added-pairs distinct n fewer = record {
           causal = made.causal;
           counts = made.counts;
           strict = made.strict;
@@ -460,6 +475,10 @@ module _ (h : MemoryHistory) where
               (cases_lt p.index (slice_index b.order.past.items p.session)));
           more = let sums = sums-next in omega arith;
         }
+
+        more-pairs : IsDifferentiated h → (most : Option ℕ) → MatchOption most ⊥ (λ n. n < b.order.added) → MatchOption most ⊥ (λ n. HasMorePairs h o n)
+        more-pairs distinct None given_up = given_up
+        more-pairs distinct (Some n) given_up = added-pairs distinct n given_up
 
         module _ (ended : (length b.order.pending.items ≡ 0) ⊎ IsGivenUp b.order) where
           waits-none : ¬ IsGivenUp b.order → length b.order.pending.items ≡ 0
@@ -482,4 +501,5 @@ module _ (h : MemoryHistory) where
             counts = λ p s. grows-rises h Always (program_past o) a.order b.order steps p s;
             outcome = outcome-next;
             few = λ distinct not. few-next (waits-none not) distinct b.order.most not;
+            raised = λ distinct n below. added-pairs distinct n (let few = few-raises in omega arith);
           }

@@ -17,7 +17,7 @@ all-front P xs ys e is all =
     )
 
 module _ (h : MemoryHistory) (a b : GrowingOrder) (growing : IsGrowing h a) (counts : b.counts ≡ a.counts) (past : b.past.items ≡ a.past.items)
-    (added : b.added ≡ a.added) (cyclic : b.is_cyclic ≡ a.is_cyclic) (most : b.most ≡ a.most) where
+    (added : b.added ≡ a.added) (raises : b.raises.items ≡ a.raises.items) (cyclic : b.is_cyclic ≡ a.is_cyclic) (most : b.most ≡ a.most) where
   released : (e : Raised) → a.pending.items ≡ b.pending.items ++ e ∷ [] → TakesOut h a b e
   released e is =
       let pending = all-front (IsRaisedIn h) b.pending.items a.pending.items e is growing.pending in
@@ -35,7 +35,7 @@ module _ (h : MemoryHistory) (a b : GrowingOrder) (growing : IsGrowing h a) (cou
         };
         is_raised = pending.1;
         is_in = waiting.1;
-        release = record { counts = counts; raised = e; pending = is; past = past; added = added; cyclic = cyclic; most = most };
+        release = record { counts = counts; raised = e; pending = is; past = past; added = added; raises = raises; cyclic = cyclic; most = most };
         same = refl;
       }
 
@@ -61,6 +61,7 @@ module _ (h : MemoryHistory) (a b : GrowingOrder) (growing : IsGrowing h a) (cou
           pending = sym same;
           past = λ s. let e = ap (λ (es : List ℕ). slice_index es s) past in omega arith;
           added = added;
+          raises = raises;
           cyclic = cyclic;
           most = most;
         };

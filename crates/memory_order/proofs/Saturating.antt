@@ -4,11 +4,13 @@ use Rattle.std.proofs.Common.{arith, refl, sym, ap, subst, subst₂, ◌∙◌, 
 use Rattle.std.proofs.lemmas.List.Elements.{Contains-push_cases}
 use Rattle.history.specs.declared.op_id.OpId.{OpId}
 use Rattle.history.specs.History.{session}
+use Rattle.memory_order.specs.declared.growing_order.Raise.{Raise}
 use Rattle.memory_order.specs.declared.growing_order.Raised.{Raised}
 use Rattle.memory_order.specs.declared.happened_before.HappenedBefore.{HappenedBefore}
 use Rattle.memory_order.specs.declared.writes.Write.{Write}
 use Rattle.memory_order.specs.CountSums.{all_counted}
 use Rattle.memory_order.specs.Memory.{MemoryHistory}
+use Rattle.memory_order.specs.Raises.{AreRightRaises}
 use Rattle.causal_order.specs.Orders.{op, program_past}
 use Rattle.memory_order.specs.SourceOrder.{CountsSourceOrder, ListsSourcesBelow}
 use Rattle.memory_order.specs.Steps.GrowthSteps.{Always, Grows, GrowsWithin, IsAtEnd, IsBegun, IsCovered, IsFollowed, IsPending, IsSettled, NoMore, NoReads, TakesOut, Waits, left_of}
@@ -53,6 +55,10 @@ module _ (h : MemoryHistory) where
     cyclic = λ is. let both : false ≡ true = sym begun.cyclic ∙ is in absurd cc;
     acyclic = λ not p is_op. strict.own p is_op;
     supported = λ distinct n is. absurd (omega arith);
+    right = λ n is_op from. subst (λ (es : List Raise). AreRightRaises h (op happened.session n) happened.order.counts es) (sym begun.raises)
+        (record { each = λ k e at. absurd cc });
+    reached = λ b s. inl (omega arith);
+    few = let none = ap (λ (es : List Raise). length es) begun.raises in omega arith;
     settled = record {
       monotone = λ s j z below. let is = begun.past s in absurd (omega arith);
       followed = λ b y is_in. let is = begun.past b.session in absurd (omega arith);

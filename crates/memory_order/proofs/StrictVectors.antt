@@ -1,24 +1,19 @@
 -- Vectors that don't count their own operation.
-use Rattle.std.specs.Prelude.{◌≡◌, ◌≢◌, ℕ, ◌<◌, ◌≤◌, List, [], length}
-use Rattle.std.proofs.Common.{arith, get_or, set, sym, ap, subst, ◌∙◌, ⊎_elim}
+use Rattle.std.specs.Prelude.{◌≡◌, ◌≢◌, ℕ, ◌+◌, ◌<◌, ◌≤◌, [], length}
+use Rattle.std.proofs.Common.{arith, sym, ap, subst, ◌∙◌, ⊎_elim, inl, inr}
 use Rattle.std.proofs.lemmas.Bool.{cases_eq, cases_lt}
-use Rattle.std.proofs.lemmas.List.{get_or-set_same, get_or-set_other, get_or_past, length-set}
+use Rattle.std.proofs.lemmas.List.{get_or_past}
 use Rattle.history.specs.declared.op_id.OpId.{OpId}
-use Rattle.history.specs.History.{session}
-use Rattle.causal_order.specs.Steps.Gathered.{AreGatheredBefore}
-use Rattle.causal_order.proofs.GatheredLaws.{gathered-shape, gathered-each}
+use Rattle.history.specs.History.{IsOp, session}
+use Rattle.causal_order.specs.Orders.{op, IsEarlier}
+use Rattle.causal_order.proofs.Items.{item-cases, item-here}
+use Rattle.causal_order.proofs.OrdersLaws.{session-of_history}
 use Rattle.memory_order.specs.Steps.GrowingOrders.{AreHeldVectors}
-use Rattle.memory_order.specs.Steps.HappenedBefores.{IsStrict, AreStrictOf}
+use Rattle.memory_order.specs.Steps.HappenedBefores.{AreStrictBefore, AreStrictOf}
 use Rattle.memory_order.specs.Memory.{MemoryHistory}
-use Rattle.causal_order.specs.Vectors.{Counts, list_of}
-
--- a vector with the index of its operation at the operation's session
-pub strict-row : (n : ℕ) (v : Counts) (o : OpId) (row : List ℕ) → row ≡ list_of v o → length row ≡ n → o.session < n → IsStrict n v o (set row o.session o.index)
-strict-row n v o row same size inside = record {
-  size = length-set row o.session o.index ∙ size;
-  own = get_or-set_same row o.session o.index 0 (omega arith);
-  others = λ s apart. get_or-set_other row o.session s o.index 0 apart ∙ ap (λ (xs : List ℕ). get_or xs s 0) same;
-}
+use Rattle.causal_order.specs.Vectors.{Counts, count, with_item}
+use Rattle.memory_order.proofs.EarlierLaws.{earlier_cases}
+use Rattle.memory_order.proofs.HeldItems.{listed-held}
 
 module _ (h : MemoryHistory) where
   -- sessions that are short so far, and behind the last none
@@ -28,26 +23,56 @@ module _ (h : MemoryHistory) where
       (λ (past : n ≤ s). let none = ap (λ (es : _). length es) (get_or_past h.1 s [] (omega arith)) in omega arith)
       (cases_lt s n)
 
-  module _ (v strict : Counts) (n : ℕ) (ended : n ≡ length h.1) (gathered : AreGatheredBefore h (IsStrict (length h.1) v) n strict) where
-    pub gathered-strict : AreStrictOf h v strict
-    gathered-strict = record {
-      own = λ o is_op. (gathered-each h (IsStrict (length h.1) v) n strict ended gathered o is_op).own;
-      others = λ o s is_op apart. (gathered-each h (IsStrict (length h.1) v) n strict ended gathered o is_op).others s apart;
-    }
+  -- before the first operation nothing is left out
+  pub strict-none : (v strict : Counts) → strict ≡ v → AreStrictBefore h v (op 0 0) strict
+  strict-none v strict same = record {
+    own = λ o is_op earlier. absurd (⊎_elim
+        (λ (below : o.session < 0). omega arith)
+        (λ (here : (o.session ≡ 0) × (o.index < 0)). let below = here.1 in omega arith)
+        earlier);
+    others = λ o s apart. ap (λ (x : Counts). count x o s) same;
+  }
 
-    pub gathered-held : AreHeldVectors h v → AreHeldVectors h strict
-    gathered-held vectors = record {
-      vectors = record {
-        one_each = gathered-shape h (IsStrict (length h.1) v) n strict ended gathered;
-        counts = λ o is_op. (gathered-each h (IsStrict (length h.1) v) n strict ended gathered o is_op).size;
-      };
-      held = λ o s is_op.
-          let row = gathered-each h (IsStrict (length h.1) v) n strict ended gathered o is_op in
-          ⊎_elim
-          (λ (same : s ≡ o.session).
-          let own = row.own in
-          let here : get_or (list_of strict o) o.session 0 ≤ length (session h o.session) = omega arith in
-          subst (λ (t : ℕ). get_or (list_of strict o) t 0 ≤ length (session h t)) (sym same) here)
-          (λ (apart : s ≢ o.session). let as_before = row.others s apart in let held = vectors.held o s is_op in omega arith)
-          (cases_eq s o.session);
-    }
+  -- one operation more is left out
+  pub strict-next : (v strict : Counts) (s i : ℕ) → AreHeldVectors h strict → IsOp h (op s i) → s < length h.1
+      → AreStrictBefore h v (op s i) strict → AreStrictBefore h v (op s (i + 1)) (with_item strict (op s i) s i)
+  strict-next v strict s i held is_op exists before =
+      let listed = listed-held h strict held (op s i) is_op s i exists in
+      let size = held.vectors.counts (op s i) is_op in
+      let here : count (with_item strict (op s i) s i) (op s i) s ≡ i = item-here strict (op s i) s i listed (omega arith) in
+      record {
+        own = λ o o_is_op earlier. ⊎_elim
+            (λ (old : IsEarlier o (op s i)). ⊎_elim
+            (λ (same : count (with_item strict (op s i) s i) o o.session ≡ count strict o o.session). same ∙ before.own o o_is_op old)
+            (λ (places : (o ≡ op s i) × (o.session ≡ s)).
+            subst (λ (p : OpId). count (with_item strict (op s i) s i) p p.session ≡ p.index) (sym places.0) here)
+            (item-cases strict (op s i) s i listed o o.session))
+            (λ (last : o ≡ op s i). subst (λ (p : OpId). count (with_item strict (op s i) s i) p p.session ≡ p.index) (sym last) here)
+            (earlier_cases o s i earlier);
+        others = λ o t apart. ⊎_elim
+            (λ (same : count (with_item strict (op s i) s i) o t ≡ count strict o t). same ∙ before.others o t apart)
+            (λ (places : (o ≡ op s i) × (t ≡ s)). absurd (apart (places.1 ∙ sym (ap (λ (p : OpId). p.session) places.0))))
+            (item-cases strict (op s i) s i listed o t);
+      }
+
+  -- the end of a session
+  pub strict-session : (v strict : Counts) (s i : ℕ) → length (session h s) ≤ i → AreStrictBefore h v (op s i) strict → AreStrictBefore h v (op (s + 1) 0) strict
+  strict-session v strict s i ended before = record {
+    own = λ o is_op earlier. before.own o is_op (⊎_elim
+        (λ (below : o.session < s + 1). ⊎_elim
+        (λ (here : o.session ≡ s).
+        let inside : o.index < length (session h s) = subst (λ (t : ℕ). o.index < length (session h t)) here is_op in
+        inr (here, omega arith))
+        (λ (apart : o.session ≢ s). inl (omega arith))
+        (cases_eq o.session s))
+        (λ (none : (o.session ≡ s + 1) × (o.index < 0)). let below = none.1 in absurd (omega arith))
+        earlier);
+    others = before.others;
+  }
+
+  -- the end of the last session
+  pub strict-all : (v strict : Counts) (n : ℕ) → length h.1 ≤ n → AreStrictBefore h v (op n 0) strict → AreStrictOf h v strict
+  strict-all v strict n ended before = record {
+    own = λ o is_op. before.own o is_op (inl (let exists = session-of_history h o is_op in omega arith));
+    others = λ o s is_op apart. before.others o s apart;
+  }

@@ -7,4 +7,5 @@ pub mod HappenedBeforePatterns
 pub mod HappenedBeforeVectors
 pub mod MemoryHistories
 pub mod CountSums
+pub mod Raises
 pub mod Steps

@@ -8,7 +8,8 @@ ghost use Rattle.memory_order.specs.Steps.Indexed.{HasNoWriteOfPast, IsLastWrite
 use crate::indexed::IndexedMemory;
 use crate::known_reads::KnownRead;
 use causal_order::{Vectors, count_at, has_counted, has_counted_other};
-use history::OpId;
+use history::{History, OpId};
+use objects::Memory;
 use std::marker::Model;
 
 /// The order of a memory history that program order and the sources of reads make, which is its causal order where values
@@ -40,6 +41,13 @@ impl<'a> CausalOrder<'a> {
     }
 
     /// The memory history.
+    pub fn history(&self) -> &'a History<Memory>
+        ensures { result.now ≡ self.now }
+    {
+        self.memory.history()
+    }
+
+    /// What is known of the memory history.
     pub fn memory(&self) -> &'a IndexedMemory<'a>
         ensures { result.now ≡ self.now }
     {

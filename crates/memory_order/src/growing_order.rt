@@ -1,15 +1,15 @@
 //! Orders of operations that contain program order, while they grow until they are transitive.
 
-ghost use Rattle.std.specs.Prelude.{◌≡◌, ◌<◌, ◌≤◌, ◌↔◌, ◌⊎◌, ◌+◌, [], ℕ, length, IfOk, IsTrue, MatchBool, MatchOption, OnOk, slice_index};
+ghost use Rattle.std.specs.Prelude.{◌≡◌, ◌<◌, ◌≤◌, ◌↔◌, ◌⊎◌, ◌+◌, [], ℕ, length, IfOk, IsTrue, MatchBool, MatchOption, OnOk, slice_index, slice_index_or};
 ghost use Rattle.history.specs.History.{IsOp, Precedes, session as operations_of};
 ghost use Rattle.causal_order.specs.Orders.{op, Ops};
 ghost use Rattle.memory_order.specs.Steps.GrowingOrders.{AreHeldVectors};
-ghost use Rattle.memory_order.specs.Steps.GrowthSteps.{GrowsWithin, IsAtEnd, IsBegun, IsCaused, IsFirstBehind, IsFollowed, IsGivenUp, IsGrowing, IsIn, IsIncluded, IsMonotone, IsOneRaise, IsPastBefore, IsPastOf, IsRaisedFrom, IsRaisedTo, IsReady, IsRuled, IsSettled, NoMore, NoReads, TakesOut, TakesPast, TakesUpTo, Waits};
+ghost use Rattle.memory_order.specs.Steps.GrowthSteps.{GrowsWithin, IsAroundBehind, IsAtEnd, IsBegun, IsCaused, IsFirstBehind, IsFollowed, IsGivenUp, IsGrowing, IsIn, IsIncluded, IsMonotone, IsOneRaise, IsPastBefore, IsPastOf, IsRaisedFrom, IsRaisedTo, IsReady, IsRuled, IsSettled, IsStale, NoMore, NoReads, TakesOut, TakesPast, TakesUpTo, Waits};
 ghost use Rattle.memory_order.specs.Steps.HappenedBefores.{AreStrictOf};
 ghost use Rattle.causal_order.specs.Vectors.{count, IsCounted};
 
 use crate::strict::strict_vectors;
-use causal_order::{Vectors, is_at_most};
+use causal_order::Vectors;
 use history::{History, OpId};
 use objects::Memory;
 use std::alloc::{AllocError, Global};
@@ -218,7 +218,7 @@ impl GrowingOrder {
     }
 
     /// Puts all that is before the last operations of each session that the vector of an operation counts before the
-    /// operation.
+    /// operation. Those that the vector of the operation before it in its session counts too are passed over.
     fn add_all_last(&mut self, h: &History<Memory>, op: OpId) -> Result<(), AllocError>
         requires growing { IsGrowing h.now self.old }
         requires is_op { IsOp h.now op }
@@ -226,10 +226,31 @@ impl GrowingOrder {
         ensures within { OnOk result (GrowsWithin h.now NoReads self.old self.new) }
         ensures followed { OnOk result ((y : ℕ) → y < length h.now.1 → IsFollowed (Waits NoMore self.new) self.new.counts op y) }
     {
-        for session in 0..h.sessions() {
+        let mut from = 0;
+        while let Some(session) = self.next_fresh(h, op, from) {
             self.add_last(h, op, session)?;
+            from = session + 1;
         }
         Ok(())
+    }
+
+    /// The first session from a number on of which the vector of an operation counts more than that of the operation before it
+    /// in its session. O(k) for k sessions.
+    fn next_fresh(&self, h: &History<Memory>, op: OpId, from: usize) -> Option<usize>
+        requires growing { IsGrowing h.now self.now }
+        requires is_op { IsOp h.now op }
+        ensures { MatchOption result ((y : ℕ) → from ≤ y → y < length h.now.1 → IsStale self.now.counts op y)
+            (λ session. (from ≤ session) × (session < length h.now.1) × ((y : ℕ) → from ≤ y → y < session → IsStale self.now.counts op y)) }
+    {
+        let counts = self.counts.get(op);
+        if op.index == 0 {
+            return next_above(counts, &[], from);
+        }
+        let before = OpId {
+            session: op.session,
+            index: op.index - 1,
+        };
+        next_above(counts, self.counts.get(before), from)
     }
 
     /// Follows what was raised: the operation comes behind all that is before the last one counted, and what comes
@@ -260,8 +281,10 @@ impl GrowingOrder {
         let count = self.count(h, raised.op, raised.session);
         for session in 0..h.sessions() {
             let index = self.first_behind(h, session, raised.op);
-            let cause = Cause::Through(raised.op);
-            self.raise_from(h, session, index, raised.session, count, cause)?;
+            if index < self.past[session] as usize {
+                let cause = Cause::Through(raised.op);
+                self.raise_from(h, session, index, raised.session, count, cause)?;
+            }
         }
         Ok(())
     }
@@ -299,7 +322,7 @@ impl GrowingOrder {
         requires source { IsOp h.now source }
         requires is_in { IsIn self.old source }
         requires write { IsOp h.now write }
-        ensures within { (reads : Ops) → IsRuled h.now reads self.old.counts source write.session (write.index + 1) → OnOk result (GrowsWithin h.now reads self.old self.new) }
+        ensures within { (reads : Ops) → IsRuled h.now reads self.old.counts source read write.session (write.index + 1) → OnOk result (GrowsWithin h.now reads self.old self.new) }
         ensures growing { OnOk result (IsGrowing h.now self.new) }
         ensures counted { OnOk result (IsCounted self.new.counts source write) }
     {
@@ -321,16 +344,31 @@ impl GrowingOrder {
         ensures within { OnOk result (GrowsWithin h.now NoReads self.old self.new) }
         ensures past { OnOk result (IsPastOf self.new.counts op before) }
     {
-        if is_at_most(self.counts.get(before), self.counts.get(op)) {
+        if is_within(self.counts.get(before), self.counts.get(op)) {
             return Ok(());
         }
-        for session in 0..h.sessions() {
+        let mut from = 0;
+        while let Some(session) = self.next_more(h, before, op, from) {
             let count = self.count(h, before, session);
             let index = op.index as usize;
             let cause = Cause::Through(before);
             self.raise_from(h, op.session as usize, index, session, count, cause)?;
+            from = session + 1;
         }
         Ok(())
+    }
+
+    /// The first session from a number on of which the vector of one operation counts more than that of another. O(k) for k
+    /// sessions.
+    fn next_more(&self, h: &History<Memory>, one: OpId, other: OpId, from: usize) -> Option<usize>
+        requires growing { IsGrowing h.now self.now }
+        requires one { IsOp h.now one }
+        requires other { IsOp h.now other }
+        ensures { MatchOption result ((z : ℕ) → from ≤ z → count self.now.counts one z ≤ count self.now.counts other z)
+            (λ session. (from ≤ session) × (session < length h.now.1)
+            × ((z : ℕ) → from ≤ z → z < session → count self.now.counts one z ≤ count self.now.counts other z)) }
+    {
+        next_above(self.counts.get(one), self.counts.get(other), from)
     }
 
     /// The index of the first operation of a session that comes behind an operation, or of the first one that isn't in
@@ -342,8 +380,9 @@ impl GrowingOrder {
         requires monotone { IsMonotone self.now.counts (λ s. slice_index self.now.past.items s) }
         ensures { IsFirstBehind self.now session op result }
     {
-        let mut low = 0;
-        let mut high = self.past[session] as usize;
+        let range = self.near_end(h, session, op);
+        let mut low = range.0;
+        let mut high = range.1;
         while low < high {
             let middle = low + (high - low) / 2;
             let other = OpId {
@@ -357,6 +396,42 @@ impl GrowingOrder {
             }
         }
         low
+    }
+
+    /// Two indices between which, the second among them, that of the first operation of a session is that comes behind an
+    /// operation, or of the first one that isn't in the order. They are found from the end, which it mostly is near to.
+    fn near_end(&self, h: &History<Memory>, session: usize, op: OpId) -> (usize, usize)
+        requires growing { IsGrowing h.now self.now }
+        requires is_op { IsOp h.now op }
+        requires exists { session < length h.now.1 }
+        requires monotone { IsMonotone self.now.counts (λ s. slice_index self.now.past.items s) }
+        ensures { IsAroundBehind self.now session op result.0 result.1 }
+    {
+        let mut high = self.past[session] as usize;
+        let mut step = 1;
+        while step <= high {
+            if !self.is_behind(h, session, high - step, op) {
+                return (high - step + 1, high);
+            }
+            high -= step;
+            step *= 2;
+        }
+        (0, high)
+    }
+
+    /// Whether an operation of a session comes behind an operation. O(1).
+    fn is_behind(&self, h: &History<Memory>, session: usize, index: usize, op: OpId) -> bool
+        requires growing { IsGrowing h.now self.now }
+        requires is_op { IsOp h.now op }
+        requires exists { session < length h.now.1 }
+        requires inside { index < length (operations_of h.now session) }
+        ensures { IsTrue result ↔ IsCounted self.now.counts (record { session = session; index = index }) op }
+    {
+        let other = OpId {
+            session: session as u64,
+            index: index as u64,
+        };
+        op.index < self.count(h, other, op.session as usize) as u64
     }
 
     /// Raises what the vectors of an operation and of those behind it in its session count of a session, up to the first
@@ -376,7 +451,7 @@ impl GrowingOrder {
         requires other { other < length h.now.1 }
         requires held { number ≤ length (operations_of h.now other) }
         ensures growing { OnOk result (IsGrowing h.now self.new) }
-        ensures within { (reads : Ops) → (index < slice_index self.old.past.items session → IsCaused h.now reads self.old.counts (op session index) other number) → OnOk result (GrowsWithin h.now reads self.old self.new) }
+        ensures within { (reads : Ops) → (index < slice_index self.old.past.items session → IsCaused h.now reads self.old.counts (op session index) other number cause) → OnOk result (GrowsWithin h.now reads self.old self.new) }
         ensures raised { OnOk result (IsRaisedFrom self.old.counts self.new.counts (slice_index self.old.past.items session) session index other number) }
     {
         let end = self.raise_up_to(h, session, index, other, number, cause)?;
@@ -414,7 +489,7 @@ impl GrowingOrder {
         requires inside { index ≤ length (operations_of h.now session) }
         requires other { other < length h.now.1 }
         requires held { number ≤ length (operations_of h.now other) }
-        ensures raised { IfOk result (λ end. IsRaisedTo h.now self.old self.new session index end other number) }
+        ensures raised { IfOk result (λ end. IsRaisedTo h.now self.old self.new session index end other number cause) }
         ensures stopped { IfOk result (λ end. end < slice_index self.old.past.items session → number ≤ count self.old.counts (op session end) other) }
     {
         let first = OpId {
@@ -453,7 +528,7 @@ impl GrowingOrder {
         requires is_op { IsOp h.now op }
         requires exists { session < length h.now.1 }
         requires held { number ≤ length (operations_of h.now session) }
-        ensures { IfOk result (λ raised. MatchBool raised (IsOneRaise h.now self.old self.new op session number) ((self.new ≡ self.old) × (number ≤ count self.old.counts op session))) }
+        ensures { IfOk result (λ raised. MatchBool raised (IsOneRaise h.now self.old self.new op session number cause) ((self.new ≡ self.old) × (number ≤ count self.old.counts op session))) }
     {
         let before = self.count(h, op, session);
         if number <= before {
@@ -469,4 +544,36 @@ impl GrowingOrder {
         self.added += (number - before) as u32;
         Ok(true)
     }
+}
+
+/// The first place from a number on at which a count is larger than the one at its place in others, where a place past the end has
+/// 0.
+fn next_above(counts: &[u16], others: &[u16], from: usize) -> Option<usize>
+    ensures { MatchOption result
+        ((s : ℕ) → from ≤ s → s < length counts.now → slice_index_or counts.now s 0 ≤ slice_index_or others.now s 0)
+        (λ place. (from ≤ place) × (place < length counts.now)
+        × ((s : ℕ) → from ≤ s → s < place → slice_index_or counts.now s 0 ≤ slice_index_or others.now s 0)) }
+{
+    for place in from..counts.len() {
+        if counts[place] > others.get(place).copied().unwrap_or(0) {
+            return Some(place);
+        }
+    }
+    None
+}
+
+/// Whether each count is at most the one at its place in others, of which there are as many.
+///
+/// All are looked at in any case: where most of them are at most that, this is faster than to stop at the first that is not.
+fn is_within(counts: &[u16], others: &[u16]) -> bool
+    requires { length counts.now ≡ length others.now }
+    ensures { IsTrue result ↔ ((s : ℕ) → slice_index_or counts.now s 0 ≤ slice_index_or others.now s 0) }
+{
+    let mut within = true;
+    for place in 0..counts.len() {
+        if counts[place] > others[place] {
+            within = false;
+        }
+    }
+    within
 }

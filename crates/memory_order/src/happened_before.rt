@@ -8,12 +8,12 @@ ghost use Rattle.memory_order.specs.SourceOrder.{CountsSourceOrder};
 ghost use Rattle.memory_order.specs.Steps.GrowingOrders.{IsRaisedIn};
 ghost use Rattle.memory_order.specs.Steps.GrowthSteps.{Always, IsGivenUp, IsIn, IsSettled, NoMore, Waits};
 ghost use Rattle.memory_order.specs.Steps.HappenedBefores.{AreReadsFollowed, AreSourcesIn, AreStrictOf, HasGrown, IsLastBelow, IsMade, IsReadFollowed, IsWellFormed, TakesIn, TakesNext, Tells, most_of, raises_of, session_of, taken_of, vectors_of};
-ghost use Rattle.causal_order.specs.Vectors.{count};
+ghost use Rattle.causal_order.specs.Vectors.{Counts, count};
 
+use crate::causal::CausalOrder;
 use crate::growing_order::{GrowingOrder, Raise, Raised};
-use crate::last_writes::{end_of_writes, sort_by_variable};
-use crate::reads_from::known_sources;
-use crate::writes::{Write, sorted_writes};
+use crate::last_writes::end_of_writes;
+use crate::writes::Write;
 use causal_order::Vectors;
 use history::{History, OpId};
 use objects::Memory;
@@ -52,29 +52,28 @@ pub struct HappenedBefore {
 }
 
 impl HappenedBefore {
-    /// The relation for the operations of a session, of which none is taken in yet, from the vectors of the causal
-    /// order, and with at most so many pairs that the causal order doesn't have, if a number is given.
+    /// The relation for the operations of a session, of which none is taken in yet, and with at most so many pairs that the
+    /// causal order doesn't have, if a number is given.
     ///
-    /// Fails for want of memory alone. O(n (log n + k)) for n operations of k sessions.
+    /// Fails for want of memory alone. O(n k) for n operations of k sessions.
     pub fn of(
         alloc: Global,
-        h: &History<Memory>,
-        vectors: &Vectors,
+        order: &CausalOrder,
         session: usize,
         most: Option<u32>,
     ) -> Result<HappenedBefore, AllocError>
-        requires order { CountsSourceOrder h.now vectors.now }
-        requires exists { session < length h.now.1 }
-        ensures made { IfOk result (IsMade h.now) }
+        requires exists { session < length order.now.1 }
+        ensures made { IfOk result (IsMade order.now) }
         ensures session { IfOk result (λ happened. session_of happened ≡ session) }
         ensures taken { IfOk result (λ happened. taken_of happened ≡ 0) }
         ensures most { IfOk result (λ happened. most_of happened ≡ most) }
-        ensures strict { IfOk result (λ happened. AreStrictOf h.now vectors.now (vectors_of happened)) }
+        ensures strict { IfOk result (λ happened. (v : Counts) × CountsSourceOrder order.now v
+            × AreStrictOf order.now v (vectors_of happened)) }
     {
-        let mut writes = sorted_writes(alloc, h)?;
-        let sources = known_sources(alloc, h, &writes, session)?;
-        sort_by_variable(&mut writes);
-        let order = GrowingOrder::of(alloc, h, vectors, most)?;
+        let memory = order.memory();
+        let writes = Vec::from_slice(alloc, memory.writes_by_variable())?;
+        let sources = Vec::from_slice(alloc, memory.sources().get(session))?;
+        let order = GrowingOrder::of(alloc, order.history(), order.vectors(), most)?;
         Ok(HappenedBefore {
             session,
             taken: 0,
@@ -90,7 +89,16 @@ impl HappenedBefore {
     /// pairs than it may have that the causal order doesn't have. After a cyclic relation those of the later operations are cyclic or
     /// given up, and after one that is given up all are. Fails for want of memory alone, and nothing is left then. O(q k^2 +
     /// m k log p) for q operations and m pairs that the relation has more than before, and k sessions of at most p operations.
-    pub fn take_next(mut self, h: &History<Memory>) -> Result<HappenedBefore, AllocError>
+    pub fn take_next(self, order: &CausalOrder) -> Result<HappenedBefore, AllocError>
+        requires made { IsMade order.now self }
+        requires next { taken_of self < length (operations_of order.now (session_of self)) }
+        ensures { IfOk result (TakesNext order.now self) }
+    {
+        self.take_next_of(order.history())
+    }
+
+    /// The same, of a history.
+    fn take_next_of(mut self, h: &History<Memory>) -> Result<HappenedBefore, AllocError>
         requires made { IsMade h.now self }
         requires next { taken_of self < length (operations_of h.now (session_of self)) }
         ensures { IfOk result (TakesNext h.now self) }
@@ -128,7 +136,8 @@ impl HappenedBefore {
     /// What was raised in the vectors, in turn.
     ///
     /// Each raise puts operations before an operation whose vector did not count them until then, and names the cause,
-    /// which rests on the causal order and on earlier raises. That they do so is tested, not proved. O(1).
+    /// which rests on the causal order and on earlier raises. What the vectors count that the causal order doesn't have was
+    /// raised, and where values are distinct, the relation has at least as many such pairs as there are raises. O(1).
     pub fn raises(&self) -> &[Raise]
         ensures { result.now ≡ raises_of self.now }
     {

@@ -57,30 +57,6 @@ fn session_sources(
     Ok(Some(sources))
 }
 
-/// The source of each operation of a session, where it has one.
-pub(crate) fn known_sources(
-    alloc: Global,
-    h: &History<Memory>,
-    writes: &[Write],
-    session: usize,
-) -> Result<Vec<Option<OpId>>, AllocError>
-    requires writes { ListsWrites h.now writes.now }
-    requires sorted { IsSorted writes.now }
-    requires in_order { AreInOrder writes.now }
-    requires present { ¬ LacksSource h.now }
-    ensures { IfOk result (λ sources. ListsSourcesBelow h.now session (length (operations_of h.now session)) sources.items) }
-{
-    let mut sources = Vec::new(alloc);
-    for index in 0..h.len(session as u64) {
-        let op = OpId {
-            session: session as u64,
-            index: index as u64,
-        };
-        sources.push(source_of(h, writes, op).flatten())?;
-    }
-    Ok(sources)
-}
-
 /// The source of an operation, `Some(None)` where it has none, or `None` where it is a known read of a value that nobody
 /// writes. O(log n) for n writes, besides the look-up of the initial value.
 pub fn source_of(h: &History<Memory>, writes: &[Write], op: OpId) -> Option<Option<OpId>>

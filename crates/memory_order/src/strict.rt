@@ -2,9 +2,10 @@
 
 ghost use Rattle.std.specs.Prelude.{◌+◌, ◌<◌, ◌≤◌, ℕ, length, IfOk, OnOk};
 ghost use Rattle.history.specs.History.{session as operations_of};
-ghost use Rattle.causal_order.specs.Steps.Gathered.{AreGatheredBefore};
+ghost use Rattle.causal_order.specs.Orders.{op as operation};
+ghost use Rattle.causal_order.specs.Vectors.{Counts};
 ghost use Rattle.memory_order.specs.Steps.GrowingOrders.{AreHeldVectors};
-ghost use Rattle.memory_order.specs.Steps.HappenedBefores.{AreStrictOf, IsStrict};
+ghost use Rattle.memory_order.specs.Steps.HappenedBefores.{AreStrictBefore, AreStrictOf};
 
 use causal_order::Vectors;
 use history::{History, OpId};
@@ -24,36 +25,27 @@ pub(crate) fn strict_vectors(
     ensures strict { IfOk result (AreStrictOf h.now vectors.now) }
     ensures short { OnOk result ((s : ℕ) → length (operations_of h.now s) ≤ 256) }
 {
-    let mut strict = Vectors::new(alloc);
+    let mut strict = vectors.copy(alloc)?;
     for session in 0..h.sessions() {
-        push_strict(alloc, h, vectors, session, &mut strict)?;
+        leave_out_own(h, session, &mut strict);
     }
     Ok(strict)
 }
 
-/// Puts the vectors of a session behind those of the sessions before it.
-fn push_strict(
-    alloc: Global,
-    h: &History<Memory>,
-    vectors: &Vectors,
-    session: usize,
-    strict: &mut Vectors,
-) -> Result<(), AllocError>
-    requires held { AreHeldVectors h.now vectors.now }
+/// Lets no vector of a session's operations count its own operation.
+fn leave_out_own(h: &History<Memory>, session: usize, strict: &mut Vectors)
+    requires held { AreHeldVectors h.now strict.old }
     requires exists { session < length h.now.1 }
-    requires so_far { AreGatheredBefore h.now (IsStrict (length h.now.1) vectors.now) session strict.old }
-    ensures so_far { OnOk result (AreGatheredBefore h.now (IsStrict (length h.now.1) vectors.now) (session + 1) strict.new) }
-    ensures short { OnOk result (length (operations_of h.now session) ≤ 256) }
+    ensures held { AreHeldVectors h.now strict.new }
+    ensures strict { (v : Counts) → AreStrictBefore h.now v (operation session 0) strict.old
+        → AreStrictBefore h.now v (operation (session + 1) 0) strict.new }
+    ensures short { length (operations_of h.now session) ≤ 256 }
 {
-    strict.push_session()?;
     for index in 0..h.len(session as u64) {
         let op = OpId {
             session: session as u64,
             index: index as u64,
         };
-        let mut row = Vec::from_slice(alloc, vectors.get(op))?;
-        row[session] = index as u16;
-        strict.push(session, &row)?;
+        strict.set(op, session, index as u16);
     }
-    Ok(())
 }

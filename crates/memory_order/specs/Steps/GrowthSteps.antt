@@ -1,9 +1,12 @@
 -- The steps in which the state grows in which vectors do. Nobody has to believe these definitions to trust an answer: they
 -- cite the fields of the structs and change as the loop does.
-use Rattle.std.specs.Prelude.{◌≡◌, ◌≢◌, ◌⊎◌, ℕ, ◌+◌, ◌*◌, ◌-◌, ◌<◌, ◌≤◌, ◌∷◌, ◌++◌, [], true, false, length, IsTrue, All, Contains, MatchOption, max, slice_index}
+use Rattle.std.specs.Prelude.{◌≡◌, ◌≢◌, ◌⊎◌, ℕ, ◌+◌, ◌*◌, ◌-◌, ◌<◌, ◌≤◌, ◌∷◌, ◌++◌, [], List, true, false, length, IsTrue, All, Contains, MatchOption, max, slice_index}
 use Rattle.std.proofs.Common.{zero, suc}
 use Rattle.history.specs.declared.op_id.OpId.{OpId}
 use Rattle.history.specs.History.{IsOp, Precedes, session}
+use Rattle.memory_order.specs.declared.growing_order.Cause.{Cause}
+use Rattle.memory_order.specs.declared.growing_order.Cause.TheVariants.{Through, Read}
+use Rattle.memory_order.specs.declared.growing_order.Raise.{Raise}
 use Rattle.memory_order.specs.declared.growing_order.Raised.{Raised}
 use Rattle.memory_order.specs.declared.growing_order.GrowingOrder.{GrowingOrder}
 use Rattle.memory_order.specs.CountSums.{all_counted, most_counted}
@@ -23,9 +26,20 @@ pub record IsRange (v w : Counts) (t i e u c : ℕ) : Type 0 where
       → (count w p s ≡ count v p s) ⊎ ((p.session ≡ t) × (i ≤ p.index) × (p.index < e) × (s ≡ u) × (count v p s < c) × (count w p s ≡ c))
   pub reached : (j : ℕ) → i ≤ j → j < e → count w (op t j) u ≡ c
 
--- the first c operations of the session u are before b, since an operation that is before b counts them
-abbrev pub IsThrough : Counts → OpId → ℕ → ℕ → Type 0
-IsThrough v b u c = (m : OpId) × (IsCounted v b m ⊎ Precedes m b) × (c ≤ count v m u)
+-- the first c operations of the session u are before b, since the operation m, which is before b, counts them
+abbrev pub IsThrough : Counts → OpId → OpId → ℕ → ℕ → Type 0
+IsThrough v b m u c = (IsCounted v b m ⊎ Precedes m b) × (c ≤ count v m u)
+
+-- where a first raise has a cause, that of the n-th behind it in its session: through the first
+abbrev pub cause_behind : Cause → OpId → ℕ → Cause
+cause_behind cause first zero = cause
+cause_behind cause first (suc n) = Through first
+
+-- raises of what the vectors of n operations, b and those behind it in its session, count of the session u, to c
+abbrev pub raises_from : OpId → ℕ → ℕ → Cause → ℕ → List Raise
+raises_from b u c cause zero = []
+raises_from b u c cause (suc n) =
+    raises_from b u c cause n ++ record { op = op b.session (b.index + n); session = u; count = c; cause = cause_behind cause b n } ∷ []
 
 -- what waits to be followed: what a state holds, and more
 abbrev pub Waits : (Raised → Type 0) → GrowingOrder → Raised → Type 0
@@ -52,6 +66,10 @@ module _ (waits : Raised → Type 0) where
   abbrev pub IsFollowed : Counts → OpId → ℕ → Type 0
   IsFollowed v b y = IsFresh v b y → (i z : ℕ) → count v b y ≡ i + 1
       → (count v (op y i) z ≤ count v b z) ⊎ (IsPending b y ⊎ IsCovered v (op y i) z)
+
+-- the vector of b counts no more of the session y than that of the operation before b does, or nothing of it
+abbrev pub IsStale : Counts → OpId → ℕ → Type 0
+IsStale v b y = ((j : ℕ) × (b.index ≡ j + 1) × (count v b y ≤ count v (op b.session j) y)) ⊎ (count v b y ≡ 0)
 
 -- no count falls from one of the first operations of a session to the next
 abbrev pub IsMonotone : Counts → (ℕ → ℕ) → Type 0
@@ -94,16 +112,18 @@ module _ (h : MemoryHistory) where
     pub waiting : All (λ e. IsIn order e.op) order.pending.items
     pub added : order.added ≤ all_counted h order.counts
 
-  -- the first c operations of the session u are before b, since the last of them is before a read that reads from b, and
+  -- the first c operations of the session u are before b, since the last of them is before the read r, which reads from b, and
   -- writes its variable
-  abbrev pub IsRuled : Ops → Counts → OpId → ℕ → ℕ → Type 0
-  IsRuled reads v b u c = (r : OpId) × (d : ℕ) × (c ≡ d + 1) × IsTrue (reads r) × ReadsFrom h b r × AreRivalWrites h (op u d) b × IsCounted v r (op u d)
+  abbrev pub IsRuled : Ops → Counts → OpId → OpId → ℕ → ℕ → Type 0
+  IsRuled reads v b r u c = (d : ℕ) × (c ≡ d + 1) × IsTrue (reads r) × ReadsFrom h b r × AreRivalWrites h (op u d) b × IsCounted v r (op u d)
 
-  -- why the first c operations of the session u are before b
-  abbrev pub IsCaused : Ops → Counts → OpId → ℕ → ℕ → Type 0
-  IsCaused reads v b u c = IsThrough v b u c ⊎ IsRuled reads v b u c
+  -- the first c operations of the session u are before b by this cause
+  abbrev pub IsCaused : Ops → Counts → OpId → ℕ → ℕ → Cause → Type 0
+  IsCaused reads v b u c (Through m) = IsThrough v b m u c
+  IsCaused reads v b u c (Read r) = IsRuled reads v b r u c
 
-  -- a raise: what it raises has a cause, it goes up to the first operation that counts as much, and it waits to be followed
+  -- a raise: what it raises has a cause, which is noted, it goes up to the first operation that counts as much, and it waits to
+  -- be followed
   pub record IsRaise (reads : Ops) (before after : GrowingOrder) : Type 0 where
     pub raised : Raised
     pub number : ℕ
@@ -113,11 +133,13 @@ module _ (h : MemoryHistory) where
     pub inside : raised.end ≤ slice_index before.past.items raised.op.session
     pub range : IsRange before.counts after.counts raised.op.session raised.op.index raised.end raised.session number
     pub stopped : raised.end < slice_index before.past.items raised.op.session → number ≤ count before.counts (op raised.op.session raised.end) raised.session
-    pub cause : IsCaused reads before.counts raised.op raised.session number
+    pub named : Cause
+    pub cause : IsCaused reads before.counts raised.op raised.session number named
+    pub raises : after.raises.items ≡ before.raises.items ++ raises_from raised.op raised.session number named (raised.end - raised.op.index)
     pub pending : after.pending.items ≡ before.pending.items ++ raised ∷ []
     pub past : after.past.items ≡ before.past.items
     pub added : after.added + all_counted h before.counts ≡ before.added + all_counted h after.counts
-    pub more : all_counted h before.counts < all_counted h after.counts
+    pub more : all_counted h before.counts + (raised.end - raised.op.index) ≤ all_counted h after.counts
     pub cyclic : ((after.is_cyclic ≡ before.is_cyclic) × (raised.op.session ≢ raised.session)) ⊎ ((after.is_cyclic ≡ true) × (raised.op.session ≡ raised.session))
     pub most : after.most ≡ before.most
 
@@ -127,6 +149,7 @@ module _ (h : MemoryHistory) where
     pub pending : after.pending.items ≡ before.pending.items
     pub past : (s : ℕ) → slice_index before.past.items s ≤ slice_index after.past.items s
     pub added : after.added ≡ before.added
+    pub raises : after.raises.items ≡ before.raises.items
     pub cyclic : after.is_cyclic ≡ before.is_cyclic
     pub most : after.most ≡ before.most
 
@@ -144,6 +167,7 @@ module _ (h : MemoryHistory) where
     pub pending : before.pending.items ≡ after.pending.items ++ raised ∷ []
     pub past : after.past.items ≡ before.past.items
     pub added : after.added ≡ before.added
+    pub raises : after.raises.items ≡ before.raises.items
     pub cyclic : after.is_cyclic ≡ before.is_cyclic
     pub most : after.most ≡ before.most
 
@@ -167,11 +191,12 @@ module _ (h : MemoryHistory) where
     pub grows : Grows ⊥ reads before after
     pub past : after.past.items ≡ before.past.items
 
-  -- one count was raised
-  pub record IsOneRaise (before after : GrowingOrder) (b : OpId) (u c : ℕ) : Type 0 where
+  -- one count was raised, and its cause noted
+  pub record IsOneRaise (before after : GrowingOrder) (b : OpId) (u c : ℕ) (cause : Cause) : Type 0 where
     pub growing : IsGrowing after
     pub less : count before.counts b u < c
     pub counts : after.counts ≡ with_item before.counts b u c
+    pub raises : after.raises.items ≡ before.raises.items ++ record { op = b; session = u; count = c; cause = cause } ∷ []
     pub pending : after.pending.items ≡ before.pending.items
     pub past : after.past.items ≡ before.past.items
     pub added : after.added + all_counted h before.counts ≡ before.added + all_counted h after.counts
@@ -179,8 +204,8 @@ module _ (h : MemoryHistory) where
     pub cyclic : after.is_cyclic ≡ before.is_cyclic
     pub most : after.most ≡ before.most
 
-  -- the counts of the session u were raised to c in the vectors of the operations t.i up to before t.e
-  pub record IsRaisedTo (before after : GrowingOrder) (t i e u c : ℕ) : Type 0 where
+  -- the counts of the session u were raised to c in the vectors of the operations t.i up to before t.e, the first by a cause
+  pub record IsRaisedTo (before after : GrowingOrder) (t i e u c : ℕ) (cause : Cause) : Type 0 where
     pub growing : IsGrowing after
     pub from : i ≤ e
     pub inside : i < e → e ≤ slice_index before.past.items t
@@ -189,8 +214,8 @@ module _ (h : MemoryHistory) where
     pub pending : after.pending.items ≡ before.pending.items
     pub past : after.past.items ≡ before.past.items
     pub added : after.added + all_counted h before.counts ≡ before.added + all_counted h after.counts
-    pub more : i < e → all_counted h before.counts < all_counted h after.counts
-    pub least : all_counted h before.counts ≤ all_counted h after.counts
+    pub more : all_counted h before.counts + (e - i) ≤ all_counted h after.counts
+    pub raises : after.raises.items ≡ before.raises.items ++ raises_from (op t i) u c cause (e - i)
     pub none : e ≡ i → after ≡ before
     pub cyclic : after.is_cyclic ≡ before.is_cyclic
     pub most : after.most ≡ before.most
@@ -247,6 +272,13 @@ pub record IsFirstBehind (order : GrowingOrder) (s : ℕ) (o : OpId) (n : ℕ) :
   pub before : (i : ℕ) → i < n → count order.counts (op s i) o.session ≤ o.index
   pub here : n < slice_index order.past.items s → o.index < count order.counts (op s n) o.session
 
+-- the first such operation, or the first one that isn't in the state, is at one of these indices, the second among them
+pub record IsAroundBehind (order : GrowingOrder) (s : ℕ) (o : OpId) (low high : ℕ) : Type 0 where
+  pub ordered : low ≤ high
+  pub inside : high ≤ slice_index order.past.items s
+  pub before : (i : ℕ) → i < low → count order.counts (op s i) o.session ≤ o.index
+  pub behind : (i : ℕ) → high ≤ i → i < slice_index order.past.items s → o.index < count order.counts (op s i) o.session
+
 -- more was added than may be
 abbrev pub IsGivenUp : GrowingOrder → Type 0
 IsGivenUp order = MatchOption order.most ⊥ (λ most. most < order.added)
@@ -256,4 +288,5 @@ pub record IsBegun (order : GrowingOrder) : Type 0 where
   pub past : (s : ℕ) → slice_index order.past.items s ≡ 0
   pub pending : order.pending.items ≡ []
   pub added : order.added ≡ 0
+  pub raises : order.raises.items ≡ []
   pub cyclic : order.is_cyclic ≡ false

@@ -1,6 +1,6 @@
 -- The state in which the happened-before relations of the operations of a session are made, as vectors. Nobody has to believe
 -- these definitions to trust an answer: they cite the fields of the structs and change as the loop does.
-use Rattle.std.specs.Prelude.{◌≡◌, ◌≢◌, ◌⊎◌, ℕ, ◌+◌, ◌-◌, ◌<◌, ◌≤◌, List, length, true, false, MatchOption, Option, slice_index, slice_index_or}
+use Rattle.std.specs.Prelude.{◌≡◌, ◌≢◌, ◌⊎◌, ℕ, ◌+◌, ◌-◌, ◌<◌, ◌≤◌, List, length, true, false, MatchOption, Option, slice_index}
 use Rattle.std.proofs.Common.{zero, suc}
 use Rattle.history.specs.declared.op_id.OpId.{OpId}
 use Rattle.history.specs.History.{IsOp, session}
@@ -12,8 +12,9 @@ use Rattle.memory_order.specs.declared.happened_before.Saturation.TheVariants.{S
 use Rattle.memory_order.specs.CountSums.{all_counted}
 use Rattle.memory_order.specs.HappenedBeforeVectors.{IsHBVectors}
 use Rattle.memory_order.specs.Memory.{MemoryHistory, IsDifferentiated, Writes}
-use Rattle.causal_order.specs.Orders.{op, program_past}
+use Rattle.causal_order.specs.Orders.{op, IsEarlier, program_past}
 use Rattle.memory_order.specs.Relations.{IsPast, HB}
+use Rattle.memory_order.specs.Raises.{AreReached, AreRightRaises}
 use Rattle.memory_order.specs.SourceOrder.{CountsSourceOrder, IsSource, ListsSourcesBelow}
 use Rattle.memory_order.specs.Steps.GrowingOrders.{AreHeldVectors}
 use Rattle.memory_order.specs.Steps.GrowthSteps.{Always, IsIn, Waits, NoMore, IsSettled, IsGrowing, IsGivenUp, Grows, TakesPast}
@@ -49,12 +50,6 @@ abbrev pub past_count : Counts → ℕ → ℕ → ℕ → ℕ
 past_count v t zero s = 0
 past_count v t (suc n) s = count v (op t n) s
 
--- xs counts what the vector of o counts, without o: of its own session only the operations before o
-pub record IsStrict (sessions : ℕ) (v : Counts) (o : OpId) (xs : List ℕ) : Type 0 where
-  pub size : length xs ≡ sessions
-  pub own : slice_index_or xs o.session 0 ≡ o.index
-  pub others : (s : ℕ) → s ≢ o.session → slice_index_or xs s 0 ≡ count v o s
-
 -- a raise waits that raised what the vector of r counts of the session u
 abbrev pub IsReadWaiting : (Raised → Type 0) → OpId → ℕ → Type 0
 IsReadWaiting waits r u = (e : Raised) × waits e × (e.session ≡ u) × (e.op.session ≡ r.session) × (e.op.index ≤ r.index) × (r.index < e.end)
@@ -70,6 +65,11 @@ module _ (h : MemoryHistory) where
   -- what the vectors count on the past of o is in the happened-before relation of o
   abbrev pub IsSupported : OpId → Counts → Type 0
   IsSupported o now = (a b : OpId) → IsPast h o b → IsCounted now b a → HB h o a b
+
+  -- the vectors count what others count, of which those of the operations earlier than `end` don't count their own operation
+  pub record AreStrictBefore (v : Counts) (end : OpId) (strict : Counts) : Type 0 where
+    pub own : (o : OpId) → IsOp h o → IsEarlier o end → count strict o o.session ≡ o.index
+    pub others : (o : OpId) (s : ℕ) → s ≢ o.session → count strict o s ≡ count v o s
 
   -- the vectors count what others count, each without its own operation
   pub record AreStrictOf (v strict : Counts) : Type 0 where
@@ -119,7 +119,8 @@ module _ (h : MemoryHistory) where
     pub taken : taken_of after ≡ taken_of before + 1
 
   -- the state between two operations: its vectors began as those of the causal order, and only operations of the past of the
-  -- last one were raised; what is counted is in its relation, and what it demands is followed or waits
+  -- last one were raised; what is counted is in its relation, and what it demands is followed or waits; for the last one and
+  -- each behind it in the session its raises are right, and what is counted is so since the beginning or since a raise
   pub record IsMade (happened : HappenedBefore) : Type 0 where
     pub well_formed : IsWellFormed happened
     pub causal : Counts
@@ -134,6 +135,10 @@ module _ (h : MemoryHistory) where
     pub cyclic : happened.order.is_cyclic ≡ true → (p : OpId) × IsIn happened.order p × IsCounted happened.order.counts p p
     pub acyclic : happened.order.is_cyclic ≡ false → (p : OpId) → IsOp h p → count happened.order.counts p p.session ≡ p.index
     pub supported : IsDifferentiated h → (n : ℕ) → happened.taken ≡ n + 1 → IsSupported (op happened.session n) happened.order.counts
+    pub right : (n : ℕ) → IsOp h (op happened.session n) → happened.taken ≤ n + 1
+        → AreRightRaises h (op happened.session n) strict happened.order.raises.items
+    pub reached : AreReached strict happened.order.raises.items happened.order.counts
+    pub few : length happened.order.raises.items ≤ happened.order.added
     pub settled : IsSettled NoMore happened.order
     pub reads : AreReadsFollowed NoMore happened.taken happened
 
@@ -168,7 +173,8 @@ Tells happened Cyclic = (¬ IsGivenUp happened.order) × (happened.order.is_cycl
 Tells happened GivenUp = IsGivenUp happened.order
 
 module _ (h : MemoryHistory) where
-  -- one operation more of the session is taken in: no vector counts less than before, and what is told of its relation is so
+  -- one operation more of the session is taken in: no vector counts less than before, what is told of its relation is so, and it
+  -- has at least as many pairs that the causal order doesn't have as counts were raised
   pub record TakesNext (before after : HappenedBefore) : Type 0 where
     pub made : IsMade h after
     pub session : session_of after ≡ session_of before
@@ -178,3 +184,4 @@ module _ (h : MemoryHistory) where
     pub outcome : IsDifferentiated h → (told : Saturation) → Tells after told
         → IsOutcome h (op (session_of before) (taken_of before)) (most_of after) (vectors_of after) told
     pub few : IsDifferentiated h → ¬ IsGivenUp after.order → HasFewPairs h (op (session_of before) (taken_of before)) (most_of after)
+    pub raised : IsDifferentiated h → (n : ℕ) → n < length (raises_of after) → HasMorePairs h (op (session_of before) (taken_of before)) n

@@ -1,6 +1,8 @@
-use Rattle.std.proofs.Common.{⊎_elim}
+use Rattle.std.proofs.Common.{⊎_elim, subst}
 use Rattle.history.specs.declared.op_id.OpId.{OpId}
 use Rattle.memory_order.proofs.ReadAnswers.{history-fits}
+use Rattle.memory_order.specs.Memory.{MemoryHistory}
+use Rattle.memory_order.specs.MemoryHistories.{IsMemoryHistory}
 use Rattle.memory_order.specs.Relations.{HB}
 use Rattle.memory_order.specs.Steps.HappenedBefores.{HasMorePairs}
 use Rattle.causal_order.specs.Vectors.{list_of}
@@ -10,7 +12,7 @@ use Rattle.certify_cm.proofs.by_happened_before.certificate_by.Goals as goal
 pub returns-clause-turns : goal.returns-clause-turns
 returns-clause-turns c = λ distinct.
     record {
-      order = c.requires.order;
+      order = c.requires.counts;
       each = λ o is_op. ((rw c.in-Some.is at c.in_ok-schedules.ensures.each) o is_op distinct).0;
     }
 
@@ -18,14 +20,14 @@ pub returns-clause-some : goal.returns-clause-some
 returns-clause-some c = λ distinct (o, is_op, no_turns).
     let may = ((rw c.in-Some.is at c.in_ok-schedules.ensures.each) o is_op distinct).1 in
     ⊎_elim
-    (λ (cycle : (a : OpId) × HB c.args.h.now o a a). may.acyclic cycle.0 cycle.1)
-    (λ (more : HasMorePairs c.args.h.now o 100000). may.few more)
+    (λ (cycle : (a : OpId) × HB c.args.order.now o a a). may.acyclic cycle.0 cycle.1)
+    (λ (more : HasMorePairs c.args.order.now o 100000). may.few more)
     no_turns
 
 pub returns-clause-explained : goal.returns-clause-explained
 returns-clause-explained c = λ distinct start o is_op.
-    let h = c.args.h.now in
+    let h = c.args.order.now in
     let turns = (rw c.in-Some.is at c.in_ok-schedules.ensures.each) o is_op distinct in
-    turns-piece h (history-fits h _ c.value_is_history.ensures) c.args.vectors c.requires.order distinct o is_op turns.0.vectors turns.0.happened
+    turns-piece h (history-fits h _ (subst (λ (m : MemoryHistory). IsMemoryHistory m) c.history.ensures c.value_is_history.ensures)) c.args.vectors c.requires.counts distinct o is_op turns.0.vectors turns.0.happened
     turns.1.acyclic (list_of c.in-Some.schedules o) turns.0.turns
     (λ w r x t writes reads inside before. start (o, w, r, x, t, writes, reads, inside, before))

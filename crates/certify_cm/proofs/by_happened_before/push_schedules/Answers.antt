@@ -1,7 +1,8 @@
 use Rattle.std.proofs.Math.Path.{ap₂}
-use Rattle.std.proofs.Common.{◌≡◌, Option, Some, List, ℕ, ◌+◌, inl, inr, ⊎_elim, sym, subst, subst₂, arith, ◌∙◌}
+use Rattle.std.proofs.Common.{◌≡◌, Option, Some, List, ℕ, ◌+◌, inl, inr, ⊎_elim, length, ap, sym, subst, subst₂, arith, ◌∙◌}
 use Rattle.history.specs.declared.op_id.OpId.{OpId}
-use Rattle.history.specs.History.{IsOp}
+use Rattle.history.specs.History.{IsOp, session}
+use Rattle.memory_order.specs.Memory.{MemoryHistory}
 use Rattle.memory_order.specs.declared.happened_before.Saturation.{Saturation}
 use Rattle.memory_order.specs.declared.happened_before.Saturation.TheVariants.{Saturated, Cyclic, GivenUp}
 use Rattle.memory_order.specs.HappenedBeforeVectors.{IsHBVectors}
@@ -16,7 +17,7 @@ use Rattle.certify_cm.proofs.by_happened_before.push_schedules.Goals as goal
 
 pub loop-index-init : goal.loop-index-init
 loop-index-init c = record {
-  so_far = rw c.in_ok-push_session.ensures.ok (gathered-session c.args.h.now (TakesTurns c.args.h.now) c.args.session c.args.schedules.now c.requires.so_far);
+  so_far = rw c.in_ok-push_session.ensures.ok (gathered-session c.args.order.now (TakesTurns c.args.order.now) c.args.session c.args.schedules.now c.requires.so_far);
   made = c.in_ok-happened.ensures.made;
   session = c.in_ok-happened.ensures.session;
   taken = c.in_ok-happened.ensures.taken;
@@ -25,7 +26,7 @@ loop-index-init c = record {
 
 pub loop-index-preserved : goal.loop-index-preserved
 loop-index-preserved c =
-    let h = c.args.h.now in
+    let h = c.args.order.now in
     let s = c.args.session in
     let i = c.loop-index.index in
     let v = c.vectors.result.now in
@@ -58,7 +59,7 @@ pub returns-in-Cyclic : goal.returns-in-Cyclic
 returns-in-Cyclic c = record {
   all = λ no. absurd cc;
   none = λ distinct no.
-      let h = c.args.h.now in
+      let h = c.args.order.now in
       let s = c.args.session in
       let i = c.loop-index.index in
       let before = c.loop-index.invariant in
@@ -66,6 +67,7 @@ returns-in-Cyclic c = record {
       let happened = c.in_ok-happened-2.happened in
       let test = c.loop-index-test.true in
       let count = c.len-index-end.ensures.count in
+      let lengths = ap (λ (g : MemoryHistory). length (session g s)) c.history-h.ensures in
       let is_op : IsOp h (op s i) = (omega arith) in
       let is : op (session_of c.loop-index.happened) (taken_of c.loop-index.happened) ≡ op s i = ap₂ op before.session before.taken in
       let most : most_of happened ≡ Some 100000 = after.most ∙ before.most in
@@ -85,4 +87,5 @@ returns-clause-all c all =
     let count = c.len-index-end.ensures.count in
     let up_to = c.loop-index.auto.index-end in
     let test = c.loop-index-test.false in
-    gathered-end c.args.h.now (TakesTurns c.args.h.now) c.args.session c.loop-index.index c.loop-index.schedules c.loop-index.invariant.so_far (omega arith)
+    let lengths = ap (λ (g : MemoryHistory). length (session g c.args.session)) c.history-h.ensures in
+    gathered-end c.args.order.now (TakesTurns c.args.order.now) c.args.session c.loop-index.index c.loop-index.schedules c.loop-index.invariant.so_far (omega arith)

@@ -7,8 +7,8 @@ use Rattle.certify_cm.proofs.by_happened_before.push_schedules.Given as goal
 -- the operations so far are taken in and have their schedules
 abbrev pub invariant-loop-index : goal.invariant-loop-index
 invariant-loop-index l = record {
-  so_far : AreGatheredUpTo l.h (TakesTurns l.h) l.session l.index l.schedules;
-  made : IsMade l.h l.happened;
+  so_far : AreGatheredUpTo l.order (TakesTurns l.order) l.session l.index l.schedules;
+  made : IsMade l.order l.happened;
   session : session_of l.happened ≡ l.session;
   taken : taken_of l.happened ≡ l.index;
   most : most_of l.happened ≡ Some 100000;

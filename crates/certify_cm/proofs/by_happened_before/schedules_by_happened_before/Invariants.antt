@@ -4,4 +4,4 @@ use Rattle.certify_cm.proofs.by_happened_before.schedules_by_happened_before.Giv
 
 -- the sessions so far have their schedules
 abbrev pub invariant-loop-session : goal.invariant-loop-session
-invariant-loop-session l = AreGatheredBefore l.h (TakesTurns l.h) l.session l.schedules
+invariant-loop-session l = AreGatheredBefore l.order (TakesTurns l.order) l.session l.schedules

@@ -1,16 +1,34 @@
-use Rattle.std.proofs.Common.{◌≡◌, length, arith}
-use Rattle.memory_order.proofs.StrictVectors.{all-short, gathered-held, gathered-strict}
+use Rattle.std.proofs.Common.{◌≡◌, ◌≤◌, ℕ, length, arith, subst, sym, ⊎_elim}
+use Rattle.std.specs.Prelude.{◌≢◌}
+use Rattle.std.proofs.lemmas.Bool.{cases_eq}
+use Rattle.causal_order.specs.Vectors.{Counts}
+use Rattle.history.specs.History.{session}
+use Rattle.memory_order.specs.Steps.GrowingOrders.{AreHeldVectors}
+use Rattle.memory_order.proofs.StrictVectors.{all-short, strict-all, strict-none}
 use Rattle.memory_order.proofs.strict.strict_vectors.Goals as goal
 
-pub returns-clause-held : goal.returns-clause-held
-returns-clause-held c =
-    let ended : c.loop-session.session ≡ length c.args.h.now.1 = omega arith in
-    gathered-held c.args.h.now c.args.vectors.now c.loop-session.strict c.loop-session.session ended c.loop-session.invariant.so_far c.requires
+pub loop-session-init : goal.loop-session-init
+loop-session-init c = record {
+  held = subst (λ (v : Counts). AreHeldVectors c.args.h.now v) (sym c.in_ok-strict.ensures) c.requires;
+  strict = strict-none c.args.h.now c.args.vectors.now c.in_ok-strict.strict c.in_ok-strict.ensures;
+  short = λ s below. absurd (omega arith);
+}
+
+pub loop-session-preserved : goal.loop-session-preserved
+loop-session-preserved c = record {
+  held = c.leave_out_own.ensures.held;
+  strict = c.leave_out_own.ensures.strict c.args.vectors.now c.loop-session.invariant.strict;
+  short = λ s below. ⊎_elim
+      (λ (last : s ≡ c.loop-session.session). subst (λ (t : ℕ). length (session c.args.h.now t) ≤ 256) (sym last) c.leave_out_own.ensures.short)
+      (λ (apart : s ≢ c.loop-session.session). c.loop-session.invariant.short s (omega arith))
+      (cases_eq s c.loop-session.session);
+}
 
 pub returns-clause-strict : goal.returns-clause-strict
 returns-clause-strict c =
-    let ended : c.loop-session.session ≡ length c.args.h.now.1 = omega arith in
-    gathered-strict c.args.h.now c.args.vectors.now c.loop-session.strict c.loop-session.session ended c.loop-session.invariant.so_far
+    let ended = c.loop-session-test.false in
+    let count = c.sessions-session-end.ensures.count in
+    strict-all c.args.h.now c.args.vectors.now c.loop-session.strict c.loop-session.session (omega arith) c.loop-session.invariant.strict
 
 pub returns-clause-short : goal.returns-clause-short
 returns-clause-short c =

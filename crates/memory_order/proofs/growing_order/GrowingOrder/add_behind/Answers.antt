@@ -1,10 +1,14 @@
 use Rattle.std.proofs.Common.{◌≡◌, arith, inl, refl}
+use Rattle.std.specs.Prelude.{slice_index}
+use Rattle.std.proofs.lemmas.List.{get_or_read}
 use Rattle.memory_order.specs.Steps.GrowthSteps.{NoMore, NoReads}
 use Rattle.memory_order.proofs.GrowthLaws.{within-then}
 use Rattle.memory_order.proofs.GrowingSteps.{behind-more, behind-same, settled-behind}
 use Rattle.causal_order.proofs.OrdersLaws.{session-of_history}
 use Rattle.memory_order.proofs.Raises.{grows-followed, settled-within}
+use Rattle.memory_order.proofs.Stale.{raised-none}
 use Rattle.memory_order.proofs.growing_order.GrowingOrder.add_behind.Goals as goal
+use Rattle.memory_order.proofs.growing_order.GrowingOrder.add_behind.Goals.{then-index+in_ok-raise_from, else-index}
 
 pub first_behind-index-requires-clause-monotone : goal.first_behind-index-requires-clause-monotone
 first_behind-index-requires-clause-monotone c =
@@ -14,20 +18,38 @@ pub loop-session-preserved : goal.loop-session-preserved
 loop-session-preserved c =
     let h = c.args.h.now in
     let at = c.loop-session.self in
-    let new = c.raise_from.new.self in
     let p = c.args.raised.op in
     let u = c.args.raised.session in
     let first = c.first_behind-index.ensures in
     let same = c.loop-session.invariant.same in
-    let one = c.in_ok-raise_from.ensures.within NoReads (λ below. inl (p, inl (first.here below), omega arith)) in
-    let within = within-then h NoReads c.args.self.now at new c.loop-session.invariant.within one in
-    let monotone = (settled-within h NoReads (λ e. e ≡ c.args.raised) c.args.self.now new within c.requires.settled).monotone in
-    record {
-      within = within;
-      same = behind-same at.counts new.counts at new c.loop-session.session c.first_behind-index.result u c.count-count.result p first refl c.in_ok-raise_from.ensures.raised one.past monotone same;
-      behind = behind-more at.counts new.counts at new c.loop-session.session c.first_behind-index.result u c.count-count.result p first refl c.in_ok-raise_from.ensures.raised one.past monotone
-          c.loop-session.invariant.behind;
-    }
+    elim c.if-index.branch [
+      | then-index+in_ok-raise_from w ↦
+          let new = w.raise_from.new.self in
+          let one = w.in_ok-raise_from.ensures.within NoReads (λ below. (inl (first.here below), omega arith)) in
+          let within = within-then h NoReads c.args.self.now at new c.loop-session.invariant.within one in
+          let monotone = (settled-within h NoReads (λ e. e ≡ c.args.raised) c.args.self.now new within c.requires.settled).monotone in
+          rw w.self-is (record {
+            within = within;
+            same = behind-same at.counts new.counts at new c.loop-session.session c.first_behind-index.result u c.count-count.result p first refl w.in_ok-raise_from.ensures.raised one.past monotone same;
+            behind = behind-more at.counts new.counts at new c.loop-session.session c.first_behind-index.result u c.count-count.result p first refl w.in_ok-raise_from.ensures.raised one.past monotone
+                c.loop-session.invariant.behind;
+          })
+      | else-index w ↦
+          let growing = c.loop-session.invariant.within.grows.growing in
+          let sessions = growing.sessions in
+          let count = c.sessions-session-end.ensures.count in
+          let test = c.loop-session-test.true in
+          let past = get_or_read at.past.items _ _ (omega arith) c.index.ensures 0 in
+          let none = w.if-index.false in
+          let monotone = (settled-within h NoReads (λ e. e ≡ c.args.raised) c.args.self.now at c.loop-session.invariant.within c.requires.settled).monotone in
+          rw w.self-is (record {
+            within = c.loop-session.invariant.within;
+            same = same;
+            behind = behind-more at.counts at.counts at at c.loop-session.session c.first_behind-index.result u c.count-count.result p first refl
+                (raised-none at.counts (slice_index at.past.items c.loop-session.session) c.loop-session.session c.first_behind-index.result u c.count-count.result (omega arith)) refl monotone
+                c.loop-session.invariant.behind;
+          })
+    ]
 
 pub returns-clause-settled : goal.returns-clause-settled
 returns-clause-settled c =

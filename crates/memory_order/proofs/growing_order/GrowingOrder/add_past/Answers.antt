@@ -1,5 +1,6 @@
-use Rattle.std.proofs.Common.{◌<◌, ℕ, List, arith, inl, inr, ⊎_elim, subst, sym}
+use Rattle.std.proofs.Common.{◌<◌, ◌≤◌, ℕ, List, arith, inl, inr, ⊎_elim, subst, sym}
 use Rattle.std.specs.Prelude.{slice_index}
+use Rattle.std.proofs.lemmas.Bool.{cases_lt}
 use Rattle.history.specs.History.{Precedes}
 use Rattle.memory_order.specs.Steps.GrowthSteps.{NoReads}
 use Rattle.causal_order.specs.Vectors.{IsCounted}
@@ -24,7 +25,17 @@ loop-session-preserved c =
     c.requires.cause in
     record {
       within = within-then h NoReads c.args.self.now at c.raise_from.new.self within
-          (c.in_ok-raise_from.ensures.within NoReads (λ _. inl (c.args.before, cause, omega arith)));
-      past = past-more at.counts c.raise_from.new.self.counts (slice_index at.past.items c.args.op.session) c.loop-session.session c.count-count.result c.args.op c.args.before
-          c.in_ok-raise_from.ensures.raised is_in value c.loop-session.invariant.past;
+          (c.in_ok-raise_from.ensures.within NoReads (λ _. (cause, omega arith)));
+      past = past-more at.counts c.raise_from.new.self.counts (slice_index at.past.items c.args.op.session) c.in-Some.session c.count-count.result c.args.op c.args.before
+          c.in_ok-raise_from.ensures.raised is_in value
+          (λ z below. ⊎_elim
+          (λ (old : z < c.loop-session.from). c.loop-session.invariant.past z old)
+          (λ (later : c.loop-session.from ≤ z). c.in-Some.ensures.2 z later below)
+          (cases_lt z c.loop-session.from));
     }
+
+pub returns-clause-past : goal.returns-clause-past
+returns-clause-past c = λ z. ⊎_elim
+    (λ (old : z < c.loop-session.from). c.loop-session.invariant.past z old)
+    (λ (later : c.loop-session.from ≤ z). c.in_default.ensures z later)
+    (cases_lt z c.loop-session.from)

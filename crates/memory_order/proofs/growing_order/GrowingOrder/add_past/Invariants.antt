@@ -1,4 +1,4 @@
-use Rattle.std.proofs.Common.{ℕ, ◌<◌, ◌≤◌}
+use Rattle.std.proofs.Common.{ℕ, ◌<◌, ◌≤◌, ◌-◌, length}
 use Rattle.memory_order.specs.Steps.GrowthSteps.{GrowsWithin, NoReads}
 use Rattle.causal_order.specs.Vectors.{count}
 use Rattle.memory_order.proofs.growing_order.GrowingOrder.add_past.Given as goal
@@ -7,5 +7,9 @@ use Rattle.memory_order.proofs.growing_order.GrowingOrder.add_past.Given as goal
 abbrev pub invariant-loop-session : goal.invariant-loop-session
 invariant-loop-session l = record {
   within : GrowsWithin l.h NoReads l.fn.self l.self;
-  past : (z : ℕ) → z < l.session → count l.self.counts l.before z ≤ count l.self.counts l.op z;
+  past : (z : ℕ) → z < l.from → count l.self.counts l.before z ≤ count l.self.counts l.op z;
 }
+
+-- how many sessions are left
+abbrev pub decreases-loop-session : goal.decreases-loop-session
+decreases-loop-session l = length l.h.1 - l.from

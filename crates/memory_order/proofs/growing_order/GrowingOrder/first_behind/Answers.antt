@@ -38,3 +38,11 @@ loop-low-preserved c =
           omega arith;
       behind = c.loop-low.invariant.behind;
     }
+
+pub loop-low-init : goal.loop-low-init
+loop-low-init c = record {
+  ordered = c.near_end-range.ensures.ordered;
+  inside = c.near_end-range.ensures.inside;
+  before = c.near_end-range.ensures.before;
+  behind = c.near_end-range.ensures.behind;
+}

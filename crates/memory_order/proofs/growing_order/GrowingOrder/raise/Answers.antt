@@ -33,6 +33,7 @@ returns c =
       counts = refl;
       pending = refl;
       past = refl;
+      raises = c.in_ok-push.ensures.items;
       added = omega arith;
       more = omega arith;
       cyclic = refl;

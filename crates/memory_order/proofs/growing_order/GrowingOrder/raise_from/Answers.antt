@@ -16,7 +16,7 @@ returns-then-end-index-clause-within c = λ reads cause.
 
 pub returns-then-end-index-clause-raised : goal.returns-then-end-index-clause-raised
 returns-then-end-index-clause-raised c =
-    raised-from c.args.h.now c.args.self.now c.raise_up_to.new.self c.args.session c.args.index c.in_ok-end.end c.args.other c.args.number
+    raised-from c.args.h.now c.args.self.now c.raise_up_to.new.self c.args.session c.args.index c.in_ok-end.end c.args.other c.args.number c.args.cause
     c.in_ok-end.ensures.raised c.in_ok-end.ensures.stopped
 
 pub returns-then-session-other-clause-within : goal.returns-then-session-other-clause-within
@@ -33,10 +33,10 @@ returns-then-session-other-clause-within c = λ reads cause.
     let is_op : IsOp h (op c.args.session c.args.index) = omega arith in
     record {
       grows = grows-step h ⊥ reads a _
-          (growing-pushed h a b _ c.args.session c.args.index c.in_ok-end.end c.args.other c.args.number raised some is_op c.requires.other
+          (growing-pushed h a b _ c.args.session c.args.index c.in_ok-end.end c.args.other c.args.number c.args.cause raised some is_op c.requires.other
           refl refl c.in_ok-push.ensures.items refl)
-          (inl (raise-made h a b c.args.session c.args.index c.in_ok-end.end c.args.other c.args.number raised c.in_ok-end.ensures.stopped reads _ some is_op
-          (cause (omega arith)) refl refl c.in_ok-push.ensures.items refl refl (inr (refl, c.if-session-other.true))));
+          (inl (raise-made h a b c.args.session c.args.index c.in_ok-end.end c.args.other c.args.number c.args.cause raised c.in_ok-end.ensures.stopped reads _ some is_op
+          (cause (omega arith)) refl refl c.in_ok-push.ensures.items refl refl refl (inr (refl, c.if-session-other.true))));
       past = raised.past;
     }
 
@@ -54,9 +54,9 @@ returns-else-session-other-clause-within c = λ reads cause.
     let is_op : IsOp h (op c.args.session c.args.index) = omega arith in
     record {
       grows = grows-step h ⊥ reads a _
-          (growing-pushed h a b _ c.args.session c.args.index c.in_ok-end.end c.args.other c.args.number raised some is_op c.requires.other
+          (growing-pushed h a b _ c.args.session c.args.index c.in_ok-end.end c.args.other c.args.number c.args.cause raised some is_op c.requires.other
           refl refl c.in_ok-push.ensures.items refl)
-          (inl (raise-made h a b c.args.session c.args.index c.in_ok-end.end c.args.other c.args.number raised c.in_ok-end.ensures.stopped reads _ some is_op
-          (cause (omega arith)) refl refl c.in_ok-push.ensures.items refl refl (inl (refl, c.if-session-other.false))));
+          (inl (raise-made h a b c.args.session c.args.index c.in_ok-end.end c.args.other c.args.number c.args.cause raised c.in_ok-end.ensures.stopped reads _ some is_op
+          (cause (omega arith)) refl refl c.in_ok-push.ensures.items refl refl refl (inl (refl, c.if-session-other.false))));
       past = raised.past;
     }

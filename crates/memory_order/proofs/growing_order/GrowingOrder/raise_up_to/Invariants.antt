@@ -5,7 +5,7 @@ use Rattle.memory_order.proofs.growing_order.GrowingOrder.raise_up_to.Given as g
 
 -- what was raised so far
 abbrev pub invariant-loop-end : goal.invariant-loop-end
-invariant-loop-end l = IsRaisedTo l.h l.fn.self l.self l.session l.index l.end l.other l.number
+invariant-loop-end l = IsRaisedTo l.h l.fn.self l.self l.session l.index l.end l.other l.number l.cause
 
 -- how many operations of the session are left
 abbrev pub decreases-loop-end : goal.decreases-loop-end

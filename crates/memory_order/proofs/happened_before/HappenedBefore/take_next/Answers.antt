@@ -1,26 +1,16 @@
-use Rattle.memory_order.proofs.RelationsMade.{grown-settled, grown-sources, reads-taken, sources-taken, takes-next}
-use Rattle.memory_order.specs.Steps.GrowthSteps.{NoMore}
+use Rattle.std.proofs.Common.{◌<◌, length, subst, sym}
+use Rattle.std.specs.Prelude.{IfOk}
+use Rattle.history.specs.History.{session}
+use Rattle.memory_order.specs.Memory.{MemoryHistory}
+use Rattle.memory_order.specs.Steps.HappenedBefores.{IsMade, TakesNext, session_of, taken_of}
 use Rattle.memory_order.proofs.happened_before.HappenedBefore.take_next.Goals as goal
 
+pub take_next_of-requires-clause-made : goal.take_next_of-requires-clause-made
+take_next_of-requires-clause-made c = subst (λ (h : MemoryHistory). IsMade h c.args.self) (sym c.history.ensures) c.requires.made
+
+pub take_next_of-requires-clause-next : goal.take_next_of-requires-clause-next
+take_next_of-requires-clause-next c =
+    subst (λ (h : MemoryHistory). taken_of c.args.self < length (session h (session_of c.args.self))) (sym c.history.ensures) c.requires.next
+
 pub returns : goal.returns
-returns c =
-    takes-next c.args.h.now c.args.self c.take_in.new.self c.requires.made c.requires.next c.in_ok-take_in.ensures
-    c.follow_read_of_all.new.self c.in_ok-follow_read_of_all.ensures.grown c.in_ok-follow_read_of_all.ensures.followed
-    c.saturate.new.self c.in_ok-saturate.ensures.grown c.in_ok-saturate.ensures.settled c.in_ok-saturate.ensures.reads c.in_ok-saturate.ensures.ended
-
-pub follow_read_of_all-requires-clause-sources : goal.follow_read_of_all-requires-clause-sources
-follow_read_of_all-requires-clause-sources c = sources-taken c.args.h.now c.args.self c.take_in.new.self c.requires.made c.requires.next c.in_ok-take_in.ensures
-
-pub saturate-requires-clause-sources : goal.saturate-requires-clause-sources
-saturate-requires-clause-sources c =
-    grown-sources c.args.h.now ⊥ c.take_in.new.self c.follow_read_of_all.new.self c.in_ok-follow_read_of_all.ensures.grown
-    (sources-taken c.args.h.now c.args.self c.take_in.new.self c.requires.made c.requires.next c.in_ok-take_in.ensures)
-
-pub saturate-requires-clause-settled : goal.saturate-requires-clause-settled
-saturate-requires-clause-settled c =
-    grown-settled c.args.h.now NoMore c.take_in.new.self c.follow_read_of_all.new.self c.in_ok-follow_read_of_all.ensures.grown c.in_ok-take_in.ensures.past.ready.settled
-
-pub saturate-requires-clause-reads : goal.saturate-requires-clause-reads
-saturate-requires-clause-reads c =
-    reads-taken c.args.h.now c.args.self c.take_in.new.self c.requires.made c.requires.next c.in_ok-take_in.ensures
-    c.follow_read_of_all.new.self c.in_ok-follow_read_of_all.ensures.grown c.in_ok-follow_read_of_all.ensures.followed
+returns c = subst (λ (h : MemoryHistory). IfOk c.take_next_of.result (TakesNext h c.args.self)) c.history.ensures c.take_next_of.ensures
