@@ -4,15 +4,17 @@ use Rattle.std.proofs.Common.{refl, ⊎_elim}
 use Rattle.bad_patterns.specs.declared.kind.Kind.{Kind}
 use Rattle.bad_patterns.specs.declared.kind.Kind.TheVariants.{CyclicCO, ThinAirRead, WriteCOInitRead, WriteCORead, WriteHBInitRead, CyclicHB, CyclicCF}
 use Rattle.bad_patterns.specs.declared.pattern.Pattern.{Pattern}
-use Rattle.bad_patterns.specs.Kinds.{is_against, IsFreeOf}
+use Rattle.bad_patterns.specs.Kinds.{is_against, IsFreeOf, Shows}
 use Rattle.bad_patterns.specs.Patterns.{IsBadPattern, kind_of}
-use Rattle.cert_check.specs.declared.criterion.Criterion.TheVariants.{Cc, Cm}
+use Rattle.cert_check.specs.declared.criterion.Criterion.{Criterion}
+use Rattle.cert_check.specs.declared.criterion.Criterion.TheVariants.{Cc, Cm, Ccv}
 use Rattle.history.specs.declared.op_id.OpId.{OpId}
 use Rattle.memory_order.specs.Memory.{MemoryHistory, IsDifferentiated}
 use Rattle.memory_order.specs.SourceOrder.{LacksSource, SourceOrder}
 use Rattle.memory_order.specs.Steps.Indexed.{IsUnordered}
 use Rattle.memory_order.proofs.FirstWrites.{CO-from_sources}
-use Rattle.pattern_search.specs.Searches.{IsClear}
+use Rattle.decision.specs.declared.deciding.Decisions.{Decisions}
+use Rattle.decision.specs.Decisions.{IsDecided, decision_for}
 
 -- what is against causal consistency is against causal memory
 against-memory : (kind : Kind) → IsTrue (is_against kind Cc) → IsTrue (is_against kind Cm)
@@ -39,12 +41,19 @@ module _ (h : MemoryHistory) where
       (λ (lacks : LacksSource h). free ThinAirRead refl (distinct, (lacks.0, (lacks.1, lacks.2, lacks.3, lacks.4, lacks.5))))
       unordered
 
-  -- without those of happened-before it has no kind against causal memory
-  pub free-memory : IsFreeOf h Cc → IsClear h → IsFreeOf h Cm
-  free-memory free clear CyclicCO against present = free CyclicCO against present
-  free-memory free clear ThinAirRead against present = free ThinAirRead against present
-  free-memory free clear WriteCOInitRead against present = free WriteCOInitRead against present
-  free-memory free clear WriteCORead against present = free WriteCORead against present
-  free-memory free clear WriteHBInitRead against present = clear.1 present.1
-  free-memory free clear CyclicHB against present = clear.0 present.1
-  free-memory free clear CyclicCF against present = absurd cc
+  -- without cycles of conflicts it has no kind against causal convergence
+  pub free-convergence : IsFreeOf h Cc → ¬ Shows h CyclicCF → IsFreeOf h Ccv
+  free-convergence free acyclic CyclicCO against present = free CyclicCO against present
+  free-convergence free acyclic ThinAirRead against present = free ThinAirRead against present
+  free-convergence free acyclic WriteCOInitRead against present = free WriteCOInitRead against present
+  free-convergence free acyclic WriteCORead against present = free WriteCORead against present
+  free-convergence free acyclic WriteHBInitRead against present = absurd cc
+  free-convergence free acyclic CyclicHB against present = absurd cc
+  free-convergence free acyclic CyclicCF against present = acyclic present.1
+
+  -- what is decided for each criterion
+  pub all-decided : (all : Decisions) → IsDecided h Cc all.cc → IsDecided h Cm all.cm → IsDecided h Ccv all.ccv
+      → (criterion : Criterion) → IsDecided h criterion (decision_for all criterion)
+  all-decided all cc_decided cm_decided ccv_decided Cc = cc_decided
+  all-decided all cc_decided cm_decided ccv_decided Cm = cm_decided
+  all-decided all cc_decided cm_decided ccv_decided Ccv = ccv_decided

@@ -1,14 +1,25 @@
 -- What a decision says of a memory history and a criterion. (This project's profile.)
+use Rattle.std.specs.Prelude.{Some}
 use Rattle.cert_check.specs.declared.criterion.Criterion.{Criterion}
+use Rattle.cert_check.specs.declared.criterion.Criterion.TheVariants.{Cc, Cm, Ccv}
 use Rattle.cert_check.specs.Criteria.{Meets}
 use Rattle.memory_order.specs.Memory.{MemoryHistory, IsDifferentiated, memory_answer}
 use Rattle.bad_patterns.specs.Patterns.{IsBadPattern, IsTrueNo}
+use Rattle.pattern_search.specs.Searches.{HasLargeHB}
 use Rattle.decision.specs.declared.deciding.Decision.{Decision}
+use Rattle.decision.specs.declared.deciding.Decisions.{Decisions}
 use Rattle.decision.specs.declared.deciding.Decision.TheVariants as decisions
 
--- the history meets the criterion, or a pattern or a kind excludes it, or values are not distinct
+-- the history meets the criterion, or a pattern excludes it, or a kind does, where some happened-before relation has more than
+-- 19,999 pairs that the causal order doesn't have, or values are not distinct
 abbrev pub IsDecided : MemoryHistory → Criterion → Decision → Type 0
 IsDecided h criterion decisions.Meets = Meets memory_answer h criterion
 IsDecided h criterion (decisions.Excluded pattern) = IsBadPattern h criterion pattern
-IsDecided h criterion (decisions.ExcludedBy kind) = IsTrueNo h criterion kind
+IsDecided h criterion (decisions.ExcludedBy kind) = IsTrueNo h criterion kind × HasLargeHB h (Some 19999)
 IsDecided h criterion decisions.Open = ¬ IsDifferentiated h
+
+-- the decision for one criterion
+abbrev pub decision_for : Decisions → Criterion → Decision
+decision_for all Cc = all.cc
+decision_for all Cm = all.cm
+decision_for all Ccv = all.ccv

@@ -2,15 +2,16 @@
 
 ghost use Rattle.std.specs.Prelude.{◌≢◌, IfOk};
 ghost use Rattle.bad_patterns.specs.Kinds.{IsFreeOf};
-ghost use Rattle.cert_check.specs.declared.criterion.Criterion.TheVariants.{Cc, Cm};
-ghost use Rattle.decision.specs.Decisions.{IsDecided};
+ghost use Rattle.cert_check.specs.declared.criterion.Criterion.{Criterion as AnyCriterion};
+ghost use Rattle.cert_check.specs.declared.criterion.Criterion.TheVariants.{Cc, Ccv, Cm};
+ghost use Rattle.decision.specs.Decisions.{IsDecided, decision_for};
 ghost use Rattle.memory_order.specs.Memory.{IsDifferentiated};
 
 use bad_patterns::laws::present_kinds_exclude_criteria;
 use bad_patterns::{Kind, Pattern};
 use cert_check::Criterion;
 use memory_order::IndexedMemory;
-use pattern_search::{Searched, find_in, search_happened_before};
+use pattern_search::{Searched, find_conflicts, find_in, search_happened_before};
 use std::alloc::{AllocError, Global};
 
 /// What is decided of a memory history and a criterion.
@@ -20,8 +21,8 @@ pub enum Decision {
     Meets,
     /// It does not meet the criterion: the pattern shows that.
     Excluded(Pattern),
-    /// It does not meet the criterion, since this kind is present; the derivation that would show it was not accepted, as one
-    /// of more than 100,000 lines.
+    /// It does not meet the criterion, since this kind is present; a derivation that shows it might have more than 100,000
+    /// lines. Only where some happened-before relation has more than 19,999 pairs that the causal order doesn't have.
     ExcludedBy(Kind),
     /// Its values are not distinct, and nothing is decided.
     Open,
@@ -51,6 +52,56 @@ pub fn decide(
         Criterion::Cm => decide_causal_memory(alloc, memory),
         Criterion::Ccv => decide_by_patterns(alloc, memory, Criterion::Ccv),
     }
+}
+
+/// What is decided of a memory history, for each criterion.
+#[derive(Debug, Drop)]
+pub struct Decisions {
+    pub cc: Decision,
+    pub cm: Decision,
+    pub ccv: Decision,
+}
+
+/// What `decide` decides for each criterion. Of a history in which no kind against causal consistency is present these kinds are
+/// looked for once.
+///
+/// Fails for want of memory alone. What `decide` costs for causal memory and for causal convergence.
+pub fn decide_all(alloc: Global, memory: &IndexedMemory) -> Result<Decisions, AllocError>
+    ensures { IfOk result (λ all. (criterion : AnyCriterion) → IsDecided memory.now criterion (decision_for all criterion)) }
+{
+    if !memory.is_differentiated() {
+        return Ok(Decisions {
+            cc: Decision::Open,
+            cm: Decision::Open,
+            ccv: Decision::Open,
+        });
+    }
+    let Some(pattern) = find_in(alloc, memory, Criterion::Cc)? else {
+        return decide_all_consistent(alloc, memory);
+    };
+    let cm = decide(alloc, memory, Criterion::Cm)?;
+    let ccv = decide(alloc, memory, Criterion::Ccv)?;
+    Ok(Decisions {
+        cc: Decision::Excluded(pattern),
+        cm,
+        ccv,
+    })
+}
+
+/// What is decided of a memory history that no pattern against causal consistency is in.
+fn decide_all_consistent(alloc: Global, memory: &IndexedMemory) -> Result<Decisions, AllocError>
+    requires distinct { IsDifferentiated memory.now }
+    requires free { IsFreeOf memory.now Cc }
+    ensures { IfOk result (λ all. (criterion : AnyCriterion) → IsDecided memory.now criterion (decision_for all criterion)) }
+{
+    memory.history().value_is_history();
+    let cm = decide_consistent(alloc, memory)?;
+    let ccv = decide_convergent(alloc, memory)?;
+    Ok(Decisions {
+        cc: Decision::Meets,
+        cm,
+        ccv,
+    })
 }
 
 /// Whether a memory history of distinct values meets a criterion against which the search for patterns misses none.
@@ -97,5 +148,21 @@ fn decide_consistent(alloc: Global, memory: &IndexedMemory) -> Result<Decision, 
         Searched::Present(kind) => Ok(Decision::ExcludedBy(kind)),
         Searched::Open => unreachable!(),
         Searched::Nothing => Ok(Decision::Meets),
+    }
+}
+
+/// Whether a memory history that no pattern against causal consistency is in meets causal convergence.
+fn decide_convergent(alloc: Global, memory: &IndexedMemory) -> Result<Decision, AllocError>
+    requires distinct { IsDifferentiated memory.now }
+    requires free { IsFreeOf memory.now Cc }
+    ensures { IfOk result (IsDecided memory.now Ccv) }
+{
+    let Some(order) = memory.order() else {
+        unreachable!();
+    };
+    memory.history().value_is_history();
+    match find_conflicts(alloc, &order, Criterion::Ccv)? {
+        Some(pattern) => Ok(Decision::Excluded(pattern)),
+        None => Ok(Decision::Meets),
     }
 }

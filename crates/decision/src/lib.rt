@@ -4,4 +4,4 @@
 mod deciding;
 pub mod laws;
 
-pub use deciding::{Decision, decide};
+pub use deciding::{Decision, Decisions, decide, decide_all};

@@ -6,6 +6,7 @@ use Rattle.std.proofs.lemmas.Bool.{cases_lt}
 use Rattle.std.proofs.lemmas.List.{get_or_past}
 use Rattle.history.specs.declared.op_id.OpId.{OpId}
 use Rattle.history.specs.History.{IsOp}
+use Rattle.memory_order.specs.declared.growing_order.Raise.{Raise}
 use Rattle.memory_order.specs.declared.known_reads.KnownRead.{KnownRead}
 use Rattle.memory_order.specs.Memory.{MemoryHistory, initial, Writes, Reads, IsDifferentiated}
 use Rattle.causal_order.specs.Orders.{op, program_past}
@@ -29,7 +30,7 @@ pub none-from : {X : Type 0} (e : Option X) → is_some e ≡ false → e ≡ No
 none-from None absent = refl
 none-from (Some x) absent = absurd cc
 
-module _ (h : MemoryHistory) (relation : OpId × Counts) (is : IsRelation h relation) where
+module _ (h : MemoryHistory) (relation : OpId × Counts × List Raise) (is : IsRelation h relation) where
   abbrev o : OpId
   o = relation.0
 

@@ -5,6 +5,12 @@ pub mod KnownConflicts
 pub mod ConflictLinks
 pub mod RoutesBack
 pub mod ReadPatterns
+pub mod KnownBefore
 pub mod NothingFound
 pub mod HappenedReads
 pub mod SearchedLaws
+pub mod PlacedLists
+pub mod RaisedPairs
+pub mod FirstRaises
+pub mod NeededRaises
+pub mod DraftLines

@@ -1,6 +1,6 @@
 -- Which kinds are present in a memory history, by what a search for them found.
-use Rattle.std.specs.Prelude.{◌≢◌, IsTrue, true}
-use Rattle.std.proofs.Common.{⊎_elim}
+use Rattle.std.specs.Prelude.{◌≢◌, ◌⊎◌, IsTrue, Some, true}
+use Rattle.std.proofs.Common.{⊎_elim, inl, inr}
 use Rattle.history.specs.declared.op_id.OpId.{OpId}
 use Rattle.cert_check.specs.declared.criterion.Criterion.{Criterion}
 use Rattle.cert_check.specs.declared.criterion.Criterion.TheVariants.{Cc, Cm, Ccv}
@@ -11,6 +11,7 @@ use Rattle.memory_order.specs.Steps.Indexed.{IsOrdered, IsUnordered}
 use Rattle.memory_order.proofs.FirstWrites.{CO-by_sources, CO-from_sources}
 use Rattle.bad_patterns.specs.declared.kind.Kind.TheVariants.{CyclicCO, ThinAirRead, WriteCOInitRead, WriteCORead, WriteHBInitRead, CyclicHB, CyclicCF}
 use Rattle.bad_patterns.specs.Kinds.{is_against, IsFreeOf, IsThinAirRead, Shows}
+use Rattle.pattern_search.specs.Searches.{HasLargeHB, IsClear, IsFreeOrLarge}
 
 module _ (h : MemoryHistory) where
   -- a history without an order has a cycle or a thin-air read
@@ -41,6 +42,22 @@ module _ (h : MemoryHistory) where
   free-convergent free acyclic WriteHBInitRead against present = absurd cc
   free-convergent free acyclic CyclicHB against present = absurd cc
   free-convergent free acyclic CyclicCF against present = acyclic present.1
+
+  -- and without those of happened-before none against causal memory
+  pub free-memory : IsFreeOf h Cc → IsClear h → IsFreeOf h Cm
+  free-memory free clear CyclicCO against present = free CyclicCO against present
+  free-memory free clear ThinAirRead against present = free ThinAirRead against present
+  free-memory free clear WriteCOInitRead against present = free WriteCOInitRead against present
+  free-memory free clear WriteCORead against present = free WriteCORead against present
+  free-memory free clear WriteHBInitRead against present = clear.1 present.1
+  free-memory free clear CyclicHB against present = clear.0 present.1
+  free-memory free clear CyclicCF against present = absurd cc
+
+  pub free-or-large : IsFreeOf h Cc → IsClear h ⊎ HasLargeHB h (Some 19999) → IsFreeOrLarge h
+  free-or-large free found = ⊎_elim
+      (λ (clear : IsClear h). inl (free-memory free clear))
+      (λ (large : HasLargeHB h (Some 19999)). inr large)
+      found
 
   pub free-of : (criterion : Criterion) → criterion ≢ Cm → IsFreeOf h Cc → (IsTrue (is_against CyclicCF criterion) → ¬ Shows h CyclicCF) → IsFreeOf h criterion
   free-of Cc apart free acyclic = free

@@ -1,20 +1,26 @@
 -- What follows for what a search of happened-before relations comes to.
-use Rattle.std.proofs.Common.{◌≡◌, ℕ, ◌+◌, ◌-◌, ◌<◌, ◌≤◌, Ok, Err, Result, length, inl, inr, ⊎_elim, refl, sym, arith, lt-ltb, ltb-true, subst, eq-or-lt_of_le}
+use Rattle.std.proofs.Common.{◌≡◌, ℕ, ◌+◌, ◌-◌, ◌<◌, ◌≤◌, List, Ok, Err, Result, length, inl, inr, ⊎_elim, refl, sym, arith, lt-ltb, ltb-true, subst, eq-or-lt_of_le}
 use Rattle.std.specs.Prelude.{IfOk, IsTrue, None, Option, Some}
 use Rattle.std.proofs.lemmas.Bool.{cases_lt}
 use Rattle.history.specs.declared.op_id.OpId.{OpId}
 use Rattle.history.specs.History.{IsOp, session}
+use Rattle.memory_order.specs.declared.growing_order.Raise.{Raise}
 use Rattle.memory_order.specs.Memory.{MemoryHistory, IsDifferentiated}
+use Rattle.memory_order.specs.Relations.{HB}
 use Rattle.causal_order.specs.Orders.{op, program_past}
-use Rattle.causal_order.specs.Vectors.{count}
+use Rattle.causal_order.specs.Vectors.{Counts, count}
 use Rattle.memory_order.specs.Steps.HappenedBefores.{HasMorePairs}
 use Rattle.memory_order.proofs.HappenedBeforeLaws.{HB-earlier, HB-of_history, in_past-from, in_past-true, past-of_history, past-past, past-program, program_past-earlier, program_past-from}
 use Rattle.memory_order.proofs.HappenedBeforeVectors.{supported-strict}
 use Rattle.causal_order.proofs.OrdersLaws.{session-of_history}
+use Rattle.bad_patterns.specs.declared.derivation.Line.{Line}
+use Rattle.bad_patterns.specs.declared.kind.Kind.TheVariants as kinds
+use Rattle.bad_patterns.specs.declared.pattern.Pattern.TheVariants as patterns
+use Rattle.bad_patterns.specs.Derivations.{IsDerivation}
 use Rattle.pattern_search.specs.declared.searched.Searched.{Searched}
 use Rattle.pattern_search.specs.declared.searched.Searched.TheVariants.{Pattern, Present, Open, Nothing}
 use Rattle.pattern_search.specs.Searches.{ComesTo, HasLargeHB, HasPattern, IsClear, either}
-use Rattle.pattern_search.specs.Steps.Relations.{HasNoCycle, HasLarge, HasNoRelation, HasNoStart, IsClearBefore}
+use Rattle.pattern_search.specs.Steps.Relations.{HasNoCycle, HasLarge, HasNoRelation, HasNoStart, IsClearBefore, IsRelation, IsStartOverwritten}
 
 -- what holds of each result holds of a result
 pub ok-weaker : {A E : Type 0} (r : Result A E) (P Q : A → Type 0) → ((x : A) → P x → Q x) → IfOk r P → IfOk r Q
@@ -180,3 +186,45 @@ module _ (h : MemoryHistory) where
       comes-weaker (HasLargeHB h most) ((IsClearBefore h o.session × HasNoStart h o) × HasNoCycle h o) (HasLargeHB h most) (IsClearBefore h (o.session + 1))
       (λ is. is)
       (λ (clear : (IsClearBefore h o.session × HasNoStart h o) × HasNoCycle h o). clear-last o is_op last clear.0.1 clear.1 clear.0.0) s comes
+
+  -- a relation with so many pairs has fewer too
+  pub large-less : (m n : ℕ) → m ≤ n → HasLargeHB h (Some n) → HasLargeHB h (Some m)
+  large-less m n up (o, is_op, large) = (
+    o,
+    is_op,
+    record {
+      causal = large.causal;
+      counts = large.counts;
+      strict = large.strict;
+      begun = large.begun;
+      now = large.now;
+      held = large.held;
+      supported = large.supported;
+      outside = large.outside;
+      more = let more = large.more in omega arith;
+    },
+  )
+
+  module _ (distinct : IsDifferentiated h) (relation : OpId × Counts × List Raise) (is : IsRelation h relation) (A B : Type 0) where
+    -- each raise added a pair
+    large-raises : 19999 < length relation.2 → HasLargeHB h (Some 19999)
+    large-raises many = (relation.0, is.is_op, is.more 19999 many)
+
+    -- a read of the initial value after a write is shown by a derivation, or its kind is present
+    pub start-shown : (w r : OpId) → IsStartOverwritten h relation.0 w r → (lines : List Line) → IsDerivation h relation.0 lines w r
+        → ComesTo h A B (Pattern (patterns.WriteHBInitRead relation.0 lines))
+    start-shown w r (x, v, writes, reads, kept, before) lines derivation = (
+      record { differentiated = distinct; against = refl; shown = (w, r, x, v, writes, reads, kept, derivation) },
+      λ a same. absurd cc,
+    )
+
+    pub start-present : (w r : OpId) → IsStartOverwritten h relation.0 w r → 19999 < length relation.2 → ComesTo h A B (Present kinds.WriteHBInitRead)
+    start-present w r (x, v, writes, reads, kept, before) many =
+        (refl, (distinct, (relation.0, w, r, x, v, writes, reads, kept, before)), large-raises many)
+
+    -- so is a cycle
+    pub cycle-shown : (a : OpId) (lines : List Line) → IsDerivation h relation.0 lines a a → ComesTo h A B (Pattern (patterns.CyclicHB relation.0 lines))
+    cycle-shown a lines derivation = (record { differentiated = distinct; against = refl; shown = (a, derivation) }, λ b same. absurd cc)
+
+    pub cycle-present : (a : OpId) → HB h relation.0 a a → 19999 < length relation.2 → ComesTo h A B (Present kinds.CyclicHB)
+    cycle-present a before many = (refl, (distinct, (relation.0, a, before)), large-raises many)

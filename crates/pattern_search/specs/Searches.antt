@@ -1,5 +1,5 @@
 -- What a search of the happened-before relations of a memory history comes to.
-use Rattle.std.specs.Prelude.{ℕ, IsTrue, MatchOption, Option}
+use Rattle.std.specs.Prelude.{◌⊎◌, ℕ, IsTrue, MatchOption, Option, Some}
 use Rattle.history.specs.declared.op_id.OpId.{OpId}
 use Rattle.history.specs.History.{IsOp}
 use Rattle.cert_check.specs.declared.criterion.Criterion.TheVariants.{Cm}
@@ -8,15 +8,29 @@ use Rattle.memory_order.specs.Memory.{MemoryHistory}
 use Rattle.memory_order.specs.Steps.HappenedBefores.{HasMorePairs}
 use Rattle.pattern_search.specs.declared.searched.Searched.{Searched}
 use Rattle.pattern_search.specs.declared.searched.Searched.TheVariants.{Pattern, Present, Open, Nothing}
-use Rattle.bad_patterns.specs.Kinds.{is_against, IsPresent}
+use Rattle.bad_patterns.specs.Kinds.{is_against, IsFreeOf, IsPresent}
 use Rattle.bad_patterns.specs.Patterns.{IsBadPattern}
 use Rattle.pattern_search.specs.Steps.Found.{IsFirstFound}
 
--- a search shows a bad pattern against causal memory, or names a kind against it that is present, or is open and one thing is
--- so, or comes to nothing and another is so
+module _ (h : MemoryHistory) where
+  -- an operation whose happened-before relation has more than so many pairs that the causal order doesn't have, if a number
+  -- is given
+  abbrev pub HasLargeHB : Option ℕ → Type 0
+  HasLargeHB most = MatchOption most ⊥ (λ n. (o : OpId) × IsOp h o × HasMorePairs h o n)
+
+  -- neither kind is shown
+  abbrev pub IsClear : Type 0
+  IsClear = (¬ HasHBCycle h) × (¬ HasStartOverwrittenInHB h)
+
+  -- no kind against causal memory is present, or some relation has more than 19,999 pairs that the causal order doesn't have
+  abbrev pub IsFreeOrLarge : Type 0
+  IsFreeOrLarge = IsFreeOf h Cm ⊎ HasLargeHB (Some 19999)
+
+-- a search shows a bad pattern against causal memory, or names a kind against it that is present, where some relation has more
+-- than 19,999 pairs that the causal order doesn't have, or is open and one thing is so, or comes to nothing and another is so
 abbrev pub ComesTo : MemoryHistory → Type 0 → Type 0 → Searched → Type 0
 ComesTo h undecided nothing (Pattern pattern) = IsBadPattern h Cm pattern × IsFirstFound h pattern
-ComesTo h undecided nothing (Present kind) = IsTrue (is_against kind Cm) × IsPresent h kind
+ComesTo h undecided nothing (Present kind) = IsTrue (is_against kind Cm) × IsPresent h kind × HasLargeHB h (Some 19999)
 ComesTo h undecided nothing Open = undecided
 ComesTo h undecided nothing Nothing = nothing
 
@@ -39,13 +53,3 @@ either Open (Present kind) = Present kind
 either Open Open = Open
 either Open Nothing = Open
 either Nothing other = other
-
-module _ (h : MemoryHistory) where
-  -- an operation whose happened-before relation has more than so many pairs that the causal order doesn't have, if a number
-  -- is given
-  abbrev pub HasLargeHB : Option ℕ → Type 0
-  HasLargeHB most = MatchOption most ⊥ (λ n. (o : OpId) × IsOp h o × HasMorePairs h o n)
-
-  -- neither kind is shown
-  abbrev pub IsClear : Type 0
-  IsClear = (¬ HasHBCycle h) × (¬ HasStartOverwrittenInHB h)

@@ -4,3 +4,5 @@ pub mod Found
 pub mod KnownSources
 pub mod Routes
 pub mod Relations
+pub mod Reasons
+pub mod Drafts

@@ -1,6 +1,7 @@
-ghost use Rattle.std.specs.Prelude.{◌↔◌, ◌≢◌, ℕ, IfNone, IfOk, IfSome, IsTrue, MatchOption};
+ghost use Rattle.std.specs.Prelude.{◌≡◌, ◌↔◌, ◌≢◌, ℕ, IfNone, IfOk, IfSome, IsTrue, MatchOption};
 ghost use Rattle.bad_patterns.specs.Kinds.{IsFreeOf, IsThinAirRead, Shows, is_against};
-ghost use Rattle.bad_patterns.specs.Patterns.{IsBadPattern, IsShownBy, kind_of};
+ghost use Rattle.bad_patterns.specs.Patterns.{IsBadPattern};
+ghost use Rattle.pattern_search.specs.Searches.{IsFreeOrLarge};
 ghost use Rattle.pattern_search.specs.Steps.Found.{IsFirst, IsFirstFound, IsFirstOf};
 ghost use Rattle.bad_patterns.specs.declared.kind.Kind.TheVariants.{CyclicCF};
 ghost use Rattle.memory_order.specs.Memory.{IsDifferentiated};
@@ -13,7 +14,7 @@ ghost use Rattle.cert_check.specs.declared.criterion.Criterion.TheVariants.{Cc, 
 
 use crate::finding_happened_before::find_happened_before;
 use crate::search::{cycle_with_conflicts, cyclic_order, overwritten_read, overwritten_start};
-use bad_patterns::{Kind, Pattern, is_shown, is_thin_air_read};
+use bad_patterns::{Kind, Pattern, is_thin_air_read};
 use cert_check::Criterion;
 use history::{History, OpId};
 use memory_order::{CausalOrder, IndexedMemory, Write};
@@ -23,15 +24,16 @@ use std::alloc::{AllocError, Global};
 /// A pattern that shows that the history does not meet the criterion, where the search finds one.
 ///
 /// Against causal consistency and against causal convergence one is found exactly where a kind that is against the criterion
-/// is present in the history. Against causal memory one is found where a kind against causal consistency is present; of
-/// the two kinds of happened-before one may be missed. In a history that does not have distinct values no kind is present.
+/// is present in the history. So it is against causal memory, but where some happened-before relation has more than 19,999
+/// pairs that the causal order doesn't have: there one of the two kinds of happened-before may be missed. In a history that
+/// does not have distinct values no kind is present.
 ///
 /// Kinds are tried in turn, those alone that are against the criterion: a cycle of the causal order, a read of a value that
 /// nobody wrote, a read of the initial value after a write, a read from an overwritten write, a read of the initial value
 /// that a happened-before relation puts after a write, a happened-before relation with a cycle, and a cycle with
 /// conflicts. A thin-air read that is found is the first one. For the kinds of happened-before the relation of each
 /// session's last operation is searched: one with more than 100,000 pairs that the causal order doesn't have is left out,
-/// and so is a pattern whose derivation would have more than 100,000 lines.
+/// and so is a pattern whose derivation might have more than 100,000 lines.
 ///
 /// Fails for want of memory alone. O(n log n + n k) for n operations of k sessions, besides what `find_in` costs.
 pub fn find(
@@ -43,6 +45,7 @@ pub fn find(
     ensures first { IfOk result (λ found. IfSome found (IsFirstFound h.now)) }
     ensures none { IfOk result (λ found. IfNone found (IsFreeOf h.now Cc)) }
     ensures exact { criterion ≢ Cm → IfOk result (λ found. IfNone found (IsFreeOf h.now criterion)) }
+    ensures happened_before { criterion ≡ Cm → IfOk result (λ found. IfNone found (IsFreeOrLarge h.now)) }
 {
     let memory = IndexedMemory::of(alloc, h)?;
     find_in(alloc, &memory, criterion)
@@ -63,6 +66,7 @@ pub fn find_in(
     ensures first { IfOk result (λ found. IfSome found (IsFirstFound memory.now)) }
     ensures none { IfOk result (λ found. IfNone found (IsFreeOf memory.now Cc)) }
     ensures exact { criterion ≢ Cm → IfOk result (λ found. IfNone found (IsFreeOf memory.now criterion)) }
+    ensures happened_before { criterion ≡ Cm → IfOk result (λ found. IfNone found (IsFreeOrLarge memory.now)) }
 {
     if !memory.is_differentiated() {
         return Ok(None);
@@ -107,6 +111,7 @@ fn find_in_order(
     ensures first { IfOk result (λ found. IfSome found (IsFirstFound order.now)) }
     ensures none { IfOk result (λ found. IfNone found (IsFreeOf order.now Cc)) }
     ensures exact { criterion ≢ Cm → IfOk result (λ found. IfNone found (IsFreeOf order.now criterion)) }
+    ensures happened_before { criterion ≡ Cm → IfOk result (λ found. IfNone found (IsFreeOrLarge order.now)) }
 {
     if let Some(pattern) = find_overwritten(alloc, order)? {
         return Ok(Some(pattern));
@@ -136,7 +141,9 @@ fn find_overwritten(alloc: Global, order: &CausalOrder) -> Result<Option<Pattern
 }
 
 /// A cycle of the causal order and of conflicts, where such cycles are against the criterion and there is one.
-fn find_conflicts(
+///
+/// Fails for want of memory alone. O(n k log n) for n operations of k sessions.
+pub fn find_conflicts(
     alloc: Global,
     order: &CausalOrder,
     criterion: Criterion,
@@ -152,29 +159,6 @@ fn find_conflicts(
     match cycle_with_conflicts(alloc, order)? {
         Some(links) => Ok(Some(Pattern::CyclicCF(links))),
         None => Ok(None),
-    }
-}
-
-/// The pattern, where it shows that a history of distinct values does not meet the criterion: the test of `check_pattern`.
-pub fn tested(
-    alloc: Global,
-    memory: &IndexedMemory,
-    criterion: Criterion,
-    pattern: Pattern,
-) -> Result<Option<Pattern>, AllocError>
-    requires differentiated { IsDifferentiated memory.now }
-    requires first { IsFirstFound memory.now pattern }
-    ensures found { IfOk result (λ found. IfSome found (IsBadPattern memory.now criterion)) }
-    ensures first { IfOk result (λ found. IfSome found (IsFirstFound memory.now)) }
-    ensures none { IfOk result (λ found. IfNone found (IsTrue (is_against (kind_of pattern) criterion) → ¬ IsShownBy memory.now pattern)) }
-{
-    if !pattern.kind().is_against(criterion) {
-        return Ok(None);
-    }
-    if is_shown(alloc, memory.history(), memory.writes(), &pattern)? {
-        Ok(Some(pattern))
-    } else {
-        Ok(None)
     }
 }
 

@@ -1,15 +1,13 @@
 //! The search for patterns that happened-before relations show.
 
-ghost use Rattle.std.specs.Prelude.{◌≡◌, ◌+◌, ◌<◌, ℕ, length, IfOk, IfSome, IsTrue, Option};
-ghost use Rattle.bad_patterns.specs.Kinds.{is_against, IsPresent};
-ghost use Rattle.bad_patterns.specs.Patterns.{IsBadPattern, kind_of};
+ghost use Rattle.std.specs.Prelude.{◌≡◌, ◌⊎◌, ◌+◌, ◌<◌, ℕ, length, IfNone, IfOk, IfSome, IsTrue, Option, Some};
+ghost use Rattle.bad_patterns.specs.Patterns.{IsBadPattern};
 ghost use Rattle.cert_check.specs.declared.criterion.Criterion.TheVariants.{Cm};
 ghost use Rattle.pattern_search.specs.Searches.{ComesTo, HasPattern, IsClear, HasLargeHB};
 ghost use Rattle.pattern_search.specs.Steps.Found.{IsFirstFound};
 ghost use Rattle.pattern_search.specs.Steps.Relations.{HasNoCycle, HasNoStart, IsClearBefore, IsRelation, IsRelationOfLast};
 ghost use Rattle.memory_order.specs.Memory.{IsDifferentiated};
 
-use crate::finding::tested;
 use crate::search::{Relation, cycle_in, derivation_of, overwritten_start_in};
 use crate::searched::Searched;
 use bad_patterns::{Kind, Pattern};
@@ -19,7 +17,8 @@ use std::alloc::{AllocError, Global};
 
 /// A pattern of one of the kinds that rest on happened-before relations, where those are against the criterion.
 ///
-/// It is what `search_happened_before` shows with relations of at most 100,000 pairs that the causal order doesn't have.
+/// It is what `search_happened_before` shows with relations of at most 100,000 pairs that the causal order doesn't have. Against
+/// causal memory there is none only where none of these kinds is present, or some relation has more than 19,999 such pairs.
 pub fn find_happened_before(
     alloc: Global,
     order: &CausalOrder,
@@ -28,13 +27,16 @@ pub fn find_happened_before(
     requires { IsDifferentiated order.now }
     ensures found { IfOk result (λ found. IfSome found (IsBadPattern order.now criterion)) }
     ensures first { IfOk result (λ found. IfSome found (IsFirstFound order.now)) }
+    ensures none { criterion ≡ Cm → IfOk result (λ found. IfNone found (IsClear order.now ⊎ HasLargeHB order.now (Some 19999))) }
 {
     if !Kind::CyclicHB.is_against(criterion) {
         return Ok(None);
     }
     match search_happened_before(alloc, order, Some(MOST_PAIRS))? {
         Searched::Pattern(pattern) => Ok(Some(pattern)),
-        Searched::Present(_) | Searched::Open | Searched::Nothing => Ok(None),
+        Searched::Present(_) => Ok(None),
+        Searched::Open => Ok(None),
+        Searched::Nothing => Ok(None),
     }
 }
 
@@ -44,9 +46,9 @@ pub fn find_happened_before(
 /// For each session the relation of its last operation is searched: it has what those of the operations before it have. A
 /// session is left out where this relation has more pairs than it may have, if a number is given, that the causal order
 /// doesn't have. A cycle is shown only where no session has a read of the initial value after a write. It comes to nothing
-/// only where none of these kinds is present. Where one is and the derivation that was made of it did not pass the test, as
-/// one of more than 100,000 lines, it comes to that kind. It is open only where a session was left out: so never without a
-/// number.
+/// only where none of these kinds is present. Where one is, and its derivation might have more than 100,000 lines, it comes to
+/// that kind: only where some relation has more than 19,999 pairs that the causal order doesn't have. It is open only where a
+/// session was left out: so never without a number.
 ///
 /// Fails for want of memory alone. For each of k sessions O(n (log n + k^2) + m k log n) for n operations and m pairs that
 /// its relation has more than the causal order, and for each derivation O(m log m + l n) for l lines.
@@ -91,8 +93,8 @@ fn search_session(
     requires so_far { ComesTo order.now (HasLargeHB order.now most) (IsClearBefore order.now session) so_far }
     ensures { IfOk result (ComesTo order.now (HasLargeHB order.now most) (IsClearBefore order.now (session + 1))) }
 {
-    let h = order.memory().history();
-    match Relation::of_last(alloc, h, order.vectors(), session, most)? {
+    let h = order.history();
+    match Relation::of_last(alloc, order, session, most)? {
         Some(relation) => search_relation(alloc, order, &relation, so_far),
         None if h.len(session as u64) == 0 => Ok(so_far),
         None => Ok(so_far.or(Searched::Open)),
@@ -153,9 +155,13 @@ fn find_start(
     let Some(pair) = overwritten_start_in(order, relation) else {
         return Ok(Searched::Nothing);
     };
-    let derivation = derivation_of(alloc, order, relation, pair)?;
-    let pattern = Pattern::WriteHBInitRead(relation.op(), derivation);
-    tested_or_present(alloc, order, pattern)
+    match derivation_of(alloc, order, relation, pair)? {
+        Some(derivation) => Ok(Searched::Pattern(Pattern::WriteHBInitRead(
+            relation.op(),
+            derivation,
+        ))),
+        None => Ok(Searched::Present(Kind::WriteHBInitRead)),
+    }
 }
 
 /// An operation that a relation puts before itself.
@@ -171,26 +177,8 @@ fn find_cycle(
     let Some(pair) = cycle_in(order, relation) else {
         return Ok(Searched::Nothing);
     };
-    let derivation = derivation_of(alloc, order, relation, pair)?;
-    let pattern = Pattern::CyclicHB(relation.op(), derivation);
-    tested_or_present(alloc, order, pattern)
-}
-
-/// The pattern of a kind that is present, where it passes the test, or else its kind.
-fn tested_or_present(
-    alloc: Global,
-    order: &CausalOrder,
-    pattern: Pattern,
-) -> Result<Searched, AllocError>
-    requires differentiated { IsDifferentiated order.now }
-    requires first { IsFirstFound order.now pattern }
-    requires against { IsTrue (is_against (kind_of pattern) Cm) }
-    requires present { IsPresent order.now (kind_of pattern) }
-    ensures { IfOk result (ComesTo order.now ⊥ ⊥) }
-{
-    let kind = pattern.kind();
-    match tested(alloc, order.memory(), Criterion::Cm, pattern)? {
-        Some(pattern) => Ok(Searched::Pattern(pattern)),
-        None => Ok(Searched::Present(kind)),
+    match derivation_of(alloc, order, relation, pair)? {
+        Some(derivation) => Ok(Searched::Pattern(Pattern::CyclicHB(relation.op(), derivation))),
+        None => Ok(Searched::Present(Kind::CyclicHB)),
     }
 }

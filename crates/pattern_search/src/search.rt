@@ -1,12 +1,14 @@
 //! The search for operations that show a pattern.
 //!
-//! Cycles and overwritten reads are found exactly where they are, with what shows them. What is answered of happened-before
-//! relations is a candidate: who asks tests it.
+//! Cycles, overwritten reads and what happened-before relations show are found exactly where they are, with what shows them,
+//! but for derivations that might be too long.
 
 mod conflicts;
 mod cycles;
 mod derivations;
+mod drafts;
 mod happened;
+mod needed;
 mod reads;
 mod reasons;
 mod relations;

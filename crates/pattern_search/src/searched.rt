@@ -8,7 +8,7 @@ use bad_patterns::{Kind, Pattern};
 pub enum Searched {
     /// A bad pattern.
     Pattern(Pattern),
-    /// A kind that is present, where the derivation that was made of it is none.
+    /// A kind that is present, where a derivation of it might have more than 100,000 lines, and none was made.
     Present(Kind),
     /// A relation has more pairs than it may have, and was not searched.
     Open,

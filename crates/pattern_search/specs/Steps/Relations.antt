@@ -1,34 +1,42 @@
 -- The happened-before relation of one operation, as the search goes through it.
 --
 -- Private functions alone name these in their contracts: what a pattern is and what it shows does not rest on them.
-use Rattle.std.specs.Prelude.{◌≡◌, ◌⊎◌, ℕ, ◌+◌, ◌<◌, IsTrue, length, MatchOption, None, Option}
+use Rattle.std.specs.Prelude.{◌≡◌, ◌⊎◌, ℕ, ◌+◌, ◌<◌, IsTrue, List, length, MatchOption, None, Option}
 use Rattle.history.specs.declared.op_id.OpId.{OpId}
 use Rattle.history.specs.History.{IsOp, session}
+use Rattle.memory_order.specs.declared.growing_order.Raise.{Raise}
 use Rattle.memory_order.specs.declared.known_reads.KnownRead.{KnownRead}
 use Rattle.memory_order.specs.HappenedBeforeVectors.{IsHBVectors}
 use Rattle.memory_order.specs.Memory.{MemoryHistory, initial, Writes, Reads}
 use Rattle.causal_order.specs.Orders.{op, program_past}
+use Rattle.memory_order.specs.Raises.{AreReached, AreRightRaises}
 use Rattle.memory_order.specs.Relations.{HB}
 use Rattle.memory_order.specs.SourceOrder.{CountsSourceOrder}
-use Rattle.memory_order.specs.Steps.HappenedBefores.{HasFewPairs, HasMorePairs}
+use Rattle.memory_order.specs.Steps.HappenedBefores.{AreStrictOf, HasFewPairs, HasMorePairs}
 use Rattle.causal_order.specs.Vectors.{Counts}
 
 module _ (h : MemoryHistory) where
-  -- the relation of an operation of the history, with vectors that count it
-  pub record IsRelation (relation : OpId × Counts) : Type 0 where
+  -- the relation of an operation of the history, with vectors that count it, and right raises by which it was made from the
+  -- causal order, each of which added a pair
+  pub record IsRelation (relation : OpId × Counts × List Raise) : Type 0 where
     pub is_op : IsOp h relation.0
     pub causal : Counts
     pub order : CountsSourceOrder h causal
     pub counts : IsHBVectors h relation.0 relation.1
+    pub strict : Counts
+    pub begun : AreStrictOf h causal strict
+    pub raises : AreRightRaises h relation.0 strict relation.2
+    pub reached : AreReached strict relation.2 relation.1
+    pub more : (n : ℕ) → n < length relation.2 → HasMorePairs h relation.0 n
 
   -- that of the last operation of the session s
-  pub record IsRelationOfLast (s : ℕ) (relation : OpId × Counts) : Type 0 where
+  pub record IsRelationOfLast (s : ℕ) (relation : OpId × Counts × List Raise) : Type 0 where
     pub relation_of : IsRelation relation
     pub of_session : relation.0.session ≡ s
     pub last : relation.0.index + 1 ≡ length (session h s)
 
   -- and it has no more pairs than a number that the causal order doesn't have, if one is given
-  pub record IsMadeForLast (most : Option ℕ) (s : ℕ) (relation : OpId × Counts) : Type 0 where
+  pub record IsMadeForLast (most : Option ℕ) (s : ℕ) (relation : OpId × Counts × List Raise) : Type 0 where
     pub made : IsRelationOfLast s relation
     pub few : HasFewPairs h relation.0 most
 

@@ -1,7 +1,7 @@
 -- Routes back through the past of an operation, and what a search for read patterns finds.
 --
 -- Private functions alone name these in their contracts: what a pattern is and what it shows does not rest on them.
-use Rattle.std.specs.Prelude.{◌≡◌, ◌≢◌, ◌⊎◌, ℕ, ◌<◌, ◌≤◌, List, [], ◌∷◌, ◌++◌, None, Some}
+use Rattle.std.specs.Prelude.{◌≡◌, ◌≢◌, ◌⊎◌, ℕ, ◌+◌, ◌<◌, ◌≤◌, List, [], ◌∷◌, ◌++◌, None, Some}
 use Rattle.history.specs.declared.op_id.OpId.{OpId}
 use Rattle.memory_order.specs.declared.known_reads.KnownRead.{KnownRead}
 use Rattle.memory_order.specs.Memory.{MemoryHistory, Writes}
@@ -15,6 +15,10 @@ pub record IsFirstCounting (v : Counts) (a o f : OpId) : Type 0 where
   pub up_to : f.index ≤ o.index
   pub counts : IsCounted v f a
   pub first : (i : ℕ) → i < f.index → ¬ IsCounted v (op f.session i) a
+
+-- the vector of the operation before o in its session counts a
+abbrev pub IsCountedBefore : Counts → OpId → OpId → Type 0
+IsCountedBefore v o a = (j : ℕ) × (o.index ≡ j + 1) × IsCounted v (op o.session j) a
 
 -- o is put behind a list, where it isn't its last operation
 abbrev pub IsPushedApart : OpId → OpId → List OpId → List OpId → Type 0

@@ -1,6 +1,6 @@
-ghost use Rattle.std.specs.Prelude.{IfNone, IfOk, IfSome, MatchOption};
+ghost use Rattle.std.specs.Prelude.{◌↔◌, IfNone, IfOk, IfSome, IsTrue, MatchOption};
 ghost use Rattle.bad_patterns.specs.Patterns.{ArePathsToOverwrittenRead, IsPathToInitialRead};
-ghost use Rattle.pattern_search.specs.Steps.Routes.{AreWritesBefore, IsWriteBefore};
+ghost use Rattle.pattern_search.specs.Steps.Routes.{AreWritesBefore, IsCountedBefore, IsWriteBefore};
 ghost use Rattle.memory_order.specs.Memory.{IsDifferentiated};
 ghost use Rattle.memory_order.specs.OverwrittenReads.{HasOverwrittenRead, HasOverwrittenStart};
 ghost use Rattle.memory_order.specs.Steps.Indexed.{IsKnownRead};
@@ -8,6 +8,7 @@ ghost use Rattle.history.specs.declared.op_id.OpId.{OpId as Operation};
 
 use crate::search::routes_back::path_between;
 use bad_patterns::Path;
+use causal_order::{Vectors, has_counted};
 use history::OpId;
 use memory_order::{CausalOrder, KnownRead};
 use std::alloc::{AllocError, Global};
@@ -67,12 +68,15 @@ pub fn overwritten_read(
 }
 
 /// The write that a read reads from, and another write of its variable that has this one in its past and is in the past of
-/// the read.
+/// the read. There is none where the read is the first of its session that has this write in its past.
 fn writes_before(order: &CausalOrder, read: &KnownRead) -> Option<(OpId, OpId)>
     requires { IsKnownRead order.now read.now }
     ensures { MatchOption result ((a b : Operation) → ¬ AreWritesBefore order.now read.now a b) (λ writes. AreWritesBefore order.now read.now writes.0 writes.1) }
 {
     let source = read.source?;
+    if !is_counted_before(order.vectors(), read.op, source) {
+        return None;
+    }
     for session in 0..order.sessions() {
         if let Some(write) = order.last_write(read, session) {
             if order.has_before((source, write)) {
@@ -81,4 +85,18 @@ fn writes_before(order: &CausalOrder, read: &KnownRead) -> Option<(OpId, OpId)>
         }
     }
     None
+}
+
+/// Whether the vector of the operation before another one in its session counts an operation. O(1).
+fn is_counted_before(vectors: &Vectors, op: OpId, earlier: OpId) -> bool
+    ensures { IsTrue result ↔ IsCountedBefore vectors.now op earlier }
+{
+    if op.index == 0 {
+        return false;
+    }
+    let before = OpId {
+        session: op.session,
+        index: op.index - 1,
+    };
+    has_counted(vectors, before, earlier)
 }

@@ -1,85 +1,135 @@
-use crate::search::relations::Relation;
+ghost use Rattle.std.specs.Prelude.{◌≡◌, ◌≢◌, ◌⊎◌, ◌↔◌, ℕ, ◌<◌, length, slice_get, IfOk, IsTrue, MatchOption, Some};
+ghost use Rattle.memory_order.specs.declared.growing_order.Raise.{Raise as CountRaise};
+ghost use Rattle.memory_order.specs.SourceOrder.{SourceOrder};
+ghost use Rattle.pattern_search.specs.Steps.Reasons.{IsBefore, IsFirstRaise, IsRaisedBy, Raises, last_of};
+
 use bad_patterns::Pair;
 use history::OpId;
-use memory_order::{Cause, Raise};
+use memory_order::{CausalOrder, Raise};
 use std::alloc::{AllocError, Global};
+use std::collections::BTreeMap;
+use std::marker::Model;
 
 /// The last operation that a raise counts. It is before the operation of the raise.
-pub fn last_counted(raise: &Raise) -> OpId {
+pub fn last_counted(raise: &Raise) -> OpId
+    ensures { result ≡ last_of raise.now }
+{
     OpId {
         session: raise.session as u64,
         index: u64::from(raise.count).saturating_sub(1),
     }
 }
 
-/// What puts the last operation that a raise counts before the operation of the raise.
-pub enum Premises {
-    /// The two pairs, one of which ends where the other begins.
-    Joined(Pair, Pair),
-    /// The operation is before a read that has another source.
-    BeforeRead(Pair),
-}
-
-/// What the pair that a raise stands for rests on.
-pub fn premises_of(raise: &Raise) -> Premises {
-    let last = last_counted(raise);
-    match raise.cause {
-        Cause::Through(middle) => Premises::Joined((last, middle), (middle, raise.op)),
-        Cause::Read(read) => Premises::BeforeRead((last, read)),
-    }
-}
-
-/// A raise, and its number among all.
-#[derive(Clone, Copy)]
-pub struct Reason {
-    pub raise: Raise,
-    pub number: usize,
-}
-
-/// The raises of a relation, by operation, session and count.
+/// The raises of a relation, which are looked up by the pairs that they give.
 #[derive(Drop)]
-pub struct Reasons {
-    reasons: Vec<Reason>,
+pub struct Reasons<'a> {
+    raises: &'a [Raise],
+    /// The last raise of each operation.
+    latest: BTreeMap<OpId, usize>,
+    /// For each raise the one of the same operation before it.
+    earlier: Vec<Option<usize>>,
 }
 
-impl Reasons {
-    /// The raises of a relation. O(m log m) for m raises.
-    pub fn of(alloc: Global, relation: &Relation) -> Result<Reasons, AllocError> {
-        let mut reasons = Vec::new(alloc);
-        for (number, raise) in relation.raises().iter().enumerate() {
-            reasons.push(Reason {
-                raise: *raise,
-                number,
-            })?;
+impl<'a> Model for Reasons<'a> {
+    ghost use Rattle.std.specs.Prelude.{List, length};
+    ghost use Rattle.memory_order.specs.declared.growing_order.Raise.{Raise as CountRaise};
+    ghost use Rattle.pattern_search.specs.Steps.Reasons.{AreLinked};
+
+    ghost Value = { List CountRaise };
+
+    ghost view = { λ reasons. reasons.raises.now };
+
+    ghost invariant = { λ reasons. AreLinked reasons.raises.now (length reasons.raises.now) reasons.latest reasons.earlier.items };
+}
+
+impl<'a> Reasons<'a> {
+    /// These raises. Fails for want of memory alone. O(m log n) for m raises of n operations.
+    pub fn of(alloc: Global, raises: &'a [Raise]) -> Result<Reasons<'a>, AllocError>
+        ensures { IfOk result (λ reasons. reasons ≡ raises.now) }
+    {
+        let mut latest = BTreeMap::new(alloc);
+        let mut earlier = Vec::new(alloc);
+        for raise in raises {
+            let number = earlier.len();
+            earlier.push(latest.get(&raise.op).copied())?;
+            latest.insert(raise.op, number)?;
         }
-        reasons.sort_unstable_by_key(|reason| (
-            reason.raise.op,
-            reason.raise.session,
-            reason.raise.count,
-        ));
-        Ok(Reasons { reasons })
+        Ok(Reasons {
+            raises,
+            latest,
+            earlier,
+        })
     }
 
-    /// The first raise that puts the first operation of a pair, or a later one of its session, before the second. O(log m)
-    /// for m raises.
-    pub fn reason(&self, pair: Pair) -> Option<Reason> {
-        let at = self
-            .reasons
-            .partition_point(|reason| is_below(reason, pair));
-        let reason = *self.reasons.get(at)?;
-        if reason.raise.op == pair.1 && reason.raise.session as u64 == pair.0.session {
-            Some(reason)
-        } else {
-            None
+    /// The number of the first raise that puts the first operation of a pair, or a later one of its session, before the
+    /// second. O(n) for the n operations that the second has more before it than in the causal order.
+    pub fn first(&self, pair: Pair) -> Option<usize>
+        ensures { MatchOption result ((i : ℕ) → ¬ IsRaisedBy self.now pair i) (IsFirstRaise self.now pair) }
+    {
+        let mut found = None;
+        let mut next = self.latest.get(&pair.1).copied();
+        'back: while let Some(number) = next {
+            found = nearer(self.raises, number, pair, found);
+            next = self.earlier[number];
         }
+        found
+    }
+
+    /// How many raises there are.
+    pub fn len(&self) -> usize
+        ensures { result ≡ length self.now }
+    {
+        self.raises.len()
+    }
+
+    /// The raise with a number.
+    pub fn raise(&self, number: usize) -> Raise
+        requires { number < length self.now }
+        ensures { slice_get self.now number ≡ Some result }
+    {
+        raise_at(self.raises, number)
     }
 }
 
-/// Whether a raise comes before those that put the first operation of a pair before the second.
-fn is_below(reason: &Reason, pair: Pair) -> bool {
-    let raise = &reason.raise;
-    (raise.op, raise.session as u64) < (pair.1, pair.0.session)
-        || (raise.op == pair.1
-            && raise.session as u64 == pair.0.session
-            && u64::from(raise.count) <= pair.0.index)
+/// The raise at a place of a list.
+fn raise_at(raises: &[Raise], number: usize) -> Raise
+    requires { number < length raises.now }
+    ensures { slice_get raises.now number ≡ Some result }
+{
+    raises[number]
+}
+
+/// The number of a raise, where it puts the first operation of a pair, or a later one of its session, before the second, or
+/// else what was found.
+fn nearer(raises: &[Raise], number: usize, pair: Pair, found: Option<usize>) -> Option<usize>
+    requires { number < length raises.now }
+    ensures { (e : CountRaise) → slice_get raises.now number ≡ Some e
+        → (Raises e pair × (result ≡ Some number)) ⊎ ((¬ Raises e pair) × (result ≡ found)) }
+{
+    if is_raising(&raises[number], pair) {
+        Some(number)
+    } else {
+        found
+    }
+}
+
+/// Whether a raise puts the first operation of a pair, or a later one of its session, before the second.
+fn is_raising(raise: &Raise, pair: Pair) -> bool
+    ensures { IsTrue result ↔ Raises raise.now pair }
+{
+    raise.op == pair.1
+        && raise.session as u64 == pair.0.session
+        && pair.0.index < u64::from(raise.count)
+}
+
+/// The number of the raise that a pair rests on: none where the causal order has the pair.
+pub fn raise_of(order: &CausalOrder, reasons: &Reasons, pair: Pair) -> Option<usize>
+    requires { IsBefore order.now reasons.now (length reasons.now) pair }
+    ensures { MatchOption result ((pair.0 ≢ pair.1) × SourceOrder order.now pair.0 pair.1)
+        (λ number. (¬ SourceOrder order.now pair.0 pair.1) × IsFirstRaise reasons.now pair number) }
+{
+    if order.has_before(pair) {
+        return None;
+    }
+    reasons.first(pair)
 }

@@ -1,20 +1,18 @@
 ghost use Rattle.std.specs.Prelude.{◌≡◌, ◌<◌, length, IfOk, MatchOption};
 ghost use Rattle.pattern_search.specs.Steps.Relations.{HasNoRelation, IsMadeForLast};
 ghost use Rattle.memory_order.specs.Memory.{IsDifferentiated};
-ghost use Rattle.memory_order.specs.SourceOrder.{CountsSourceOrder};
 ghost use Rattle.causal_order.specs.Vectors.{count as counted};
 
-use causal_order::{Vectors, count_at};
-use history::{History, OpId};
-use memory_order::{HappenedBefore, Raise, Saturation};
-use objects::Memory;
+use causal_order::count_at;
+use history::OpId;
+use memory_order::{CausalOrder, HappenedBefore, Raise, Saturation};
 use std::alloc::{AllocError, Global};
 use std::marker::Model;
 
 /// The happened-before relation of the last operation of a session, and how it was made.
 ///
-/// Its vectors count exactly the relation. How it was made is tested, not proved: a derivation that is made from it is
-/// checked.
+/// Its vectors count exactly the relation. It was made from the causal order by raises, each of which names a right cause, and
+/// which reach all that the vectors count.
 #[derive(Drop)]
 pub struct Relation {
     op: OpId,
@@ -24,35 +22,35 @@ pub struct Relation {
 impl Model for Relation {
     ghost use Rattle.history.specs.declared.op_id.OpId.{OpId as Operation};
     ghost use Rattle.causal_order.specs.Vectors.{Counts};
-    ghost use Rattle.memory_order.specs.Steps.HappenedBefores.{vectors_of};
+    ghost use Rattle.memory_order.specs.declared.growing_order.Raise.{Raise as RaisedCount};
+    ghost use Rattle.memory_order.specs.Steps.HappenedBefores.{raises_of, vectors_of};
+    ghost use Rattle.std.specs.Prelude.{List};
 
-    ghost Value = { Operation × Counts };
+    ghost Value = { Operation × Counts × List RaisedCount };
 
-    ghost view = { λ relation. (relation.op, vectors_of relation.happened) };
+    ghost view = { λ relation. (relation.op, vectors_of relation.happened, raises_of relation.happened) };
 }
 
 impl Relation {
-    /// The relation of the last operation of a session, from the vectors of the causal order.
+    /// The relation of the last operation of a session.
     ///
     /// `None` exactly where the session has no operation, or the relation has more pairs than it may have, if a number is
     /// given, that the causal order doesn't have. Fails for want of memory alone. O(n (log n + k^2) + m k log n)
     /// for n operations of k sessions and m pairs more than the causal order has.
     pub fn of_last(
         alloc: Global,
-        h: &History<Memory>,
-        vectors: &Vectors,
+        order: &CausalOrder,
         session: usize,
         most: Option<u32>,
     ) -> Result<Option<Relation>, AllocError>
-        requires order { CountsSourceOrder h.now vectors.now }
-        requires distinct { IsDifferentiated h.now }
-        requires exists { session < length h.now.1 }
-        ensures { IfOk result (λ made. MatchOption made (HasNoRelation h.now most session) (IsMadeForLast h.now most session)) }
+        requires distinct { IsDifferentiated order.now }
+        requires exists { session < length order.now.1 }
+        ensures { IfOk result (λ made. MatchOption made (HasNoRelation order.now most session) (IsMadeForLast order.now most session)) }
     {
-        let mut happened = HappenedBefore::of(alloc, h, vectors, session, most)?;
-        let operations = h.len(session as u64);
+        let mut happened = HappenedBefore::of(alloc, order, session, most)?;
+        let operations = order.history().len(session as u64);
         for index in 0..operations {
-            happened = happened.take_next(h)?;
+            happened = happened.take_next(order)?;
             match happened.saturation() {
                 Saturation::GivenUp => return Ok(None),
                 Saturation::Saturated | Saturation::Cyclic => {}
@@ -83,7 +81,9 @@ impl Relation {
     }
 
     /// What was raised above the vectors of the causal order, in turn.
-    pub fn raises(&self) -> &[Raise] {
+    pub fn raises(&self) -> &[Raise]
+        ensures { result.now ≡ self.now.2 }
+    {
         self.happened.raises()
     }
 }

@@ -2,11 +2,12 @@ use Rattle.std.proofs.Common.{subst}
 use Rattle.cert_check.specs.declared.criterion.Criterion.TheVariants.{Cm}
 use Rattle.memory_order.specs.Memory.{MemoryHistory}
 use Rattle.memory_order.specs.MemoryHistories.{IsMemoryHistory}
-use Rattle.pattern_search.specs.Searches.{IsClear}
+use Rattle.pattern_search.specs.Searches.{HasLargeHB, IsClear}
 use Rattle.bad_patterns.specs.Kinds.{is_against, IsPresent}
-use Rattle.std.specs.Prelude.{IsTrue}
+use Rattle.std.specs.Prelude.{IsTrue, Some}
 use Rattle.decision.proofs.Completeness.{free-meets}
-use Rattle.decision.proofs.Decided.{free-memory, free-ordered}
+use Rattle.pattern_search.proofs.NothingFound.{free-memory}
+use Rattle.decision.proofs.Decided.{free-ordered}
 use Rattle.decision.proofs.deciding.decide_consistent.Goals as goal
 
 pub unreachable-requires : goal.unreachable-requires
@@ -17,12 +18,14 @@ pub returns-in-Present : goal.returns-in-Present
 returns-in-Present c =
     let same = rw c.in-Some.is at c.order.ensures.order in
     let comes = rw c.in-Present.is at c.in_ok-pattern.ensures in
-    let shown = subst (λ (h : MemoryHistory). IsTrue (is_against c.in-Present.kind Cm) × IsPresent h c.in-Present.kind) same comes in
-    record {
-      against = shown.0;
-      present = shown.1;
-      not_met = c.present_kinds_exclude_criteria.ensures c.args.memory.now Cm c.in-Present.kind shown.0 shown.1;
-    }
+    let shown = subst (λ (h : MemoryHistory). IsTrue (is_against c.in-Present.kind Cm) × IsPresent h c.in-Present.kind × HasLargeHB h (Some 19999)) same comes in (
+      record {
+        against = shown.0;
+        present = shown.1;
+        not_met = c.present_kinds_exclude_criteria.ensures c.args.memory.now Cm c.in-Present.kind shown.0 shown.1;
+      },
+      shown.2,
+    )
 
 pub returns-in-Nothing : goal.returns-in-Nothing
 returns-in-Nothing c =

@@ -3,6 +3,7 @@ use Rattle.std.proofs.Common.{subst}
 use Rattle.memory_order.specs.Memory.{MemoryHistory}
 use Rattle.cert_check.specs.declared.criterion.Criterion.TheVariants.{Cc}
 use Rattle.bad_patterns.specs.Kinds.{IsFreeOf}
+use Rattle.pattern_search.specs.Searches.{IsFreeOrLarge}
 use Rattle.pattern_search.proofs.finding.find.Goals as goal
 
 pub returns-clause-none : goal.returns-clause-none
@@ -13,3 +14,8 @@ pub returns-clause-exact : goal.returns-clause-exact
 returns-clause-exact c apart =
     subst (λ (h : MemoryHistory). IfOk c.find_in.result (λ found. IfNone found (IsFreeOf h c.args.criterion))) c.in_ok-memory.ensures
     (c.find_in.ensures.exact apart)
+
+pub returns-clause-happened_before : goal.returns-clause-happened_before
+returns-clause-happened_before c is =
+    subst (λ (h : MemoryHistory). IfOk c.find_in.result (λ found. IfNone found (IsFreeOrLarge h))) c.in_ok-memory.ensures
+    (c.find_in.ensures.happened_before is)

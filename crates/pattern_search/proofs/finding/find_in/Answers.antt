@@ -3,6 +3,7 @@ use Rattle.std.proofs.Common.{subst}
 use Rattle.memory_order.specs.Memory.{MemoryHistory}
 use Rattle.cert_check.specs.declared.criterion.Criterion.TheVariants.{Cc}
 use Rattle.bad_patterns.specs.Kinds.{IsFreeOf}
+use Rattle.pattern_search.specs.Searches.{IsFreeOrLarge}
 use Rattle.pattern_search.proofs.finding.find_in.Goals as goal
 
 pub returns-in-Some-clause-none : goal.returns-in-Some-clause-none
@@ -13,6 +14,11 @@ pub returns-in-Some-clause-exact : goal.returns-in-Some-clause-exact
 returns-in-Some-clause-exact c apart =
     subst (λ (h : MemoryHistory). IfOk c.find_in_order.result (λ found. IfNone found (IsFreeOf h c.args.criterion))) c.in-Some.ensures.order
     (c.find_in_order.ensures.exact apart)
+
+pub returns-in-Some-clause-happened_before : goal.returns-in-Some-clause-happened_before
+returns-in-Some-clause-happened_before c is =
+    subst (λ (h : MemoryHistory). IfOk c.find_in_order.result (λ found. IfNone found (IsFreeOrLarge h))) c.in-Some.ensures.order
+    (c.find_in_order.ensures.happened_before is)
 
 pub returns-in_ok-find_without_order-in-None-clause-found : goal.returns-in_ok-find_without_order-in-None-clause-found
 returns-in_ok-find_without_order-in-None-clause-found c = c.in_ok-find_without_order-in-None.ensures.found c.args.criterion

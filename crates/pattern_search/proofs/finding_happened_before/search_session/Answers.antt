@@ -20,7 +20,7 @@ pub returns-in-None : goal.returns-in-None
 returns-in-None c =
     let h = c.args.order.now in
     let s = c.args.session in
-    let same : c.history-h.result.now ≡ h = c.history-h.ensures ∙ c.memory.ensures in
+    let same : c.history-h.result.now ≡ h = c.history-h.ensures in
     let empty : length (session h s) ≡ 0 =
     ap (λ (g : MemoryHistory). length (session g s)) (sym same) ∙ sym c.len.ensures.count ∙ c.if-len-eq0.true in
     comes-weaker h (HasLargeHB h c.args.most) (IsClearBefore h s) (HasLargeHB h c.args.most) (IsClearBefore h (s + 1)) (λ is. is) (clear-empty h s empty)

@@ -1,9 +1,22 @@
-use Rattle.std.proofs.Common.{length, arith, ap, ◌∙◌}
+use Rattle.std.proofs.Common.{◌≡◌, ℕ, length, arith, ap, ◌∙◌, ⊎_elim, subst}
+use Rattle.std.specs.Prelude.{◌≢◌}
+use Rattle.std.proofs.lemmas.Bool.{cases_eq}
 use Rattle.history.specs.History.{session}
 use Rattle.memory_order.specs.Memory.{MemoryHistory}
+use Rattle.memory_order.specs.Relations.{HB}
 use Rattle.causal_order.specs.Orders.{op}
 use Rattle.pattern_search.proofs.HappenedReads.{itself-of_history}
 use Rattle.pattern_search.proofs.search.happened.least_before_itself_of.Goals as goal
+
+pub loop-index-preserved : goal.loop-index-preserved
+loop-index-preserved c i below before = ⊎_elim
+    (λ (here : i ≡ c.loop-index.index).
+    let same = subst (λ (k : ℕ). HB c.args.order.now c.args.relation.now.0 (op c.args.session k) (op c.args.session k)) here before in
+    let yes = c.is_before_itself.ensures.1 same in
+    let no = c.if-is_before_itself.false in
+    absurd cc)
+    (λ (apart : i ≢ c.loop-index.index). c.loop-index.invariant i (omega arith) before)
+    (cases_eq i c.loop-index.index)
 
 pub returns : goal.returns
 returns c i before =

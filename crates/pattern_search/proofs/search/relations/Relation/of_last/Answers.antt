@@ -1,18 +1,20 @@
 use Rattle.std.proofs.Math.Path.{ap₂}
-use Rattle.std.proofs.Common.{◌≡◌, ℕ, ◌-◌, Option, ⊎_elim, arith, refl, ap, subst, subst₂, ◌∙◌}
+use Rattle.std.proofs.Common.{◌≡◌, ℕ, ◌+◌, ◌-◌, ◌≤◌, Option, length, ⊎_elim, arith, refl, sym, ap, subst, subst₂, ◌∙◌}
 use Rattle.history.specs.declared.op_id.OpId.{OpId}
-use Rattle.history.specs.History.{IsOp}
+use Rattle.history.specs.History.{IsOp, session}
+use Rattle.memory_order.specs.Memory.{MemoryHistory}
 use Rattle.memory_order.specs.declared.happened_before.Saturation.TheVariants.{Saturated, Cyclic, GivenUp}
 use Rattle.memory_order.specs.HappenedBeforeVectors.{IsHBVectors}
+use Rattle.memory_order.specs.Raises.{AreRightRaises}
 use Rattle.causal_order.specs.Orders.{op}
 use Rattle.memory_order.specs.Steps.GrowthSteps.{IsGivenUp}
-use Rattle.memory_order.specs.Steps.HappenedBefores.{HasFewPairs, IsOutcome, most_of, session_of, taken_of, vectors_of}
+use Rattle.memory_order.specs.Steps.HappenedBefores.{HasFewPairs, HasMorePairs, IsOutcome, most_of, raises_of, session_of, taken_of, vectors_of}
 use Rattle.pattern_search.proofs.SearchedLaws.{given-up}
 use Rattle.pattern_search.proofs.search.relations.Relation.of_last.Goals as goal
 
 pub returns-in-GivenUp : goal.returns-in-GivenUp
 returns-in-GivenUp c =
-    let h = c.args.h.now in
+    let h = c.args.order.now in
     let s = c.args.session in
     let i = c.loop-index.index in
     let before = c.loop-index.invariant in
@@ -20,6 +22,7 @@ returns-in-GivenUp c =
     let happened = c.in_ok-happened-2.happened in
     let test = c.loop-index-test.true in
     let count = c.len-operations.ensures.count in
+    let lengths = ap (λ (g : MemoryHistory). length (session g s)) c.history.ensures in
     let is_op : IsOp h (op s i) = omega arith in
     let is : op (session_of c.loop-index.happened) (taken_of c.loop-index.happened) ≡ op s i = ap₂ op before.session before.taken in
     let most : most_of happened ≡ c.args.most = after.most ∙ before.most in
@@ -30,7 +33,7 @@ returns-in-GivenUp c =
 
 pub loop-index-preserved : goal.loop-index-preserved
 loop-index-preserved c =
-    let h = c.args.h.now in
+    let h = c.args.order.now in
     let s = c.args.session in
     let i = c.loop-index.index in
     let before = c.loop-index.invariant in
@@ -58,27 +61,44 @@ loop-index-preserved c =
       few = λ n next.
           let here : op s i ≡ op s n = ap (λ (j : ℕ). op s j) (omega arith) in
           subst₂ (λ (o : OpId) (m : Option ℕ). HasFewPairs h o m) (is ∙ here) (after.most ∙ before.most) (after.few c.requires.distinct kept);
+      more = λ n next k below.
+          let here : op s i ≡ op s n = ap (λ (j : ℕ). op s j) (omega arith) in
+          subst (λ (o : OpId). HasMorePairs h o k) (is ∙ here) (after.raised c.requires.distinct k below);
     }
 
 pub returns : goal.returns
 returns c =
-    let h = c.args.h.now in
+    let h = c.args.order.now in
     let s = c.args.session in
     let i = c.loop-index.index in
     let some = c.if-operations-eq0.false in
     let count = c.len-operations.ensures.count in
     let up_to = c.loop-index.auto.index-end in
     let ended = c.loop-index-test.false in
+    let lengths = ap (λ (g : MemoryHistory). length (session g s)) c.history.ensures in
+    let happened = c.loop-index.happened in
+    let before = c.loop-index.invariant in
+    let made = before.made in
+    let last : ℕ = c.len-operations.result - 1 in
+    let is_op : IsOp h (op s last) = omega arith in
+    let same : session_of happened ≡ s = before.session in
+    let is_here : IsOp h (op (session_of happened) last) = subst (λ (t : ℕ). IsOp h (op t last)) (sym same) is_op in
+    let taken : taken_of happened ≤ last + 1 = (let is = before.taken in omega arith) in
     record {
       made = record {
         relation_of = record {
-          is_op = omega arith;
-          causal = c.args.vectors.now;
-          order = c.requires.order;
-          counts = c.loop-index.invariant.exact (c.len-operations.result - 1) (omega arith);
+          is_op = is_op;
+          causal = made.causal;
+          order = made.counts;
+          counts = before.exact last (omega arith);
+          strict = made.strict;
+          begun = made.begun;
+          raises = subst (λ (t : ℕ). AreRightRaises h (op t last) made.strict (raises_of happened)) same (made.right last is_here taken);
+          reached = made.reached;
+          more = before.more last (omega arith);
         };
         of_session = refl;
         last = omega arith;
       };
-      few = c.loop-index.invariant.few (c.len-operations.result - 1) (omega arith);
+      few = before.few last (omega arith);
     }

@@ -1,0 +1,183 @@
+ghost use Rattle.std.specs.Prelude.{◌≡◌, ◌≢◌, ◌↔◌, ℕ, ◌+◌, ◌<◌, ◌≤◌, length, slice_get, IfOk, IsTrue, Some};
+ghost use Rattle.history.specs.declared.op_id.OpId.{OpId as Operation};
+ghost use Rattle.history.specs.History.{IsOp};
+ghost use Rattle.memory_order.specs.Memory.{MemoryHistory};
+ghost use Rattle.memory_order.specs.SourceOrder.{SourceOrder};
+ghost use Rattle.memory_order.specs.Steps.Indexed.{IsSourcePast};
+ghost use Rattle.bad_patterns.specs.Derivations.{Gives};
+ghost use Rattle.pattern_search.specs.Steps.Drafts.{EndsWithin, GivesWithin, IsDraft, IsWritten};
+ghost use Rattle.pattern_search.specs.Steps.Reasons.{AreGrounded, ArePremises, IsPremise, last_of};
+
+use crate::search::reasons::{Reasons, last_counted, raise_of};
+use crate::search::routes_back::path_between;
+use bad_patterns::{Derivation, Line, MOST_LINES, Pair};
+use history::OpId;
+use memory_order::{CausalOrder, Cause, Raise};
+use std::alloc::{AllocError, Global};
+use std::marker::Model;
+
+/// The lines so far of a derivation.
+#[derive(Drop)]
+pub struct Draft {
+    alloc: Global,
+    lines: Vec<Line>,
+    /// What the lines give.
+    pairs: Vec<Pair>,
+}
+
+impl Model for Draft {
+    ghost use Rattle.std.specs.Prelude.{List};
+    ghost use Rattle.bad_patterns.specs.declared.derivation.Line.{Line as DerivationLine};
+    ghost use Rattle.bad_patterns.specs.Derivations.{Pair as Given};
+
+    ghost Value = { List DerivationLine × List Given };
+
+    ghost view = { λ draft. (draft.lines.items, draft.pairs.items) };
+}
+
+impl Draft {
+    /// No lines.
+    pub fn new(alloc: Global) -> Draft
+        ensures empty { length result.0 ≡ 0 }
+        ensures draft { (h : MemoryHistory) (o : Operation) → IsDraft h o result }
+    {
+        Draft {
+            alloc,
+            lines: Vec::new(alloc),
+            pairs: Vec::new(alloc),
+        }
+    }
+
+    /// The derivation of these lines.
+    pub fn into_derivation(self) -> Derivation
+        ensures { result ≡ self.0 }
+    {
+        Derivation::of(self.lines)
+    }
+
+    /// Whether there is room for the lines of a raise and of a pair behind it.
+    pub fn has_room(&self) -> bool
+        ensures { IsTrue result ↔ (length self.now.0 + 7 ≤ 100000) }
+    {
+        self.lines.len() <= MOST_LINES - 7
+    }
+
+    /// Puts a line that gives a pair behind the others. Its number.
+    fn push(&mut self, pair: Pair, line: Line) -> Result<u64, AllocError>
+        ensures { (h : MemoryHistory) (o : Operation) → IsDraft h o self.old → Gives h o self.old.1 line pair.0 pair.1
+            → IfOk result (EndsWithin h o 1 pair self.old self.new) }
+    {
+        let number = self.lines.len() as u64;
+        self.lines.push(line)?;
+        self.pairs.push(pair)?;
+        Ok(number)
+    }
+
+    /// Puts a line behind the others that gives a pair of the causal order, in a derivation for an operation. Its number.
+    pub fn push_causal(
+        &mut self,
+        order: &CausalOrder,
+        op: OpId,
+        pair: Pair,
+    ) -> Result<u64, AllocError>
+        requires draft { IsDraft order.now op self.old }
+        requires before { SourceOrder order.now pair.0 pair.1 }
+        requires apart { pair.0 ≢ pair.1 }
+        requires past { IsSourcePast order.now op pair.1 }
+        ensures { IfOk result (EndsWithin order.now op 1 pair self.old self.new) }
+    {
+        let above = path_between(self.alloc, order, pair.0, pair.1)?;
+        let below = path_between(self.alloc, order, pair.1, op)?;
+        self.push(pair, Line::Co(above, below))
+    }
+
+    /// A line that gives a pair, from a line that gives an operation, which is the first of the pair or behind it in its
+    /// session, and the second. Its number.
+    pub fn reach_back(
+        &mut self,
+        order: &CausalOrder,
+        op: OpId,
+        pair: Pair,
+        last: OpId,
+        line: u64,
+    ) -> Result<u64, AllocError>
+        requires draft { IsDraft order.now op self.old }
+        requires session { pair.0.session ≡ last.session }
+        requires up_to { pair.0.index ≤ last.index }
+        requires is_op { IsOp order.now last }
+        requires past { IsSourcePast order.now op last }
+        requires given { slice_get self.old.1 line ≡ Some (last, pair.1) }
+        ensures line { IfOk result (GivesWithin order.now op 2 pair self.old self.new) }
+        ensures last { line + 1 ≡ length self.old.1 → IfOk result (λ number. number + 1 ≡ length self.new.1) }
+    {
+        if last == pair.0 {
+            return Ok(line);
+        }
+        let first = self.push_causal(order, op, (pair.0, last))?;
+        self.push(pair, Line::Tr(first, line))
+    }
+
+    /// A line that gives a pair which a raise rests on, where the line of each raise that the pair rests on is written. Its
+    /// number.
+    fn line_of(
+        &mut self,
+        order: &CausalOrder,
+        op: OpId,
+        reasons: &Reasons,
+        written: &[u64],
+        pair: Pair,
+    ) -> Result<u64, AllocError>
+        requires draft { IsDraft order.now op self.old }
+        requires grounded { AreGrounded order.now op reasons.now }
+        requires premise { IsPremise order.now op reasons.now (length reasons.now) pair }
+        requires written { IsWritten order.now reasons.now written.now self.old.1 pair }
+        ensures { IfOk result (GivesWithin order.now op 2 pair self.old self.new) }
+    {
+        match raise_of(order, reasons, pair) {
+            None => self.push_causal(order, op, pair),
+            Some(number) => {
+                let last = last_counted(&reasons.raise(number));
+                self.reach_back(order, op, pair, last, listed(written, number))
+            }
+        }
+    }
+
+    /// Writes what a raise rests on, and a line that gives the pair of the last operation that it counts and its operation,
+    /// where the line of each raise that it rests on is written. The number of that line, which is the last one.
+    pub fn push_raise(
+        &mut self,
+        order: &CausalOrder,
+        op: OpId,
+        reasons: &Reasons,
+        written: &[u64],
+        raise: &Raise,
+    ) -> Result<u64, AllocError>
+        requires draft { IsDraft order.now op self.old }
+        requires grounded { AreGrounded order.now op reasons.now }
+        requires stands { (n : ℕ) × (slice_get reasons.now n ≡ Some raise.now) }
+        requires written { ArePremises (IsWritten order.now reasons.now written.now self.old.1) raise.now }
+        ensures { IfOk result (EndsWithin order.now op 5 (last_of raise.now, raise.now.op) self.old self.new) }
+    {
+        let last = last_counted(raise);
+        let pair = (last, raise.op);
+        match raise.cause {
+            Cause::Through(middle) => {
+                let first = self.line_of(order, op, reasons, written, (last, middle))?;
+                let second = self.line_of(order, op, reasons, written, (middle, raise.op))?;
+                self.push(pair, Line::Tr(first, second))
+            }
+            Cause::Read(read) => {
+                let before = self.line_of(order, op, reasons, written, (last, read))?;
+                self.push(pair, Line::Rf(before, read))
+            }
+        }
+    }
+}
+
+/// The number at a place of a list.
+fn listed(numbers: &[u64], place: usize) -> u64
+    requires { place < length numbers.now }
+    ensures { slice_get numbers.now place ≡ Some result }
+{
+    numbers[place]
+}
