@@ -8,8 +8,8 @@ use Rattle.board.specs.Boards.{CaseState, SessionRows, Row, session_of, row_of, 
 use Rattle.board.specs.declared.board_error.BoardError.{BoardError}
 use Rattle.board.specs.declared.board_error.BoardError.TheVariants.{NotThatPattern, Doubled, Stranger, NoSuch}
 use Rattle.board.specs.declared.piece.Piece.{Piece}
-use Rattle.board.specs.declared.standing.Standing.{Standing}
-use Rattle.board.specs.declared.standing.Standing.TheVariants.{Yes, No, Unknown, Open}
+use Rattle.board.specs.declared.answer.Answer.{Answer}
+use Rattle.board.specs.declared.answer.Answer.TheVariants.{Yes, No, Unknown, Open}
 
 -- why a verdict on a row is refused: there is no such row, or it has one already
 abbrev pub row_refusal : Option Row → Option BoardError
@@ -94,7 +94,7 @@ module _ {M : Type 0} where
   IsUndecided s = (s.pattern ≡ None) × (s.has_certificate ≡ true)
 
   -- how a case stands: refuted, or else without a certificate, or else with open rows, or else all explained or not
-  abbrev pub IsStanding : CaseState M → Standing → Type 0
+  abbrev pub IsStanding : CaseState M → Answer → Type 0
   IsStanding s (No kind) = option_map kind_of s.pattern ≡ Some kind
   IsStanding s (Unknown None) = (s.pattern ≡ None) × (s.has_certificate ≡ false)
   IsStanding s (Open n) = IsUndecided s × (open_rows s ≡ n) × (0 < n)

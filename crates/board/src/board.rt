@@ -1,15 +1,15 @@
 ghost use Rattle.std.specs.Prelude.{◌≡◌, ◌<◌, ◌≤◌, ◌∷◌, ◌++◌, ℕ, [], length, IfOk, IfErr, IfSome, IsNone, OnOk, OnErr};
-ghost use Rattle.std.specs.Prelude.{MatchOption, None, Some, option_copied, slice_get};
+ghost use Rattle.std.specs.Prelude.{MatchOption, None, Some, option_copied, option_map, slice_get};
 ghost use Rattle.board.specs.Boards.{CaseState, fresh_case, row_of, handed_out, with_verdict, refuted};
 ghost use Rattle.board.specs.Steps.InSessions.{HasRowAt};
 ghost use Rattle.board.specs.Events.{IsChanged, IsDueOf, IsIdleAt, IsStanding, put_refusal, refute_refusal, ask_refusal};
 
+use crate::answer::Answer;
 use crate::board_error::BoardError;
 use crate::case_rows::CaseRows;
 use crate::filed_case::FiledCase;
 use crate::mark::Mark;
 use crate::piece::Piece;
-use crate::standing::Standing;
 use bad_patterns::Pattern;
 use cert_check::Outcome;
 use history::OpId;
@@ -55,6 +55,13 @@ impl<M: Mark> Board<M> {
         ensures { result ≡ length self.now }
     {
         self.cases.len()
+    }
+
+    /// The mark of a case, where there is such a case.
+    pub fn mark(&self, number: usize) -> Option<&M>
+        ensures { option_copied result ≡ option_map (λ (s : CaseState M). s.mark) (slice_get self.now number) }
+    {
+        Some(self.cases.get(number)?.mark())
     }
 
     /// Files a case with these rows, and gives its number.
@@ -193,7 +200,7 @@ impl<M: Mark> Board<M> {
     ///
     /// Refused in this order: `NoSuch` where there is no such case, `Stranger` where its mark is of another place. O(n) for
     /// n rows.
-    pub fn ask(&self, number: usize, mark: &M) -> Result<Standing, BoardError>
+    pub fn ask(&self, number: usize, mark: &M) -> Result<Answer, BoardError>
         ensures accepted { IfOk result (λ _. ask_refusal M.place (slice_get self.now number) mark.now ≡ None) }
         ensures standing { IfOk result (λ a. (s : CaseState M) → slice_get self.now number ≡ Some s → IsStanding s a) }
         ensures refused { IfErr result (λ e. ask_refusal M.place (slice_get self.now number) mark.now ≡ Some e) }

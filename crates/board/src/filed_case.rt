@@ -4,11 +4,11 @@ ghost use Rattle.board.specs.Steps.InSessions.{IsFirstLeft};
 ghost use Rattle.board.specs.Events.{IsDue, IsIdle, IsRow, AllExplained, IsFirstUnexplained, IsStanding};
 ghost use Rattle.board.specs.Events.{put_refusal_of, refute_refusal_of, ask_refusal_of};
 
+use crate::answer::Answer;
 use crate::board_error::BoardError;
 use crate::case_rows::CaseRows;
 use crate::case_session::CaseSession;
 use crate::mark::Mark;
-use crate::standing::Standing;
 use bad_patterns::Pattern;
 use cert_check::Outcome;
 use history::OpId;
@@ -46,6 +46,13 @@ impl<M: Mark> FiledCase<M> {
             sessions,
             pattern: None,
         }
+    }
+
+    /// Its mark.
+    pub(crate) fn mark(&self) -> &M
+        ensures { result.now ≡ self.now.mark }
+    {
+        &self.mark
     }
 
     /// Whether a mark is of the place of the case's own.
@@ -156,22 +163,22 @@ impl<M: Mark> FiledCase<M> {
 
     /// How the case stands.
     #[tactic(auto, using(crate::proofs::Verdicts::first_verdict))]
-    pub(crate) fn standing(&self) -> Standing
+    pub(crate) fn standing(&self) -> Answer
         ensures { IsStanding self.now result }
     {
         if let Some(pattern) = &self.pattern {
-            return Standing::No(pattern.kind());
+            return Answer::No(pattern.kind());
         }
         if !self.has_certificate {
-            return Standing::Unknown(None);
+            return Answer::Unknown(None);
         }
         let open = self.open_rows();
         if open > 0 {
-            return Standing::Open(open);
+            return Answer::Open(open);
         }
         match self.first_unexplained() {
-            None => Standing::Yes,
-            Some(op) => Standing::Unknown(Some(op)),
+            None => Answer::Yes,
+            Some(op) => Answer::Unknown(Some(op)),
         }
     }
 

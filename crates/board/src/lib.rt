@@ -2,6 +2,7 @@
 //! marks of case files and rows of outcomes, no file, and waits for nobody.
 #![tactic(auto)]
 
+mod answer;
 mod board;
 mod board_error;
 mod case_rows;
@@ -10,11 +11,10 @@ mod filed_case;
 pub mod laws;
 mod mark;
 mod piece;
-mod standing;
 
+pub use answer::Answer;
 pub use board::{Board, MOST_CASES};
 pub use board_error::BoardError;
 pub use case_rows::CaseRows;
 pub use mark::Mark;
 pub use piece::Piece;
-pub use standing::Standing;

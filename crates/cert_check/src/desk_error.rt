@@ -4,15 +4,33 @@ ghost use Rattle.cert_check.specs.DeskErrors.{number_of};
 use std::alloc::{AllocError, AllocFailed};
 use thiserror::Error;
 
-/// Why a history and a certificate were not taken up together.
+/// Why a desk refused: a case file was not made or not filed, or what is asked of a case was not done.
 #[derive(Clone, Copy, Debug, PartialEq, Eq, Error)]
 pub enum DeskError {
     /// An allocation was refused.
     #[error("no memory")]
     Memory,
+    /// The number of workers is not from 1 to 16.
+    #[error("not 1 to 16 workers")]
+    BadWorkers,
     /// The certificate is for another criterion, or has not the shape of the history.
     #[error("a certificate of another shape")]
     ShapeMismatch,
+    /// A desk has at most 64 cases.
+    #[error("a desk has at most 64 cases")]
+    Full,
+    /// The pattern is not accepted for the file of the case.
+    #[error("the pattern is not in the history")]
+    NotThatPattern,
+    /// The piece has a verdict.
+    #[error("the piece has a verdict")]
+    Doubled,
+    /// What came is of another case.
+    #[error("a verdict of another case")]
+    Stranger,
+    /// There is no such case or no such piece.
+    #[error("no such case or piece")]
+    NoSuch,
 }
 
 impl From<AllocError> for DeskError {
@@ -44,7 +62,13 @@ impl DeskError {
     {
         match self {
             DeskError::Memory => 8,
+            DeskError::BadWorkers => 10,
             DeskError::ShapeMismatch => 21,
+            DeskError::Full => 22,
+            DeskError::NotThatPattern => 23,
+            DeskError::Doubled => 24,
+            DeskError::Stranger => 25,
+            DeskError::NoSuch => 26,
         }
     }
 }

@@ -3,7 +3,7 @@ use history::OpId;
 
 /// What a board answers of a case.
 #[derive(Clone, Copy, Debug, PartialEq, Eq)]
-pub enum Standing {
+pub enum Answer {
     /// Every row has a verdict, and each explains its operation.
     Yes,
     /// A pattern of this kind was accepted.
