@@ -1,0 +1,36 @@
+-- Why a desk refuses. What only the board under the lock can tell is said of the board.
+use Rattle.std.specs.Prelude.{⊤}
+use Rattle.history.specs.declared.op_id.OpId.{OpId}
+use Rattle.cert_check.specs.declared.desk_error.DeskError.{DeskError}
+use Rattle.cert_check.specs.declared.desk_error.DeskError.TheVariants.{Memory, Full, NotThatPattern, Doubled, Stranger, NoSuch}
+use Rattle.cert_check.specs.Certificates.{CaseRecord}
+use Rattle.desk.specs.Files.{CaseOf, VerdictOf, HasPiece, IsSameCase}
+
+-- why a case file is not filed: memory ran out, or the board was full when the lock was held
+abbrev pub RefusesFile : DeskError → Type 0
+RefusesFile Memory = ⊤
+RefusesFile Full = ⊤
+RefusesFile _ = ⊥
+
+module _ {S C R : Type 0} where
+  -- why a piece is not checked
+  abbrev pub RefusesCheck : CaseRecord S C R → OpId → DeskError → Type 0
+  RefusesCheck file o NoSuch = ¬ HasPiece file o
+  RefusesCheck file o Memory = HasPiece file o
+  RefusesCheck file o _ = ⊥
+
+  -- why a verdict is not put: it is of another case, or its row had one when the lock was held; and where the board has no
+  -- such case
+  abbrev pub RefusesVerdict : CaseOf S C R → VerdictOf S C R → DeskError → Type 0
+  RefusesVerdict ticket verdict Stranger = ⊤
+  RefusesVerdict ticket verdict Doubled = IsSameCase verdict.case_of ticket
+  RefusesVerdict ticket verdict NoSuch = IsSameCase verdict.case_of ticket
+  RefusesVerdict ticket verdict _ = ⊥
+
+-- why a pattern is not taken: it does not pass its test, memory ran out, or the board has no such case
+abbrev pub RefusesPattern : Type 0 → DeskError → Type 0
+RefusesPattern passes NotThatPattern = ¬ passes
+RefusesPattern passes Memory = ⊤
+RefusesPattern passes Stranger = passes
+RefusesPattern passes NoSuch = passes
+RefusesPattern passes _ = ⊥

@@ -1,0 +1,187 @@
+ghost use Rattle.std.specs.Prelude.{◌≡◌, ◌≢◌, ◌<◌, ◌≤◌, ◌↔◌, ℕ, ◌∷◌, ◌++◌, [], false, length, IfOk, IfErr, IfSome, IsNone, IsTrue, OnOk, OnErr};
+ghost use Rattle.std.specs.Prelude.{MatchOption, None, Some, option_copied, slice_get};
+ghost use Rattle.board.specs.Boards.{CaseState, fresh_case, row_of, handed_out, with_verdict, refuted};
+ghost use Rattle.board.specs.Events.{IsChanged, IsIdleAt, IsDueOf, IsStanding, put_refusal, ask_refusal};
+ghost use Rattle.desk.specs.Files.{AreRowsFor, HasPiece, PassesFor, file_at, place_of};
+ghost use Rattle.desk.specs.Answers.{IsTrueAnswer};
+
+use crate::shelf::Shelf;
+use crate::shelf_name::ShelfName;
+use crate::ticket::Ticket;
+use crate::token::Token;
+use crate::verdict::Verdict;
+use bad_patterns::Pattern;
+use board::{Answer, Board, BoardError, CaseRows, MOST_CASES, Piece};
+use history::OpId;
+use refutable::Refutable;
+use std::alloc::{AllocError, Global};
+use std::marker::Model;
+
+/// The board of a desk. What it says of a case is true of the file that the case's token shows.
+#[derive(Drop)]
+pub struct Cases<O: Refutable, K: ShelfName> {
+    board: Board<Token<O, K>>,
+}
+
+impl<O: Refutable, K: ShelfName> Model for Cases<O, K> {
+    ghost use Rattle.std.specs.Prelude.{List};
+    ghost use Rattle.board.specs.Boards.{CaseState};
+    ghost use Rattle.desk.specs.Files.{FileAt, AreTrueCases};
+
+    ghost Value = { List (CaseState (FileAt O.Start O.Call O.Ret)) };
+
+    ghost view = { λ c. c.board };
+
+    ghost invariant = { λ c. AreTrueCases O.answer O.passes c.board };
+}
+
+impl<O: Refutable, K: ShelfName> Cases<O, K> {
+    /// No cases, with room for 64.
+    pub fn new(alloc: Global) -> Result<Cases<O, K>, AllocError>
+        ensures { IfOk result (λ c. c ≡ []) }
+    {
+        let board = Board::new(alloc)?;
+        Ok(Cases { board })
+    }
+
+    /// Whether 64 cases are filed.
+    pub fn is_full(&self) -> bool
+        ensures { IsTrue result ↔ (64 ≤ length self.now) }
+    {
+        self.board.cases() >= MOST_CASES
+    }
+
+    /// Files a case, and gives its number.
+    pub fn file(&mut self, token: Token<O, K>, rows: CaseRows) -> Result<usize, BoardError>
+        requires rows { AreRowsFor token.file rows }
+        ensures number { IfOk result (λ number. number ≡ length self.old) }
+        ensures filed { OnOk result (self.new ≡ self.old ++ fresh_case token rows ∷ []) }
+        ensures refused { IfErr result (λ e. (e ≡ BoardError.Full) × (64 ≤ length self.old)) }
+        ensures unchanged { OnErr result (self.new ≡ self.old) }
+    {
+        self.board.file(token, rows)
+    }
+
+    /// Hands out the next piece, as the board does.
+    pub fn take(&mut self) -> Option<(Ticket<O, K>, OpId)>
+        ensures idle { IsNone result → (number : ℕ) → IsIdleAt self.old number }
+        ensures none { IsNone result → self.new ≡ self.old }
+        ensures due { IfSome result (λ r. IsDueOf self.old (record { number = r.0.number; op = r.1 })) }
+        ensures taken { IfSome result (λ r. IsChanged r.0.number (λ s. handed_out s r.1) self.old self.new) }
+        ensures piece { IfSome result (λ r. HasPiece r.0.file r.1) }
+    {
+        let piece = self.next_piece()?;
+        Some((self.ticket_of(piece.number), piece.op))
+    }
+
+    /// The piece that is handed out next.
+    fn next_piece(&mut self) -> Option<Piece>
+        ensures idle { IsNone result → (number : ℕ) → IsIdleAt self.old number }
+        ensures none { IsNone result → self.new ≡ self.old }
+        ensures due { IfSome result (λ p. IsDueOf self.old p) }
+        ensures taken { IfSome result (λ p. IsChanged p.number (λ s. handed_out s p.op) self.old self.new) }
+        ensures filed { IfSome result (λ p. p.number < length self.new) }
+        ensures piece { IfSome result (λ p. (s : CaseState _) → slice_get self.new p.number ≡ Some s → HasPiece s.mark.file p.op) }
+    {
+        self.board.take()
+    }
+
+    /// The ticket of a case.
+    fn ticket_of(&self, number: usize) -> Ticket<O, K>
+        requires { number < length self.now }
+        ensures number { result.number ≡ number }
+        ensures file { (s : CaseState _) → slice_get self.now number ≡ Some s → result.file ≡ s.mark.file }
+    {
+        let Some(mark) = self.board.mark(number) else {
+            unreachable!();
+        };
+        Ticket::of(number, mark.again())
+    }
+
+    /// A case of a ticket's number and place has the ticket's file. It does nothing: what it ensures is the law.
+    fn agree(&self, shelf: &Shelf<O>, ticket: &Ticket<O, K>)
+        requires { shelf.now ≡ K.shelf }
+        ensures { (s : CaseState _) → slice_get self.now ticket.now.number ≡ Some s
+            → s.mark.place ≡ ticket.now.place → s.mark.file ≡ ticket.now.file }
+    {
+        if let Some(mark) = self.board.mark(ticket.number()) {
+            shelf.agree(mark, ticket.token());
+        }
+    }
+
+    /// Puts a verdict, as the board does.
+    pub fn put(&mut self, shelf: &Shelf<O>, verdict: &Verdict<O, K>) -> Result<(), BoardError>
+        requires { shelf.now ≡ K.shelf }
+        ensures accepted { IfOk result (λ _. put_refusal place_of (slice_get self.old verdict.now.case_of.number) (file_at verdict.now.case_of) verdict.now.op ≡ None) }
+        ensures filled { OnOk result (IsChanged verdict.now.case_of.number (λ s. with_verdict s verdict.now.op verdict.now.outcome) self.old self.new) }
+        ensures refused { IfErr result (λ e. put_refusal place_of (slice_get self.old verdict.now.case_of.number) (file_at verdict.now.case_of) verdict.now.op ≡ Some e) }
+        ensures unchanged { OnErr result (self.new ≡ self.old) }
+    {
+        let ticket = verdict.ticket();
+        self.agree(shelf, ticket);
+        self.board.put(
+            ticket.number(),
+            ticket.token(),
+            verdict.op(),
+            verdict.outcome(),
+        )
+    }
+
+    /// Takes a pattern against a case, which passes its test, as the board does.
+    #[tactic(auto, using(crate::proofs::TrueCases::refusals_agree))]
+    pub fn refute(
+        &mut self,
+        shelf: &Shelf<O>,
+        ticket: &Ticket<O, K>,
+        pattern: Pattern,
+    ) -> Result<(), BoardError>
+        requires shelf { shelf.now ≡ K.shelf }
+        requires passes { PassesFor O.passes ticket.now.file pattern }
+        ensures accepted { IfOk result (λ _. ask_refusal place_of (slice_get self.old ticket.now.number) (file_at ticket.now) ≡ None) }
+        ensures refuted { OnOk result (IsChanged ticket.now.number (λ s. refuted s pattern) self.old self.new) }
+        ensures refused { IfErr result (λ e. ask_refusal place_of (slice_get self.old ticket.now.number) (file_at ticket.now) ≡ Some e) }
+        ensures unchanged { OnErr result (self.new ≡ self.old) }
+    {
+        self.agree(shelf, ticket);
+        self.board
+            .refute(ticket.number(), ticket.token(), pattern, true)
+    }
+
+    /// How a case stands, where there is one of the ticket's number and place.
+    pub fn ask(&self, shelf: &Shelf<O>, ticket: &Ticket<O, K>) -> Result<Answer, BoardError>
+        requires { shelf.now ≡ K.shelf }
+        ensures answer { IfOk result (λ a. (s : CaseState _) → slice_get self.now ticket.now.number ≡ Some s → IsStanding s a) }
+        ensures truth { IfOk result (IsTrueAnswer O.answer O.passes ticket.now.file) }
+        ensures refused { IfErr result (λ e. ask_refusal place_of (slice_get self.now ticket.now.number) (file_at ticket.now) ≡ Some e) }
+    {
+        self.agree(shelf, ticket);
+        self.board.ask(ticket.number(), ticket.token())
+    }
+
+    /// The pattern that was accepted against a case.
+    pub fn pattern(
+        &self,
+        shelf: &Shelf<O>,
+        ticket: &Ticket<O, K>,
+    ) -> Result<Option<&Pattern>, BoardError>
+        requires { shelf.now ≡ K.shelf }
+        ensures pattern { IfOk result (λ p. (s : CaseState _) → slice_get self.now ticket.now.number ≡ Some s → option_copied p ≡ s.pattern) }
+        ensures passes { IfOk result (λ p. IfSome p (λ r. PassesFor O.passes ticket.now.file r.now)) }
+        ensures refused { IfErr result (λ e. ask_refusal place_of (slice_get self.now ticket.now.number) (file_at ticket.now) ≡ Some e) }
+    {
+        self.agree(shelf, ticket);
+        self.board.pattern(ticket.number(), ticket.token())
+    }
+
+    /// Whether a case of the ticket's number and place has a row for an operation without a verdict.
+    pub fn is_open(&self, ticket: &Ticket<O, K>, op: OpId) -> bool
+        ensures is_open { IsTrue result → (s : CaseState _) → slice_get self.now ticket.now.number ≡ Some s → row_of s op ≡ Some None }
+        ensures closed { result ≡ false → (s : CaseState _) → slice_get self.now ticket.now.number ≡ Some s
+            → s.mark.place ≡ ticket.now.place → row_of s op ≢ Some None }
+    {
+        match self.board.row(ticket.number(), ticket.token(), op) {
+            Ok(Some(None)) => true,
+            Ok(Some(Some(_)) | None) | Err(_) => false,
+        }
+    }
+}

@@ -1,0 +1,22 @@
+//! A desk: case files on a shelf, and a lock round the board that says what is known of them. Threads take pieces, check
+//! them outside the lock and put verdicts, and what the desk answers of a case is true of its file.
+#![tactic(auto)]
+
+mod cases;
+mod desk;
+mod file_rows;
+mod gate;
+mod shelf;
+mod shelf_name;
+mod ticket;
+mod token;
+mod verdict;
+mod working;
+
+pub use board::Answer;
+pub use desk::Desk;
+pub use gate::{Gate, OpenGate};
+pub use shelf::Shelf;
+pub use shelf_name::ShelfName;
+pub use ticket::Ticket;
+pub use verdict::Verdict;

@@ -1,0 +1,9 @@
+//! What refutes a history: which objects have patterns against their histories, and how one is tested.
+#![tactic(auto)]
+
+mod memory;
+mod patternless;
+mod refutable;
+
+pub use patternless::Patternless;
+pub use refutable::Refutable;

@@ -1,0 +1,28 @@
+ghost use Rattle.bad_patterns.specs.Patterns.{IsBadPattern, IsTrueNo};
+
+use crate::refutable::Refutable;
+use bad_patterns::Pattern;
+use bad_patterns::laws::bad_patterns_exclude_criteria;
+use cert_check::Criterion;
+use history::History;
+use objects::Memory;
+use std::alloc::{AllocError, Global};
+
+impl Refutable for Memory {
+    ghost passes = { IsBadPattern };
+
+    ghost excluded = { IsTrueNo };
+
+    fn check_pattern(
+        alloc: Global,
+        h: &History<Memory>,
+        criterion: Criterion,
+        pattern: &Pattern,
+    ) -> Result<bool, AllocError> {
+        bad_patterns::check_pattern(alloc, h, criterion, pattern)
+    }
+
+    fn passing_patterns_exclude() {
+        bad_patterns_exclude_criteria();
+    }
+}
