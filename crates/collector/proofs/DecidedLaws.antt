@@ -1,0 +1,59 @@
+-- Where no kind against a criterion is present, it is met, and the makers make certificates that explain each operation.
+use Rattle.std.proofs.Common.{refl}
+use Rattle.std.specs.Prelude.{◌≡◌, ◌≢◌, ◌⊎◌, IsTrue, Option, Some, None, Result, Ok, Err, IfNone, IfOk, IfSome, IsSome, IsSomeAnd}
+use Rattle.history.specs.declared.op_id.OpId.{OpId}
+use Rattle.causal_order.specs.Orders.{Leads}
+use Rattle.cert_check.specs.declared.criterion.Criterion.{Criterion}
+use Rattle.cert_check.specs.declared.criterion.Criterion.TheVariants.{Cc, Cm, Ccv}
+use Rattle.cert_check.specs.Criteria.{Meets}
+use Rattle.memory_order.specs.Memory.{MemoryHistory, IsDifferentiated, memory_answer}
+use Rattle.memory_order.specs.MemoryHistories.{IsMemoryHistory}
+use Rattle.memory_order.specs.OverwrittenReads.{HasOverwrittenRead, HasOverwrittenStart}
+use Rattle.memory_order.specs.Relations.{CO, CF}
+use Rattle.memory_order.specs.SourceOrder.{IsCyclic, LacksSource}
+use Rattle.bad_patterns.specs.declared.kind.Kind.{Kind}
+use Rattle.bad_patterns.specs.declared.kind.Kind.TheVariants.{CyclicCO, ThinAirRead, WriteCOInitRead, WriteCORead, CyclicCF}
+use Rattle.bad_patterns.specs.Kinds.{is_against, IsFreeOf, IsPresent, Shows}
+use Rattle.decision.proofs.Completeness.{free-meets}
+use Rattle.collector.specs.Decided.{IsDecided}
+
+-- a certificate is made, and what is made is so
+pub some-and : {A E : Type 0} (P : A → Type 0) (made : Result (Option A) E) → IfOk made (λ m. IsSome m) → IfOk made (λ m. IfSome m P) → IfOk made (λ m. IsSomeAnd m P)
+some-and P (Ok (Some m)) some holds = holds
+some-and P (Ok None) some holds = absurd cc
+some-and P (Err e) some holds = tt
+
+-- what is so where there is none
+pub at-none : {A : Type 0} {P : Type 0} (found : Option A) → found ≡ None → IfNone found P → P
+at-none (Some x) none holds = absurd cc
+at-none None none holds = holds
+
+module _ (h : MemoryHistory) where
+  pub decided-apart : (criterion : Criterion) → IsDecided h criterion → criterion ≢ Cm
+  decided-apart Cc decided = λ same. absurd cc
+  decided-apart Cm decided = absurd decided
+  decided-apart Ccv decided = λ same. absurd cc
+
+  pub decided-distinct : (criterion : Criterion) → IsDecided h criterion → IsDifferentiated h
+  decided-distinct Cc distinct = distinct
+  decided-distinct Cm none = absurd none
+  decided-distinct Ccv distinct = distinct
+
+  pub free-met : IsMemoryHistory h → (criterion : Criterion) → IsDecided h criterion → IsFreeOf h criterion → Meets memory_answer h criterion
+  free-met history criterion decided = free-meets h history (decided-distinct criterion decided) criterion
+
+  module _ (distinct : IsDifferentiated h) (criterion : Criterion) (free : IsFreeOf h criterion) where
+    pub free-acyclic : IsTrue (is_against CyclicCO criterion) → ¬ IsCyclic h
+    free-acyclic against cyclic = free CyclicCO against (distinct, cyclic)
+
+    pub free-sourced : IsTrue (is_against ThinAirRead criterion) → ¬ LacksSource h
+    free-sourced against lacks = free ThinAirRead against (distinct, (lacks.0, (lacks.1, lacks.2, lacks.3, lacks.4, lacks.5)))
+
+    pub free-start : IsTrue (is_against WriteCOInitRead criterion) → ¬ HasOverwrittenStart h
+    free-start against shown = free WriteCOInitRead against (distinct, shown)
+
+    pub free-read : IsTrue (is_against WriteCORead criterion) → ¬ HasOverwrittenRead h
+    free-read against shown = free WriteCORead against (distinct, shown)
+
+    pub free-conflicts : IsTrue (is_against CyclicCF criterion) → (a : OpId) → ¬ Leads (λ b c. CO h b c ⊎ CF h b c) a a
+    free-conflicts against a cycle = free CyclicCF against (distinct, (a, cycle))

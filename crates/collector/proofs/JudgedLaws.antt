@@ -1,0 +1,118 @@
+-- What is said of a case file by the pieces of its certificate, by a desk, and what follows.
+use Rattle.std.proofs.Common.{◌≡◌, ℕ, refl, sym, subst, List, Option, Some, None}
+use Rattle.std.specs.Prelude.{MatchOption, IfSome, IsSome, IsSomeAnd, Result, Ok, Err, IfOk}
+use Rattle.history.specs.declared.op_id.OpId.{OpId}
+use Rattle.history.specs.History.{Record}
+use Rattle.cert_check.specs.declared.certificate.Certificate.{Certificate}
+use Rattle.cert_check.specs.declared.criterion.Criterion.{Criterion}
+use Rattle.cert_check.specs.Certificates.{CaseRecord, HasShapeOf, IsCaseFile, IsExplainedThroughout, IsFirstUnexplained, criterion_of}
+use Rattle.cert_check.specs.Criteria.{Meets}
+use Rattle.bad_patterns.specs.declared.kind.Kind.{Kind}
+use Rattle.board.specs.declared.answer.Answer.{Answer}
+use Rattle.board.specs.declared.answer.Answer.TheVariants.{Yes, No, Unknown, Open}
+use Rattle.cert_check.specs.declared.desk_error.DeskError.{DeskError}
+use Rattle.cert_check.specs.declared.desk_error.DeskError.TheVariants.{Memory}
+use Rattle.collector.specs.Judgements.{AreWorkers, IsFounded, IsJudgeError, IsKnown, IsSaidOf, IsSaidOfFile, IsUnexplainedOf}
+
+-- what follows from what an answer is
+pub ok-follows : {A E : Type 0} {P Q : A → Type 0} (r : Result A E) → ((a : A) → P a → Q a) → IfOk r P → IfOk r Q
+ok-follows (Ok a) follows holds = follows a holds
+ok-follows (Err e) follows holds = tt
+
+pub some-is : {A : Type 0} (o : Option A) → IsSome o → (x : A) × (o ≡ Some x)
+some-is (Some x) some = (x, refl)
+some-is None some = absurd cc
+
+pub at-some : {A : Type 0} (P : A → Type 0) (o : Option A) (x : A) → o ≡ Some x → IfSome o P → P x
+at-some P o x same holds = subst (λ p. IfSome p P) same holds
+
+-- a refusal for want of memory, where there may be so many workers
+pub memory_alone : (workers : ℕ) (e : DeskError) → AreWorkers workers → e ≡ Memory → IsJudgeError workers e
+memory_alone workers e are same = subst (λ (d : DeskError). IsJudgeError workers d) (sym same) are
+
+-- where no kind excludes, any may
+pub founded-more : (met : Type 0) (excluded : Kind → Type 0) (unexplained : OpId → Type 0) (a : Answer)
+    → IsFounded met (λ kind. ⊥) unexplained a → IsFounded met excluded unexplained a
+founded-more met excluded unexplained Yes founded = founded
+founded-more met excluded unexplained (No kind) founded = absurd founded
+founded-more met excluded unexplained (Unknown None) founded = tt
+founded-more met excluded unexplained (Unknown (Some o)) founded = founded
+founded-more met excluded unexplained (Open n) founded = absurd founded
+
+pub founded-no : (met : Type 0) (unexplained : OpId → Type 0) (a : Answer) → IsFounded met (λ kind. ⊥) unexplained a → (kind : Kind) → ¬ (a ≡ No kind)
+founded-no met unexplained Yes founded kind same = absurd cc
+founded-no met unexplained (No other) founded kind same = absurd founded
+founded-no met unexplained (Unknown None) founded kind same = absurd cc
+founded-no met unexplained (Unknown (Some o)) founded kind same = absurd cc
+founded-no met unexplained (Open n) founded kind same = absurd founded
+
+pub founded-met : (met : Type 0) (excluded : Kind → Type 0) (unexplained : OpId → Type 0) (a : Answer) → IsFounded met excluded unexplained a → a ≡ Yes → met
+founded-met met excluded unexplained Yes founded same = founded
+founded-met met excluded unexplained (No kind) founded same = absurd cc
+founded-met met excluded unexplained (Unknown place) founded same = absurd cc
+founded-met met excluded unexplained (Open n) founded same = absurd cc
+
+-- what is made for a criterion and has the shape of the history makes a case file
+pub made-case_file : {S C R : Type 0} (h : Record S C R) (criterion : Criterion) (made : Option Certificate)
+    → IfSome made (λ c. criterion_of c ≡ criterion) → IfSome made (λ c. HasShapeOf h c) → IsCaseFile (h, criterion, made)
+made-case_file h criterion None fits shape certificate same = absurd cc
+made-case_file h criterion (Some c) fits shape certificate same =
+    let equal : c ≡ certificate = cc in
+    (subst (λ (d : Certificate). criterion_of d ≡ criterion) equal fits, subst (λ (d : Certificate). HasShapeOf h d) equal shape)
+
+module _ {S C R : Type 0} (answer : S → List C → C → R) where
+  -- what is said of the certificate of a file is said of the file
+  pub said-of_file : (file : CaseRecord S C R) (said : Answer) (certificate : Certificate) → file.2 ≡ Some certificate
+      → IsSaidOf answer file.0 certificate said → IsSaidOfFile answer file said
+  said-of_file file said certificate same holds =
+      subst (λ (c : Option Certificate). MatchOption c (said ≡ Unknown None) (λ given. IsSaidOf answer file.0 given said)) (sym same) holds
+
+  -- without a certificate nothing is known
+  pub said-of_none : (file : CaseRecord S C R) → file.2 ≡ None → IsSaidOfFile answer file (Unknown None)
+  said-of_none file none =
+      subst (λ (c : Option Certificate). MatchOption c (Unknown None ≡ Unknown None) (λ given. IsSaidOf answer file.0 given (Unknown None))) (sym none) refl
+
+  -- what is said of a file is founded
+  module _ (law : (h : Record S C R) (c : Certificate) → HasShapeOf h c → IsExplainedThroughout answer h c → Meets answer h (criterion_of c)) where
+    pub said-founded : (file : CaseRecord S C R) → IsCaseFile file → (said : Answer) → IsSaidOfFile answer file said
+        → IsFounded (Meets answer file.0 file.1) (λ kind. ⊥) (IsUnexplainedOf answer file.0 file.1) said
+    said-founded (h, criterion, None) is_file Yes holds = absurd cc
+    said-founded (h, criterion, Some certificate) is_file Yes holds =
+        let fits = is_file certificate refl in
+        subst (λ (k : Criterion). Meets answer h k) fits.0 (law h certificate fits.1 holds)
+    said-founded file is_file (Unknown None) holds = tt
+    said-founded (h, criterion, None) is_file (Unknown (Some o)) holds = absurd cc
+    said-founded (h, criterion, Some certificate) is_file (Unknown (Some o)) holds =
+        let fits = is_file certificate refl in (certificate, fits.0, fits.1, holds)
+    said-founded (h, criterion, None) is_file (No kind) holds = absurd cc
+    said-founded (h, criterion, Some certificate) is_file (No kind) holds = absurd holds
+    said-founded (h, criterion, None) is_file (Open n) holds = absurd cc
+    said-founded (h, criterion, Some certificate) is_file (Open n) holds = absurd holds
+
+  -- where the certificate explains every operation, the answer is known
+  pub said-known : (file : CaseRecord S C R) (certificate : Certificate) → file.2 ≡ Some certificate
+      → IsExplainedThroughout answer file.0 certificate → (said : Answer) → IsSaidOfFile answer file said → IsKnown said
+  said-known (h, criterion, given) certificate same explained Yes holds = tt
+  said-known (h, criterion, given) certificate same explained (No kind) holds = tt
+  said-known (h, criterion, None) certificate same explained (Unknown place) holds = absurd cc
+  said-known (h, criterion, Some given) certificate same explained (Unknown None) holds = absurd holds
+  said-known (h, criterion, Some given) certificate same explained (Unknown (Some o)) holds =
+      let first : IsFirstUnexplained answer h given o = holds in
+      let equal : certificate ≡ given = cc in
+      absurd (first.unexplained (subst (λ (c : Certificate). IsExplainedThroughout answer h c) equal explained o first.is_op))
+  said-known (h, criterion, None) certificate same explained (Open n) holds = absurd cc
+  said-known (h, criterion, Some given) certificate same explained (Open n) holds = absurd holds
+
+  -- where what was made explains every operation, the answer is known
+  pub made-known : (h : Record S C R) (criterion : Criterion) (made : Option Certificate) (file : CaseRecord S C R) → file ≡ (h, criterion, made)
+      → IsSomeAnd made (λ c. IsExplainedThroughout answer h c) → (said : Answer) → IsSaidOfFile answer file said → IsKnown said
+  made-known h criterion None file same explained said holds = absurd explained
+  made-known h criterion (Some c) file same explained said holds =
+      said-known (h, criterion, Some c) c refl explained said (subst (λ (f : CaseRecord S C R). IsSaidOfFile answer f said) same holds)
+
+  -- what is founded for a file is founded for what it was made of
+  pub made-founded : (h : Record S C R) (criterion : Criterion) (made : Option Certificate) (file : CaseRecord S C R) → file ≡ (h, criterion, made)
+      → (a : Answer) → IsFounded (Meets answer file.0 file.1) (λ kind. ⊥) (IsUnexplainedOf answer file.0 file.1) a
+      → IsFounded (Meets answer h criterion) (λ kind. ⊥) (IsUnexplainedOf answer h criterion) a
+  made-founded h criterion made file same a founded =
+      subst (λ (f : CaseRecord S C R). IsFounded (Meets answer f.0 f.1) (λ kind. ⊥) (IsUnexplainedOf answer f.0 f.1) a) same founded

@@ -1,0 +1,3 @@
+pub mod DecidedLaws
+pub mod DeskLaws
+pub mod JudgedLaws

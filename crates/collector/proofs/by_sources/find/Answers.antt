@@ -1,0 +1,9 @@
+use Rattle.collector.proofs.DecidedLaws.{at-none, decided-apart, free-met}
+use Rattle.collector.proofs.by_sources.find.Goals as goal
+
+pub returns-in-None-clause-decided : goal.returns-in-None-clause-decided
+returns-in-None-clause-decided c = λ decided.
+    let h = c.args.h.now in
+    let criterion = c.args.criterion in
+    free-met h c.value_is_history.ensures criterion decided
+    (at-none c.in_ok-pattern.field-0 c.in-None.is (c.in_ok-pattern.ensures.exact (decided-apart h criterion decided)))

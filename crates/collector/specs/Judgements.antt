@@ -1,0 +1,57 @@
+-- What is said of a history and a criterion, and when it is true.
+use Rattle.std.specs.Prelude.{◌≡◌, ⊤, ℕ, ◌≤◌, List, Option, MatchOption, Some, None}
+use Rattle.history.specs.declared.op_id.OpId.{OpId}
+use Rattle.history.specs.History.{Record}
+use Rattle.cert_check.specs.declared.certificate.Certificate.{Certificate}
+use Rattle.cert_check.specs.declared.criterion.Criterion.{Criterion}
+use Rattle.cert_check.specs.declared.desk_error.DeskError.{DeskError}
+use Rattle.cert_check.specs.declared.desk_error.DeskError.TheVariants.{BadWorkers, Memory}
+use Rattle.cert_check.specs.Certificates.{CaseRecord, HasShapeOf, IsExplainedThroughout, IsFirstUnexplained, criterion_of}
+use Rattle.bad_patterns.specs.declared.kind.Kind.{Kind}
+use Rattle.board.specs.declared.answer.Answer.{Answer}
+use Rattle.board.specs.declared.answer.Answer.TheVariants.{Yes, No, Unknown, Open}
+
+module _ {S C R : Type 0} (answer : S → List C → C → R) (h : Record S C R) where
+  -- a certificate of the criterion has the shape of the history, and o is the first operation that it doesn't explain
+  abbrev pub IsUnexplainedOf : Criterion → OpId → Type 0
+  IsUnexplainedOf criterion o =
+      (certificate : Certificate) × (criterion_of certificate ≡ criterion) × HasShapeOf h certificate × IsFirstUnexplained answer h certificate o
+
+  -- what is said of a certificate: yes where every piece explains its operation, and else unknown with the first that
+  -- doesn't
+  abbrev pub IsSaidOf : Certificate → Answer → Type 0
+  IsSaidOf certificate Yes = IsExplainedThroughout answer h certificate
+  IsSaidOf certificate (No kind) = ⊥
+  IsSaidOf certificate (Unknown None) = ⊥
+  IsSaidOf certificate (Unknown (Some o)) = IsFirstUnexplained answer h certificate o
+  IsSaidOf certificate (Open n) = ⊥
+
+-- what is said of a case file: what its certificate shows, and unknown where it has none
+abbrev pub IsSaidOfFile : {S C R : Type 0} → (S → List C → C → R) → CaseRecord S C R → Answer → Type 0
+IsSaidOfFile answer file said = MatchOption file.2 (said ≡ Unknown None) (λ certificate. IsSaidOf answer file.0 certificate said)
+
+-- an answer is founded: with a yes the criterion is met; a no names a kind that excludes it; unknown names an operation
+-- only where it is unexplained; and nothing is open
+abbrev pub IsFounded : Type 0 → (Kind → Type 0) → (OpId → Type 0) → Answer → Type 0
+IsFounded met excluded unexplained Yes = met
+IsFounded met excluded unexplained (No kind) = excluded kind
+IsFounded met excluded unexplained (Unknown None) = ⊤
+IsFounded met excluded unexplained (Unknown (Some o)) = unexplained o
+IsFounded met excluded unexplained (Open n) = ⊥
+
+-- an answer is a yes or a no
+abbrev pub IsKnown : Answer → Type 0
+IsKnown Yes = ⊤
+IsKnown (No kind) = ⊤
+IsKnown (Unknown place) = ⊥
+IsKnown (Open n) = ⊥
+
+-- how many workers there may be
+abbrev pub AreWorkers : ℕ → Type 0
+AreWorkers n = (1 ≤ n) × (n ≤ 16)
+
+-- why nothing is said: there may not be so many workers, or memory ran out
+abbrev pub IsJudgeError : ℕ → DeskError → Type 0
+IsJudgeError workers BadWorkers = ¬ AreWorkers workers
+IsJudgeError workers Memory = AreWorkers workers
+IsJudgeError workers _ = ⊥

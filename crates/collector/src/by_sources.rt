@@ -1,0 +1,83 @@
+ghost use Rattle.std.specs.Prelude.{◌≡◌, IfNone, IfOk, IfSome, IsSomeAnd};
+ghost use Rattle.bad_patterns.specs.Patterns.{IsBadPattern};
+ghost use Rattle.cert_check.specs.Certificates.{HasShapeOf, IsExplainedThroughout, criterion_of};
+ghost use Rattle.cert_check.specs.Criteria.{Meets};
+ghost use Rattle.cert_check.specs.declared.criterion.Criterion.TheVariants.{Cc, Ccv};
+ghost use Rattle.memory_order.specs.Memory.{IsDifferentiated, memory_answer};
+ghost use Rattle.collector.specs.Decided.{IsDecided};
+
+use crate::judged::Judged;
+use bad_patterns::Pattern;
+use bad_patterns::laws::present_kinds_exclude_criteria;
+use cert_check::{Certificate, Criterion};
+use history::History;
+use objects::Memory;
+use std::alloc::{AllocError, Global};
+
+impl Judged for Memory {
+    ghost decides = { IsDecided };
+
+    fn find(
+        alloc: Global,
+        h: &History<Memory>,
+        criterion: Criterion,
+    ) -> Result<Option<Pattern>, AllocError> {
+        find(alloc, h, criterion)
+    }
+
+    fn make(
+        alloc: Global,
+        h: &History<Memory>,
+        criterion: Criterion,
+    ) -> Result<Option<Certificate>, AllocError> {
+        match criterion {
+            Criterion::Cc => make_for_consistency(alloc, h),
+            Criterion::Cm => certify_cm::make_memory(alloc, h),
+            Criterion::Ccv => make_for_convergence(alloc, h),
+        }
+    }
+}
+
+/// A pattern that shows that a memory history does not meet a criterion.
+fn find(
+    alloc: Global,
+    h: &History<Memory>,
+    criterion: Criterion,
+) -> Result<Option<Pattern>, AllocError>
+    ensures found { IfOk result (λ found. IfSome found (IsBadPattern h.now criterion)) }
+    ensures decided { IsDecided h.now criterion → IfOk result (λ found. IfNone found (Meets memory_answer h.now criterion)) }
+{
+    h.value_is_history();
+    match pattern_search::find(alloc, h, criterion)? {
+        Some(pattern) => Ok(Some(pattern)),
+        None => Ok(None),
+    }
+}
+
+/// A certificate of causal consistency of a memory history.
+fn make_for_consistency(
+    alloc: Global,
+    h: &History<Memory>,
+) -> Result<Option<Certificate>, AllocError>
+    ensures criterion { IfOk result (λ made. IfSome made (λ c. criterion_of c ≡ Cc)) }
+    ensures shape { IfOk result (λ made. IfSome made (HasShapeOf h.now)) }
+    ensures decided { IsDifferentiated h.now → Meets memory_answer h.now Cc
+        → IfOk result (λ made. IsSomeAnd made (IsExplainedThroughout memory_answer h.now)) }
+{
+    present_kinds_exclude_criteria();
+    certify_cc::make_memory(alloc, h)
+}
+
+/// A certificate of causal convergence of a memory history.
+fn make_for_convergence(
+    alloc: Global,
+    h: &History<Memory>,
+) -> Result<Option<Certificate>, AllocError>
+    ensures criterion { IfOk result (λ made. IfSome made (λ c. criterion_of c ≡ Ccv)) }
+    ensures shape { IfOk result (λ made. IfSome made (HasShapeOf h.now)) }
+    ensures decided { IsDifferentiated h.now → Meets memory_answer h.now Ccv
+        → IfOk result (λ made. IsSomeAnd made (IsExplainedThroughout memory_answer h.now)) }
+{
+    present_kinds_exclude_criteria();
+    certify_ccv::make_memory(alloc, h)
+}

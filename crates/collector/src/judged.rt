@@ -1,0 +1,45 @@
+ghost use Rattle.std.specs.Prelude.{◌≡◌, List, Option, IfNone, IfOk, IfSome, IsSomeAnd};
+ghost use Rattle.history.specs.History.{Record};
+ghost use Rattle.cert_check.specs.declared.criterion.Criterion.{Criterion as AnyCriterion};
+ghost use Rattle.cert_check.specs.Certificates.{HasShapeOf, IsExplainedThroughout, criterion_of};
+ghost use Rattle.cert_check.specs.Criteria.{Meets};
+
+use bad_patterns::Pattern;
+use cert_check::{Certificate, Criterion};
+use history::History;
+use refutable::Refutable;
+use std::alloc::{AllocError, Global};
+
+/// An object whose histories are judged: how patterns are looked for, and how certificates are made.
+///
+/// Of some histories and criteria both are exact: a pattern is found where the criterion is not met, and where it is met the
+/// certificate that is made explains every operation.
+pub trait Judged: Refutable {
+    /// Whether find and make are exact for a history and a criterion.
+    ghost decides: { Record Self.Start Self.Call Self.Ret → AnyCriterion → Type 0 };
+
+    /// A pattern that shows that the history does not meet the criterion, where the search finds one.
+    ///
+    /// Fails for want of memory alone.
+    fn find(
+        alloc: Global,
+        h: &History<Self>,
+        criterion: Criterion,
+    ) -> Result<Option<Pattern>, AllocError>
+        ensures found { IfOk result (λ found. IfSome found (Self.passes h.now criterion)) }
+        ensures decided { decides h.now criterion → IfOk result (λ found. IfNone found (Meets Self.answer h.now criterion)) };
+
+    /// A certificate for the criterion, where one is made. Whether it explains the known returns is for the checker of
+    /// certificates to say.
+    ///
+    /// Fails for want of memory alone.
+    fn make(
+        alloc: Global,
+        h: &History<Self>,
+        criterion: Criterion,
+    ) -> Result<Option<Certificate>, AllocError>
+        ensures criterion { IfOk result (λ made. IfSome made (λ c. criterion_of c ≡ criterion)) }
+        ensures shape { IfOk result (λ made. IfSome made (HasShapeOf h.now)) }
+        ensures decided { decides h.now criterion → Meets Self.answer h.now criterion
+            → IfOk result (λ made. IsSomeAnd made (IsExplainedThroughout Self.answer h.now)) };
+}

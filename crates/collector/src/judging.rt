@@ -1,0 +1,122 @@
+//! From a history to an answer.
+
+ghost use Rattle.std.specs.Prelude.{◌≡◌, ◌↔◌, IfErr, IfOk, IsTrue};
+ghost use Rattle.bad_patterns.specs.declared.kind.Kind.{Kind as AnyKind};
+ghost use Rattle.cert_check.specs.Criteria.{Meets};
+ghost use Rattle.collector.specs.Judgements.{AreWorkers, IsFounded, IsJudgeError, IsKnown, IsSaidOfFile, IsUnexplainedOf};
+
+use crate::judged::Judged;
+use crate::working::answer_of_file;
+use cert_check::laws::explained_certificates_show_their_criterion;
+use cert_check::{CaseFile, Criterion, DeskError};
+use desk::{Answer, Gate};
+use history::History;
+use std::alloc::Global;
+use std::sync::Wait;
+use std::thread::Threads;
+
+/// How many workers there may be.
+pub const MOST_WORKERS: usize = 16;
+
+/// What is known of a history and a criterion.
+///
+/// A pattern is looked for first: `No` with its kind where one is found. Else a certificate is made, and its pieces are
+/// checked as `judge_with` does: `Yes` where every piece explains its operation, and `Unknown` with the first operation whose
+/// piece does not. `Unknown` with no operation where no certificate is made. It is never `Open`.
+///
+/// `BadWorkers` where `workers` is not 1 to 16, and then nothing else happens; else `Memory`. The cost is that of `find`, of
+/// `make` and of `judge_with`.
+#[tactic(auto, using(crate::proofs::JudgedLaws::memory_alone))]
+pub fn judge<O: Judged + Send + Sync, R: Threads + Wait + Sync, G: Gate>(
+    rt: &R,
+    alloc: Global,
+    h: History<O>,
+    criterion: Criterion,
+    workers: usize,
+    gate: &G,
+) -> Result<Answer, DeskError>
+    ensures founded { IfOk result (IsFounded (Meets O.answer h criterion) (O.excluded h criterion) (IsUnexplainedOf O.answer h criterion)) }
+    ensures not_met { IfOk result (λ a. (kind : AnyKind) → a ≡ Answer.No kind → ¬ Meets O.answer h criterion) }
+    ensures decided { O.decides h criterion → IfOk result IsKnown }
+    ensures workers { IfOk result (λ _. AreWorkers workers) }
+    ensures error { IfErr result (IsJudgeError workers) }
+{
+    if !are_workers(workers) {
+        return Err(DeskError::BadWorkers);
+    }
+    O::passing_patterns_exclude();
+    match O::find(alloc, &h, criterion)? {
+        Some(pattern) => Ok(Answer::No(pattern.kind())),
+        None => judge_by_certificate(rt, alloc, h, criterion, workers, gate),
+    }
+}
+
+/// What is known of a history for which no pattern is found: what the pieces of a certificate show, where one is made.
+fn judge_by_certificate<O: Judged + Send + Sync, R: Threads + Wait + Sync, G: Gate>(
+    rt: &R,
+    alloc: Global,
+    h: History<O>,
+    criterion: Criterion,
+    workers: usize,
+    gate: &G,
+) -> Result<Answer, DeskError>
+    ensures founded { IfOk result (IsFounded (Meets O.answer h criterion) (λ kind. ⊥) (IsUnexplainedOf O.answer h criterion)) }
+    ensures decided { O.decides h criterion → Meets O.answer h criterion → IfOk result IsKnown }
+    ensures error { IfErr result (λ e. e ≡ DeskError.Memory) }
+{
+    let made = O::make(alloc, &h, criterion)?;
+    let file = CaseFile::new(h, criterion, made)?;
+    judge_file(rt, alloc, file, workers, gate)
+}
+
+/// What the certificate of a case file shows.
+fn judge_file<O: Judged + Send + Sync, R: Threads + Wait + Sync, G: Gate>(
+    rt: &R,
+    alloc: Global,
+    file: CaseFile<O>,
+    workers: usize,
+    gate: &G,
+) -> Result<Answer, DeskError>
+    ensures said { IfOk result (IsSaidOfFile O.answer file) }
+    ensures founded { IfOk result (IsFounded (Meets O.answer file.0 file.1) (λ kind. ⊥) (IsUnexplainedOf O.answer file.0 file.1)) }
+    ensures error { IfErr result (λ e. e ≡ DeskError.Memory) }
+{
+    explained_certificates_show_their_criterion::<O>();
+    let _certificate = file.certificate();
+    answer_of_file(rt, alloc, file, workers, gate)
+}
+
+/// What the certificate of a case file shows.
+///
+/// `Yes` where every piece explains its operation, and then the history meets the criterion; else `Unknown` with the first
+/// operation whose piece does not. `Unknown` with no operation where there is no certificate. The workers are threads that
+/// take pieces from a desk of their own, and each check of theirs is between `enter` and `leave` of the gate; the calling
+/// thread checks what they leave, and tells the gate of none of that.
+///
+/// `BadWorkers` where `workers` is not 1 to 16, and then nothing else happens; else `Memory`. The cost is that of
+/// `first_unexplained`.
+#[tactic(auto, using(crate::proofs::JudgedLaws::memory_alone))]
+pub fn judge_with<O: Judged + Send + Sync, R: Threads + Wait + Sync, G: Gate>(
+    rt: &R,
+    alloc: Global,
+    file: CaseFile<O>,
+    workers: usize,
+    gate: &G,
+) -> Result<Answer, DeskError>
+    ensures said { IfOk result (IsSaidOfFile O.answer file) }
+    ensures met { IfOk result (λ a. a ≡ Answer.Yes → Meets O.answer file.0 file.1) }
+    ensures workers { IfOk result (λ _. AreWorkers workers) }
+    ensures error { IfErr result (IsJudgeError workers) }
+{
+    if !are_workers(workers) {
+        return Err(DeskError::BadWorkers);
+    }
+    judge_file(rt, alloc, file, workers, gate)
+}
+
+/// Whether there may be so many workers.
+fn are_workers(workers: usize) -> bool
+    ensures { IsTrue result ↔ AreWorkers workers }
+{
+    1 <= workers && workers <= MOST_WORKERS
+}

@@ -1,0 +1,13 @@
+//! From a history to an answer: how the histories of each object are judged, `judge` and `judge_with`.
+#![tactic(auto)]
+
+mod by_program_order;
+mod by_sources;
+mod judged;
+mod judging;
+mod working;
+
+pub use by_program_order::ByProgramOrder;
+pub use desk::{Answer, Gate, OpenGate};
+pub use judged::Judged;
+pub use judging::{MOST_WORKERS, judge, judge_with};

@@ -1,0 +1,99 @@
+//! What the certificate of one case shows.
+
+ghost use Rattle.std.specs.Prelude.{◌≡◌, IfErr, IfOk, IsSome};
+ghost use Rattle.collector.specs.Judgements.{IsSaidOfFile};
+
+use cert_check::{CaseFile, DeskError, first_unexplained};
+use desk::{Answer, Desk, Gate, Shelf, ShelfName, Ticket};
+use object_trait::SeqObject;
+use refutable::Refutable;
+use std::alloc::Global;
+use std::marker::Brand;
+use std::sync::Wait;
+use std::thread;
+use std::thread::Threads;
+
+/// What the certificate of a case file shows. Workers check its pieces at a desk that is made for it alone.
+pub fn answer_of_file<O: Refutable + Send + Sync, R: Threads + Wait + Sync, G: Gate>(
+    rt: &R,
+    alloc: Global,
+    file: CaseFile<O>,
+    workers: usize,
+    gate: &G,
+) -> Result<Answer, DeskError>
+    ensures said { IfOk result (IsSaidOfFile O.answer file) }
+    ensures error { IfErr result (λ e. e ≡ DeskError.Memory) }
+{
+    if file.certificate().is_none() {
+        return Ok(Answer::Unknown(None));
+    }
+    let shelf = Shelf::new(alloc)?;
+    answer_on::<O, Brand, R, G>(rt, alloc, shelf, file, workers, gate)
+}
+
+/// The same at a desk on a shelf that is named. Where the desk has no room for the case, its pieces are checked here.
+fn answer_on<
+    O: Refutable + Send + Sync,
+    K: ShelfName + Send + Sync,
+    R: Threads + Wait + Sync,
+    G: Gate,
+>(
+    rt: &R,
+    alloc: Global,
+    shelf: Shelf<O>,
+    file: CaseFile<O>,
+    workers: usize,
+    gate: &G,
+) -> Result<Answer, DeskError>
+    requires named { shelf ≡ K.shelf }
+    requires certificate { IsSome file.2 }
+    ensures said { IfOk result (IsSaidOfFile O.answer file) }
+    ensures error { IfErr result (λ e. e ≡ DeskError.Memory) }
+{
+    let desk = Desk::<O, K>::on(alloc, shelf)?;
+    match desk.file_or_back(rt, file) {
+        Ok(ticket) => answer_of_ticket(rt, alloc, &desk, &ticket, workers, gate),
+        Err(Some(file)) => answer_of_pieces(alloc, &file),
+        Err(None) => Err(DeskError::Memory),
+    }
+}
+
+/// What the certificate of a filed case shows. The workers check its pieces, and what they leave is settled; where the desk
+/// does not say then what the pieces show, they are checked here.
+fn answer_of_ticket<
+    O: Refutable + Send + Sync,
+    K: ShelfName + Send + Sync,
+    R: Threads + Wait + Sync,
+    G: Gate,
+>(
+    rt: &R,
+    alloc: Global,
+    desk: &Desk<O, K>,
+    ticket: &Ticket<O, K>,
+    workers: usize,
+    gate: &G,
+) -> Result<Answer, DeskError>
+    requires { IsSome ticket.now.file.2 }
+    ensures said { IfOk result (IsSaidOfFile O.answer ticket.now.file) }
+    ensures error { IfErr result (λ e. e ≡ DeskError.Memory) }
+{
+    let _put = thread::map_indices(rt, alloc, workers, &|_| desk.work(rt, gate))?;
+    desk.settle(rt, ticket)?;
+    match desk.ask(rt, ticket) {
+        Answer::Yes => Ok(Answer::Yes),
+        Answer::Unknown(place) => Ok(Answer::Unknown(place)),
+        Answer::No(_) | Answer::Open(_) => answer_of_pieces(alloc, ticket.file(desk)),
+    }
+}
+
+/// What the pieces of a certificate show, checked in their order.
+fn answer_of_pieces<O: SeqObject>(alloc: Global, file: &CaseFile<O>) -> Result<Answer, DeskError>
+    requires { IsSome file.now.2 }
+    ensures said { IfOk result (IsSaidOfFile O.answer file.now) }
+    ensures error { IfErr result (λ e. e ≡ DeskError.Memory) }
+{
+    match first_unexplained(alloc, file)? {
+        None => Ok(Answer::Yes),
+        Some(op) => Ok(Answer::Unknown(Some(op))),
+    }
+}
