@@ -5,6 +5,7 @@ pub mod FoundLooks
 pub mod ConsistentCuts
 pub mod Filtered
 pub mod FoundPlaces
+pub mod FoundCounts
 pub mod Histories
 pub mod LanePlans
 pub mod Meetings

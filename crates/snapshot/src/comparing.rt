@@ -90,8 +90,10 @@ pub(crate) fn compare_calls<O: Recorded>(
 )
     requires held { many ≤ length lane.now.calls }
     requires begun { length lane.now.returns + many ≤ length (begun session.now.done session.now.pending) }
-    requires shared { (i : ℕ) → i < many → IsCallOf lane.now.calls i (slice_get session.now.cells.calls (length lane.now.returns + i)) }
-    ensures { (i : ℕ) → i < many → CallAgrees lane.now.calls i (slice_get (begun session.now.done session.now.pending) (length lane.now.returns + i)) }
+    requires shared { (i : ℕ) → i < many
+        → IsCallOf lane.now.calls i (slice_get session.now.cells.calls (length lane.now.returns + i)) }
+    ensures { (i : ℕ) → i < many
+        → CallAgrees lane.now.calls i (slice_get (begun session.now.done session.now.pending) (length lane.now.returns + i)) }
 {
     for i in 0..many {
         let first = lane.returned();

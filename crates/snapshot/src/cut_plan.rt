@@ -1,5 +1,5 @@
 ghost use Rattle.std.specs.Prelude.{◌≡◌, ℕ, ◌<◌, ◌≤◌, length, IfOk, IfSome, IsSome, None, slice_index};
-ghost use Rattle.snapshot.specs.Plans.{Plan, fresh_plan, looked_at, next_cell};
+ghost use Rattle.snapshot.specs.Plans.{Plan, calls_found, fresh_plan, looked_at, next_cell, returns_found};
 ghost use Rattle.snapshot.specs.Walks.{Stands};
 ghost use Rattle.snapshot.specs.Steps.PlanStates.{call_of, first_of, looks_left, return_of, state_next};
 
@@ -55,15 +55,34 @@ impl CutPlan {
         }
     }
 
+    /// How many returns of a lane were found, those that were told of among them; 0 where there is no such lane.
+    pub fn returns_found(&self, s: usize) -> usize
+        ensures { (p : Plan) → Stands self.now p → s < p.lanes → result ≡ returns_found p s }
+    {
+        if s < self.lanes.len() {
+            self.lanes[s].returns
+        } else {
+            0
+        }
+    }
+
+    /// How many calls of a lane were found, those whose returns were found among them; 0 where there is no such lane.
+    pub fn calls_found(&self, s: usize) -> usize
+        ensures { (p : Plan) → Stands self.now p → s < p.lanes → result ≡ calls_found p s }
+    {
+        if s < self.lanes.len() {
+            self.lanes[s].found(self.cap)
+        } else {
+            0
+        }
+    }
+
     fn first_return(&self) -> Option<Cell>
         ensures { result ≡ first_of (return_of self.now.cap) 0 self.now.lanes }
     {
         for s in 0..self.lanes.len() {
             if let Some(i) = self.lanes[s].next_return(self.cap) {
-                return Some(Cell::Return(OpId {
-                    session: s as u64,
-                    index: i as u64,
-                }));
+                return Some(Cell::Return(OpId::at(s, i)));
             }
         }
         None
@@ -74,10 +93,7 @@ impl CutPlan {
     {
         for s in 0..self.lanes.len() {
             if let Some(i) = self.lanes[s].next_call(self.cap) {
-                return Some(Cell::Call(OpId {
-                    session: s as u64,
-                    index: i as u64,
-                }));
+                return Some(Cell::Call(OpId::at(s, i)));
             }
         }
         None

@@ -2,7 +2,8 @@ ghost use Rattle.std.specs.Prelude.{◌≡◌, ℕ, ◌<◌, ◌≤◌, ◌++◌
 ghost use Rattle.recorder.specs.Lanes.{Cells};
 ghost use Rattle.snapshot.specs.Plans.{return_cell};
 ghost use Rattle.snapshot.specs.Seals.{AreReceiptsOf, AreToldBy};
-ghost use Rattle.snapshot.specs.Steps.Tables.{AreTables, IsCallFound, IsReturnFound, TellsLooks};
+ghost use Rattle.snapshot.specs.Steps.InLanes.{AreWithin, HasReceipt, IsCallFoundAt, IsReturnFoundAt};
+ghost use Rattle.snapshot.specs.Steps.Tables.{AreTables, TellsLooks};
 ghost use Rattle.snapshot.specs.Steps.Looking.{Looked, NotLooked};
 
 use crate::cell::Cell;
@@ -34,7 +35,13 @@ impl<'a, O: Recorded> Model for LaneLooker<'a, O> {
 
     ghost Value = { LookerState O.Start O.Call O.Ret };
 
-    ghost view = { λ l. record { lanes = l.lanes.now; receipts = l.receipts.now; told = l.told.items; cap = l.cap; looks = l.looks.items } };
+    ghost view = { λ l. record {
+      lanes = l.lanes.now;
+      receipts = l.receipts.now;
+      told = l.told.items;
+      cap = l.cap;
+      looks = l.looks.items;
+    } };
 
     ghost invariant = { λ l. IsLooker l.lanes.now l.receipts.now l.told.items l.cap l.looks.items l.tables.items };
 }
@@ -126,7 +133,7 @@ impl<'a, O: Recorded> LaneLooker<'a, O> {
     }
 
     fn find_return_of(&self, op: OpId) -> Option<Found<ReturnRecord<O>>>
-        ensures { IfSome result (λ f. (lane : Cells) × (slice_get self.now.lanes.cells op.session ≡ Some lane) × IsReturnFound lane op.index f) }
+        ensures { IfSome result (IsReturnFoundAt self.now.lanes.cells op) }
     {
         if op.session >= self.lanes.len() as u64 {
             return None;
@@ -135,7 +142,7 @@ impl<'a, O: Recorded> LaneLooker<'a, O> {
     }
 
     fn find_call_of(&self, op: OpId) -> Option<Found<O::Call>>
-        ensures { IfSome result (λ f. (lane : Cells) × (slice_get self.now.lanes.cells op.session ≡ Some lane) × IsCallFound lane op.index f) }
+        ensures { IfSome result (IsCallFoundAt self.now.lanes.cells op) }
     {
         if op.session >= self.lanes.len() as u64 {
             return None;
@@ -172,7 +179,7 @@ fn told_counts<O: Recorded>(
 ) -> Result<Vec<u16>, AllocError>
     requires { AreReceiptsOf lanes.now receipts.now }
     ensures told { IfOk result (λ told. AreToldBy lanes.now receipts.now told.items) }
-    ensures within { IfOk result (λ told. (s : ℕ) (lane : Cells) → slice_get lanes.now.cells s ≡ Some lane → slice_index told.items s ≤ length lane.calls) }
+    ensures within { IfOk result (λ told. AreWithin lanes.now.cells told.items) }
 {
     let mut told = Vec::with_capacity(alloc, lanes.len())?;
     for s in 0..lanes.len() {
@@ -185,7 +192,7 @@ fn told_count<O: Recorded>(lanes: &Lanes<O>, receipts: &[Receipt<O>], s: usize) 
     requires receipts { AreReceiptsOf lanes.now receipts.now }
     requires lane { s < length lanes.now.cells }
     ensures most { (j : ℕ) (r : _) → slice_get receipts.now j ≡ Some r → r.lane ≡ s → length r.operations ≤ result }
-    ensures reached { 0 < result → (j : ℕ) × (r : _) × (slice_get receipts.now j ≡ Some r) × (r.lane ≡ s) × (length r.operations ≡ result) }
+    ensures reached { 0 < result → HasReceipt receipts.now s result }
     ensures within { (lane : Cells) → slice_get lanes.now.cells s ≡ Some lane → result ≤ length lane.calls }
 {
     let best = longest(receipts, s as u64);

@@ -1,4 +1,4 @@
-ghost use Rattle.std.specs.Prelude.{◌≡◌, ◌<◌, ◌+◌, ◌∷◌, Some, None};
+ghost use Rattle.std.specs.Prelude.{◌≡◌, ◌<◌, ◌≤◌, ◌+◌, ◌∷◌, Some, None};
 ghost use Rattle.snapshot.specs.Steps.PlanStates.{fresh_lane, after_return, after_call, return_place, call_place, lane_left};
 
 /// What the looks at one lane found so far.
@@ -27,6 +27,17 @@ impl LanePlan {
             returns_over: false,
             calls: 0,
             calls_over: false,
+        }
+    }
+
+    /// How many calls were found, those whose returns were found among them, of so many places.
+    pub(crate) fn found(&self, cap: usize) -> usize
+        ensures { self.now.returns + self.now.calls ≤ cap → result ≡ self.now.returns + self.now.calls }
+    {
+        if self.returns <= cap && self.calls <= cap - self.returns {
+            self.returns + self.calls
+        } else {
+            cap
         }
     }
 

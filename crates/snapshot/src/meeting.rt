@@ -24,9 +24,13 @@ pub fn meet<O: SeqObject>(sealed: &Sealed<O>, session: &Session<O>) -> Met
     requires { AreOfOne sealed.now session.now }
     ensures returns { result.returns ≡ min (known_returns sealed.now.history session.now.lane) (length session.now.done) }
     ensures calls { result.calls ≡ met_calls sealed.now.history session.now }
-    ensures same_returns { (i : ℕ) → i < result.returns → entry sealed.now.history (op session.now.lane i) ≡ option_map (λ o. (o.0, Some o.1)) (slice_get session.now.done i) }
-    ensures same_advice { (i : ℕ) → i < result.returns → advice_of sealed.now (op session.now.lane i) ≡ option_map (λ o. Some o.2) (slice_get session.now.done i) }
-    ensures same_calls { (i : ℕ) → i < result.calls → option_map (λ e. e.0) (entry sealed.now.history (op session.now.lane i)) ≡ slice_get (begun session.now.done session.now.pending) i }
+    ensures same_returns { (i : ℕ) → i < result.returns
+        → entry sealed.now.history (op session.now.lane i) ≡ option_map (λ o. (o.0, Some o.1)) (slice_get session.now.done i) }
+    ensures same_advice { (i : ℕ) → i < result.returns
+        → advice_of sealed.now (op session.now.lane i) ≡ option_map (λ o. Some o.2) (slice_get session.now.done i) }
+    ensures same_calls { (i : ℕ) → i < result.calls
+        → option_map (λ e. e.0) (entry sealed.now.history (op session.now.lane i))
+        ≡ slice_get (begun session.now.done session.now.pending) i }
 {
     let lane = sealed.lane(session.lane() as usize);
     let held = lane.returned();

@@ -25,9 +25,11 @@ type Session<O> = Vec<(<O as Recorded>::Call, Option<<O as Recorded>::Ret>)>;
 fn seal_lanes<'a, O: Recorded>(
     looker: &LaneLooker<'a, O>,
 ) -> Result<(Vec<Session<O>>, Vec<SealedLane<O>>, Vec<Option<Advice>>), AllocError>
-    ensures sealed { IfOk result (λ r. AreLanesSealed O.fitting looker.now.lanes.cells looker.now.receipts (map (λ s. s.items) r.0.items) r.1.items) }
+    ensures sealed { IfOk result (λ r.
+        AreLanesSealed O.fitting looker.now.lanes.cells looker.now.receipts (map (λ s. s.items) r.0.items) r.1.items) }
     ensures advised { IfOk result (λ r. r.2.items ≡ flat_map advised r.1.items) }
-    ensures found { IfOk result (λ r. AreLanesFound looker.now.looks looker.now.told looker.now.cap (map (λ s. s.items) r.0.items) r.1.items) }
+    ensures found { IfOk result (λ r.
+        AreLanesFound looker.now.looks looker.now.told looker.now.cap (map (λ s. s.items) r.0.items) r.1.items) }
 {
     let mut sessions = Vec::new(looker.alloc);
     let mut lanes = Vec::new(looker.alloc);
@@ -50,7 +52,8 @@ fn seal_lanes<'a, O: Recorded>(
 
 // The operations of receipts are those that lanes hold, if their cells are.
 fn compare_receipts<O: Recorded>(alloc: Global, receipts: &[Receipt<O>], lanes: &Vec<SealedLane<O>>)
-    requires { (j : ℕ) (r : _) → slice_get receipts.now j ≡ Some r → (l : _) × (slice_get lanes.now.items r.lane ≡ Some l) × SharesCells r l }
+    requires { (j : ℕ) (r : _) → slice_get receipts.now j ≡ Some r
+        → (l : _) × (slice_get lanes.now.items r.lane ≡ Some l) × SharesCells r l }
     ensures { (j : ℕ) (r : _) → slice_get receipts.now j ≡ Some r → IsShown lanes.now.items r }
 {
     for receipt in receipts {
@@ -67,7 +70,8 @@ impl<'a, O: SeqObject> LaneLooker<'a, O> {
         ensures holds { IfOk result (λ s. HoldsAll s.history self.entry.receipts) }
         ensures seal { IfOk result (λ s. IsSealOf self.entry.lanes s) }
         ensures advises { IfOk result (λ s. AdvisesAll s self.entry.receipts) }
-        ensures found { IfOk result (λ s. Follows (plan_before self.entry) self.entry.looks → HoldsFound (plan_after self.entry) s.history) }
+        ensures found { IfOk result (λ s.
+            Follows (plan_before self.entry) self.entry.looks → HoldsFound (plan_after self.entry) s.history) }
     {
         let (sessions, lanes, advice) = seal_lanes(&self)?;
         compare_receipts(self.alloc, self.receipts, &lanes);

@@ -1,6 +1,8 @@
-ghost use Rattle.std.specs.Prelude.{◌≡◌, ℕ, ◌<◌, ◌≤◌, ◌+◌, ◌++◌, ◌∷◌, [], length, map, IfOk, IfSome, IsSome, MatchOption, Some, None, slice_get, false, true};
+ghost use Rattle.std.specs.Prelude.{◌≡◌, ◌<◌, ◌≤◌, ◌++◌, [], length, map, IfOk, IfSome, IsSome, Some, None};
 ghost use Rattle.recorder.specs.Lanes.{IsLane, shown};
-ghost use Rattle.snapshot.specs.Steps.Tables.{AreNotesOf, IsCallFound, IsReturnFound, IsSealedSession, IsTable, RunsTo, advice_shown, advised, has_note, no_advice};
+ghost use Rattle.snapshot.specs.Steps.Tables.{AreNotesOf, IsCallFound, IsReturnFound, IsSealedSession, IsTable, RunsTo};
+ghost use Rattle.snapshot.specs.Steps.Tables.{advice_shown, advised, has_note, no_advice};
+ghost use Rattle.snapshot.specs.Steps.InLanes.{RunsToCalls, TellsNote};
 ghost use Rattle.snapshot.specs.Steps.Sealing.{AreCallsRead, AreReturnsRead, IsOfTable, IsToldBy, ReadsCall, ReadsReturn};
 
 use crate::lane_table::LaneTable;
@@ -24,7 +26,7 @@ fn return_note<O: Recorded>(
     requires table { IsTable lane.now table.now }
     ensures found { IfSome result (λ n. IsReturnFound lane.now i (n.cell, n.known)) }
     ensures told { i < best.count → IsSome result }
-    ensures looked { best.count ≤ i → MatchOption result (has_note table.now.returns i ≡ false) (λ _. has_note table.now.returns i ≡ true) }
+    ensures looked { best.count ≤ i → TellsNote table.now.returns i result }
 {
     let blank = lane.return_note(i);
     if i < best.count {
@@ -49,7 +51,8 @@ fn push_return<O: Recorded>(
 ) -> Result<(), AllocError>
     requires place { i < length lane.now.returns }
     requires found { IsReturnFound lane.now i (known.cell, known.known) }
-    ensures { IfOk result (λ _. ReadsReturn O.fitting lane.now i notes.old.list notes.new.list operations.old.items operations.new.items advice.old.items advice.new.items) }
+    ensures { IfOk result (λ _. ReadsReturn O.fitting lane.now i notes.old.list notes.new.list
+        operations.old.items operations.new.items advice.old.items advice.new.items) }
 {
     let mut note = known;
     let Some(record) = lane.return_record(i, &mut note) else {
@@ -105,7 +108,8 @@ fn push_call<O: Recorded>(
 ) -> Result<(), AllocError>
     requires place { i < length lane.now.calls }
     requires found { IsCallFound lane.now i (known.cell, known.known) }
-    ensures { IfOk result (λ _. ReadsCall lane.now i notes.old.list notes.new.list operations.old.items operations.new.items advice.old.items advice.new.items) }
+    ensures { IfOk result (λ _. ReadsCall lane.now i notes.old.list notes.new.list
+        operations.old.items operations.new.items advice.old.items advice.new.items) }
 {
     let mut note = known;
     let Some(call) = lane.call(i, &mut note) else {
@@ -127,9 +131,11 @@ fn seal_calls<O: Recorded>(
 ) -> Result<NoteList<O::Call>, AllocError>
     requires table { IsTable lane.now table.now }
     ensures read { IfOk result (λ notes. AreCallsRead lane.now operations.old.items notes.list operations.new.items) }
-    ensures short { IfOk result (λ _. length operations.old.items ≤ length lane.now.calls → length operations.new.items ≤ length lane.now.calls) }
+    ensures short { IfOk result (λ _.
+        length operations.old.items ≤ length lane.now.calls → length operations.new.items ≤ length lane.now.calls) }
     ensures advised { IfOk result (λ notes. advice.new.items ≡ advice.old.items ++ map no_advice notes.list) }
-    ensures found { IfOk result (λ _. length operations.old.items ≤ length lane.now.calls → RunsTo (has_note table.now.calls) (length operations.old.items) (length operations.new.items) (length table.now.calls)) }
+    ensures found { IfOk result (λ _.
+        length operations.old.items ≤ length lane.now.calls → RunsToCalls table.now operations.old.items operations.new.items) }
 {
     let mut notes = NoteList::new(alloc);
     for i in operations.len()..lane.places() {

@@ -1,0 +1,215 @@
+//! What seals hold of sessions, what they are told, and how they meet.
+
+ghost use Rattle.std.specs.Prelude.{◌≡◌, IfOk};
+ghost use Rattle.std.specs.Arc.{arc_value};
+ghost use Rattle.recorder.specs.Sessions.{receipt_of};
+ghost use Rattle.snapshot.specs.Seals.{AreReceiptsOf, IsReceiptOf, IsSealOf};
+ghost use Rattle.recorder_acceptance.specs.Recordings.{IsSessionOf};
+
+use crate::recordings::{advice, begun, ended, operations_of};
+use objects::{Register, RegisterCall, RegisterRet};
+use recorder::{Lanes, Receipt, RecordError, Session, new_recorder};
+use snapshot::{Met, Sealed, meet, seal};
+use std::alloc::Global;
+use std::sync::Arc;
+use std::test::Fail;
+
+/// A recorder of one session.
+fn one_session(
+    alloc: Global,
+    cap: usize,
+) -> Result<(Arc<Lanes<Register>>, Session<Register>), RecordError>
+    ensures { IfOk result (λ r. IsSessionOf (arc_value r.0) r.1) }
+{
+    let (lanes, mut sessions) = new_recorder::<Register>(alloc, 1, cap, 0)?;
+    match sessions.pop() {
+        Some(session) => Ok((lanes, session)),
+        None => Err(RecordError::BadLimits),
+    }
+}
+
+/// Writes a value. What memory refused is asked again.
+fn write(
+    alloc: Global,
+    session: &mut Session<Register>,
+    value: u64,
+) -> Result<Receipt<Register>, RecordError>
+    ensures lane { session.new.lane ≡ session.old.lane }
+    ensures cells { session.new.cells ≡ session.old.cells }
+    ensures receipt { IfOk result (λ r. r ≡ receipt_of session.new) }
+{
+    begin_write(session)?;
+    end(alloc, session, value)
+}
+
+/// Begins a write. What memory refused is asked again.
+fn begin_write(session: &mut Session<Register>) -> Result<(), RecordError>
+    ensures lane { session.new.lane ≡ session.old.lane }
+    ensures cells { session.new.cells ≡ session.old.cells }
+{
+    if session.begin(RegisterCall::Write(1)).is_err() {
+        session.begin(RegisterCall::Write(1))?;
+    }
+    Ok(())
+}
+
+/// Ends a write.
+fn end(
+    alloc: Global,
+    session: &mut Session<Register>,
+    value: u64,
+) -> Result<Receipt<Register>, RecordError>
+    ensures lane { session.new.lane ≡ session.old.lane }
+    ensures cells { session.new.cells ≡ session.old.cells }
+    ensures receipt { IfOk result (λ r. r ≡ receipt_of session.new) }
+{
+    match session.finish(RegisterRet::Done, advice(alloc, value)) {
+        Ok(receipt) => Ok(receipt),
+        Err((error, _advice)) => Err(error),
+    }
+}
+
+/// A seal that is told of this receipt. What memory refused is asked again.
+fn seal_told(
+    alloc: Global,
+    lanes: &Lanes<Register>,
+    told: &[Receipt<Register>],
+) -> Result<Sealed<Register>, RecordError>
+    requires { AreReceiptsOf lanes.now told.now }
+    ensures { IfOk result (λ s. IsSealOf lanes.now s) }
+{
+    match seal(alloc, lanes, told) {
+        Ok(sealed) => Ok(sealed),
+        Err(_refused) => seal(alloc, lanes, told),
+    }
+}
+
+/// The stamps of the advice that a seal has, 0 for an operation without a return.
+fn stamps_of(alloc: Global, sealed: &Sealed<Register>) -> Result<Vec<u64>, RecordError> {
+    let mut stamps = Vec::new(alloc);
+    for advice in sealed.advice() {
+        stamps.push(advice.as_ref().map_or(0, |advice| advice.stamp))?;
+    }
+    Ok(stamps)
+}
+
+/// The stamps in a seal of two writes that a receipt stands for, of a third, and of a call that is pending.
+fn told_of_two(alloc: Global) -> Result<Vec<u64>, RecordError> {
+    let (lanes, mut session) = one_session(alloc, 4)?;
+    write(alloc, &mut session, 5)?;
+    let receipt = write(alloc, &mut session, 6)?;
+    let told = told_by(alloc, &lanes, &mut session, receipt)?;
+    stamps_of(alloc, &told)
+}
+
+/// A seal that is told of a receipt, after one more write and a call that is pending.
+fn told_by(
+    alloc: Global,
+    lanes: &Lanes<Register>,
+    session: &mut Session<Register>,
+    receipt: Receipt<Register>,
+) -> Result<Sealed<Register>, RecordError>
+    requires { IsReceiptOf lanes.now receipt }
+{
+    write(alloc, session, 7)?;
+    begun(session, RegisterCall::Read);
+    seal_told(alloc, lanes, &[receipt])
+}
+
+#[test]
+fn a_seal_holds_what_it_is_told_and_more(rt: HostRuntime) -> Result<(), Fail> {
+    let stamps = match told_of_two(rt.alloc()) {
+        Ok(stamps) => stamps,
+        Err(_refused) => told_of_two(rt.alloc())?,
+    };
+    assert!(rt; stamps.as_slice() == [5, 6, 7, 0].as_slice());
+    Ok(())
+}
+
+/// Writes a value: whether it was written.
+fn wrote(alloc: Global, session: &mut Session<Register>, value: u64) -> bool
+    ensures lane { session.new.lane ≡ session.old.lane }
+    ensures cells { session.new.cells ≡ session.old.cells }
+{
+    match write(alloc, session, value) {
+        Ok(_) => true,
+        Err(_) => false,
+    }
+}
+
+/// Writes `many` values.
+fn write_many(alloc: Global, session: &mut Session<Register>, many: u64) -> Result<(), RecordError>
+    ensures lane { session.new.lane ≡ session.old.lane }
+    ensures cells { session.new.cells ≡ session.old.cells }
+{
+    for value in 0..many {
+        if !wrote(alloc, session, value) {
+            return Err(RecordError::Memory);
+        }
+    }
+    Ok(())
+}
+
+/// How far a session and a seal meet that was taken of `before` writes and then of a pending one, before `after` more.
+fn met(alloc: Global, before: u64, pending: bool, after: u64) -> Result<Met, RecordError> {
+    let (lanes, mut session) = one_session(alloc, 8)?;
+    write_many(alloc, &mut session, before)?;
+    if pending {
+        begin_write(&mut session)?;
+    }
+    let sealed = seal_told(alloc, &lanes, &[])?;
+    if pending && after > 0 {
+        end(alloc, &mut session, 9)?;
+    }
+    write_many(alloc, &mut session, after.saturating_sub(pending as u64))?;
+    Ok(meet(&sealed, &session))
+}
+
+/// Writes before the seal, whether one is pending there, and writes after it; then the calls and the returns that meet.
+const MET: [(u64, bool, u64, usize, usize); 6] = [
+    (0, false, 0, 0, 0),
+    (0, false, 2, 0, 0),
+    (2, false, 0, 2, 2),
+    (2, false, 3, 2, 2),
+    (2, true, 0, 3, 2),
+    (2, true, 2, 3, 2),
+];
+
+#[test]
+fn a_seal_meets_the_session(rt: HostRuntime) -> Result<(), Fail> {
+    for (before, pending, after, calls, returns) in MET {
+        let met = match met(rt.alloc(), before, pending, after) {
+            Ok(met) => met,
+            Err(_refused) => met(rt.alloc(), before, pending, after)?,
+        };
+        assert_eq!(rt; met, Met { calls, returns }, "{before} {pending} {after}");
+    }
+    Ok(())
+}
+
+/// What is sealed of a session that was dropped with a read pending behind a write.
+fn dropped(alloc: Global) -> Result<String, RecordError> {
+    let (lanes, sessions) = new_recorder::<Register>(alloc, 2, 2, 0)?;
+    drop_second(alloc, sessions);
+    let sealed = seal(alloc, &lanes, &[])?;
+    Ok(operations_of(alloc, sealed.history())?)
+}
+
+/// Writes in the second session and begins a read there, and drops all sessions.
+fn drop_second(alloc: Global, mut sessions: Vec<Session<Register>>) {
+    if let Some(mut session) = sessions.pop() {
+        begun(&mut session, RegisterCall::Write(3));
+        ended(alloc, &mut session, RegisterRet::Done);
+        begun(&mut session, RegisterCall::Read);
+    }
+}
+
+#[test]
+fn a_session_dropped_with_a_pending_call_leaves_it_open(rt: HostRuntime) -> Result<(), Fail> {
+    let text = match dropped(rt.alloc()) {
+        Ok(text) => text,
+        Err(_refused) => dropped(rt.alloc())?,
+    };
+    assert_eq!(rt; text.as_str(), "[];[(Write(3), Some(Done)), (Read, None)];");
+    Ok(())
+}
