@@ -5,14 +5,16 @@ use crate::{
     texts,
 };
 use std::alloc::AllocError;
+use std::sync::Wait;
+use std::thread::Threads;
 
 /// What is asked of the input of a case.
 #[derive(Clone, Copy)]
 pub enum Question {
-    /// What a run of `judge` says of it.
-    Judge,
-    /// What a run of `check` says of it.
-    Check,
+    /// What a run of `judge` by so many workers says of it.
+    Judge(usize),
+    /// What a run of `check` by so many workers says of it.
+    Check(usize),
     /// Which order its words give.
     Order,
     /// Which kinds of patterns are found in its history.
@@ -27,14 +29,14 @@ pub enum Question {
     Explain,
     /// How its history is written.
     Write,
-    /// How a copy of its history is written.
+    /// What a copy of its history has.
     Copy,
     /// What the object of its history answers.
     Apply,
 }
 
 /// The cases of a table that get another answer than the wanted one: the name and the answer of each.
-pub fn failures<P: AllocGlobal>(
+pub fn failures<P: Threads + Wait + Sync + AllocGlobal>(
     rt: &P,
     question: Question,
     table: &str,
@@ -49,7 +51,11 @@ pub fn failures<P: AllocGlobal>(
 }
 
 /// Nothing where the case gets the wanted answer, else its name and its answer.
-fn failure<P: AllocGlobal>(rt: &P, question: Question, line: &str) -> Result<String, AllocError> {
+fn failure<P: Threads + Wait + Sync + AllocGlobal>(
+    rt: &P,
+    question: Question,
+    line: &str,
+) -> Result<String, AllocError> {
     let mut parts = line.split(" | ");
     let (Some(name), Some(input), Some(wanted)) = (parts.next(), parts.next(), parts.next()) else {
         return format!(in rt.alloc(); "{line}: no case\n");
@@ -62,14 +68,14 @@ fn failure<P: AllocGlobal>(rt: &P, question: Question, line: &str) -> Result<Str
     }
 }
 
-fn answer_to<P: AllocGlobal>(
+fn answer_to<P: Threads + Wait + Sync + AllocGlobal>(
     rt: &P,
     question: Question,
     input: &str,
 ) -> Result<String, AllocError> {
     match question {
-        Question::Judge => judged::said(rt, input),
-        Question::Check => checked::said(rt, input),
+        Question::Judge(workers) => judged::said(rt, workers, input),
+        Question::Check(workers) => checked::said(rt, workers, input),
         Question::Order => command_lines::ordered(rt.alloc(), input),
         Question::Find => found_patterns::found(rt.alloc(), input),
         Question::Show => patterns::shown(rt.alloc(), input),

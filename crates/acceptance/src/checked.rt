@@ -2,9 +2,11 @@
 
 use crate::cases::{Question, failures};
 use crate::running::said_of;
-use engine::Order;
+use engine::{Order, Workers};
 use std::alloc::AllocError;
+use std::sync::Wait;
 use std::test::Fail;
+use std::thread::Threads;
 
 const CERTIFICATES: &str = r#"
 read_after_the_write_of_another | [["memory",[[["w",0,1]],[["r",0,1]]]],["cc",[[[1,0]],[[1,1]]],[[[0]],[[0,1]]]]] | 0 cc yes;
@@ -23,7 +25,18 @@ list_in_which_the_get_stands_before_the_increment | [["counter",[[["inc"]],[["ge
 
 #[test]
 fn certificates_explain_each_operation_or_not(rt: HostRuntime) -> Result<(), Fail> {
-    assert_eq!(rt; failures(&rt, Question::Check, CERTIFICATES)?.as_str(), "");
+    assert_eq!(rt;
+        failures(&rt, Question::Check(1), CERTIFICATES)?.as_str(),
+        ""
+    );
+    assert_eq!(rt;
+        failures(&rt, Question::Check(2), CERTIFICATES)?.as_str(),
+        ""
+    );
+    assert_eq!(rt;
+        failures(&rt, Question::Check(16), CERTIFICATES)?.as_str(),
+        ""
+    );
     Ok(())
 }
 
@@ -49,11 +62,18 @@ table_with_zero_before_the_certificate | [["memory",[],[[0,0]]],null] | 1 refuse
 
 #[test]
 fn pairs_are_refused_with_their_line(rt: HostRuntime) -> Result<(), Fail> {
-    assert_eq!(rt; failures(&rt, Question::Check, REFUSED)?.as_str(), "");
+    assert_eq!(rt; failures(&rt, Question::Check(2), REFUSED)?.as_str(), "");
     Ok(())
 }
 
-/// What a run of `check` says of a text.
-pub fn said<P: AllocGlobal>(rt: &P, text: &str) -> Result<String, AllocError> {
-    said_of(rt, Order::Check, text.as_bytes())
+/// What a run of `check` by so many workers says of a text.
+pub fn said<P: Threads + Wait + Sync + AllocGlobal>(
+    rt: &P,
+    workers: usize,
+    text: &str,
+) -> Result<String, AllocError> {
+    match Workers::of(workers) {
+        Some(workers) => said_of(rt, Order::Check(workers), text.as_bytes()),
+        None => String::from_str(rt.alloc(), "no number of workers"),
+    }
 }

@@ -1,21 +1,36 @@
 //! Which order the words of a command line give.
 
 use crate::cases::{Question, failures};
-use engine::{Usage, command_of};
+use engine::{Order, Usage, command_of};
 use std::alloc::{AllocError, Global};
 use std::test::Fail;
 
 const COMMAND_LINES: &str = r#"
-judge | causal_judge judge | Judge
-check | causal_judge check | Check
+judge | causal_judge judge | judge 2
+check | causal_judge check | check 2
+judge_by_one_worker | causal_judge judge --workers 1 | judge 1
+judge_by_16_workers | causal_judge judge --workers 16 | judge 16
+check_by_one_worker | causal_judge check --workers 1 | check 1
+check_by_16_workers_in_one_word | causal_judge check --workers=16 | check 16
+number_behind_a_plus_and_zeros | causal_judge judge --workers=+004 | judge 4
 name_alone | causal_judge | fault
 two_commands | causal_judge check judge | fault
 no_word |  | fault
 unknown_command | causal_judge judges | fault
 command_as_an_option | causal_judge --judge | fault
 command_twice | causal_judge judge judge | fault
-unknown_option_with_its_value | causal_judge judge --workers 17 | fault
-unknown_option_without_a_value | causal_judge judge --workers | fault
+no_worker | causal_judge judge --workers 0 | fault
+too_many_workers | causal_judge judge --workers 17 | fault
+too_many_workers_in_one_word | causal_judge check --workers=17 | fault
+workers_without_a_number | causal_judge judge --workers | fault
+workers_without_a_number_in_one_word | causal_judge judge --workers= | fault
+workers_below_zero | causal_judge judge --workers -1 | fault
+number_of_workers_that_is_no_number | causal_judge check --workers two | fault
+number_of_workers_with_a_fraction | causal_judge check --workers 2.0 | fault
+workers_twice | causal_judge judge --workers 2 --workers 2 | fault
+workers_before_the_command | causal_judge --workers 2 judge | fault
+further_word_behind_the_workers | causal_judge judge --workers 2 check | fault
+unknown_option | causal_judge judge --threads 2 | fault
 command_behind_the_end_of_options | causal_judge -- judge | fault
 long_option_for_help | causal_judge --help | help
 short_option_for_help | causal_judge -h | help
@@ -30,12 +45,12 @@ fn words_give_an_order_a_fault_or_help(rt: HostRuntime) -> Result<(), Fail> {
     Ok(())
 }
 
-/// The order that the words in a text give; or `fault` or `help`, where the usage is told.
+/// The order that the words in a text give, and the number of its workers; or `fault` or `help`, where the usage is told.
 pub fn ordered(alloc: Global, text: &str) -> Result<String, AllocError> {
     let words: Vec<&str> = text.split_whitespace().collect(alloc)?;
     match command_of(alloc, words.as_slice()) {
-        Ok(order) => format!(in alloc; "{order:?}"),
-        Err(Usage::Fault(text)) if text.as_str().contains("Usage: ") => {
+        Ok(order) => text_of(alloc, order),
+        Err(Usage::Fault(text)) if text.as_str().starts_with("error: ") => {
             String::from_str(alloc, "fault")
         }
         Err(Usage::Help(text)) if text.as_str().contains("Usage: causal_judge") => {
@@ -43,4 +58,13 @@ pub fn ordered(alloc: Global, text: &str) -> Result<String, AllocError> {
         }
         Err(usage) => format!(in alloc; "{usage:?}"),
     }
+}
+
+/// The word of an order, and the number of its workers.
+fn text_of(alloc: Global, order: Order) -> Result<String, AllocError> {
+    let (word, workers) = match order {
+        Order::Judge(workers) => ("judge", workers.count()),
+        Order::Check(workers) => ("check", workers.count()),
+    };
+    format!(in alloc; "{word} {workers}")
 }

@@ -22,12 +22,12 @@ const CHECKED_RUN: &str = r#"[
 
 #[test]
 fn histories_of_the_examples_are_judged(rt: HostRuntime) -> Result<(), Fail> {
-    assert_eq!(rt; failures(&rt, Question::Judge, HISTORIES)?.as_str(), "");
+    assert_eq!(rt; failures(&rt, Question::Judge(2), HISTORIES)?.as_str(), "");
     Ok(())
 }
 
 #[test]
 fn certificate_of_the_examples_is_checked(rt: HostRuntime) -> Result<(), Fail> {
-    assert_eq!(rt; checked::said(&rt, CHECKED_RUN)?.as_str(), "0 cc yes;");
+    assert_eq!(rt; checked::said(&rt, 2, CHECKED_RUN)?.as_str(), "0 cc yes;");
     Ok(())
 }

@@ -12,11 +12,6 @@ fn status_and_line(alloc: Global, error: RunError) -> Result<String, AllocError>
     format!(in alloc; "{status} {line}")
 }
 
-/// The same of a refused history.
-fn refused(alloc: Global, refusal: ReadError) -> Result<String, AllocError> {
-    status_and_line(alloc, RunError::History(refusal))
-}
-
 const LAST: OpId = OpId {
     session: 15,
     index: 255,
@@ -25,32 +20,41 @@ const LAST: OpId = OpId {
 #[test]
 fn each_refusal_of_a_history_has_its_status_and_its_line(rt: HostRuntime) -> Result<(), Fail> {
     let alloc = rt.alloc();
-    assert_eq!(rt; refused(alloc, ReadError::NotJson)?.as_str(), "1 refused 1");
     assert_eq!(rt;
-        refused(alloc, ReadError::BadShape)?.as_str(),
+        status_and_line(alloc, RunError::History(ReadError::NotJson))?.as_str(),
+        "1 refused 1"
+    );
+    assert_eq!(rt;
+        status_and_line(alloc, RunError::History(ReadError::BadShape))?.as_str(),
         "1 refused 2"
     );
     assert_eq!(rt;
-        refused(alloc, ReadError::UnknownObject)?.as_str(),
+        status_and_line(alloc, RunError::History(ReadError::UnknownObject))?.as_str(),
         "1 refused 3"
     );
     assert_eq!(rt;
-        refused(alloc, ReadError::BadOp(LAST))?.as_str(),
+        status_and_line(alloc, RunError::History(ReadError::BadOp(LAST)))?.as_str(),
         "1 refused 4 15.255"
     );
-    let after_unknown = refused(alloc, ReadError::ReturnAfterUnknown(LAST))?;
+    let after_unknown = status_and_line(
+        alloc,
+        RunError::History(ReadError::ReturnAfterUnknown(LAST)),
+    )?;
     assert_eq!(rt; after_unknown.as_str(), "1 refused 5 15.255");
     assert_eq!(rt;
-        refused(alloc, ReadError::TooManySessions)?.as_str(),
+        status_and_line(alloc, RunError::History(ReadError::TooManySessions))?.as_str(),
         "1 refused 6"
     );
     assert_eq!(rt;
-        refused(alloc, ReadError::TooManyOps)?.as_str(),
+        status_and_line(alloc, RunError::History(ReadError::TooManyOps))?.as_str(),
         "1 refused 7"
     );
-    assert_eq!(rt; refused(alloc, ReadError::Memory)?.as_str(), "4 no memory");
     assert_eq!(rt;
-        refused(alloc, ReadError::BadInitial)?.as_str(),
+        status_and_line(alloc, RunError::History(ReadError::Memory))?.as_str(),
+        "4 no memory"
+    );
+    assert_eq!(rt;
+        status_and_line(alloc, RunError::History(ReadError::BadInitial))?.as_str(),
         "1 refused 29"
     );
     Ok(())

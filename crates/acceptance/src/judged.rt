@@ -2,9 +2,11 @@
 
 use crate::cases::{Question, failures};
 use crate::running::said_of;
-use engine::Order;
+use engine::{Order, Workers};
 use std::alloc::{AllocError, Global};
+use std::sync::Wait;
 use std::test::Fail;
+use std::thread::Threads;
 
 const MEMORIES: &str = r#"
 value_is_read_in_another_session | ["memory",[[["w",0,1]],[["r",0,1]]]] | 0 cc yes;cm yes;ccv yes;
@@ -38,7 +40,8 @@ value_written_twice_forbids_a_no_of_a_cycle | ["memory",[[["r",0,1],["w",0,1]],[
 
 #[test]
 fn histories_of_a_memory_are_judged(rt: HostRuntime) -> Result<(), Fail> {
-    assert_eq!(rt; failures(&rt, Question::Judge, MEMORIES)?.as_str(), "");
+    assert_eq!(rt; failures(&rt, Question::Judge(1), MEMORIES)?.as_str(), "");
+    assert_eq!(rt; failures(&rt, Question::Judge(2), MEMORIES)?.as_str(), "");
     Ok(())
 }
 
@@ -59,13 +62,31 @@ register_has_no_start_but_zero | ["register",[[["r",5]]]] | 0 cc unknown 0.0;cm 
 
 #[test]
 fn the_other_objects_are_explained_by_program_order_alone(rt: HostRuntime) -> Result<(), Fail> {
-    assert_eq!(rt; failures(&rt, Question::Judge, OTHER_OBJECTS)?.as_str(), "");
+    assert_eq!(rt;
+        failures(&rt, Question::Judge(1), OTHER_OBJECTS)?.as_str(),
+        ""
+    );
+    assert_eq!(rt;
+        failures(&rt, Question::Judge(2), OTHER_OBJECTS)?.as_str(),
+        ""
+    );
+    assert_eq!(rt;
+        failures(&rt, Question::Judge(16), OTHER_OBJECTS)?.as_str(),
+        ""
+    );
     Ok(())
 }
 
-/// What a run of `judge` says of a text.
-pub fn said<P: AllocGlobal>(rt: &P, text: &str) -> Result<String, AllocError> {
-    said_of(rt, Order::Judge, text.as_bytes())
+/// What a run of `judge` by so many workers says of a text.
+pub fn said<P: Threads + Wait + Sync + AllocGlobal>(
+    rt: &P,
+    workers: usize,
+    text: &str,
+) -> Result<String, AllocError> {
+    match Workers::of(workers) {
+        Some(workers) => said_of(rt, Order::Judge(workers), text.as_bytes()),
+        None => String::from_str(rt.alloc(), "no number of workers"),
+    }
 }
 
 /// Puts the operations of a session into a text: this word with variable 0, at each of the values.
@@ -103,9 +124,12 @@ fn written_and_read(alloc: Global, reads: &[u64]) -> Result<String, AllocError> 
 }
 
 /// What `judge` says of such a history.
-fn said_of_reads<P: AllocGlobal>(rt: &P, reads: &[u64]) -> Result<String, AllocError> {
+fn said_of_reads<P: Threads + Wait + Sync + AllocGlobal>(
+    rt: &P,
+    reads: &[u64],
+) -> Result<String, AllocError> {
     let text = written_and_read(rt.alloc(), reads)?;
-    said(rt, text.as_str())
+    said(rt, 2, text.as_str())
 }
 
 #[test]

@@ -1,7 +1,7 @@
 //! What certificates are made of small histories.
 
 use crate::cases::{Question, failures};
-use crate::histories::memory;
+use crate::histories::{criterion_first, memory};
 use causal_order::ByOperation;
 use cert_check::{CaseFile, Certificate, Criterion, first_unexplained};
 use objects::Memory;
@@ -71,63 +71,77 @@ fn made_certificate_may_explain_all_or_not(rt: HostRuntime) -> Result<(), Fail> 
 /// The vector and the schedule of an operation in the certificate that is made, where the input has the name of a
 /// criterion, an operation and a history. For causal convergence the one list stands in the place of the schedule.
 pub fn made(alloc: Global, input: &str) -> Result<String, AllocError> {
-    let Some((criterion, op, history)) = asked(alloc, input) else {
+    let Some((criterion, op, history)) = asked(input) else {
         return String::from_str(alloc, "no criterion, operation and history");
     };
-    match made_for(alloc, &history, criterion)? {
-        Some(certificate) => piece_of(alloc, &certificate, op),
-        None => String::from_str(alloc, "none"),
+    match memory(alloc, history) {
+        Some(history) => told(alloc, made_for(alloc, &history, criterion)?, op),
+        None => String::from_str(alloc, "no history of a memory"),
     }
 }
 
 /// The same of the certificate by program order alone.
 pub fn made_by_program_order(alloc: Global, input: &str) -> Result<String, AllocError> {
-    let Some((criterion, op, history)) = asked(alloc, input) else {
+    let Some((criterion, op, history)) = asked(input) else {
         return String::from_str(alloc, "no criterion, operation and history");
     };
-    let certificate = match criterion {
-        Criterion::Cc => certify_cc::make(alloc, &history)?,
-        Criterion::Cm => certify_cm::make(alloc, &history)?,
-        Criterion::Ccv => certify_ccv::make(alloc, &history)?,
-    };
-    match certificate {
-        Some(certificate) => piece_of(alloc, &certificate, op),
-        None => String::from_str(alloc, "none"),
+    match memory(alloc, history) {
+        Some(history) => told(alloc, by_program_order(alloc, &history, criterion)?, op),
+        None => String::from_str(alloc, "no history of a memory"),
     }
 }
 
 /// The first operation that the certificate that is made does not explain, where the input has the name of a criterion
 /// and a history.
 pub fn explained(alloc: Global, input: &str) -> Result<String, AllocError> {
-    let Some((criterion, history)) = criterion_and_history(alloc, input) else {
+    let Some((criterion, history)) = criterion_first(input) else {
         return String::from_str(alloc, "no criterion and history");
     };
-    let Some(made) = made_for(alloc, &history, criterion)? else {
-        return String::from_str(alloc, "none");
-    };
-    let Ok(file) = CaseFile::new(history, made.criterion(), Some(made)) else {
-        return String::from_str(alloc, "no case file");
-    };
-    match first_unexplained(alloc, &file)? {
+    match memory(alloc, history) {
+        Some(history) => explained_in(alloc, history, criterion),
+        None => String::from_str(alloc, "no history of a memory"),
+    }
+}
+
+fn explained_in(
+    alloc: Global,
+    history: History<Memory>,
+    criterion: Criterion,
+) -> Result<String, AllocError> {
+    match made_for(alloc, &history, criterion)? {
+        Some(made) => explained_by(alloc, history, made),
+        None => String::from_str(alloc, "none"),
+    }
+}
+
+fn explained_by(
+    alloc: Global,
+    history: History<Memory>,
+    made: Certificate,
+) -> Result<String, AllocError> {
+    match CaseFile::new(history, made.criterion(), Some(made)) {
+        Ok(file) => told_first(alloc, first_unexplained(alloc, &file)?),
+        Err(_) => String::from_str(alloc, "no case file"),
+    }
+}
+
+fn told_first(alloc: Global, unexplained: Option<OpId>) -> Result<String, AllocError> {
+    match unexplained {
         Some(OpId { session, index }) => format!(in alloc; "{session}.{index}"),
         None => String::from_str(alloc, "all are explained"),
     }
 }
 
-fn criterion_and_history(alloc: Global, input: &str) -> Option<(Criterion, History<Memory>)> {
-    let (criterion, history) = input.split_once(' ')?;
-    Some((Criterion::named(criterion)?, memory(alloc, history)?))
-}
-
-fn asked(alloc: Global, input: &str) -> Option<(Criterion, OpId, History<Memory>)> {
-    let (criterion, rest) = input.split_once(' ')?;
+/// The criterion, the operation and the text of the history.
+fn asked(input: &str) -> Option<(Criterion, OpId, &str)> {
+    let (criterion, rest) = criterion_first(input)?;
     let (session, rest) = rest.split_once('.')?;
     let (index, history) = rest.split_once(' ')?;
     let op = OpId {
         session: session.parse().ok()?,
         index: index.parse().ok()?,
     };
-    Some((Criterion::named(criterion)?, op, memory(alloc, history)?))
+    Some((criterion, op, history))
 }
 
 fn made_for(
@@ -139,6 +153,25 @@ fn made_for(
         Criterion::Cc => certify_cc::make_memory(alloc, history),
         Criterion::Cm => certify_cm::make_memory(alloc, history),
         Criterion::Ccv => certify_ccv::make_memory(alloc, history),
+    }
+}
+
+fn by_program_order(
+    alloc: Global,
+    history: &History<Memory>,
+    criterion: Criterion,
+) -> Result<Option<Certificate>, AllocError> {
+    match criterion {
+        Criterion::Cc => certify_cc::make(alloc, history),
+        Criterion::Cm => certify_cm::make(alloc, history),
+        Criterion::Ccv => certify_ccv::make(alloc, history),
+    }
+}
+
+fn told(alloc: Global, made: Option<Certificate>, op: OpId) -> Result<String, AllocError> {
+    match made {
+        Some(certificate) => piece_of(alloc, &certificate, op),
+        None => String::from_str(alloc, "none"),
     }
 }
 

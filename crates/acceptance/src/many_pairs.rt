@@ -7,7 +7,9 @@ use cert_check::Criterion;
 use certify_cm::make_memory;
 use pattern_search::find;
 use std::alloc::{AllocError, Global};
+use std::sync::Wait;
 use std::test::Fail;
+use std::thread::Threads;
 
 /// Puts two sessions into a text. The first has so many idle reads, a write of a variable and a mark; the second has
 /// another write of the variable, so many idle reads and a mark.
@@ -54,9 +56,13 @@ fn history_of(alloc: Global, more: usize, cycle: bool) -> Result<String, AllocEr
 }
 
 /// What `judge` says of such a history.
-fn said_of_pairs<P: AllocGlobal>(rt: &P, more: usize, cycle: bool) -> Result<String, AllocError> {
+fn said_of_pairs<P: Threads + Wait + Sync + AllocGlobal>(
+    rt: &P,
+    more: usize,
+    cycle: bool,
+) -> Result<String, AllocError> {
     let text = history_of(rt.alloc(), more, cycle)?;
-    said(rt, text.as_str())
+    said(rt, 2, text.as_str())
 }
 
 /// Whether a pattern against causal memory is found in such a history, and whether a certificate of it is made.

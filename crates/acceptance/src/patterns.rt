@@ -1,7 +1,7 @@
 //! What `check_pattern` says of patterns as JSON.
 
 use crate::cases::{Question, failures};
-use crate::histories::memory;
+use crate::histories::{criterion_first, memory};
 use bad_patterns::{check_pattern, is_differentiated, read_pattern};
 use cert_check::Criterion;
 use objects::Memory;
@@ -60,20 +60,20 @@ fn cycles_and_derivations_are_shown_or_not(rt: HostRuntime) -> Result<(), Fail> 
 
 /// Whether the pattern shows that the history does not meet the criterion, where the input has these three.
 pub fn shown(alloc: Global, input: &str) -> Result<String, AllocError> {
-    let Some((criterion, history, pattern)) = asked(alloc, input) else {
+    let Some((criterion, history, pattern)) = asked(input) else {
         return String::from_str(alloc, "no criterion, history and pattern");
     };
-    String::from_str(alloc, shown_in(alloc, &history, criterion, pattern)?)
+    match memory(alloc, history) {
+        Some(history) => { String::from_str(alloc, shown_in(alloc, &history, criterion, pattern)?) }
+        None => String::from_str(alloc, "no history of a memory"),
+    }
 }
 
-fn asked(alloc: Global, input: &str) -> Option<(Criterion, History<Memory>, &str)> {
-    let (criterion, rest) = input.split_once(' ')?;
+/// The criterion, and the texts of the history and of the pattern.
+fn asked(input: &str) -> Option<(Criterion, &str, &str)> {
+    let (criterion, rest) = criterion_first(input)?;
     let (history, pattern) = rest.split_once(' ')?;
-    Some((
-        Criterion::named(criterion)?,
-        memory(alloc, history)?,
-        pattern,
-    ))
+    Some((criterion, history, pattern))
 }
 
 fn shown_in(

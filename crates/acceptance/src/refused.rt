@@ -3,9 +3,11 @@
 use crate::cases::{Question, failures};
 use crate::judged::said;
 use crate::running::said_of;
-use engine::Order;
+use engine::{Order, Workers};
 use std::alloc::{AllocError, Global};
+use std::sync::Wait;
 use std::test::Fail;
+use std::thread::Threads;
 
 const REFUSED: &str = r#"
 nothing |  | 1 refused 1
@@ -57,13 +59,17 @@ third_element_of_a_counter_that_is_no_list | ["counter",[],0] | 1 refused 2
 
 #[test]
 fn texts_are_refused_with_their_line(rt: HostRuntime) -> Result<(), Fail> {
-    assert_eq!(rt; failures(&rt, Question::Judge, REFUSED)?.as_str(), "");
+    assert_eq!(rt; failures(&rt, Question::Judge(2), REFUSED)?.as_str(), "");
     Ok(())
 }
 
 #[test]
 fn bytes_that_are_no_text_are_refused(rt: HostRuntime) -> Result<(), Fail> {
-    let answer = said_of(&rt, Order::Judge, &[b'[', b'"', 255, b'"', b']'])?;
+    let answer = said_of(
+        &rt,
+        Order::Judge(Workers::usual()),
+        &[b'[', b'"', 255, b'"', b']'],
+    )?;
     assert_eq!(rt; answer.as_str(), "1 refused 1");
     Ok(())
 }
@@ -84,7 +90,7 @@ fn push_writes(
 }
 
 /// What `judge` says of a memory history of so many sessions, each of so many writes of its own variable.
-fn said_of_writes<P: AllocGlobal>(
+fn said_of_writes<P: Threads + Wait + Sync + AllocGlobal>(
     rt: &P,
     sessions: usize,
     operations: usize,
@@ -96,7 +102,7 @@ fn said_of_writes<P: AllocGlobal>(
         text.push_str("]")?;
     }
     text.push_str("]]")?;
-    said(rt, text.as_str())
+    said(rt, 2, text.as_str())
 }
 
 #[test]

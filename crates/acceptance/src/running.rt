@@ -3,18 +3,24 @@
 use crate::devices::{Device, NEVER, Sink};
 use engine::{Order, RunError, fault_line, run, status_of};
 use std::alloc::{AllocError, Global};
+use std::sync::Wait;
+use std::thread::Threads;
 
 const CHUNK_BYTES: usize = 65_536;
 
 /// The status of a run over a text, what it wrote, and its line where it failed. A semicolon stands for a line feed.
-pub fn said_of<P: AllocGlobal>(rt: &P, order: Order, text: &[u8]) -> Result<String, AllocError> {
+pub fn said_of<P: Threads + Wait + Sync + AllocGlobal>(
+    rt: &P,
+    order: Order,
+    text: &[u8],
+) -> Result<String, AllocError> {
     let mut device = Device::new(text, 0, CHUNK_BYTES, NEVER);
     let mut sink = Sink::new(rt.alloc(), 64, NEVER);
     said_over(rt, order, &mut device, &mut sink)
 }
 
 /// The same of a run over a reader and a writer.
-pub fn said_over<P: AllocGlobal>(
+pub fn said_over<P: Threads + Wait + Sync + AllocGlobal>(
     rt: &P,
     order: Order,
     device: &mut Device<'_>,

@@ -2,10 +2,12 @@
 
 use crate::devices::{Device, Failing, NEVER, Sink};
 use crate::running::said_over;
-use engine::{MOST_INPUT_BYTES, MOST_READ_CALLS, Order, RunError, read_input};
+use engine::{MOST_INPUT_BYTES, MOST_READ_CALLS, Order, RunError, Workers, read_input};
 use std::alloc::AllocError;
 use std::io::ErrorKind;
+use std::sync::Wait;
 use std::test::Fail;
+use std::thread::Threads;
 
 const HISTORY: &[u8] = b"[\"memory\",[[[\"r\",0,7]]]]";
 
@@ -14,15 +16,18 @@ const LONGER_HISTORY: &[u8] = b"[\"memory\",[[[\"w\",0,1]],[[\"r\",0,1]]]]";
 const ANSWER: &str = "0 cc no ThinAirRead;cm no ThinAirRead;ccv no ThinAirRead;";
 
 /// What `judge` says over a device, and how many read calls it made.
-fn said_of_reads<P: AllocGlobal>(rt: &P, mut device: Device<'_>) -> Result<String, AllocError> {
+fn said_of_reads<P: Threads + Wait + Sync + AllocGlobal>(
+    rt: &P,
+    mut device: Device<'_>,
+) -> Result<String, AllocError> {
     let mut sink = Sink::new(rt.alloc(), 1, NEVER);
-    let said = said_over(rt, Order::Judge, &mut device, &mut sink)?;
+    let said = said_over(rt, Order::Judge(Workers::usual()), &mut device, &mut sink)?;
     let calls = device.calls;
     format!(in rt.alloc(); "{said} after {calls} reads")
 }
 
 /// The same over a text, a byte a call, where calls fail.
-fn said_of_failing<P: AllocGlobal>(
+fn said_of_failing<P: Threads + Wait + Sync + AllocGlobal>(
     rt: &P,
     text: &[u8],
     failing: Failing,
@@ -31,7 +36,10 @@ fn said_of_failing<P: AllocGlobal>(
 }
 
 /// The same over a history and then so many blanks, a byte a call.
-fn said_of_blanks<P: AllocGlobal>(rt: &P, blanks: usize) -> Result<String, AllocError> {
+fn said_of_blanks<P: Threads + Wait + Sync + AllocGlobal>(
+    rt: &P,
+    blanks: usize,
+) -> Result<String, AllocError> {
     said_of_reads(rt, Device::new(HISTORY, blanks, 1, NEVER))
 }
 
@@ -78,7 +86,10 @@ fn failing_at(call: u64) -> Failing {
 }
 
 /// The calls before `end` at which a reader that fails gives another answer than a read fault after that call.
-fn reads_that_fail_otherwise<P: AllocGlobal>(rt: &P, end: u64) -> Result<String, AllocError> {
+fn reads_that_fail_otherwise<P: Threads + Wait + Sync + AllocGlobal>(
+    rt: &P,
+    end: u64,
+) -> Result<String, AllocError> {
     let mut otherwise = String::new(rt.alloc());
     for call in 1..end {
         let said = said_of_failing(rt, LONGER_HISTORY, failing_at(call))?;
@@ -105,7 +116,10 @@ fn a_reader_may_fail_at_any_call(rt: HostRuntime) -> Result<(), Fail> {
 const PIECE: usize = 65_536;
 
 /// How many blanks are read where there are so many.
-fn blanks_read<P: AllocGlobal>(rt: &P, blanks: usize) -> Result<usize, RunError> {
+fn blanks_read<P: Threads + Wait + Sync + AllocGlobal>(
+    rt: &P,
+    blanks: usize,
+) -> Result<usize, RunError> {
     let input = read_input(rt.alloc(), &mut Device::new(b"", blanks, PIECE, NEVER))?;
     Ok(input.len())
 }
@@ -136,14 +150,21 @@ fn what_is_behind_the_read_that_passes_the_limit_is_never_learned(
 }
 
 /// What `judge` says of a history over a writer that takes so many bytes a call, where calls fail.
-fn said_to<P: AllocGlobal>(rt: &P, piece: usize, failing: Failing) -> Result<String, AllocError> {
+fn said_to<P: Threads + Wait + Sync + AllocGlobal>(
+    rt: &P,
+    piece: usize,
+    failing: Failing,
+) -> Result<String, AllocError> {
     let mut device = Device::new(HISTORY, 0, 1, NEVER);
     let mut sink = Sink::new(rt.alloc(), piece, failing);
-    said_over(rt, Order::Judge, &mut device, &mut sink)
+    said_over(rt, Order::Judge(Workers::usual()), &mut device, &mut sink)
 }
 
 /// The calls before `end` at which a writer that fails gives no write fault.
-fn writes_without_a_fault<P: AllocGlobal>(rt: &P, end: u64) -> Result<String, AllocError> {
+fn writes_without_a_fault<P: Threads + Wait + Sync + AllocGlobal>(
+    rt: &P,
+    end: u64,
+) -> Result<String, AllocError> {
     let mut without = String::new(rt.alloc());
     for call in 1..end {
         let said = said_to(rt, 1, failing_at(call))?;

@@ -2,7 +2,8 @@
 
 use crate::cases::{Question, failures};
 use crate::histories::memory;
-use operations::{AnyHistory, read_history, write_history};
+use objects::{KeyedCall, Memory, RegisterCall, RegisterRet};
+use operations::{History, read_history, write_history};
 use std::alloc::{AllocError, Global};
 use std::test::Fail;
 
@@ -30,7 +31,7 @@ fn histories_are_written_as_they_were_read(rt: HostRuntime) -> Result<(), Fail> 
 }
 
 const COPIED: &str = r#"
-copy_of_a_memory_with_a_table | ["memory",[[["w",0,1],["r",0,"?"]],[],[["r",0,5]]],[[0,5]]] | ["memory",[[["w",0,1],["r",0,"?"]],[],[["r",0,5]]],[[0,5]]]
+memory_with_a_table | ["memory",[[["w",0,1],["r",0,"?"]],[],[["r",0,5]]],[[0,5]]] | [(0, 5)];[(KeyedCall { key: 0, call: Write(1) }, Some(Done)), (KeyedCall { key: 0, call: Read }, None)];[];[(KeyedCall { key: 0, call: Read }, Some(Value(5)))];
 "#;
 
 #[test]
@@ -47,11 +48,28 @@ pub fn written(alloc: Global, text: &str) -> Result<String, AllocError> {
     }
 }
 
-/// How a copy of the memory history in a text is written.
+/// What a copy of the memory history in a text has: its initial values, and the operations of each session.
 pub fn copied(alloc: Global, text: &str) -> Result<String, AllocError> {
     let Some(history) = memory(alloc, text) else {
         return String::from_str(alloc, "no history of a memory");
     };
-    let copy = AnyHistory::Memory(history.copy(alloc)?);
-    write_history(alloc, &copy)
+    parts_of(alloc, &history.copy(alloc)?)
+}
+
+fn parts_of(alloc: Global, history: &History<Memory>) -> Result<String, AllocError> {
+    let initial_values = history.start().entries();
+    let mut text = format!(in alloc; "{initial_values:?};")?;
+    for session in 0..history.sessions() {
+        push_operations(&mut text, alloc, history.session(session))?;
+    }
+    Ok(text)
+}
+
+fn push_operations(
+    text: &mut String,
+    alloc: Global,
+    operations: &[(KeyedCall<RegisterCall>, Option<RegisterRet>)],
+) -> Result<(), AllocError> {
+    let operations = format!(in alloc; "{operations:?};")?;
+    text.push_str(operations.as_str())
 }

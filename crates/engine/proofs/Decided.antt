@@ -6,8 +6,8 @@ use Rattle.memory_order.specs.Memory.{MemoryHistory, IsDifferentiated, memory_an
 use Rattle.cert_check.specs.declared.criterion.Criterion.{Criterion}
 use Rattle.cert_check.specs.Criteria.{Meets}
 use Rattle.operations.specs.declared.any_history.AnyHistory.TheVariants as histories
-use Rattle.engine.specs.declared.report.Answer.{Answer}
-use Rattle.engine.specs.declared.report.Answer.TheVariants.{Yes, No, Unknown}
+use Rattle.board.specs.declared.answer.Answer.{Answer}
+use Rattle.board.specs.declared.answer.Answer.TheVariants.{Yes, No, Unknown, Open}
 use Rattle.engine.specs.Report.{IsKnownOnDistinctValues, IsTrueOf}
 
 module _ (h : MemoryHistory) (criterion : Criterion) (distinct : IsDifferentiated h) where
@@ -16,9 +16,11 @@ module _ (h : MemoryHistory) (criterion : Criterion) (distinct : IsDifferentiate
   decided-met Yes met known = (λ _. met, λ _. refl)
   decided-met (No kind) excluded known = (λ same. absurd cc, λ met. absurd (excluded.not_met met))
   decided-met (Unknown place) said known = absurd (known distinct)
+  decided-met (Open n) said known = absurd said
 
   pub decided-excluded : (answer : Answer) → IsTrueOf (histories.Memory h) criterion answer → IsKnownOnDistinctValues (histories.Memory h) answer
       → ((kind : Kind) × (answer ≡ No kind)) ↔ ¬ Meets memory_answer h criterion
   decided-excluded Yes met known = (λ no. absurd cc, λ unmet. absurd (unmet met))
   decided-excluded (No kind) excluded known = (λ _. excluded.not_met, λ _. (kind, refl))
   decided-excluded (Unknown place) said known = absurd (known distinct)
+  decided-excluded (Open n) said known = absurd said

@@ -1,6 +1,8 @@
 pub mod Usages
+pub mod Words
 pub mod Pairs
 pub mod Founded
+pub mod JudgeErrors
 pub mod ReadCallLaws
 pub mod NotRefused
 pub mod Outcomes

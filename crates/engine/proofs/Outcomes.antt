@@ -115,81 +115,81 @@ has_a_form text h c is_c pair bad =
     bad.2.4 c is_c same.1
 
 -- an input is refused in one way
-judge_once : (text : List ℕ) (e f : RunError) → IsAnswerError Judge text e → IsAnswerError Judge text f → failure_status e ≡ 1 → failure_status f ≡ 1 → e ≡ f
-judge_once text (History p) (History q) is_e is_f one two =
+judge_once : (workers : ℕ) (text : List ℕ) (e f : RunError) → IsAnswerError (Judge workers) text e → IsAnswerError (Judge workers) text f → failure_status e ≡ 1 → failure_status f ≡ 1 → e ≡ f
+judge_once workers text (History p) (History q) is_e is_f one two =
     ap History (one_refusal first_refusal text p q (judge_refused text p is_e one) (judge_refused text q is_f two))
-judge_once text BadCertificate f is_e is_f one two = absurd is_e
-judge_once text ShapeMismatch f is_e is_f one two = absurd is_e
-judge_once text TooLong f is_e is_f one two = absurd is_e
-judge_once text Memory f is_e is_f one two = absurd (omega arith)
-judge_once text ReadFault f is_e is_f one two = absurd is_e
-judge_once text WriteFault f is_e is_f one two = absurd is_e
-judge_once text e BadCertificate is_e is_f one two = absurd is_f
-judge_once text e ShapeMismatch is_e is_f one two = absurd is_f
-judge_once text e TooLong is_e is_f one two = absurd is_f
-judge_once text e Memory is_e is_f one two = absurd (omega arith)
-judge_once text e ReadFault is_e is_f one two = absurd is_f
-judge_once text e WriteFault is_e is_f one two = absurd is_f
+judge_once workers text BadCertificate f is_e is_f one two = absurd is_e
+judge_once workers text ShapeMismatch f is_e is_f one two = absurd is_e
+judge_once workers text TooLong f is_e is_f one two = absurd is_e
+judge_once workers text Memory f is_e is_f one two = absurd (omega arith)
+judge_once workers text ReadFault f is_e is_f one two = absurd is_e
+judge_once workers text WriteFault f is_e is_f one two = absurd is_e
+judge_once workers text e BadCertificate is_e is_f one two = absurd is_f
+judge_once workers text e ShapeMismatch is_e is_f one two = absurd is_f
+judge_once workers text e TooLong is_e is_f one two = absurd is_f
+judge_once workers text e Memory is_e is_f one two = absurd (omega arith)
+judge_once workers text e ReadFault is_e is_f one two = absurd is_f
+judge_once workers text e WriteFault is_e is_f one two = absurd is_f
 
-check_once : (text : List ℕ) (e f : RunError) → IsAnswerError Check text e → IsAnswerError Check text f → failure_status e ≡ 1 → failure_status f ≡ 1 → e ≡ f
-check_once text (History p) (History q) is_e is_f one two =
+check_once : (workers : ℕ) (text : List ℕ) (e f : RunError) → IsAnswerError (Check workers) text e → IsAnswerError (Check workers) text f → failure_status e ≡ 1 → failure_status f ≡ 1 → e ≡ f
+check_once workers text (History p) (History q) is_e is_f one two =
     ap History (one_refusal (λ d. pair_refusal (elements d)) text p q (check_refused text p is_e one) (check_refused text q is_f two))
-check_once text (History p) BadCertificate is_e is_f one two = absurd (no_bad_certificate text p is_e is_f one)
-check_once text (History p) ShapeMismatch is_e is_f one two = absurd (no_other_shape text p is_e is_f one)
-check_once text BadCertificate (History q) is_e is_f one two = absurd (no_bad_certificate text q is_f is_e two)
-check_once text BadCertificate BadCertificate is_e is_f one two = refl
-check_once text BadCertificate ShapeMismatch is_e is_f one two = absurd (has_a_form text is_f.0 is_f.1 is_f.3 is_f.4 is_e)
-check_once text ShapeMismatch (History q) is_e is_f one two = absurd (no_other_shape text q is_f is_e two)
-check_once text ShapeMismatch BadCertificate is_e is_f one two = absurd (has_a_form text is_e.0 is_e.1 is_e.3 is_e.4 is_f)
-check_once text ShapeMismatch ShapeMismatch is_e is_f one two = refl
-check_once text TooLong f is_e is_f one two = absurd is_e
-check_once text Memory f is_e is_f one two = absurd (omega arith)
-check_once text ReadFault f is_e is_f one two = absurd is_e
-check_once text WriteFault f is_e is_f one two = absurd is_e
-check_once text e TooLong is_e is_f one two = absurd is_f
-check_once text e Memory is_e is_f one two = absurd (omega arith)
-check_once text e ReadFault is_e is_f one two = absurd is_f
-check_once text e WriteFault is_e is_f one two = absurd is_f
+check_once workers text (History p) BadCertificate is_e is_f one two = absurd (no_bad_certificate text p is_e is_f one)
+check_once workers text (History p) ShapeMismatch is_e is_f one two = absurd (no_other_shape text p is_e is_f one)
+check_once workers text BadCertificate (History q) is_e is_f one two = absurd (no_bad_certificate text q is_f is_e two)
+check_once workers text BadCertificate BadCertificate is_e is_f one two = refl
+check_once workers text BadCertificate ShapeMismatch is_e is_f one two = absurd (has_a_form text is_f.0 is_f.1 is_f.3 is_f.4 is_e)
+check_once workers text ShapeMismatch (History q) is_e is_f one two = absurd (no_other_shape text q is_f is_e two)
+check_once workers text ShapeMismatch BadCertificate is_e is_f one two = absurd (has_a_form text is_e.0 is_e.1 is_e.3 is_e.4 is_f)
+check_once workers text ShapeMismatch ShapeMismatch is_e is_f one two = refl
+check_once workers text TooLong f is_e is_f one two = absurd is_e
+check_once workers text Memory f is_e is_f one two = absurd (omega arith)
+check_once workers text ReadFault f is_e is_f one two = absurd is_e
+check_once workers text WriteFault f is_e is_f one two = absurd is_e
+check_once workers text e TooLong is_e is_f one two = absurd is_f
+check_once workers text e Memory is_e is_f one two = absurd (omega arith)
+check_once workers text e ReadFault is_e is_f one two = absurd is_f
+check_once workers text e WriteFault is_e is_f one two = absurd is_f
 
 pub refused_in_one_way : (order : Order) (text : List ℕ) (e f : RunError) → IsAnswerError order text e → IsAnswerError order text f
     → failure_status e ≡ 1 → failure_status f ≡ 1 → e ≡ f
-refused_in_one_way Judge text e f is_e is_f one two = judge_once text e f is_e is_f one two
-refused_in_one_way Check text e f is_e is_f one two = check_once text e f is_e is_f one two
+refused_in_one_way (Judge workers) text e f is_e is_f one two = judge_once workers text e f is_e is_f one two
+refused_in_one_way (Check workers) text e f is_e is_f one two = check_once workers text e f is_e is_f one two
 
 -- what is answered is not refused
-judge_not_refused : (text answer : List ℕ) (e : RunError) → IsReport text answer → IsAnswerError Judge text e → failure_status e ≡ 4
-judge_not_refused text answer (History p) report is_e =
+judge_not_refused : (workers : ℕ) (text answer : List ℕ) (e : RunError) → IsReport text answer → IsAnswerError (Judge workers) text e → failure_status e ≡ 4
+judge_not_refused workers text answer (History p) report is_e =
     ⊎_elim (λ (four : refusal_status p ≡ 4). four)
     (λ (one : refusal_status p ≡ 1). absurd (not_refused first_refusal text p (form_of report.history) (judge_refused text p is_e one) report.read (form_is_fine report.history report.is_history)))
     (statuses p)
-judge_not_refused text answer BadCertificate report is_e = absurd is_e
-judge_not_refused text answer ShapeMismatch report is_e = absurd is_e
-judge_not_refused text answer TooLong report is_e = absurd is_e
-judge_not_refused text answer Memory report is_e = refl
-judge_not_refused text answer ReadFault report is_e = absurd is_e
-judge_not_refused text answer WriteFault report is_e = absurd is_e
+judge_not_refused workers text answer BadCertificate report is_e = absurd is_e
+judge_not_refused workers text answer ShapeMismatch report is_e = absurd is_e
+judge_not_refused workers text answer TooLong report is_e = absurd is_e
+judge_not_refused workers text answer Memory report is_e = refl
+judge_not_refused workers text answer ReadFault report is_e = absurd is_e
+judge_not_refused workers text answer WriteFault report is_e = absurd is_e
 
-check_not_refused : (text answer : List ℕ) (e : RunError) → IsCheckReport text answer → IsAnswerError Check text e → failure_status e ≡ 4
-check_not_refused text answer (History p) report is_e =
+check_not_refused : (workers : ℕ) (text answer : List ℕ) (e : RunError) → IsCheckReport text answer → IsAnswerError (Check workers) text e → failure_status e ≡ 4
+check_not_refused workers text answer (History p) report is_e =
     ⊎_elim (λ (four : refusal_status p ≡ 4). four)
     (λ (one : refusal_status p ≡ 1). absurd (not_refused (λ d. pair_refusal (elements d)) text p (pair_form (form_of report.history) (certificate_form report.certificate))
     (check_refused text p is_e one) report.read (pair_is_fine _ (certificate_form report.certificate) report.history report.is_history refl)))
     (statuses p)
-check_not_refused text answer BadCertificate report is_e = absurd (has_a_form text report.history report.certificate report.is_certificate report.read is_e)
-check_not_refused text answer ShapeMismatch report is_e =
+check_not_refused workers text answer BadCertificate report is_e = absurd (has_a_form text report.history report.certificate report.is_certificate report.read is_e)
+check_not_refused workers text answer ShapeMismatch report is_e =
     let same = one_pair (form_of is_e.0) (form_of report.history) (certificate_form is_e.1) (certificate_form report.certificate)
     (one_value text _ _ is_e.4 report.read) in
     let history : report.history ≡ is_e.0 = sym (any_forms_are_distinct is_e.0 report.history is_e.2 report.is_history same.0) in
     let certificate : report.certificate ≡ is_e.1 = sym (one_certificate is_e.1 report.certificate same.1) in
     absurd (is_e.5 (subst (λ (h : AnyHistory). HasShape h is_e.1) history (subst (λ (c : Certificate). HasShape report.history c) certificate report.shape)))
-check_not_refused text answer TooLong report is_e = absurd is_e
-check_not_refused text answer Memory report is_e = refl
-check_not_refused text answer ReadFault report is_e = absurd is_e
-check_not_refused text answer WriteFault report is_e = absurd is_e
+check_not_refused workers text answer TooLong report is_e = absurd is_e
+check_not_refused workers text answer Memory report is_e = refl
+check_not_refused workers text answer ReadFault report is_e = absurd is_e
+check_not_refused workers text answer WriteFault report is_e = absurd is_e
 
 pub answered_is_not_refused : (order : Order) (text answer : List ℕ) (e : RunError) → IsAnswer order text answer → IsAnswerError order text e → failure_status e ≡ 4
-answered_is_not_refused Judge text answer e report is_e = judge_not_refused text answer e report is_e
-answered_is_not_refused Check text answer e report is_e = check_not_refused text answer e report is_e
+answered_is_not_refused (Judge workers) text answer e report is_e = judge_not_refused workers text answer e report is_e
+answered_is_not_refused (Check workers) text answer e report is_e = check_not_refused workers text answer e report is_e
 
 -- a report is on the history of its input
 pub reported_history : (text answer : List ℕ) (h : AnyHistory) → IsAnyHistory h → IsJson text (form_of h) → (report : IsReport text answer) → report.history ≡ h

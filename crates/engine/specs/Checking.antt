@@ -4,19 +4,17 @@ use Rattle.serde_json.specs.Data.{Data}
 use Rattle.operations.specs.declared.read_error.ReadError.{ReadError}
 use Rattle.operations.specs.declared.read_error.ReadError.TheVariants as errors
 use Rattle.operations.specs.declared.any_history.AnyHistory.{AnyHistory}
-use Rattle.history.specs.History.{Record}
 use Rattle.operations.specs.Json.{elements, list}
 use Rattle.operations.specs.AnyForm.{first_refusal, form_of, IsAnyHistory, IsJson}
 use Rattle.cert_check.specs.declared.certificate.Certificate.{Certificate}
-use Rattle.cert_check.specs.Certificates.{HasShapeOf, IsExplainedThroughout, IsFirstUnexplained}
+use Rattle.cert_check.specs.Certificates.{HasShapeOf, criterion_of}
 use Rattle.cert_check.specs.CertificateForm.{form_of as certificate_form, IsCertificate}
 use Rattle.operations.specs.Refusals.{IsFirst}
-use Rattle.cert_check.specs.Certificates.{criterion_of}
 use Rattle.engine.specs.declared.failure.RunError.{RunError}
 use Rattle.engine.specs.declared.failure.RunError.TheVariants.{History, BadCertificate, ShapeMismatch, Memory}
 use Rattle.engine.specs.Report.{HoldsOf, IsTrueOf, line_for}
-use Rattle.engine.specs.declared.report.Answer.{Answer}
-use Rattle.engine.specs.declared.report.Answer.TheVariants.{Yes, No, Unknown}
+use Rattle.board.specs.declared.answer.Answer.{Answer}
+use Rattle.collector.specs.Judgements.{IsSaidOf}
 
 -- a history's form and another value in one JSON list, and a text of it
 abbrev pub pair_form : Data → Data → Data
@@ -56,15 +54,6 @@ IsPairError text (History refusal) =
     ((refusal ≡ errors.NotJson) × ((d : Data) → ¬ IsJson text d)) ⊎ ((d : Data) × IsJson text d × IsFirst (pair_refusal (elements d)) refusal)
 IsPairError text BadCertificate = (d : Data) × IsJson text d × HasBadCertificate d
 IsPairError text _ = ⊥
-
-module _ {S C R : Type 0} (answer : S → List C → C → R) (h : Record S C R) where
-  -- what is said of a certificate: yes where every piece explains its operation, and else unknown with the first that
-  -- doesn't
-  abbrev pub IsSaidOf : Certificate → Answer → Type 0
-  IsSaidOf certificate Yes = IsExplainedThroughout answer h certificate
-  IsSaidOf certificate (No kind) = ⊥
-  IsSaidOf certificate (Unknown None) = ⊥
-  IsSaidOf certificate (Unknown (Some o)) = IsFirstUnexplained answer h certificate o
 
 -- a certificate has the shape of a history
 abbrev pub HasShape : AnyHistory → Certificate → Type 0

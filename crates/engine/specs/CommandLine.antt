@@ -1,22 +1,51 @@
 -- The command lines that the program takes, and what is said of other words. Text is bytes, and the first word is the
 -- program's name. What is wrong with other words is `clap`'s to say: `fault_of` tells which kinds of fault it finds.
-use Rattle.std.specs.Prelude.{◌≡◌, ◌≢◌, ◌⊎◌, ℕ, List, [], Some, true, codes, length, slice_get}
-use Rattle.clap.specs.Words.{App, IsAmong, Kinds, Text, new_app, with_subcommand}
+use Rattle.std.specs.Prelude.{◌≡◌, ◌≢◌, ◌⊎◌, ℕ, List, [], ◌∷◌, ◌++◌, Some, true, codes}
+use Rattle.std.specs.Str.Parse.{IsNumeral, digits_value, without_leading_plus}
+use Rattle.clap.specs.Words.{App, IsAmong, Kinds, Rule, Text, new_app, new_rule, with_rule, with_subcommand}
+use Rattle.clap.specs.declared.builder.action.ArgAction.TheVariants.{Set}
+use Rattle.clap.specs.declared.builder.value_parser.ValueParser.TheVariants.{Unsigned}
 use Rattle.clap.specs.declared.error.kind.ErrorKind.{ErrorKind}
 use Rattle.clap.specs.declared.error.kind.ErrorKind.TheVariants.{DisplayHelp, OutOfMemory}
+use Rattle.engine.specs.Workers.{IsNumberOfWorkers}
 use Rattle.engine.specs.declared.command_line.Order.{Order}
 use Rattle.engine.specs.declared.command_line.Order.TheVariants.{Judge, Check}
 use Rattle.engine.specs.declared.command_line.Usage.{Usage}
 use Rattle.engine.specs.declared.command_line.Usage.TheVariants.{Fault, Help, Memory}
 
--- the word that names an order's command
+-- the word that names an order's command, and how many workers it asks for
 abbrev pub command_word : Order → Text
-command_word Judge = codes "judge"
-command_word Check = codes "check"
+command_word (Judge workers) = codes "judge"
+command_word (Check workers) = codes "check"
 
--- the command line of an order: the program's name, and the order's word
+abbrev pub workers_of : Order → ℕ
+workers_of (Judge workers) = workers
+workers_of (Check workers) = workers
+
+-- a text writes a number: decimal digits, and perhaps a plus before them
+abbrev pub Writes : Text → ℕ → Type 0
+Writes text n = IsNumeral 10 (without_leading_plus text) × (digits_value 10 (without_leading_plus text) ≡ n)
+
+-- one word asks for so many workers, as `--workers=N` does, or two words do, as `--workers N`
+abbrev pub AsksFor : ℕ → Text → Type 0
+AsksFor n word = (number : Text) × (word ≡ codes "--workers=" ++ number) × Writes number n
+
+abbrev pub AskTogetherFor : ℕ → Text → Text → Type 0
+AskTogetherFor n word number = (word ≡ codes "--workers") × Writes number n
+
+-- the words behind a command's word ask for so many workers: where there are none, for 2
+abbrev pub AskFor : ℕ → List Text → Type 0
+AskFor n [] = n ≡ 2
+AskFor n (word ∷ []) = AsksFor n word
+AskFor n (word ∷ number ∷ []) = AskTogetherFor n word number
+AskFor n (word ∷ number ∷ further ∷ words) = ⊥
+
+-- the command line of an order: the program's name, the order's word, and words that ask for its number of workers
 abbrev pub IsCommandLine : Order → List Text → Type 0
-IsCommandLine order words = (length words ≡ 2) × (slice_get words 1 ≡ Some (command_word order))
+IsCommandLine order [] = ⊥
+IsCommandLine order (program ∷ []) = ⊥
+IsCommandLine order (program ∷ word ∷ words) =
+    (word ≡ command_word order) × IsNumberOfWorkers (workers_of order) × AskFor (workers_of order) words
 
 -- words that are no command line
 abbrev pub GivesNoOrder : List Text → Type 0
@@ -28,12 +57,20 @@ top =
     let app = new_app (codes "causal_judge") in
     record app { top = record app.top { subcommand_required = true } }
 
--- the commands `judge` and `check` take nothing
+-- the commands `judge` and `check` take the option `--workers N`
+abbrev pub workers : Rule
+workers = record (new_rule (codes "workers")) {
+  long = Some (codes "workers");
+  action = Some Set;
+  parser = Some (Unsigned 1 16);
+  value_names = 1;
+}
+
 abbrev pub judge : App
-judge = new_app (codes "judge")
+judge = with_rule (new_app (codes "judge")) workers
 
 abbrev pub check : App
-check = new_app (codes "check")
+check = with_rule (new_app (codes "check")) workers
 
 abbrev pub command_line : App
 command_line = with_subcommand (with_subcommand top judge.top) check.top

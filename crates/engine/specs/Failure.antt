@@ -8,22 +8,16 @@ use Rattle.operations.specs.declared.read_error.ReadError.TheVariants.{BadOp, Re
 use Rattle.operations.specs.Refusals.{number_of}
 use Rattle.cert_check.specs.declared.cert_error.CertError.{CertError}
 use Rattle.cert_check.specs.declared.cert_error.CertError.TheVariants as certificates
-use Rattle.cert_check.specs.declared.desk_error.DeskError.{DeskError}
-use Rattle.cert_check.specs.declared.desk_error.DeskError.TheVariants as desks
 
 -- how a run fails whose input is refused: of want of memory alone it says so itself
 abbrev pub failure_of : ReadError → RunError
 failure_of NoMemory = Memory
 failure_of refusal = History refusal
 
--- how a run fails whose certificate has no form, or not the shape of the history
+-- how a run fails whose certificate has no form
 abbrev pub certificate_failure : CertError → RunError
 certificate_failure certificates.Memory = Memory
 certificate_failure certificates.BadCertificate = BadCertificate
-
-abbrev pub desk_failure : DeskError → RunError
-desk_failure desks.Memory = Memory
-desk_failure desks.ShapeMismatch = ShapeMismatch
 
 -- the exit status of a refused history: 4 where memory ran out, and else 1
 abbrev pub refusal_status : ReadError → ℕ

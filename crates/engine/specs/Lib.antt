@@ -1,3 +1,4 @@
+pub mod Workers
 pub mod CommandLine
 pub mod Failure
 pub mod Report

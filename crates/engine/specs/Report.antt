@@ -14,14 +14,13 @@ use Rattle.objects.specs.Queue.{answer as queue_answer}
 use Rattle.objects.specs.Keyed.{answer as keyed_answer}
 use Rattle.history.specs.History.{Record}
 use Rattle.memory_order.specs.Memory.{IsDifferentiated, memory_answer}
-use Rattle.cert_check.specs.declared.certificate.Certificate.{Certificate}
-use Rattle.cert_check.specs.Certificates.{HasShapeOf, IsFirstUnexplained, criterion_of}
 use Rattle.cert_check.specs.Criteria.{Meets}
 use Rattle.cert_check.specs.CriterionNames.{name_of}
 use Rattle.bad_patterns.specs.KindNames.{kind_name}
 use Rattle.bad_patterns.specs.Patterns.{IsTrueNo}
-use Rattle.engine.specs.declared.report.Answer.{Answer}
-use Rattle.engine.specs.declared.report.Answer.TheVariants.{Yes, No, Unknown}
+use Rattle.board.specs.declared.answer.Answer.{Answer}
+use Rattle.board.specs.declared.answer.Answer.TheVariants.{Yes, No, Unknown, Open}
+use Rattle.collector.specs.Judgements.{IsUnexplainedOf}
 use Rattle.engine.specs.declared.report.Report.{Report}
 
 -- a fact about what an object answers and a history of it
@@ -49,17 +48,14 @@ IsExcluded (histories.Memory h) criterion kind = IsTrueNo h criterion kind
 IsExcluded _ criterion kind = ⊥
 
 -- an answer is true of a history: with a yes it meets the criterion; a no names a kind that excludes it; unknown says
--- nothing
+-- nothing; and none is open
 abbrev pub IsTrueOf : AnyHistory → Criterion → Answer → Type 0
 IsTrueOf history criterion Yes = IsMet history criterion
 IsTrueOf history criterion (No kind) = IsExcluded history criterion kind
 IsTrueOf history criterion (Unknown place) = ⊤
+IsTrueOf history criterion (Open n) = ⊥
 
--- a certificate of the criterion has the shape of the history, and o is the first operation that it doesn't explain
-abbrev pub IsUnexplainedOf : {S C R : Type 0} → (S → List C → C → R) → Record S C R → Criterion → OpId → Type 0
-IsUnexplainedOf answer h criterion o =
-    (certificate : Certificate) × (criterion_of certificate ≡ criterion) × HasShapeOf h certificate × IsFirstUnexplained answer h certificate o
-
+-- the operation is the first that some certificate of the criterion and of good shape doesn't explain
 abbrev pub IsUnexplained : AnyHistory → Criterion → OpId → Type 0
 IsUnexplained history criterion o = HoldsOf (λ S C R answer h. IsUnexplainedOf answer h criterion o) history
 
@@ -69,13 +65,7 @@ NamesUnexplained history criterion Yes = ⊤
 NamesUnexplained history criterion (No kind) = ⊤
 NamesUnexplained history criterion (Unknown None) = ⊤
 NamesUnexplained history criterion (Unknown (Some o)) = IsUnexplained history criterion o
-
--- a yes where the criterion is met, or nothing is known, and then an operation is named only where it is unexplained
-abbrev pub IsFounded : Type 0 → (OpId → Type 0) → Answer → Type 0
-IsFounded met unexplained Yes = met
-IsFounded met unexplained (No kind) = ⊥
-IsFounded met unexplained (Unknown None) = ⊤
-IsFounded met unexplained (Unknown (Some o)) = unexplained o
+NamesUnexplained history criterion (Open n) = ⊥
 
 -- the values of a history of a memory are not distinct; other objects have no such values
 abbrev pub LacksDistinctValues : AnyHistory → Type 0
@@ -87,6 +77,7 @@ abbrev pub IsKnownOnDistinctValues : AnyHistory → Answer → Type 0
 IsKnownOnDistinctValues history Yes = ⊤
 IsKnownOnDistinctValues history (No kind) = ⊤
 IsKnownOnDistinctValues history (Unknown place) = LacksDistinctValues history
+IsKnownOnDistinctValues history (Open n) = ⊥
 
 -- the answer of a report for a criterion
 abbrev pub answer_for : Report → Criterion → Answer
@@ -94,13 +85,14 @@ answer_for report Cc = report.cc
 answer_for report Cm = report.cm
 answer_for report Ccv = report.ccv
 
--- the criterion, a space, the answer, and a line feed
+-- the criterion, a space, the answer, and a line feed; no report has an answer that is open
 abbrev pub line_for : Criterion → Answer → List ℕ
 line_for criterion (No kind) = name_of criterion ++ (codes " no " ++ (kind_name kind ++ codes "\n"))
 line_for criterion Yes = name_of criterion ++ codes " yes\n"
 line_for criterion (Unknown None) = name_of criterion ++ codes " unknown\n"
 line_for criterion (Unknown (Some o)) =
     name_of criterion ++ (codes " unknown " ++ (decimal o.session ++ (codes "." ++ (decimal o.index ++ codes "\n"))))
+line_for criterion (Open n) = name_of criterion ++ (codes " open " ++ (decimal n ++ codes "\n"))
 
 -- the lines of a report, one after the other
 abbrev pub text_for : Report → List ℕ

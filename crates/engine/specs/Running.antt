@@ -24,18 +24,18 @@ pub record IsReport (input text : List ℕ) : Type 0 where
   pub unexplained : (criterion : Criterion) → NamesUnexplained history criterion (answer_for report criterion)
   pub lines : text ≡ text_for report
 
--- the text answers the input as the order asks
+-- the text answers the input as the order asks, whatever the number of its workers
 abbrev pub IsAnswer : Order → List ℕ → List ℕ → Type 0
-IsAnswer Judge input text = IsReport input text
-IsAnswer Check input text = IsCheckReport input text
+IsAnswer (Judge workers) input text = IsReport input text
+IsAnswer (Check workers) input text = IsCheckReport input text
 
 -- what can come of making an answer, in its place: the input is refused, or memory ran out
 abbrev pub IsAnswerError : Order → List ℕ → RunError → Type 0
 IsAnswerError order input Memory = Unit {0}
-IsAnswerError Judge input (History refusal) = IsRefusedFor input refusal
-IsAnswerError Check input (History refusal) = IsPairError input (History refusal)
-IsAnswerError Check input BadCertificate = IsPairError input BadCertificate
-IsAnswerError Check input ShapeMismatch = HasOtherShape input
+IsAnswerError (Judge workers) input (History refusal) = IsRefusedFor input refusal
+IsAnswerError (Check workers) input (History refusal) = IsPairError input (History refusal)
+IsAnswerError (Check workers) input BadCertificate = IsPairError input BadCertificate
+IsAnswerError (Check workers) input ShapeMismatch = HasOtherShape input
 IsAnswerError order input _ = ⊥
 
 -- an input was read whole, and an answer to it was written whole: what the reader had, where it tells its bytes, and

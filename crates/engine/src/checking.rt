@@ -9,38 +9,49 @@ ghost use Rattle.operations.specs.AnyForm.{form_of, IsAnyHistory};
 ghost use Rattle.operations.specs.Json.{elements};
 ghost use Rattle.engine.specs.Report.{IsTrueOf};
 ghost use Rattle.engine.specs.Running.{IsAnswer, IsAnswerError};
-ghost use Rattle.engine.specs.Checking.{HasShape, IsCheckError, IsPair, IsPairError, IsPairErrorOf, IsSaidOf, IsShown, pair_form, pair_refusal};
+ghost use Rattle.collector.specs.Judgements.{IsSaidOf, IsSaidOfFile};
+ghost use Rattle.engine.specs.Checking.{HasShape, IsCheckError, IsPair, IsPairError, IsPairErrorOf, IsShown, pair_form, pair_refusal};
 
 use crate::command_line::Order;
 use crate::failure::RunError;
-use crate::report::{Answer, report_line};
-use cert_check::{CaseFile, Certificate, first_unexplained, read_certificate};
-use object_trait::SeqObject;
+use crate::report::report_line;
+use crate::workers::Workers;
+use cert_check::{CaseFile, Certificate, DeskError, read_certificate};
+use collector::{Answer, Judged, OpenGate, judge_with};
 use operations::{AnyHistory, History, ReadError, elements_of, history_of};
 use serde_json::Value;
 use std::alloc::Global;
+use std::sync::Wait;
+use std::thread::Threads;
 
 /// The line on the certificate in the input, which stands there behind its history.
-pub fn check(alloc: Global, input: &[u8]) -> Result<String, RunError>
-    ensures answer { IfOk result (λ text. IsAnswer Order.Check input.now (string_bytes text)) }
-    ensures error { IfErr result (IsAnswerError Order.Check input.now) }
+pub fn check<T: Threads + Wait + Sync>(
+    rt: &T,
+    alloc: Global,
+    input: &[u8],
+    workers: Workers,
+) -> Result<String, RunError>
+    ensures answer { IfOk result (λ text. IsAnswer (Order.Check workers) input.now (string_bytes text)) }
+    ensures error { IfErr result (IsAnswerError (Order.Check workers) input.now) }
 {
     let (history, certificate) = read_pair(alloc, input)?;
     let criterion = certificate.criterion();
-    let answer = answer_of_certificate(alloc, history, certificate)?;
+    let answer = answer_of_certificate(rt, alloc, history, certificate, workers)?;
     Ok(report_line(alloc, criterion, answer)?)
 }
 
-/// What the pieces of a certificate of a history show.
+/// What the pieces of a certificate of a history show, checked by so many workers.
 ///
 /// `Yes` where every piece explains its operation, and then the history meets the certificate's criterion; else `Unknown`
 /// with the first operation whose piece doesn't. `ShapeMismatch` where the certificate does not have the shape of the
 /// history, and `Memory` where an allocation was refused. O(n k (p + k)) for n operations with pasts of p operations in k
-/// sessions, or O(n (n + k^2)) where the certificate has one list.
-pub fn answer_of_certificate(
+/// sessions, or O(n (n + k^2)) where the certificate has one list, shared by the workers.
+pub fn answer_of_certificate<T: Threads + Wait + Sync>(
+    rt: &T,
     alloc: Global,
     history: AnyHistory,
     certificate: Certificate,
+    workers: Workers,
 ) -> Result<Answer, RunError>
     ensures shape { IfOk result (λ _. HasShape history certificate) }
     ensures shown { IfOk result (IsShown history certificate) }
@@ -48,22 +59,32 @@ pub fn answer_of_certificate(
     ensures error { IfErr result (IsCheckError (HasShape history certificate)) }
 {
     match history {
-        AnyHistory::Register(plain) => answer_of_pieces(alloc, plain.into_history(), certificate),
-        AnyHistory::Counter(plain) => answer_of_pieces(alloc, plain.into_history(), certificate),
-        AnyHistory::Set(plain) => answer_of_pieces(alloc, plain.into_history(), certificate),
-        AnyHistory::Queue(plain) => answer_of_pieces(alloc, plain.into_history(), certificate),
-        AnyHistory::Memory(history) => answer_of_pieces(alloc, history, certificate),
-        AnyHistory::Counters(history) => answer_of_pieces(alloc, history, certificate),
-        AnyHistory::Sets(history) => answer_of_pieces(alloc, history, certificate),
-        AnyHistory::Queues(history) => answer_of_pieces(alloc, history, certificate),
+        AnyHistory::Register(plain) => {
+            answer_of_pieces(rt, alloc, plain.into_history(), certificate, workers)
+        }
+        AnyHistory::Counter(plain) => {
+            answer_of_pieces(rt, alloc, plain.into_history(), certificate, workers)
+        }
+        AnyHistory::Set(plain) => {
+            answer_of_pieces(rt, alloc, plain.into_history(), certificate, workers)
+        }
+        AnyHistory::Queue(plain) => {
+            answer_of_pieces(rt, alloc, plain.into_history(), certificate, workers)
+        }
+        AnyHistory::Memory(history) => answer_of_pieces(rt, alloc, history, certificate, workers),
+        AnyHistory::Counters(history) => answer_of_pieces(rt, alloc, history, certificate, workers),
+        AnyHistory::Sets(history) => answer_of_pieces(rt, alloc, history, certificate, workers),
+        AnyHistory::Queues(history) => answer_of_pieces(rt, alloc, history, certificate, workers),
     }
 }
 
 // The same for the histories of one object.
-pub fn answer_of_pieces<O: SeqObject>(
+fn answer_of_pieces<O: Judged + Send + Sync, T: Threads + Wait + Sync>(
+    rt: &T,
     alloc: Global,
     history: History<O>,
     certificate: Certificate,
+    workers: Workers,
 ) -> Result<Answer, RunError>
     ensures shape { IfOk result (λ _. HasShapeOf history certificate) }
     ensures shown { IfOk result (IsSaidOf O.answer history certificate) }
@@ -71,10 +92,28 @@ pub fn answer_of_pieces<O: SeqObject>(
     ensures error { IfErr result (IsCheckError (HasShapeOf history certificate)) }
 {
     let criterion = certificate.criterion();
-    let file = CaseFile::new(history, criterion, Some(certificate))?;
-    match first_unexplained(alloc, &file)? {
-        None => Ok(Answer::Yes),
-        Some(op) => Ok(Answer::Unknown(Some(op))),
+    match CaseFile::new(history, criterion, Some(certificate)) {
+        Ok(file) => answer_of_file(rt, alloc, file, workers),
+        Err(_other_shape) => Err(RunError::ShapeMismatch),
+    }
+}
+
+// What the certificate of a case file shows.
+#[tactic(auto, using(crate::proofs::JudgeErrors::memory_alone))]
+pub fn answer_of_file<O: Judged + Send + Sync, T: Threads + Wait + Sync>(
+    rt: &T,
+    alloc: Global,
+    file: CaseFile<O>,
+    workers: Workers,
+) -> Result<Answer, RunError>
+    ensures said { IfOk result (IsSaidOfFile O.answer file) }
+    ensures met { IfOk result (λ answer. answer ≡ Answer.Yes → Meets O.answer file.0 file.1) }
+    ensures error { IfErr result (λ e. e ≡ RunError.Memory) }
+{
+    match judge_with(rt, alloc, file, workers.count(), &OpenGate) {
+        Ok(answer) => Ok(answer),
+        Err(DeskError::Memory) => Err(RunError::Memory),
+        Err(_) => unreachable!(),
     }
 }
 

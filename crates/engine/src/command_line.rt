@@ -1,21 +1,24 @@
 //! The command line.
-ghost use Rattle.std.specs.Prelude.{◌≡◌, ◌≢◌, [], false, IfErr, IfOk, MatchOption, MatchResult, map};
-ghost use Rattle.clap.specs.Words.{HasKind, app_of, fault_of, kind_of};
+ghost use Rattle.std.specs.Prelude.{◌≡◌, ◌≢◌, ℕ, [], false, IfErr, IfOk, IfSome, IsNone, MatchOption, MatchResult, map};
+ghost use Rattle.clap.specs.Words.{HasKind, app_of, fault_of, kind_of, rule_of};
 ghost use Rattle.clap.specs.declared.builder.Command.TheViews.{out-Command};
-ghost use Rattle.engine.specs.CommandLine.{GivesNoOrder, IsCommandLine, IsUsageFor, IsUsageOf, check, command_line, command_word, judge};
+ghost use Rattle.engine.specs.CommandLine.{AskFor, AskTogetherFor, AsksFor, GivesNoOrder, IsCommandLine, IsUsageFor, IsUsageOf, Writes, check, command_line, command_word, judge, workers, workers_of};
+ghost use Rattle.engine.specs.Workers.{IsNumberOfWorkers};
 
+use crate::workers::Workers;
+use clap::builder::ValueParser;
 use clap::error::ErrorKind;
-use clap::{ArgMatches, Command, Error};
+use clap::{Arg, ArgAction, ArgMatches, Command, Error};
 use std::alloc::{AllocError, Global};
 use std::convert::AsStr;
 
 /// A command, with its options.
 #[derive(Clone, Copy, Debug, PartialEq, Eq)]
 pub enum Order {
-    /// Judges the history in the input.
-    Judge,
-    /// Checks the certificate in the input against the history in it.
-    Check,
+    /// Judges the history in the input, by so many workers.
+    Judge(Workers),
+    /// Checks the certificate in the input against the history in it, by so many workers.
+    Check(Workers),
 }
 
 /// Why a command line gives no order.
@@ -29,10 +32,12 @@ pub enum Usage {
     Memory,
 }
 
-/// The order that a command line gives: the program's name, and the one word `judge` or `check`.
+/// The order that a command line gives: the program's name, the word `judge` or `check`, and behind it `--workers N` or
+/// `--workers=N` for a number from 1 to 16, or nothing for 2.
 ///
 /// Any other words give none. `Help` answers those in which `clap` finds a request for help, and `Fault` all others: an
-/// unknown command, option or further word, or no command. `Memory` comes in the place of either where memory ran out.
+/// unknown command, option or further word, no command, another number or none. `Memory` comes in the place of either where
+/// memory ran out.
 pub fn command_of<S: AsStr>(alloc: Global, words: &[S]) -> Result<Order, Usage>
     ensures order { MatchResult result (λ order. IsCommandLine order (map S.text words.now))
         (λ _. GivesNoOrder (map S.text words.now)) }
@@ -48,20 +53,69 @@ pub fn command_of<S: AsStr>(alloc: Global, words: &[S]) -> Result<Order, Usage>
 fn order_in<S: AsStr>(words: &[S]) -> Option<Order>
     ensures { MatchOption result (GivesNoOrder (map S.text words.now)) (λ order. IsCommandLine order (map S.text words.now)) }
 {
-    match words {
-        [_, word] => order_of_word(word.as_str()),
+    let [_, word, further @ ..] = words else {
+        return None;
+    };
+    match workers_in(further) {
+        Some(workers) => order_of_word(word.as_str(), workers),
+        None => None,
+    }
+}
+
+// The order of a command and its workers.
+fn order_of_word(word: &str, workers: Workers) -> Option<Order>
+    ensures none { IsNone result → (order : Order) → word.now ≢ command_word order }
+    ensures named { IfSome result (λ order. (word.now ≡ command_word order) × (workers_of order ≡ workers)) }
+{
+    match word {
+        "judge" => Some(Order::Judge(workers)),
+        "check" => Some(Order::Check(workers)),
         _ => None,
     }
 }
 
-// The order whose command a word names.
-fn order_of_word(word: &str) -> Option<Order>
-    ensures { MatchOption result ((order : Order) → word.now ≢ command_word order) (λ order. word.now ≡ command_word order) }
+// How many workers the words behind a command's word ask for.
+fn workers_in<S: AsStr>(words: &[S]) -> Option<Workers>
+    ensures { MatchOption result ((n : ℕ) → IsNumberOfWorkers n → ¬ AskFor n (map S.text words.now))
+        (λ n. AskFor n (map S.text words.now)) }
 {
-    match word {
-        "judge" => Some(Order::Judge),
-        "check" => Some(Order::Check),
+    match words {
+        [] => Some(Workers::usual()),
+        [word] => workers_of_word(word.as_str()),
+        [word, number] => workers_of_words(word.as_str(), number.as_str()),
         _ => None,
+    }
+}
+
+// How many workers one word asks for.
+fn workers_of_word(word: &str) -> Option<Workers>
+    ensures { MatchOption result ((n : ℕ) → IsNumberOfWorkers n → ¬ AsksFor n word.now) (λ n. AsksFor n word.now) }
+{
+    match word.strip_prefix("--workers=") {
+        Some(number) => number_in(number),
+        None => None,
+    }
+}
+
+// How many workers two words ask for.
+fn workers_of_words(word: &str, number: &str) -> Option<Workers>
+    ensures { MatchOption result ((n : ℕ) → IsNumberOfWorkers n → ¬ AskTogetherFor n word.now number.now)
+        (λ n. AskTogetherFor n word.now number.now) }
+{
+    if word == "--workers" {
+        number_in(number)
+    } else {
+        None
+    }
+}
+
+// The number of workers that a text writes.
+fn number_in(text: &str) -> Option<Workers>
+    ensures { MatchOption result ((n : ℕ) → IsNumberOfWorkers n → ¬ Writes text.now n) (Writes text.now) }
+{
+    match text.parse::<usize>() {
+        Ok(count) => Workers::of(count),
+        Err(_) => None,
     }
 }
 
@@ -105,22 +159,40 @@ fn program<'a>(alloc: Global) -> Result<Command<'a>, AllocError>
             "Judges a recorded history of replicated objects by the criteria of causal consistency",
         )
         .subcommand_required(true)
-        .subcommand(judge_command(alloc))?
-        .subcommand(check_command(alloc))
+        .subcommand(judge_command(alloc)?)?
+        .subcommand(check_command(alloc)?)
 }
 
-fn judge_command<'a>(alloc: Global) -> Command<'a>
-    ensures app { app_of result ≡ judge }
-    ensures local { (out-Command result).has_globals ≡ false }
+fn judge_command<'a>(alloc: Global) -> Result<Command<'a>, AllocError>
+    ensures app { IfOk result (λ command. app_of command ≡ judge) }
+    ensures local { IfOk result (λ command. (out-Command command).has_globals ≡ false) }
 {
-    Command::new(alloc, "judge").about("Reads a history and judges it")
+    Command::new(alloc, "judge")
+        .about("Reads a history and judges it")
+        .arg(workers_option(alloc))
 }
 
-fn check_command<'a>(alloc: Global) -> Command<'a>
-    ensures app { app_of result ≡ check }
-    ensures local { (out-Command result).has_globals ≡ false }
+fn check_command<'a>(alloc: Global) -> Result<Command<'a>, AllocError>
+    ensures app { IfOk result (λ command. app_of command ≡ check) }
+    ensures local { IfOk result (λ command. (out-Command command).has_globals ≡ false) }
 {
-    Command::new(alloc, "check").about("Reads a history and a certificate of it, and checks it")
+    Command::new(alloc, "check")
+        .about("Reads a history and a certificate of it, and checks it")
+        .arg(workers_option(alloc))
+}
+
+fn workers_option<'a>(alloc: Global) -> Arg<'a>
+    ensures rule { rule_of result ≡ workers }
+    ensures local { result.global ≡ false }
+{
+    Arg::new(alloc, "workers")
+        .long("workers")
+        .value_name("N")
+        .action(ArgAction::Set)
+        .value_parser(ValueParser::unsigned(1, 16))
+        .help(
+            "How many threads check the pieces of a certificate, from 1 to 16; 2 where none is given",
+        )
 }
 
 // What the program says of an error of `clap`.

@@ -2,7 +2,7 @@
 ghost use Rattle.std.specs.Prelude.{◌≡◌, IfOk, string_bytes};
 ghost use Rattle.engine.specs.Failure.{line_for, refusal_line, refused_at, status_for};
 
-use cert_check::{CertError, DeskError};
+use cert_check::CertError;
 use operations::{OpId, ReadError};
 use std::alloc::{AllocError, AllocFailed, Global};
 use thiserror::Error;
@@ -65,20 +65,6 @@ impl From<CertError> for RunError {
         match refusal {
             CertError::Memory => RunError::Memory,
             CertError::BadCertificate => RunError::BadCertificate,
-        }
-    }
-}
-
-impl From<DeskError> for RunError {
-    ghost use Rattle.std.specs.Prelude.{◌≡◌};
-    ghost use Rattle.engine.specs.Failure.{desk_failure};
-
-    ghost from_gives = { λ refusal e. e ≡ desk_failure refusal };
-
-    fn from(refusal: DeskError) -> RunError {
-        match refusal {
-            DeskError::Memory => RunError::Memory,
-            DeskError::ShapeMismatch => RunError::ShapeMismatch,
         }
     }
 }

@@ -12,10 +12,10 @@ ghost use Rattle.engine.specs.Running.{Answers, Fails, IsAnswer, IsAnswerError, 
 use crate::command_line::Order;
 use crate::failure::RunError;
 use crate::input::MOST_INPUT_BYTES;
-use crate::report::Answer;
 use crate::source::Source;
 use bad_patterns::Kind;
 use cert_check::Criterion;
+use collector::Answer;
 use operations::AnyHistory;
 
 /// A report on the form of a history is a report on that history: no other start can be taken, for instance.

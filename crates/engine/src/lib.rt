@@ -13,14 +13,17 @@ mod program;
 mod report;
 mod running;
 mod source;
+mod workers;
 
 pub use checking::answer_of_certificate;
+pub use collector::Answer;
 pub use command_line::{Order, Usage, command_of};
 pub use failure::{RunError, fault_line, status_of};
 pub use input::{MOST_INPUT_BYTES, MOST_READ_CALLS, read_input};
 pub use judging::report_on;
 pub use output::write_answer;
 pub use program::status_of_process;
-pub use report::{Answer, Report, report_line, report_text};
+pub use report::{Report, report_line, report_text};
 pub use running::{answer_to, run};
 pub use source::Source;
+pub use workers::Workers;

@@ -7,6 +7,8 @@ use crate::command_line::{Order, Usage, command_of, fault_with};
 use crate::failure::{RunError, fault_line, status_of};
 use crate::running::run;
 use std::rt::Env;
+use std::sync::Wait;
+use std::thread::Threads;
 use std::{env, io};
 
 const USAGE_STATUS: u8 = 2;
@@ -15,7 +17,9 @@ const USAGE_STATUS: u8 = 2;
 ///
 /// An answer or the help goes to standard output. What is wrong goes to standard error: the text of a usage fault,
 /// with status 2, or the line of a run that failed.
-pub fn status_of_process<P: Env + AllocGlobal + Input + Print + Eprint>(rt: &P) -> u8
+pub fn status_of_process<P: Env + Threads + Wait + Sync + AllocGlobal + Input + Print + Eprint>(
+    rt: &P,
+) -> u8
     ensures { result ≤ 4 }
 {
     match order_of_process(rt) {

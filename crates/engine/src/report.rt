@@ -3,21 +3,10 @@
 ghost use Rattle.std.specs.Prelude.{◌≡◌, IfOk, string_bytes};
 ghost use Rattle.engine.specs.Report.{line_for, text_for};
 
-use bad_patterns::Kind;
 use cert_check::Criterion;
+use collector::Answer;
 use operations::OpId;
 use std::alloc::{AllocError, Global};
-
-/// What is known of a history and a criterion.
-#[derive(Clone, Copy, Debug, PartialEq, Eq)]
-pub enum Answer {
-    /// The history meets the criterion.
-    Yes,
-    /// The history does not meet the criterion: a pattern of this kind is in it.
-    No(Kind),
-    /// Nothing is known; the first operation that is not explained, where one was looked for.
-    Unknown(Option<OpId>),
-}
 
 /// What is known of a history, for each criterion.
 #[derive(Clone, Copy, Debug, PartialEq, Eq)]
@@ -78,5 +67,6 @@ pub fn report_line(
         Answer::Unknown(Some(OpId { session, index })) => {
             format!(in alloc; "{name} unknown {session}.{index}\n")
         }
+        Answer::Open(rows) => format!(in alloc; "{name} open {rows}\n"),
     }
 }

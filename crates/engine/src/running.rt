@@ -12,9 +12,12 @@ use crate::judging::report_on;
 use crate::output::write_answer;
 use crate::report::report_text;
 use crate::source::Source;
+use crate::workers::Workers;
 use operations::read_history;
 use std::alloc::Global;
 use std::io::Write;
+use std::sync::Wait;
+use std::thread::Threads;
 
 /// Reads the whole input, makes the whole answer that the order asks for, and then writes it.
 ///
@@ -22,7 +25,7 @@ use std::io::Write;
 /// was written before a write fault is not said, nor how much was read before an error; how many read calls are made is
 /// said by [`read_input`]. O(n log n) for an input of n bytes, and what [`report_on`] or
 /// [`answer_of_certificate`](crate::answer_of_certificate) takes for its history.
-pub fn run<P: AllocGlobal, R: Source, W: Write>(
+pub fn run<P: Threads + Wait + Sync + AllocGlobal, R: Source, W: Write>(
     rt: &P,
     reader: &mut R,
     writer: &mut W,
@@ -39,7 +42,7 @@ pub fn run<P: AllocGlobal, R: Source, W: Write>(
     ensures fault { result ≡ Err RunError.ReadFault → FindsNoEnd R.called MOST_READ_CALLS reader.old reader.new }
 {
     let input = read_input(rt.alloc(), reader)?;
-    let answer = answer_to(rt.alloc(), input.as_slice(), order)?;
+    let answer = answer_to(rt, rt.alloc(), input.as_slice(), order)?;
     write_answer(writer, answer.as_bytes())
 }
 
@@ -47,22 +50,32 @@ pub fn run<P: AllocGlobal, R: Source, W: Write>(
 ///
 /// Refuses what is no input of the order, and fails for want of memory. Its cost is that of reading the input, and what
 /// [`report_on`] or [`answer_of_certificate`](crate::answer_of_certificate) takes for its history.
-pub fn answer_to(alloc: Global, input: &[u8], order: &Order) -> Result<String, RunError>
+pub fn answer_to<T: Threads + Wait + Sync>(
+    rt: &T,
+    alloc: Global,
+    input: &[u8],
+    order: &Order,
+) -> Result<String, RunError>
     ensures answer { IfOk result (λ text. IsAnswer order.now input.now (string_bytes text)) }
     ensures error { IfErr result (IsAnswerError order.now input.now) }
 {
     match order {
-        Order::Judge => judge(alloc, input),
-        Order::Check => check(alloc, input),
+        Order::Judge(workers) => judge(rt, alloc, input, *workers),
+        Order::Check(workers) => check(rt, alloc, input, *workers),
     }
 }
 
 // The report on a history.
-fn judge(alloc: Global, input: &[u8]) -> Result<String, RunError>
-    ensures answer { IfOk result (λ text. IsAnswer Order.Judge input.now (string_bytes text)) }
-    ensures error { IfErr result (IsAnswerError Order.Judge input.now) }
+fn judge<T: Threads + Wait + Sync>(
+    rt: &T,
+    alloc: Global,
+    input: &[u8],
+    workers: Workers,
+) -> Result<String, RunError>
+    ensures answer { IfOk result (λ text. IsAnswer (Order.Judge workers) input.now (string_bytes text)) }
+    ensures error { IfErr result (IsAnswerError (Order.Judge workers) input.now) }
 {
     let history = read_history(alloc, input)?;
-    let report = report_on(alloc, history)?;
+    let report = report_on(rt, alloc, history, workers)?;
     Ok(report_text(alloc, &report)?)
 }

@@ -1,0 +1,17 @@
+use Rattle.std.proofs.Common.{subst}
+use Rattle.std.specs.Prelude.{◌≡◌, IfOk}
+use Rattle.bad_patterns.specs.Patterns.{IsTrueNo}
+use Rattle.board.specs.declared.answer.Answer.TheVariants.{Yes}
+use Rattle.memory_order.specs.Memory.{memory_answer}
+use Rattle.cert_check.specs.Criteria.{Meets}
+use Rattle.collector.specs.Judgements.{IsSaidOfFile}
+use Rattle.engine.proofs.Founded.{file_is_founded}
+use Rattle.engine.proofs.judging.answer_by.Goals as goal
+
+pub returns-clause-founded : goal.returns-clause-founded
+returns-clause-founded g c =
+    let made = c.in-Ok.ensures.made in
+    file_is_founded memory_answer c.args.history c.args.criterion (IsTrueNo c.args.history c.args.criterion) c.args.made c.answer_of_file.result
+    c.requires.criterion c.requires.shape
+    (subst (λ file. IfOk c.answer_of_file.result (IsSaidOfFile memory_answer file)) made c.answer_of_file.ensures.said)
+    (subst (λ file. IfOk c.answer_of_file.result (λ a. a ≡ Yes → Meets memory_answer file.0 file.1)) made c.answer_of_file.ensures.met)
