@@ -1,0 +1,12 @@
+pub mod Picked
+pub mod Recorded
+pub mod Sessions
+pub mod Sealers
+pub mod Shows
+pub mod Kept
+pub mod RunsRecorded
+pub mod SealsKept
+pub mod CasesKept
+pub mod TrueAnswers
+pub mod Fresh
+pub mod RunSteps

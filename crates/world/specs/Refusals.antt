@@ -1,0 +1,16 @@
+-- The refusals of steps, and their numbers.
+use Rattle.std.specs.Prelude.{ℕ}
+use Rattle.world.specs.declared.refusal.Refusal.{Refusal}
+use Rattle.world.specs.declared.refusal.Refusal.TheVariants.{LaneFull, StillPending, NothingPending, WrongReturn, ShapeMismatch, Full, NotThatPattern, Doubled, Stranger, NoSuch}
+
+abbrev pub number_of : Refusal → ℕ
+number_of LaneFull = 11
+number_of StillPending = 12
+number_of NothingPending = 14
+number_of WrongReturn = 17
+number_of ShapeMismatch = 21
+number_of Full = 22
+number_of NotThatPattern = 23
+number_of Doubled = 24
+number_of Stranger = 25
+number_of NoSuch = 26

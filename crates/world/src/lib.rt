@@ -1,0 +1,17 @@
+//! The world: sessions, sealers, cases and verdicts of one recorder and one desk, step by step, with no thread. What each
+//! step answers is determined by the steps and replies before it.
+#![tactic(auto)]
+
+mod lane;
+pub mod laws;
+mod recording;
+mod refusal;
+mod reply;
+mod step;
+mod told;
+
+pub use recording::Recording;
+pub use refusal::Refusal;
+pub use reply::{Reply, ReplyOf};
+pub use step::{Step, StepOf};
+pub use told::Told;

@@ -1,0 +1,33 @@
+use crate::refusal::Refusal;
+use board::{Answer, Piece};
+use cert_check::Outcome;
+use history::{History, OpId};
+use snapshot::Cell;
+
+/// What a step is answered, with histories `H`.
+#[derive(Drop)]
+pub enum ReplyOf<H> {
+    /// The operation began, or ended.
+    Done(OpId),
+    /// The sealer of this number started.
+    Sealer(usize),
+    /// The sealer looked at this cell, and this is whether it was full.
+    Found(Cell, bool),
+    /// The history of the sealer.
+    Sealed(H),
+    /// The case of this number was filed.
+    Case(usize),
+    /// The piece that was taken, where there was one.
+    Taken(Option<Piece>),
+    /// The verdict of this number was given.
+    Verdict(usize, Outcome),
+    /// The verdict or the pattern was accepted.
+    Accepted,
+    /// How the case stands.
+    Answer(Answer),
+    /// The step was refused, and changed nothing.
+    Refused(Refusal),
+}
+
+/// What a step is answered, with the histories of an object.
+pub type Reply<O> = ReplyOf<History<O>>;
