@@ -1,0 +1,160 @@
+#!/usr/bin/env python3
+"""Measures by how much several workers shorten `check` and `judge`, on healthy inputs of full size.
+
+    workers.py CERTIFICATES HISTORIES [--rounds N] -- PROGRAM
+
+CERTIFICATES is a folder that certificates.py made, and HISTORIES one that histories.py made. The program is run with 1, 2
+and 4 workers in turn, N rounds (5 by default), and the time is that on the clock, from the start of the process to its end,
+the least of the rounds. So nothing else may run beside it.
+
+The first table has a row for each certificate of 16 sessions of 256 operations. Reading the input takes one thread, and so
+does writing the line, so each certificate is also checked with vectors that count nothing: then each piece is refused at its
+first test, and what is left is the reading, the starting of the workers and the board, with its lock. What the whole run takes
+more than that is the time that the pieces take. Both are given as ratios: the time by one worker over the time by so many.
+
+The second table has a row for each healthy history of that size, in which one value is written twice: so nothing decides it,
+and `judge` makes certificates and checks them. Making takes one thread, and is not told apart.
+
+The last lines tell, for the certificates, what one piece costs beside its test: the time of the run whose pieces are refused at
+their first test, by 1, 2 and 4 workers.
+"""
+
+import argparse
+import json
+import os
+import pathlib
+import sys
+import tempfile
+import time
+
+WORKERS = (1, 2, 4)
+SIZE = "16x256"
+
+
+def run_once(command, path):
+    """The time on the clock of one run in seconds, and what it wrote."""
+    with tempfile.TemporaryFile() as output:
+        actions = [
+            (os.POSIX_SPAWN_OPEN, 0, path, os.O_RDONLY, 0),
+            (os.POSIX_SPAWN_DUP2, output.fileno(), 1),
+        ]
+        begin = time.perf_counter()
+        process = os.posix_spawnp(command[0], command, os.environ, file_actions=actions)
+        _, status = os.waitpid(process, 0)
+        taken = time.perf_counter() - begin
+        if os.waitstatus_to_exitcode(status) != 0:
+            raise SystemExit(f"{' '.join(command)} failed on {path}")
+        output.seek(0)
+        return taken, output.read().decode()
+
+
+def measure(program, word, path, rounds):
+    """For each number of workers the least time of some rounds in seconds, and what all wrote."""
+    least = {}
+    written = set()
+    for _ in range(rounds):
+        for workers in WORKERS:
+            taken, lines = run_once([*program, word, "--workers", str(workers)], path)
+            least[workers] = min(taken, least.get(workers, taken))
+            written.add(lines)
+    if len(written) != 1:
+        raise SystemExit(f"{path}: not the same lines by each number of workers")
+    return least, written.pop().replace("\n", "; ").strip("; ")
+
+
+def refused_at_once(pair):
+    """The same pair with vectors that count nothing."""
+    history, (criterion, vectors, rest) = pair
+    nothing = [[[0] * len(vector) for vector in session] for session in vectors]
+    return [history, [criterion, nothing, rest]]
+
+
+def undecided(history):
+    """The same history, in which the last operations of the first two sessions write one value."""
+    name, sessions = history
+    changed = [list(session) for session in sessions]
+    for session in changed[:2]:
+        session[-1] = ["w", 4_000_000_000, 1]
+    return [name, changed]
+
+
+def milliseconds(seconds):
+    return f"{1000 * seconds:.1f}"
+
+
+def ratios(times):
+    """The time by one worker over that by 2 and by 4."""
+    return [f"{times[1] / times[workers]:.2f}" if times[workers] > 0 else "-" for workers in WORKERS[1:]]
+
+
+def print_table(head, rows):
+    widths = [max(len(row[i]) for row in [head, *rows]) for i in range(len(head))]
+    for row in [head, ["-" * width for width in widths], *rows]:
+        print("| " + " | ".join(cell.ljust(width) for cell, width in zip(row, widths)) + " |")
+    print()
+
+
+def write_json(path, value):
+    path.write_text(json.dumps(value, separators=(",", ":")), encoding="ascii")
+    return path
+
+
+def check_rows(program, files, room, rounds):
+    """A row for each certificate, and the times of the runs whose pieces are refused at once."""
+    rows, bare = [], {}
+    for path in files:
+        with_tests, said = measure(program, "check", path, rounds)
+        refused = write_json(room / path.name, refused_at_once(json.loads(path.read_text())))
+        without, _ = measure(program, "check", refused, rounds)
+        pieces = {workers: with_tests[workers] - without[workers] for workers in WORKERS}
+        whole = [milliseconds(with_tests[workers]) for workers in WORKERS]
+        tests = [milliseconds(pieces[workers]) for workers in WORKERS]
+        rows.append([path.stem, *whole, *ratios(with_tests), *tests, *ratios(pieces), said])
+        bare[path.stem] = without
+    return rows, bare
+
+
+def judge_rows(program, files, room, rounds):
+    """A row for each history in which one value is written twice."""
+    rows = []
+    for path in files:
+        twice = write_json(room / path.name, undecided(json.loads(path.read_text())))
+        times, said = measure(program, "judge", twice, rounds)
+        rows.append([path.stem, *(milliseconds(times[workers]) for workers in WORKERS), *ratios(times), said])
+    return rows
+
+
+def arguments():
+    parser = argparse.ArgumentParser(description=__doc__, formatter_class=argparse.RawDescriptionHelpFormatter)
+    parser.add_argument("certificates", type=pathlib.Path)
+    parser.add_argument("histories", type=pathlib.Path)
+    parser.add_argument("--rounds", type=int, default=5)
+    if "--" not in sys.argv:
+        parser.error("write the program behind --")
+    split = sys.argv.index("--")
+    found = parser.parse_args(sys.argv[1:split])
+    found.program = sys.argv[split + 1 :]
+    if not found.program:
+        parser.error("write the program behind --")
+    return found
+
+
+def main():
+    given = arguments()
+    certificates = sorted(given.certificates.glob(f"memory-{SIZE}-*.json"))
+    histories = sorted(given.histories.glob(f"{SIZE}-*-healthy.json"))
+    if not certificates or not histories:
+        raise SystemExit(f"no certificates or no histories of {SIZE} there")
+    with tempfile.TemporaryDirectory() as name:
+        room = pathlib.Path(name)
+        rows, bare = check_rows(given.program, certificates, room, given.rounds)
+        head = ["check", *(f"{workers}: ms" for workers in WORKERS), "1/2", "1/4"]
+        print_table([*head, *(f"pieces {workers}: ms" for workers in WORKERS), "1/2", "1/4", "lines"], rows)
+        rows = judge_rows(given.program, histories, room, given.rounds)
+        print_table(["judge", *(f"{workers}: ms" for workers in WORKERS), "1/2", "1/4", "lines"], rows)
+    for stem, times in bare.items():
+        print(f"{stem}, pieces refused at once: " + ", ".join(f"{milliseconds(times[workers])} ms by {workers}" for workers in WORKERS))
+
+
+if __name__ == "__main__":
+    main()
