@@ -18,8 +18,9 @@ import os
 import pathlib
 import shutil
 import subprocess
-import sys
 import tempfile
+
+from command_words import with_program
 
 CRITERIA = ("cc", "cm", "ccv")
 MOST_SECONDS = 20
@@ -118,14 +119,7 @@ def arguments():
     parser.add_argument("peer", type=pathlib.Path)
     parser.add_argument("histories", type=pathlib.Path)
     parser.add_argument("--rounds", type=int, default=20)
-    if "--" not in sys.argv:
-        parser.error("write the program behind --")
-    split = sys.argv.index("--")
-    found = parser.parse_args(sys.argv[1:split])
-    found.program = sys.argv[split + 1 :]
-    if not found.program:
-        parser.error("write the program behind --")
-    return found
+    return with_program(parser)
 
 
 def main():

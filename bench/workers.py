@@ -23,9 +23,10 @@ import argparse
 import json
 import os
 import pathlib
-import sys
 import tempfile
 import time
+
+from command_words import with_program
 
 WORKERS = (1, 2, 4)
 SIZE = "16x256"
@@ -129,14 +130,7 @@ def arguments():
     parser.add_argument("certificates", type=pathlib.Path)
     parser.add_argument("histories", type=pathlib.Path)
     parser.add_argument("--rounds", type=int, default=5)
-    if "--" not in sys.argv:
-        parser.error("write the program behind --")
-    split = sys.argv.index("--")
-    found = parser.parse_args(sys.argv[1:split])
-    found.program = sys.argv[split + 1 :]
-    if not found.program:
-        parser.error("write the program behind --")
-    return found
+    return with_program(parser)
 
 
 def main():
