@@ -1,6 +1,7 @@
 ghost use Rattle.std.specs.Prelude.{◌≡◌, ◌<◌, ◌≤◌, ◌↔◌, ℕ, length, option_map, IfOk, IsTrue, Some, map, slice_index_or};
 ghost use Rattle.history.specs.History.{IsHistory, IsSession, IsOp, entry, session};
 
+use crate::limits::{MAX_OPERATIONS, MAX_SESSIONS};
 use crate::op_id::OpId;
 use object_trait::SeqObject;
 use std::alloc::{AllocError, Global};
@@ -8,8 +9,8 @@ use std::marker::Model;
 
 /// What each session called on an object, in order, each call with the return that it had where that is known.
 ///
-/// A history has at most 16 sessions of at most 256 operations. In each session the known returns come first, and each
-/// fits its call. The start is what the object held before.
+/// A history has at most [`MAX_SESSIONS`] sessions of at most [`MAX_OPERATIONS`] operations. In each session the known
+/// returns come first, and each fits its call. The start is what the object held before.
 #[derive(Drop)]
 pub struct History<O: SeqObject> {
     start: O::Start,
@@ -54,7 +55,7 @@ impl<O: SeqObject> History<O> {
     /// How many sessions there are: at most 16.
     pub fn sessions(&self) -> usize
         ensures count { result ≡ length self.now.1 }
-        ensures few { result ≤ 16 }
+        ensures few { result ≤ MAX_SESSIONS }
     {
         self.sessions.len()
     }
@@ -71,7 +72,7 @@ impl<O: SeqObject> History<O> {
     /// How many operations a session has: at most 256, and 0 where there is no such session.
     pub fn len(&self, s: u64) -> usize
         ensures count { result ≡ length (session self.now s) }
-        ensures short { result ≤ 256 }
+        ensures short { result ≤ MAX_OPERATIONS }
     {
         if s < self.sessions() as u64 {
             self.session(s as usize).len()

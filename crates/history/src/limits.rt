@@ -1,0 +1,5 @@
+/// The most sessions that a history has.
+pub const MAX_SESSIONS: usize = 16;
+
+/// The most operations that a session has.
+pub const MAX_OPERATIONS: usize = 256;
