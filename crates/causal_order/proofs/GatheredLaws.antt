@@ -4,13 +4,13 @@ use Rattle.std.proofs.Common.{arith, get_or, sym, ap, subst, ◌∙◌, ⊎_elim
 use Rattle.std.proofs.lemmas.Bool.{cases_eq, cases_lt}
 use Rattle.std.proofs.lemmas.List.{get_or_append_left, get_or_past, length_push, get_or_push, length-set}
 use Rattle.history.specs.declared.op_id.OpId.{OpId}
-use Rattle.history.specs.History.{Record, IsOp, session}
+use Rattle.history.specs.History.{HistoryValue, IsOp, session}
 use Rattle.causal_order.specs.Orders.{op}
 use Rattle.causal_order.specs.Vectors.{IsListed, ByOperation, list_of, HasOneEach}
 use Rattle.causal_order.specs.Steps.Gathered.{AreGatheredBefore, AreGatheredUpTo}
 use Rattle.causal_order.proofs.PushedLaws.{pushed, listed-length, pushed-other, pushed-length, pushed-cases, pushed-value_old, pushed-value_next}
 
-module _ {S C R A : Type 0} (h : Record S C R) (holds : OpId → List A → Type 0) where
+module _ {S C R A : Type 0} (h : HistoryValue S C R) (holds : OpId → List A → Type 0) where
   -- no list at all
   pub gathered-none : AreGatheredBefore h holds 0 []
   gathered-none = record {

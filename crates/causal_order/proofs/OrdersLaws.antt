@@ -3,13 +3,13 @@ use Rattle.std.specs.Prelude.{◌≡◌, ◌<◌, ◌≤◌, List, [], Option, l
 use Rattle.std.proofs.Common.{subst, arith, lt_of_not-le}
 use Rattle.std.proofs.lemmas.List.{get_or_past}
 use Rattle.history.specs.declared.op_id.OpId.{OpId}
-use Rattle.history.specs.History.{Record, IsOp}
+use Rattle.history.specs.History.{HistoryValue, IsOp}
 
 -- two numbers make an operation
 pub same_op : (a b : OpId) → a.session ≡ b.session → a.index ≡ b.index → a ≡ b
 same_op a b sessions indices = λ i. record { session = sessions i; index = indices i }
 
-module _ {S C R : Type 0} (h : Record S C R) where
+module _ {S C R : Type 0} (h : HistoryValue S C R) where
   -- an operation of the history is of one of its sessions
   pub session-of_history : (a : OpId) → IsOp h a → a.session < length h.1
   session-of_history a is_op = lt_of_not-le (λ (past : length h.1 ≤ a.session).

@@ -3,7 +3,7 @@ use Rattle.std.specs.Prelude.{◌≡◌, ◌≢◌, ◌⊎◌, ℕ, ◌<◌, ◌
 use Rattle.std.proofs.Common.{zero, suc, arith, sym, ap, subst, inl, inr, ⊎_elim, eq-or-lt_of_le}
 use Rattle.std.proofs.lemmas.Bool.{cases_eq, cases_lt}
 use Rattle.history.specs.declared.op_id.OpId.{OpId}
-use Rattle.history.specs.History.{Record, IsOp, session}
+use Rattle.history.specs.History.{HistoryValue, IsOp, session}
 use Rattle.causal_order.specs.Orders.{op}
 use Rattle.causal_order.proofs.OrdersLaws.{same_op, session-of_history}
 
@@ -59,7 +59,7 @@ module _ (P : ℕ → Type 0) (decide : (i : ℕ) → IsDecided (P i)) where
       (decide n))
       (least n)
 
-module _ {S C R : Type 0} (h : Record S C R) (P : OpId → Type 0) (decide : (o : OpId) → IsDecided (P o)) where
+module _ {S C R : Type 0} (h : HistoryValue S C R) (P : OpId → Type 0) (decide : (o : OpId) → IsDecided (P o)) where
   -- some operation of the session s has a property
   abbrev IsFoundIn : ℕ → Type 0
   IsFoundIn s = (i : ℕ) × (i < length (session h s)) × P (op s i)

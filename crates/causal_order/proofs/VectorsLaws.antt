@@ -1,7 +1,7 @@
 -- What follows for vectors.
 use Rattle.std.proofs.Common.{arith, get_or, subst, lt_of_not-le}
 use Rattle.history.specs.declared.op_id.OpId.{OpId}
-use Rattle.history.specs.History.{Record, IsOp}
+use Rattle.history.specs.History.{HistoryValue, IsOp}
 use Rattle.causal_order.proofs.OrdersLaws.{session-of_history}
 use Rattle.causal_order.specs.Vectors.{ByOperation, HasListOf, HasOneEach, Counts, IsCounted, IsListed}
 use Rattle.std.specs.Prelude.{ℕ, ◌<◌, ◌≤◌, List, [], length}
@@ -14,7 +14,7 @@ counted-listed v o a counted = lt_of_not-le (λ (past : length (get_or v o.sessi
     let nothing = subst (λ (xs : List ℕ). a.index < get_or xs a.session 0) none counted in
     omega arith)
 
-module _ {S C R : Type 0} (h : Record S C R) where
+module _ {S C R : Type 0} (h : HistoryValue S C R) where
   -- each operation of the history has a list
   pub HasListOf-of_history : {A : Type 0} (lists : ByOperation A) (o : OpId) → HasOneEach h lists → IsOp h o → HasListOf lists o
   HasListOf-of_history lists o one_each is_op =

@@ -4,7 +4,7 @@ use Rattle.std.proofs.Common.{arith, get_or, sym, ap, subst, ◌∙◌, inl, inr
 use Rattle.std.proofs.lemmas.Bool.{cases_lt}
 use Rattle.std.proofs.lemmas.List.{get_or_past, length-set}
 use Rattle.history.specs.declared.op_id.OpId.{OpId}
-use Rattle.history.specs.History.{Record, session}
+use Rattle.history.specs.History.{HistoryValue, session}
 use Rattle.causal_order.specs.Orders.{op}
 use Rattle.causal_order.specs.Vectors.{IsListed, Counts, count, list_of, with_item, IsCounted}
 use Rattle.causal_order.specs.Steps.Gathered.{AreGatheredBefore}
@@ -27,7 +27,7 @@ module _ {A B : Type 0} where
   pub alike-sym : (xs : List (List A)) (ys : List (List B)) → AreAlike xs ys → AreAlike ys xs
   alike-sym xs ys alike = record { sessions = sym alike.sessions; operations = λ s. sym (alike.operations s) }
 
-module _ {S C R : Type 0} (h : Record S C R) (n : ℕ) (waits : Counts) (ended : n ≡ length h.1)
+module _ {S C R : Type 0} (h : HistoryValue S C R) (n : ℕ) (waits : Counts) (ended : n ≡ length h.1)
     (gathered : AreGatheredBefore h (λ _. AreZeros (length h.1)) n waits) where
   pub zeros-alike : AreAlike waits h.1
   zeros-alike =

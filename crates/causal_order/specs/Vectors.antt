@@ -2,7 +2,7 @@
 -- clocks: Fidge, "Timestamps in message-passing systems that preserve the partial ordering", 1988).
 use Rattle.std.specs.Prelude.{◌≡◌, ◌≢◌, ℕ, ◌+◌, ◌<◌, ◌≤◌, List, [], length, slice_index_or, slice_set}
 use Rattle.history.specs.declared.op_id.OpId.{OpId}
-use Rattle.history.specs.History.{Record, IsOp, session}
+use Rattle.history.specs.History.{HistoryValue, IsOp, session}
 use Rattle.causal_order.specs.Orders.{op}
 
 -- for each session, for each of its operations, one list
@@ -44,19 +44,19 @@ IsLastOf v o s i = (s ≢ o.session) × (count v o s ≡ i + 1)
 
 module _ {S C R : Type 0} where
   -- one list for each operation of the history, and no other
-  pub record HasOneEach {A : Type 0} (h : Record S C R) (lists : ByOperation A) : Type 0 where
+  pub record HasOneEach {A : Type 0} (h : HistoryValue S C R) (lists : ByOperation A) : Type 0 where
     pub sessions : length lists ≡ length h.1
     pub operations : (s : ℕ) → length (slice_index_or lists s []) ≡ length (session h s)
 
   -- one vector for each operation of the history, with one count for each session
-  pub record AreVectorsOf (h : Record S C R) (v : Counts) : Type 0 where
+  pub record AreVectorsOf (h : HistoryValue S C R) (v : Counts) : Type 0 where
     pub one_each : HasOneEach h v
     pub counts : (o : OpId) → IsOp h o → length (list_of v o) ≡ length h.1
 
   -- the vector of an operation counts it as the last of its session, counts no operation that is not there, and counts
   -- all that the operation before it in program order and the last counted ones of the other sessions count; none of
   -- these others counts the operation (this project's profile)
-  pub record IsVectorOk (h : Record S C R) (v : Counts) (o : OpId) : Type 0 where
+  pub record IsVectorOk (h : HistoryValue S C R) (v : Counts) (o : OpId) : Type 0 where
     pub own : count v o o.session ≡ o.index + 1
     pub existing : (s : ℕ) → count v o s ≤ length (session h s)
     pub predecessor : (i : ℕ) → o.index ≡ i + 1 → IsWithin v o (op o.session i)

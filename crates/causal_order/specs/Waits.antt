@@ -1,6 +1,7 @@
 -- What operations wait for, besides those before them in their session; in which order they can follow one another, and
 -- when they can't.
 use Rattle.std.specs.Prelude.{◌≡◌, ◌≢◌, ◌⊎◌, ℕ, ◌+◌, ◌-◌, ◌<◌, ◌≤◌, List, [], length, take, slice_get, Some, slice_index_or}
+use Rattle.history.specs.declared.limits.TheConstants.{MAX_OPERATIONS, MAX_SESSIONS}
 use Rattle.history.specs.declared.op_id.OpId.{OpId}
 use Rattle.history.specs.History.{Precedes}
 use Rattle.causal_order.specs.Orders.{StandsAt, IsPath, Leads}
@@ -18,8 +19,8 @@ module _ (waits : Counts) where
   -- at most 16 sessions of at most 256 operations, with one count of each session for each operation, of no more operations
   -- than are there
   pub record AreWaits : Type 0 where
-    pub few : length waits ≤ 16
-    pub short : (s : ℕ) → length (slice_index_or waits s []) ≤ 256
+    pub few : length waits ≤ MAX_SESSIONS
+    pub short : (s : ℕ) → length (slice_index_or waits s []) ≤ MAX_OPERATIONS
     pub square : AreSquare waits
     pub held : (o : OpId) (s : ℕ) → count waits o s ≤ length (slice_index_or waits s [])
 

@@ -1,29 +1,29 @@
-ghost use Rattle.std.specs.Prelude.{◌≡◌, ◌≢◌, ◌∷◌, ◌++◌, ◌<◌, ◌≤◌, ◌↔◌, ℕ, [], length, max, MatchOption, OnErr, OnOk, IsTrue, slice_index_or};
+ghost use Rattle.std.specs.Prelude.{◌≡◌, ◌≢◌, ◌∷◌, ◌++◌, ◌<◌, ◌≤◌, ◌↔◌, ℕ, [], length, max, slice_index_or};
+ghost use Rattle.std.specs.Prelude.{MatchOption, OnErr, OnOk, IsTrue};
 ghost use Rattle.causal_order.specs.Topological.{AreSeen, AreSquare, CanGoOn, IsFullWalk, IsNext, IsWalk, placed};
 
 use crate::by_operation::Vectors;
-use history::OpId;
+use history::{MAX_SESSIONS, OpId};
 use std::alloc::{AllocError, Global};
 use std::marker::Model;
-
-const MOST_SESSIONS: usize = 16;
 
 /// A walk through operations of at most 16 sessions: which are placed, and in what order.
 #[derive(Drop)]
 pub struct Walk {
-    placed: [u32; MOST_SESSIONS],
+    placed: [u32; MAX_SESSIONS],
     schedule: Vec<u8>,
 }
 
 impl Model for Walk {
     ghost use Rattle.std.specs.Prelude.{List, ℕ};
     ghost use Rattle.causal_order.specs.Topological.{IsTally};
+    ghost use Rattle.history.specs.declared.limits.TheConstants.{MAX_SESSIONS};
 
     ghost Value = { List ℕ };
 
     ghost view = { λ walk. walk.schedule.items };
 
-    ghost invariant = { λ walk. IsTally 16 walk.schedule.items walk.placed };
+    ghost invariant = { λ walk. IsTally MAX_SESSIONS walk.schedule.items walk.placed };
 }
 
 impl Walk {
@@ -32,7 +32,7 @@ impl Walk {
         ensures { result ≡ [] }
     {
         Walk {
-            placed: [0; MOST_SESSIONS],
+            placed: [0; MAX_SESSIONS],
             schedule: Vec::new(alloc),
         }
     }
@@ -53,7 +53,7 @@ impl Walk {
 
     /// How many operations of a session are placed.
     pub(crate) fn placed(&self, session: usize) -> usize
-        requires { session < 16 }
+        requires { session < MAX_SESSIONS }
         ensures { result ≡ placed self.now session }
     {
         self.placed[session] as usize
@@ -63,7 +63,7 @@ impl Walk {
     ///
     /// Fails for want of memory alone, and the walk is then as it was.
     pub fn place(&mut self, session: usize) -> Result<(), AllocError>
-        requires few { session < 16 }
+        requires few { session < MAX_SESSIONS }
         requires room { placed self.old session < 65536 }
         ensures ok { OnOk result (self.new ≡ self.old ++ session ∷ []) }
         ensures err { OnErr result (self.new ≡ self.old) }
@@ -81,14 +81,14 @@ impl Walk {
     /// placed.
     /// O(p k + k^2) for p operations that are placed and k sessions.
     pub fn run_to(&mut self, vectors: &Vectors, limits: &[u16]) -> Result<(), AllocError>
-        requires few { length vectors.now ≤ 16 }
+        requires few { length vectors.now ≤ MAX_SESSIONS }
         requires square { AreSquare vectors.now }
         requires limits { length limits.now ≡ length vectors.now }
         ensures rule { OnOk result (IsFullWalk vectors.now limits.now self.old self.new) }
         ensures err { OnErr result (IsWalk vectors.now limits.now self.old self.new) }
         ensures within { (s : ℕ) → placed self.new s ≤ max (placed self.old s) (slice_index_or limits.now s 0) }
     {
-        let mut seen = [0; MOST_SESSIONS];
+        let mut seen = [0; MAX_SESSIONS];
         while let Some(session) = self.next(vectors, limits, &mut seen) {
             self.place(session)?;
             seen[session] = 0;
@@ -101,9 +101,9 @@ impl Walk {
         &self,
         vectors: &Vectors,
         limits: &[u16],
-        seen: &mut [usize; MOST_SESSIONS],
+        seen: &mut [usize; MAX_SESSIONS],
     ) -> Option<usize>
-        requires few { length vectors.now ≤ 16 }
+        requires few { length vectors.now ≤ MAX_SESSIONS }
         requires square { AreSquare vectors.now }
         requires limits { length limits.now ≡ length vectors.now }
         requires seen { AreSeen vectors.now self.now seen.old }
@@ -124,9 +124,9 @@ impl Walk {
         vectors: &Vectors,
         limits: &[u16],
         session: usize,
-        seen: &mut [usize; MOST_SESSIONS],
+        seen: &mut [usize; MAX_SESSIONS],
     ) -> bool
-        requires few { length vectors.now ≤ 16 }
+        requires few { length vectors.now ≤ MAX_SESSIONS }
         requires square { AreSquare vectors.now }
         requires limits { length limits.now ≡ length vectors.now }
         requires exists { session < length vectors.now }
@@ -151,7 +151,7 @@ impl Walk {
     /// The first session from `start` on, other than `own`, of which a vector counts more than is placed, or how many
     /// sessions there are.
     pub(crate) fn first_missing(&self, counts: &[u16], own: usize, start: usize) -> usize
-        requires { length counts.now ≤ 16 }
+        requires { length counts.now ≤ MAX_SESSIONS }
         ensures bound { result ≤ length counts.now }
         ensures seen { (s : ℕ) → start ≤ s → s < result → s ≢ own → slice_index_or counts.now s 0 ≤ placed self.now s }
         ensures missing { result < length counts.now → result ≢ own }

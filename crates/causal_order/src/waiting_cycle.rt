@@ -9,7 +9,7 @@ ghost use Rattle.causal_order.specs.Waits.{AreWaits, IsAwaited, IsWaitingCycle};
 
 use crate::by_operation::Vectors;
 use crate::topological::Walk;
-use history::OpId;
+use history::{MAX_SESSIONS, OpId};
 use std::alloc::{AllocError, Global};
 
 /// A cycle, where no session can go on behind a walk and this one has an operation that isn't placed.
@@ -34,7 +34,7 @@ pub(crate) fn cycle_from(
 
 /// The next operation of a session.
 fn next_operation(walk: &Walk, session: usize) -> OpId
-    requires { session < 16 }
+    requires { session < MAX_SESSIONS }
     ensures { result ≡ next_of walk.now session }
 {
     OpId {

@@ -9,7 +9,7 @@ ghost use Rattle.causal_order.specs.Steps.Waiting.{AddsWait, AreZeros};
 ghost use Rattle.causal_order.specs.Waits.{AreAlike, AreWaits};
 
 use crate::by_operation::Vectors;
-use history::{History, OpId};
+use history::{History, MAX_OPERATIONS, OpId};
 use object_trait::SeqObject;
 use std::alloc::{AllocError, Global};
 use std::marker::Model;
@@ -80,7 +80,7 @@ fn push_zeros<O: SeqObject>(
     requires exists { session < length h.now.1 }
     requires so_far { AreGatheredBefore h.now (λ _. AreZeros (length h.now.1)) session counts.old }
     ensures so_far { OnOk result (AreGatheredBefore h.now (λ _. AreZeros (length h.now.1)) (session + 1) counts.new) }
-    ensures short { OnOk result (length (operations_of h.now session) ≤ 256) }
+    ensures short { OnOk result (length (operations_of h.now session) ≤ MAX_OPERATIONS) }
 {
     let zeros = vec![in alloc; 0; h.sessions()]?;
     counts.push_session()?;

@@ -1,6 +1,8 @@
 -- The cells of a recorder, and what notes tell of them. (This project's profile.)
 use Rattle.std.specs.Prelude.{◌≡◌, ℕ, ◌≤◌, Bool, true, List, length, take, map, Option, Some, None, option_map}
 use Rattle.std.specs.List.{filter_map}
+use Rattle.once_cell.specs.Once.{Agrees}
+use Rattle.history.specs.declared.limits.TheConstants.{MAX_OPERATIONS}
 use Rattle.history.specs.declared.advice.Advice.{Advice}
 
 -- the names of a lane's cells: for each place one cell for a call and one for its return
@@ -11,7 +13,7 @@ pub record Cells : Type 0 where
 -- a lane has as many cells of either kind, at most 256
 pub record IsLane (cells : Cells) : Type 0 where
   pub even : length cells.returns ≡ length cells.calls
-  pub short : length cells.calls ≤ 256
+  pub short : length cells.calls ≤ MAX_OPERATIONS
 
 -- a return record: the call, and its return with the store's advice once it was given
 abbrev pub Entry : Type 0 → Type 0 → Type 0
@@ -44,6 +46,14 @@ pub record Notes (A : Type 0) : Type 0 where
 -- what a note knows
 abbrev pub known : {A : Type 0} → ℕ × Option A → Option A
 known n = n.1
+
+-- nothing is known, as before
+abbrev pub IsStillUnknown : {A : Type 0} → Option A → Option A → Type 0
+IsStillUnknown before after = (before ≡ None) × (after ≡ None)
+
+-- a value is known, which is the one that was known before, if one was
+abbrev pub IsKnownAs : {A : Type 0} → A → Option A → Option A → Type 0
+IsKnownAs value before after = (after ≡ Some value) × Agrees before value
 
 -- the notes are of the first of these cells, and show these values
 pub record Tells {A B : Type 0} (show : ℕ × Option A → Option B) (cells : List ℕ) (notes : List (ℕ × Option A)) (values : List B) : Type 0 where

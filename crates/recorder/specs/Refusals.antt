@@ -1,5 +1,6 @@
 -- When a recorder refuses. Of two causes the first in the order of these cases' conditions is answered.
 use Rattle.std.specs.Prelude.{◌≡◌, ℕ, ◌<◌, ◌≤◌, Bool, true, false, length, Some, None}
+use Rattle.history.specs.declared.limits.TheConstants.{MAX_OPERATIONS, MAX_SESSIONS}
 use Rattle.recorder.specs.Sessions.{SessionState}
 use Rattle.recorder.specs.declared.record_error.RecordError.{RecordError}
 use Rattle.recorder.specs.declared.record_error.RecordError.TheVariants.{Memory, BadLimits, LaneFull, StillPending, CellGaveBack, NothingPending, WrongReturn}
@@ -7,9 +8,9 @@ use Rattle.recorder.specs.declared.record_error.RecordError.TheVariants.{Memory,
 -- 1 to 16 lanes of 1 to 256 places
 pub record AreLimits (k cap : ℕ) : Type 0 where
   pub some_lane : 1 ≤ k
-  pub few_lanes : k ≤ 16
+  pub few_lanes : k ≤ MAX_SESSIONS
   pub some_place : 1 ≤ cap
-  pub few_places : cap ≤ 256
+  pub few_places : cap ≤ MAX_OPERATIONS
 
 -- why a recorder is not made
 abbrev pub RefusesLimits : ℕ → ℕ → RecordError → Type 0

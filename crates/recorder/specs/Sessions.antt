@@ -1,5 +1,5 @@
 -- What a session recorded, and what a receipt stands for. (This project's profile.)
-use Rattle.std.specs.Prelude.{◌≡◌, ℕ, ◌-◌, ◌<◌, ◌≤◌, Bool, true, List, [], ◌∷◌, ◌++◌, length, take, map, Option, Some, None, option_map, slice_get}
+use Rattle.std.specs.Prelude.{◌≡◌, ℕ, ◌+◌, ◌-◌, ◌<◌, ◌≤◌, Bool, true, List, [], ◌∷◌, ◌++◌, length, take, map, Option, Some, None, option_map, slice_get}
 use Rattle.history.specs.declared.op_id.OpId.{OpId}
 use Rattle.history.specs.declared.advice.Advice.{Advice}
 use Rattle.recorder.specs.Lanes.{Cells, Entry, Notes, Returned, Tells, IsLane, known, operation, operations}
@@ -63,6 +63,23 @@ module _ {C R : Type 0} where
 pub record Begun (C R : Type 0) : Type 0 where
   pub call : C
   pub notes : List (ℕ × Option (Entry C R))
+
+-- the session that these notes of returns, and the call that is pending, tell of
+abbrev pub session_state : {C R : Type 0} → ℕ → Cells → Notes (Entry C R) → Option (Begun C R) → SessionState C R
+session_state lane cells returns pending = record {
+  lane = lane;
+  cells = cells;
+  done = operations returns.list;
+  pending = option_map (λ b. b.call) pending;
+}
+
+-- the receipt for a pending call of a lane that returned this, with this advice
+abbrev pub next_receipt : {C R : Type 0} → ℕ → Cells → Begun C R → R → Advice → ReceiptState C R
+next_receipt lane cells b r a = record {
+  lane = lane;
+  cells = take (length b.notes + 1) cells.returns;
+  operations = operations b.notes ++ (b.call, r, a) ∷ [];
+}
 
 -- what a session keeps: its notes tell of its calls and returns, and there is room for the pending call's return
 pub record IsSession {C R : Type 0} (cells : Cells) (calls : Notes C) (returns : Notes (Entry C R)) (pending : Option (Begun C R)) : Type 0 where

@@ -1,9 +1,10 @@
 ghost use Rattle.std.specs.Prelude.{◌≡◌, ◌<◌, ◌≤◌, ℕ, length, map, IfOk, IfErr, MatchOption, None, Some, slice_get};
-ghost use Rattle.once_cell.specs.Once.{cell_name, Agrees};
-ghost use Rattle.recorder.specs.Lanes.{IsLane};
+ghost use Rattle.once_cell.specs.Once.{cell_name};
+ghost use Rattle.recorder.specs.Lanes.{IsKnownAs, IsLane, IsStillUnknown};
 
 use crate::recorded::Recorded;
 use crate::return_record::ReturnRecord;
+use history::MAX_OPERATIONS;
 use once_cell::race::{Note, OnceBox};
 use std::alloc::{AllocError, Global};
 use std::marker::Model;
@@ -32,7 +33,7 @@ impl<O: Recorded> Model for Lane<O> {
 impl<O: Recorded> Lane<O> {
     /// A lane of empty cells.
     pub(crate) fn new(alloc: Global, cap: usize) -> Result<Lane<O>, AllocError>
-        requires { cap ≤ 256 }
+        requires { cap ≤ MAX_OPERATIONS }
         ensures { IfOk result (λ l. length l.calls ≡ cap) }
     {
         let calls = empty_cells(alloc, cap)?;
@@ -98,7 +99,8 @@ impl<O: Recorded> Lane<O> {
         requires place { at < length self.now.calls }
         requires cell { slice_get self.now.calls at ≡ Some note.old.cell }
         ensures cell { note.new.cell ≡ note.old.cell }
-        ensures value { MatchOption result ((note.old.known ≡ None) × (note.new.known ≡ None)) (λ r. (note.new.known ≡ Some r.now) × Agrees note.old.known r.now) }
+        ensures value { MatchOption result (IsStillUnknown note.old.known note.new.known)
+            (λ r. IsKnownAs r.now note.old.known note.new.known) }
     {
         self.calls[at].get_as(note)
     }
@@ -112,7 +114,8 @@ impl<O: Recorded> Lane<O> {
         requires place { at < length self.now.returns }
         requires cell { slice_get self.now.returns at ≡ Some note.old.cell }
         ensures cell { note.new.cell ≡ note.old.cell }
-        ensures value { MatchOption result ((note.old.known ≡ None) × (note.new.known ≡ None)) (λ r. (note.new.known ≡ Some r.now) × Agrees note.old.known r.now) }
+        ensures value { MatchOption result (IsStillUnknown note.old.known note.new.known)
+            (λ r. IsKnownAs r.now note.old.known note.new.known) }
     {
         self.returns[at].get_as(note)
     }

@@ -7,6 +7,7 @@ use crate::lane::Lane;
 use crate::record_error::RecordError;
 use crate::recorded::Recorded;
 use crate::session::Session;
+use history::{MAX_OPERATIONS, MAX_SESSIONS};
 use object_trait::SeqObject;
 use std::alloc::{AllocError, Global};
 use std::marker::Model;
@@ -23,19 +24,20 @@ impl<O: Recorded> Model for Lanes<O> {
     ghost use Rattle.std.specs.Prelude.{◌≤◌, length};
     ghost use Rattle.recorder.specs.Sessions.{LanesState};
     ghost use Rattle.recorder.specs.Recorders.{cells_of};
+    ghost use Rattle.history.specs.declared.limits.TheConstants.{MAX_SESSIONS};
 
     ghost Value = { LanesState O.Start };
 
     ghost view = { λ l. record { start = l.start; cells = cells_of l.lanes.items } };
 
-    ghost invariant = { λ l. O.startable l.start × (length l.lanes.items ≤ 16) };
+    ghost invariant = { λ l. O.startable l.start × (length l.lanes.items ≤ MAX_SESSIONS) };
 }
 
 impl<O: Recorded> Lanes<O> {
     /// How many lanes there are: at most 16.
     pub fn len(&self) -> usize
         ensures lanes { result ≡ length self.now.cells }
-        ensures few { result ≤ 16 }
+        ensures few { result ≤ MAX_SESSIONS }
     {
         self.lanes.len()
     }
@@ -58,7 +60,7 @@ impl<O: Recorded> Lanes<O> {
 
     fn of(start: O::Start, lanes: Vec<Arc<Lane<O>>>) -> Lanes<O>
         requires start { O.startable start }
-        requires few { length lanes.items ≤ 16 }
+        requires few { length lanes.items ≤ MAX_SESSIONS }
         ensures { result ≡ record { start = start; cells = cells_of lanes.items } }
     {
         Lanes { start, lanes }
@@ -78,7 +80,7 @@ pub fn new_recorder<O: SeqObject>(
     ensures recorder { IfOk result (λ r. IsRecorder k cap start (arc_value r.0) r.1.items) }
     ensures refused { IfErr result (λ e. RefusesLimits k cap e) }
 {
-    if k < 1 || k > 16 || cap < 1 || cap > 256 {
+    if k < 1 || k > MAX_SESSIONS || cap < 1 || cap > MAX_OPERATIONS {
         return Err(RecordError::BadLimits);
     }
     Ok(recorder_within(alloc, k, cap, start)?)
@@ -91,8 +93,8 @@ fn recorder_within<O: Recorded>(
     start: O::Start,
 ) -> Result<(Arc<Lanes<O>>, Vec<Session<O>>), AllocError>
     requires start { O.startable start }
-    requires few { k ≤ 16 }
-    requires short { cap ≤ 256 }
+    requires few { k ≤ MAX_SESSIONS }
+    requires short { cap ≤ MAX_OPERATIONS }
     ensures { IfOk result (λ r. IsRecorder k cap start (arc_value r.0) r.1.items) }
 {
     let (lanes, sessions) = lanes_and_sessions::<O>(alloc, k, cap)?;
@@ -105,7 +107,7 @@ fn lanes_and_sessions<O: Recorded>(
     k: usize,
     cap: usize,
 ) -> Result<(Vec<Arc<Lane<O>>>, Vec<Session<O>>), AllocError>
-    requires { cap ≤ 256 }
+    requires { cap ≤ MAX_OPERATIONS }
     ensures many { IfOk result (λ r. length r.0.items ≡ k) }
     ensures lanes { IfOk result (λ r. AreLanes cap (cells_of r.0.items) r.1.items) }
 {

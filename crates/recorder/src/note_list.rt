@@ -1,6 +1,8 @@
-ghost use Rattle.std.specs.Prelude.{◌≡◌, ◌∷◌, ◌++◌, ◌<◌, ◌≤◌, ℕ, List, [], Option, length, map, IfOk, Some, slice_get, vec_len, vec_capacity};
+ghost use Rattle.std.specs.Prelude.{◌≡◌, ◌∷◌, ◌++◌, ◌<◌, ◌≤◌, ℕ, List, [], Option, length, map, slice_get};
+ghost use Rattle.std.specs.Prelude.{IfOk, Some, vec_len, vec_capacity};
 
 use crate::note_copy::told;
+use history::MAX_OPERATIONS;
 use once_cell::race::Note;
 use std::alloc::{AllocError, Global};
 use std::marker::Model;
@@ -63,7 +65,7 @@ impl<T> NoteList<T> {
 
     /// A list that knows the same, with room for one more note.
     pub(crate) fn again(&mut self, alloc: Global) -> Result<NoteList<T>, AllocError>
-        requires { length self.old.list ≤ 256 }
+        requires { length self.old.list ≤ MAX_OPERATIONS }
         ensures list { self.new.list ≡ self.old.list }
         ensures room { self.new.room ≡ self.old.room }
         ensures copy { IfOk result (λ l. l.list ≡ self.old.list) }
@@ -75,7 +77,7 @@ impl<T> NoteList<T> {
 }
 
 fn copies<T>(alloc: Global, notes: &mut Vec<Note<T>>) -> Result<Vec<Note<T>>, AllocError>
-    requires { length notes.old.items ≤ 256 }
+    requires { length notes.old.items ≤ MAX_OPERATIONS }
     ensures items { notes.new.items ≡ notes.old.items }
     ensures capacity { vec_capacity notes.new ≡ vec_capacity notes.old }
     ensures copied { IfOk result (λ v. v.items ≡ notes.old.items) }

@@ -1,12 +1,14 @@
-ghost use Rattle.std.specs.Prelude.{◌≡◌, ◌∷◌, ◌++◌, ◌+◌, ◌<◌, ◌≤◌, ℕ, true, [], length, take, map, option_map, Some, None, IfOk, IfErr, slice_get};
+ghost use Rattle.std.specs.Prelude.{◌≡◌, ◌∷◌, ◌++◌, ◌+◌, ◌<◌, ◌≤◌, ℕ, true, [], length, take, map, option_map};
+ghost use Rattle.std.specs.Prelude.{Some, None, IfOk, IfErr, slice_get};
 ghost use Rattle.recorder.specs.Lanes.{Tells, IsFitting, operation, operations};
+ghost use Rattle.recorder.specs.Sessions.{next_receipt};
 
 use crate::lane::Lane;
 use crate::note_list::NoteList;
 use crate::receipt::Receipt;
 use crate::recorded::Recorded;
 use crate::return_record::ReturnRecord;
-use history::Advice;
+use history::{Advice, MAX_OPERATIONS};
 use once_cell::race::Note;
 use std::alloc::{AllocError, Global};
 use std::marker::Model;
@@ -37,7 +39,7 @@ impl<O: Recorded> Pending<O> {
         call: O::Call,
         returns: &mut NoteList<ReturnRecord<O>>,
     ) -> Result<Pending<O>, AllocError>
-        requires { length returns.old.list ≤ 256 }
+        requires { length returns.old.list ≤ MAX_OPERATIONS }
         ensures list { returns.new.list ≡ returns.old.list }
         ensures room { returns.new.room ≡ returns.old.room }
         ensures call { IfOk result (λ p. p.call ≡ call) }
@@ -73,7 +75,7 @@ impl<O: Recorded> Pending<O> {
         requires told { Tells operation lane.now.returns self.notes (operations self.notes) }
         ensures cell { IfOk result (λ r. slice_get lane.now.returns (length self.notes) ≡ Some r.0.cell) }
         ensures known { IfOk result (λ r. r.0.known ≡ Some (self.call, Some (ret, advice))) }
-        ensures receipt { IfOk result (λ r. r.1 ≡ record { lane = session; cells = take (length self.notes + 1) lane.now.returns; operations = operations self.notes ++ (self.call, ret, advice) ∷ [] }) }
+        ensures receipt { IfOk result (λ r. r.1 ≡ next_receipt session lane.now self ret advice) }
         ensures still { IfErr result (λ e. e.0 ≡ self) }
         ensures advice { IfErr result (λ e. e.1 ≡ advice) }
     {

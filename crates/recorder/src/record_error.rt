@@ -53,7 +53,7 @@ impl<T: Drop> From<AllocFailed<T>> for RecordError {
 }
 
 impl RecordError {
-    /// The number by which the refusal is reported.
+    /// The number by which the refusal is reported: 8, 10 to 14, or 17.
     pub fn number(&self) -> u8
         ensures { result ≡ number_of self.now }
     {

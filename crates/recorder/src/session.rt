@@ -11,7 +11,7 @@ use crate::receipt::Receipt;
 use crate::record_error::RecordError;
 use crate::recorded::Recorded;
 use crate::return_record::ReturnRecord;
-use history::{Advice, OpId};
+use history::{Advice, MAX_OPERATIONS, OpId};
 use object_trait::SeqObject;
 use once_cell::race::Note;
 use std::alloc::{AllocError, Global};
@@ -30,14 +30,12 @@ pub struct Session<O: Recorded> {
 }
 
 impl<O: Recorded> Model for Session<O> {
-    ghost use Rattle.std.specs.Prelude.{option_map};
     ghost use Rattle.std.specs.Arc.{arc_value};
-    ghost use Rattle.recorder.specs.Lanes.{operations};
-    ghost use Rattle.recorder.specs.Sessions.{SessionState, IsSession};
+    ghost use Rattle.recorder.specs.Sessions.{SessionState, IsSession, session_state};
 
     ghost Value = { SessionState O.Call O.Ret };
 
-    ghost view = { λ s. record { lane = s.index; cells = arc_value s.lane; done = operations s.returns.list; pending = option_map (λ p. p.call) s.pending } };
+    ghost view = { λ s. session_state s.index (arc_value s.lane) s.returns s.pending };
 
     ghost invariant = { λ s. IsSession (arc_value s.lane) s.calls s.returns s.pending };
 }
@@ -216,7 +214,7 @@ fn prepare<O: Recorded>(
     calls: &mut NoteList<O::Call>,
     returns: &mut NoteList<ReturnRecord<O>>,
 ) -> Result<(Box<O::Call>, Pending<O>), AllocError>
-    requires { length returns.old.list ≤ 256 }
+    requires { length returns.old.list ≤ MAX_OPERATIONS }
     ensures calls { calls.new.list ≡ calls.old.list }
     ensures returns { returns.new.list ≡ returns.old.list }
     ensures call_room { IfOk result (λ _. 0 < calls.new.room) }

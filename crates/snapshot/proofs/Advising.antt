@@ -6,7 +6,7 @@ use Rattle.std.proofs.lemmas.Bool.{cases_lt}
 use Rattle.std.proofs.lemmas.List.{map-append, append-nil, get_or_past}
 use Rattle.std.proofs.lemmas.Option.{slice_get_within, get_or_from_slice_get}
 use Rattle.std.proofs.lemmas.Grind.{flat_map-append}
-use Rattle.history.specs.History.{Record, session, entry}
+use Rattle.history.specs.History.{HistoryValue, session, entry}
 use Rattle.history.specs.declared.advice.Advice.{Advice}
 use Rattle.history.specs.declared.op_id.OpId.{OpId}
 use Rattle.recorder.specs.Lanes.{Entry, Returned}
@@ -72,7 +72,7 @@ meet_advice {C = C} {R = R} seal mine k l lane at many held done agree i h =
     ap (λ (x : List (Option Advice)). slice_get x i) (get_or_from_slice_get seal.advice mine.lane (advised l) [] (ap (slice_get seal.advice) (sym lane) ∙ at))
     ∙ (advised_at l i (slice_get mine.done i) (omega arith) (agree i h) o.0 o.1 ∙ sym (ap (option_map (λ (x : Returned C R). Some x.2)) o.1))
 
-module _ {S C R : Type 0} (fits : C → R → Bool) (h : Record S C R) (ls : List (SealedNotes C R)) (a : AreSealedSessions fits h ls) where
+module _ {S C R : Type 0} (fits : C → R → Bool) (h : HistoryValue S C R) (ls : List (SealedNotes C R)) (a : AreSealedSessions fits h ls) where
   many_at : (s : ℕ) (x : Option (SealedNotes C R)) → slice_get ls s ≡ x → length (slice_index_or (map advised ls) s []) ≡ length (session h s)
   many_at s None e =
       let p : length ls ≤ s = none_past ls s e in let m : length ls ≡ length h.1 = a.many in let n : length (map advised ls) ≡ length ls = length_map advised ls in

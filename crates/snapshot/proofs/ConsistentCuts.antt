@@ -6,7 +6,7 @@ use Rattle.std.proofs.lemmas.Bool.{cases_lt}
 use Rattle.std.proofs.lemmas.List.{take-append-le}
 use Rattle.std.proofs.lemmas.Option.{slice_get_within}
 use Rattle.history.specs.declared.op_id.OpId.{OpId}
-use Rattle.history.specs.History.{Record, IsOp, session}
+use Rattle.history.specs.History.{HistoryValue, IsOp, session}
 use Rattle.recorder.specs.Sessions.{op}
 use Rattle.snapshot.specs.declared.cell.Cell.TheVariants.{Call}
 use Rattle.snapshot.specs.Plans.{Look, Plan, answer, was_full, return_cell, call_cell, returns_found, calls_found, next_return, next_call, next_cell, fresh_plan, after_looks, Follows, IsFinished}
@@ -115,7 +115,7 @@ module _ {C R : Type 0} (k cap : ℕ) (es : List (Event C R)) (run : IsRun k cap
       omega arith
 
   module _ {S : Type 0} (start : S) where
-    abbrev history : Record S C R
+    abbrev history : HistoryValue S C R
     history = sealed start es plan
 
     here : (s : ℕ) → s < k → session history s ≡ sealed_session es plan s

@@ -2,7 +2,7 @@
 use Rattle.std.specs.Prelude.{◌≡◌, ℕ, ◌<◌, ◌++◌, List, map, Option, Some}
 use Rattle.std.specs.List.{filter_map}
 use Rattle.history.specs.declared.op_id.OpId.{OpId}
-use Rattle.history.specs.History.{Record, Precedes, IsOp, entry, session}
+use Rattle.history.specs.History.{HistoryValue, Precedes, IsOp, entry, session}
 use Rattle.snapshot.specs.Runs.{Event, begun, ended, IsAt}
 use Rattle.snapshot.specs.Runs.Event.{Began, Ended, Started}
 
@@ -11,11 +11,11 @@ IsPrefixOf {A} xs ys = (rest : List A) × (xs ++ rest ≡ ys)
 
 module _ {S C R : Type 0} where
   -- the history holds the operation with its return
-  abbrev pub HasReturn : Record S C R → OpId → Type 0
+  abbrev pub HasReturn : HistoryValue S C R → OpId → Type 0
   HasReturn h o = (c : C) × (r : R) × (entry h o ≡ Some (c, Some r))
 
   -- the history of sealer z is a consistent cut of the run
-  pub record IsConsistentCut (es : List (Event C R)) (z : ℕ) (h : Record S C R) : Type 0 where
+  pub record IsConsistentCut (es : List (Event C R)) (z : ℕ) (h : HistoryValue S C R) : Type 0 where
     -- in each session its calls are the first that began, and its returns, which are those of its first calls, the first
     -- that were given
     pub calls : (s : ℕ) → IsPrefixOf (map (λ (e : C × Option R). e.0) (session h s)) (begun s es)

@@ -2,7 +2,7 @@
 use Rattle.std.specs.Prelude.{◌≡◌, ℕ, ◌+◌, ◌<◌, ◌≤◌, ◌==◌, ◌↔◌, Bool, true, if◌then◌else◌, List, [], ◌∷◌, length, take, Option, Some, None, slice_get, slice_index, zero, suc}
 use Rattle.std.specs.List.{filter_map}
 use Rattle.history.specs.declared.op_id.OpId.{OpId}
-use Rattle.history.specs.History.{Record}
+use Rattle.history.specs.History.{HistoryValue}
 use Rattle.snapshot.specs.declared.cell.Cell.{Cell}
 use Rattle.snapshot.specs.declared.cell.Cell.TheVariants.{Return, Call}
 use Rattle.snapshot.specs.Plans.{Look, Plan, fresh_plan, after_looks, returns_found, calls_found, Follows, IsFinished}
@@ -102,5 +102,5 @@ module _ {C R : Type 0} (es : List (Event C R)) (plan : Plan) where
   sealed_sessions s (suc n) = sealed_session s ∷ sealed_sessions (s + 1) n
 
 -- the history that is sealed by what a plan found
-abbrev pub sealed : {S C R : Type 0} → S → List (Event C R) → Plan → Record S C R
+abbrev pub sealed : {S C R : Type 0} → S → List (Event C R) → Plan → HistoryValue S C R
 sealed start es plan = (start, sealed_sessions es plan 0 plan.lanes)

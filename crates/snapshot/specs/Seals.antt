@@ -1,7 +1,7 @@
 -- Seals of what a recorder holds. (This project's profile.)
 use Rattle.std.specs.Prelude.{◌≡◌, ℕ, ◌+◌, ◌<◌, ◌≤◌, List, [], length, Option, Some, None, slice_get, slice_index, slice_index_or, min, if◌then◌else◌, nat_lt}
 use Rattle.std.specs.List.{filter_map}
-use Rattle.history.specs.History.{Record, session, entry}
+use Rattle.history.specs.History.{HistoryValue, session, entry}
 use Rattle.history.specs.declared.advice.Advice.{Advice}
 use Rattle.history.specs.declared.op_id.OpId.{OpId}
 use Rattle.recorder.specs.Lanes.{Cells}
@@ -11,7 +11,7 @@ use Rattle.snapshot.specs.Plans.{Look, Plan, after_looks, calls_found, fresh_pla
 -- a seal: its history, for each session the cells whose returns it holds and those whose calls it holds behind them, and for
 -- each operation of each session the store's advice, if it has a return
 pub record SealState (S C R : Type 0) : Type 0 where
-  pub history : Record S C R
+  pub history : HistoryValue S C R
   pub cells : List Cells
   pub advice : List (List (Option Advice))
 
@@ -44,10 +44,10 @@ module _ {S C R : Type 0} where
     pub reached : (s : ℕ) → 0 < slice_index told s → (j : ℕ) × (r : ReceiptState C R) × (slice_get rs j ≡ Some r) × (r.lane ≡ s) × (length r.operations ≡ slice_index told s)
 
   -- a history holds each operation that a receipt stands for, with its call and return
-  abbrev pub Holds : Record S C R → ReceiptState C R → Type 0
+  abbrev pub Holds : HistoryValue S C R → ReceiptState C R → Type 0
   Holds h r = (i : ℕ) (c : C) (x : R) (a : Advice) → slice_get r.operations i ≡ Some (c, x, a) → entry h (op r.lane i) ≡ Some (c, Some x)
 
-  abbrev pub HoldsAll : Record S C R → List (ReceiptState C R) → Type 0
+  abbrev pub HoldsAll : HistoryValue S C R → List (ReceiptState C R) → Type 0
   HoldsAll h rs = (j : ℕ) (r : ReceiptState C R) → slice_get rs j ≡ Some r → Holds h r
 
   -- the advice that a seal has of an operation
@@ -74,7 +74,7 @@ module _ {S C R : Type 0} where
     pub each : (s : ℕ) (lane : Cells) → slice_get lanes.cells s ≡ Some lane → (cells : Cells) × (slice_get seal.cells s ≡ Some cells) × AreReadFrom lane cells
 
   -- how many returns a history has of a session
-  abbrev pub known_returns : Record S C R → ℕ → ℕ
+  abbrev pub known_returns : HistoryValue S C R → ℕ → ℕ
   known_returns h s = length (filter_map (λ (e : C × Option R). e.1) (session h s))
 
   -- a seal and a session are of one recorder
@@ -83,7 +83,7 @@ module _ {S C R : Type 0} where
 
   -- how many calls a seal and a session both hold: the smaller of their numbers of calls, but the session's number of returns
   -- where the seal holds more returns
-  abbrev pub met_calls : Record S C R → SessionState C R → ℕ
+  abbrev pub met_calls : HistoryValue S C R → SessionState C R → ℕ
   met_calls h session' =
       if nat_lt (length session'.done) (known_returns h session'.lane) then length session'.done else min (length (session h session'.lane)) (length (begun session'.done session'.pending))
 
@@ -96,12 +96,12 @@ module _ {S C R : Type 0} where
   plan_after l = after_looks (plan_before l) l.looks
 
   -- of each session a history holds as many returns and as many operations as were found
-  pub record HoldsFound (p : Plan) (h : Record S C R) : Type 0 where
+  pub record HoldsFound (p : Plan) (h : HistoryValue S C R) : Type 0 where
     pub returns : (s : ℕ) → s < p.lanes → known_returns h s ≡ returns_found p s
     pub operations : (s : ℕ) → s < p.lanes → length (session h s) ≡ calls_found p s
 
   -- a history holds what was found by a walk to the end: of the plan for these lanes and for what these receipts told
-  pub record IsFoundByWalk (lanes : LanesState S) (rs : List (ReceiptState C R)) (h : Record S C R) : Type 0 where
+  pub record IsFoundByWalk (lanes : LanesState S) (rs : List (ReceiptState C R)) (h : HistoryValue S C R) : Type 0 where
     pub told : List ℕ
     pub cap : ℕ
     pub looks : List Look

@@ -8,7 +8,7 @@ ghost use Rattle.snapshot.specs.Steps.Sealing.{AreCallsRead, AreReturnsRead, IsO
 use crate::lane_table::LaneTable;
 use crate::longest::LongestReceipt;
 use crate::sealed_lane::SealedLane;
-use history::Advice;
+use history::{Advice, MAX_OPERATIONS};
 use once_cell::race::Note;
 use recorder::{Lane, NoteList, Receipt, Recorded, ReturnRecord};
 use std::alloc::{AllocError, Global};
@@ -162,7 +162,7 @@ pub(crate) fn seal_lane<O: Recorded>(
     requires table { IsTable lane.now table.now }
     ensures session { IfOk result (λ r. IsSealedSession O.fitting r.0.items r.1) }
     ensures notes { IfOk result (λ r. AreNotesOf lane.now r.1) }
-    ensures short { IfOk result (λ r. length r.0.items ≤ 256) }
+    ensures short { IfOk result (λ r. length r.0.items ≤ MAX_OPERATIONS) }
     ensures told { IfOk result (λ r. best.count ≤ length r.1.returns) }
     ensures lane { IfOk result (λ _. IsLane lane.now) }
     ensures advised { IfOk result (λ r. advice.new.items ≡ advice.old.items ++ advised r.1) }

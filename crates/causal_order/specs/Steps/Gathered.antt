@@ -1,18 +1,18 @@
 -- Lists by operation, gathered session by session and operation by operation.
 use Rattle.std.specs.Prelude.{◌≡◌, ℕ, ◌+◌, ◌<◌, List, [], length, slice_index_or}
 use Rattle.history.specs.declared.op_id.OpId.{OpId}
-use Rattle.history.specs.History.{Record, session}
+use Rattle.history.specs.History.{HistoryValue, session}
 use Rattle.causal_order.specs.Vectors.{IsListed, ByOperation, list_of}
 
 module _ {S C R A : Type 0} where
   -- a list for each operation of the sessions before s, each with a property
-  pub record AreGatheredBefore (h : Record S C R) (holds : OpId → List A → Type 0) (s : ℕ) (lists : ByOperation A) : Type 0 where
+  pub record AreGatheredBefore (h : HistoryValue S C R) (holds : OpId → List A → Type 0) (s : ℕ) (lists : ByOperation A) : Type 0 where
     pub sessions : length lists ≡ s
     pub operations : (t : ℕ) → t < s → length (slice_index_or lists t []) ≡ length (session h t)
     pub each : (o : OpId) → IsListed lists o → holds o (list_of lists o)
 
   -- and for the first i operations of the session s
-  pub record AreGatheredUpTo (h : Record S C R) (holds : OpId → List A → Type 0) (s i : ℕ) (lists : ByOperation A) : Type 0 where
+  pub record AreGatheredUpTo (h : HistoryValue S C R) (holds : OpId → List A → Type 0) (s i : ℕ) (lists : ByOperation A) : Type 0 where
     pub sessions : length lists ≡ s + 1
     pub operations : (t : ℕ) → t < s → length (slice_index_or lists t []) ≡ length (session h t)
     pub here : length (slice_index_or lists s []) ≡ i

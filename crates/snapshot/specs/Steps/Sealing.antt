@@ -1,9 +1,10 @@
 -- What is read of a lane as it is sealed.
 use Rattle.std.specs.Prelude.{◌≡◌, ℕ, ◌+◌, ◌<◌, ◌≤◌, ◌++◌, ◌∷◌, [], Bool, true, List, length, Option, Some, None, slice_get, slice_index}
+use Rattle.history.specs.declared.limits.TheConstants.{MAX_OPERATIONS}
 use Rattle.recorder.specs.Lanes.{Cells, Entry, shown}
 use Rattle.recorder.specs.Sessions.{ReceiptState}
 use Rattle.snapshot.specs.declared.longest.LongestReceipt.{LongestReceipt}
-use Rattle.history.specs.History.{Record, session}
+use Rattle.history.specs.History.{HistoryValue, session}
 use Rattle.history.specs.declared.advice.Advice.{Advice}
 use Rattle.snapshot.specs.Plans.{Look, call_cell, return_cell}
 use Rattle.snapshot.specs.Steps.Tables.{IsReturnedAs, SealedNotes, TableState, IsSealedSession, AreNotesOf, RunsTo, has_note, was_found}
@@ -53,7 +54,7 @@ module _ {C R : Type 0} where
     pub shows : (i : ℕ) (n : ℕ × Option C) → slice_get notes i ≡ Some n → (c : C) × (n.1 ≡ Some c) × (slice_get es (length before + i) ≡ Some (c, None))
 
 -- each session of a history is sealed by the notes of its lane
-pub record AreSealedSessions {S C R : Type 0} (fits : C → R → Bool) (h : Record S C R) (ls : List (SealedNotes C R)) : Type 0 where
+pub record AreSealedSessions {S C R : Type 0} (fits : C → R → Bool) (h : HistoryValue S C R) (ls : List (SealedNotes C R)) : Type 0 where
   pub many : length ls ≡ length h.1
   pub each : (s : ℕ) (l : SealedNotes C R) → slice_get ls s ≡ Some l → IsSealedSession fits (session h s) l
 
@@ -62,7 +63,7 @@ module _ {C R : Type 0} where
   pub record IsLaneSealed (fits : C → R → Bool) (lane : Cells) (rs : List (ReceiptState C R)) (s : ℕ) (es : List (C × Option R)) (l : SealedNotes C R) : Type 0 where
     pub session : IsSealedSession fits es l
     pub notes : AreNotesOf lane l
-    pub short : length es ≤ 256
+    pub short : length es ≤ MAX_OPERATIONS
     pub told : (j : ℕ) (r : ReceiptState C R) → slice_get rs j ≡ Some r → r.lane ≡ s → length r.operations ≤ length l.returns
 
   -- and of all lanes
