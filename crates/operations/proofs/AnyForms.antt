@@ -1,12 +1,8 @@
 -- The forms of the histories of each object.
-use Rattle.std.proofs.Common.{◌≡◌, ◌≢◌, ◌<◌, ◌^◌, ◌++◌, ℕ, Bool, true, false, List, [], ◌∷◌, map, Option, Some, refl, sym, ap, ◌∙◌}
+use Rattle.std.proofs.Common.{◌≡◌, ◌≢◌, ◌<◌, ◌^◌, ℕ, Bool, false, List, [], ◌∷◌, map, Option, Some, refl, sym, ap, ◌∙◌}
 use Rattle.std.proofs.lemmas.Option.{same_Some}
 use Rattle.serde_json.specs.Data.{Data}
 use Rattle.serde_json.specs.Written.{has_float}
-use Rattle.objects.specs.AddRemoveSet.{matches as set_matches}
-use Rattle.objects.specs.Counter.{matches as counter_matches}
-use Rattle.objects.specs.Queue.{matches as queue_matches}
-use Rattle.objects.specs.Register.{matches as register_matches}
 use Rattle.objects.specs.declared.keyed.KeyedCall.{KeyedCall}
 use Rattle.operations.specs.declared.any_history.AnyHistory.{AnyHistory}
 use Rattle.operations.specs.declared.any_history.AnyHistory.TheVariants as histories
@@ -18,11 +14,10 @@ use Rattle.operations.specs.CallLaws.{no_start_again, no_start_has_no_float}
 use Rattle.operations.specs.CounterForm as counter
 use Rattle.operations.specs.CounterFormLaws as counter_laws
 use Rattle.operations.specs.Form.{Fits, EachCall, session_form, HaveNoFloats}
-use Rattle.history.specs.History.{Record, IsHistory}
-use Rattle.operations.specs.Json.{unknown}
+use Rattle.history.specs.History.{HistoryValue, IsHistory}
 use Rattle.operations.specs.KeyedFormLaws.{keyed_again, keyed_has_no_float}
 use Rattle.operations.specs.ObjectNames.{text_of}
-use Rattle.operations.specs.PlainFormLaws.{plain_again, plain_has_no_float}
+use Rattle.operations.specs.PlainFormLaws.{IsSpelling, plain_again, plain_has_no_float}
 use Rattle.operations.specs.QueueForm as queue
 use Rattle.operations.specs.QueueFormLaws as queue_laws
 use Rattle.operations.specs.Refusals.{IsFirst}
@@ -62,16 +57,16 @@ form_has_no_float name operation_form ss rest operations none =
 pub any_form_has_no_float : (h : AnyHistory) → has_float (form_of h) ≡ false
 any_form_has_no_float (histories.Register h) =
     form_has_no_float (text_of names.Register) (plain_form register.word_of register.arguments register.ret_form) h.1 []
-    (plain_has_no_float register.word_of register.arguments register.ret_form register_laws.arguments_have_no_float register_laws.ret_has_no_float) refl
+    (plain_has_no_float register_laws.is_spelling) refl
 any_form_has_no_float (histories.Counter h) =
     form_has_no_float (text_of names.Counter) (plain_form counter.word_of counter.arguments counter.ret_form) h.1 []
-    (plain_has_no_float counter.word_of counter.arguments counter.ret_form counter_laws.arguments_have_no_float counter_laws.ret_has_no_float) refl
+    (plain_has_no_float counter_laws.is_spelling) refl
 any_form_has_no_float (histories.Set h) =
     form_has_no_float (text_of names.Set) (plain_form set.word_of set.arguments set.ret_form) h.1 []
-    (plain_has_no_float set.word_of set.arguments set.ret_form set_laws.arguments_have_no_float set_laws.ret_has_no_float) refl
+    (plain_has_no_float set_laws.is_spelling) refl
 any_form_has_no_float (histories.Queue h) =
     form_has_no_float (text_of names.Queue) (plain_form queue.word_of queue.arguments queue.ret_form) h.1 []
-    (plain_has_no_float queue.word_of queue.arguments queue.ret_form queue_laws.arguments_have_no_float queue_laws.ret_has_no_float) refl
+    (plain_has_no_float queue_laws.is_spelling) refl
 any_form_has_no_float (histories.Memory h) =
     form_has_no_float (text_of names.Memory) (keyed_form register.word_of register.arguments register.ret_form) h.1 (table_form register.start_form h.0)
     (keyed_has_no_float register.word_of register.arguments register.ret_form register_laws.arguments_have_no_float register_laws.ret_has_no_float) (table_has_no_float register.start_form register_laws.start_has_no_float h.0)
@@ -88,7 +83,7 @@ any_form_has_no_float (histories.Queues h) =
 -- sessions with the same forms are the same
 module _ {C R : Type 0} (operation_form : C → Option R → Data) (operation_at : Data → Option (C × Option R)) (fits : C → R → Bool) (is_call : C → Type 0)
     (again : (c : C) (r : Option R) → is_call c → Fits fits c r → operation_at (operation_form c r) ≡ Some (c, r)) where
-  sessions_are_the_same : {S : Type 0} (is_start : S → Type 0) (g h : Record S C R) → IsHistory is_start fits g → IsHistory is_start fits h
+  sessions_are_the_same : {S : Type 0} (is_start : S → Type 0) (g h : HistoryValue S C R) → IsHistory is_start fits g → IsHistory is_start fits h
       → EachCall is_call g.1 → EachCall is_call h.1 → map (session_form operation_form) g.1 ≡ map (session_form operation_form) h.1 → g.1 ≡ h.1
   sessions_are_the_same is_start g h is_g is_h calls_g calls_h same =
       same_sessions operation_at g.1 h.1 (map (session_form operation_form) g.1)
@@ -96,24 +91,22 @@ module _ {C R : Type 0} (operation_form : C → Option R → Data) (operation_at
       (rw same (sessions_read operation_at operation_form fits is_call again h.1 is_h.each calls_h))
 
 -- histories with the same parts are the same
-module _ {C R : Type 0} (word_of : C → List ℕ) (arguments : C → List Data) (ret_form : R → List Data)
-    (call_at : List ℕ → List Data → Option (C × List Data)) (ret_at : C → List Data → Option R) (fits : C → R → Bool)
-    (call_again : (c : C) (rest : List Data) → call_at (word_of c) (arguments c ++ rest) ≡ Some (c, rest))
-    (ret_again : (c : C) (r : R) → fits c r ≡ true → ret_at c (ret_form r) ≡ Some r)
-    (ret_is_known : (r : R) → ret_form r ≢ unknown ∷ []) where
-  plain_histories : {S : Type 0} (plain : S) (g h : Record S C R) → IsPlainHistory plain fits g → IsPlainHistory plain fits h
+module _ {C R : Type 0} {word_of : C → List ℕ} {arguments : C → List Data} {ret_form : R → List Data}
+    {call_at : List ℕ → List Data → Option (C × List Data)} {ret_at : C → List Data → Option R} {fits : C → R → Bool}
+    (spelling : IsSpelling word_of arguments ret_form call_at ret_at fits) where
+  plain_histories : {S : Type 0} (plain : S) (g h : HistoryValue S C R) → IsPlainHistory plain fits g → IsPlainHistory plain fits h
       → map (session_form (plain_form word_of arguments ret_form)) g.1 ≡ map (session_form (plain_form word_of arguments ret_form)) h.1 → g ≡ h
   plain_histories plain g h is_g is_h same =
       rw (
         is_g.1 ∙ sym is_h.1,
         sessions_are_the_same (plain_form word_of arguments ret_form) (plain_at call_at ret_at) fits (λ _. Unit {0})
-            (plain_again word_of arguments ret_form call_at ret_at fits call_again ret_again ret_is_known)
+            (plain_again spelling)
             (λ _. Unit {0}) g h is_g.0 is_h.0 (λ s i c r here. tt) (λ s i c r here. tt) same,
       ) refl
 
   keyed_histories : {S : Type 0} (plain : S) (start_form : S → Data) (start_at : Data → Option S)
       → ((s : S) → Unit {0} → s ≢ plain → start_at (start_form s) ≡ Some s)
-      → (g h : Record (List (ℕ × S)) (KeyedCall C) R) → IsKeyedHistory plain fits g → IsKeyedHistory plain fits h
+      → (g h : HistoryValue (List (ℕ × S)) (KeyedCall C) R) → IsKeyedHistory plain fits g → IsKeyedHistory plain fits h
       → map (session_form (keyed_form word_of arguments ret_form)) g.1 ≡ map (session_form (keyed_form word_of arguments ret_form)) h.1
       → table_form start_form g.0 ≡ table_form start_form h.0 → g ≡ h
   keyed_histories plain start_form start_at start_again g h is_g is_h same starts =
@@ -122,48 +115,40 @@ module _ {C R : Type 0} (word_of : C → List ℕ) (arguments : C → List Data)
       rw (
         same_start,
         sessions_are_the_same (keyed_form word_of arguments ret_form) (keyed_at call_at ret_at) (λ c. fits c.call) (λ c. c.key < 2 ^ 32)
-            (keyed_again word_of arguments ret_form call_at ret_at fits call_again ret_again ret_is_known)
+            (keyed_again word_of arguments ret_form call_at ret_at fits spelling.call_again spelling.ret_again spelling.ret_is_known)
             _ g h is_g.0 is_h.0 is_g.1 is_h.1 same,
       ) refl
 
 pub any_forms_are_distinct : (g h : AnyHistory) → IsAnyHistory g → IsAnyHistory h → form_of g ≡ form_of h → g ≡ h
 any_forms_are_distinct (histories.Register g) h is_g is_h same =
     only_with_name names.Register (map (session_form (plain_form register.word_of register.arguments register.ret_form)) g.1) [] (λ x. histories.Register g ≡ x)
-    (λ x is sessions start. ap histories.Register (plain_histories register.word_of register.arguments register.ret_form register.call_at register.ret_at register_matches
-    register_laws.call_again register_laws.ret_again register_laws.ret_is_known 0 g x is_g is sessions))
+    (λ x is sessions start. ap histories.Register (plain_histories register_laws.is_spelling 0 g x is_g is sessions))
     h is_h same
 any_forms_are_distinct (histories.Counter g) h is_g is_h same =
     only_with_name names.Counter (map (session_form (plain_form counter.word_of counter.arguments counter.ret_form)) g.1) [] (λ x. histories.Counter g ≡ x)
-    (λ x is sessions start. ap histories.Counter (plain_histories counter.word_of counter.arguments counter.ret_form counter.call_at counter.ret_at counter_matches
-    counter_laws.call_again counter_laws.ret_again counter_laws.ret_is_known tt g x is_g is sessions))
+    (λ x is sessions start. ap histories.Counter (plain_histories counter_laws.is_spelling tt g x is_g is sessions))
     h is_h same
 any_forms_are_distinct (histories.Set g) h is_g is_h same =
     only_with_name names.Set (map (session_form (plain_form set.word_of set.arguments set.ret_form)) g.1) [] (λ x. histories.Set g ≡ x)
-    (λ x is sessions start. ap histories.Set (plain_histories set.word_of set.arguments set.ret_form set.call_at set.ret_at set_matches
-    set_laws.call_again set_laws.ret_again set_laws.ret_is_known tt g x is_g is sessions))
+    (λ x is sessions start. ap histories.Set (plain_histories set_laws.is_spelling tt g x is_g is sessions))
     h is_h same
 any_forms_are_distinct (histories.Queue g) h is_g is_h same =
     only_with_name names.Queue (map (session_form (plain_form queue.word_of queue.arguments queue.ret_form)) g.1) [] (λ x. histories.Queue g ≡ x)
-    (λ x is sessions start. ap histories.Queue (plain_histories queue.word_of queue.arguments queue.ret_form queue.call_at queue.ret_at queue_matches
-    queue_laws.call_again queue_laws.ret_again queue_laws.ret_is_known tt g x is_g is sessions))
+    (λ x is sessions start. ap histories.Queue (plain_histories queue_laws.is_spelling tt g x is_g is sessions))
     h is_h same
 any_forms_are_distinct (histories.Memory g) h is_g is_h same =
     only_with_name names.Memory (map (session_form (keyed_form register.word_of register.arguments register.ret_form)) g.1) (table_form register.start_form g.0) (λ x. histories.Memory g ≡ x)
-    (λ x is sessions start. ap histories.Memory (keyed_histories register.word_of register.arguments register.ret_form register.call_at register.ret_at register_matches
-    register_laws.call_again register_laws.ret_again register_laws.ret_is_known 0 register.start_form register.start_at register_laws.start_again g x is_g is sessions start))
+    (λ x is sessions start. ap histories.Memory (keyed_histories register_laws.is_spelling 0 register.start_form register.start_at register_laws.start_again g x is_g is sessions start))
     h is_h same
 any_forms_are_distinct (histories.Counters g) h is_g is_h same =
     only_with_name names.Counters (map (session_form (keyed_form counter.word_of counter.arguments counter.ret_form)) g.1) (table_form no_start_form g.0) (λ x. histories.Counters g ≡ x)
-    (λ x is sessions start. ap histories.Counters (keyed_histories counter.word_of counter.arguments counter.ret_form counter.call_at counter.ret_at counter_matches
-    counter_laws.call_again counter_laws.ret_again counter_laws.ret_is_known tt no_start_form no_start_at no_start_again g x is_g is sessions start))
+    (λ x is sessions start. ap histories.Counters (keyed_histories counter_laws.is_spelling tt no_start_form no_start_at no_start_again g x is_g is sessions start))
     h is_h same
 any_forms_are_distinct (histories.Sets g) h is_g is_h same =
     only_with_name names.Sets (map (session_form (keyed_form set.word_of set.arguments set.ret_form)) g.1) (table_form no_start_form g.0) (λ x. histories.Sets g ≡ x)
-    (λ x is sessions start. ap histories.Sets (keyed_histories set.word_of set.arguments set.ret_form set.call_at set.ret_at set_matches
-    set_laws.call_again set_laws.ret_again set_laws.ret_is_known tt no_start_form no_start_at no_start_again g x is_g is sessions start))
+    (λ x is sessions start. ap histories.Sets (keyed_histories set_laws.is_spelling tt no_start_form no_start_at no_start_again g x is_g is sessions start))
     h is_h same
 any_forms_are_distinct (histories.Queues g) h is_g is_h same =
     only_with_name names.Queues (map (session_form (keyed_form queue.word_of queue.arguments queue.ret_form)) g.1) (table_form no_start_form g.0) (λ x. histories.Queues g ≡ x)
-    (λ x is sessions start. ap histories.Queues (keyed_histories queue.word_of queue.arguments queue.ret_form queue.call_at queue.ret_at queue_matches
-    queue_laws.call_again queue_laws.ret_again queue_laws.ret_is_known tt no_start_form no_start_at no_start_again g x is_g is sessions start))
+    (λ x is sessions start. ap histories.Queues (keyed_histories queue_laws.is_spelling tt no_start_form no_start_at no_start_again g x is_g is sessions start))
     h is_h same

@@ -20,7 +20,7 @@ use Rattle.operations.specs.AnyForm.{IsAnyHistory, form_of}
 use Rattle.operations.specs.CallLaws.{by_word}
 use Rattle.operations.specs.CounterForm as counter
 use Rattle.operations.specs.Form.{session_form}
-use Rattle.history.specs.History.{Record}
+use Rattle.history.specs.History.{HistoryValue}
 use Rattle.operations.specs.Json.{list, elements}
 use Rattle.operations.specs.ObjectNames.{text_of, name_at, keyed_name_at}
 use Rattle.operations.specs.QueueForm as queue
@@ -33,14 +33,14 @@ use Rattle.operations.proofs.PartsForm.{Parts, formed, parts_formed}
 
 -- a history of the object with a name
 abbrev pub RecordOf : ObjectName → Type 0
-RecordOf names.Register = Record ℕ RegisterCall RegisterRet
-RecordOf names.Counter = Record (Unit {0}) CounterCall CounterRet
-RecordOf names.Set = Record (Unit {0}) SetCall SetRet
-RecordOf names.Queue = Record (Unit {0}) QueueCall QueueRet
-RecordOf names.Memory = Record (List (ℕ × ℕ)) (KeyedCall RegisterCall) RegisterRet
-RecordOf names.Counters = Record (List (ℕ × Unit {0})) (KeyedCall CounterCall) CounterRet
-RecordOf names.Sets = Record (List (ℕ × Unit {0})) (KeyedCall SetCall) SetRet
-RecordOf names.Queues = Record (List (ℕ × Unit {0})) (KeyedCall QueueCall) QueueRet
+RecordOf names.Register = HistoryValue ℕ RegisterCall RegisterRet
+RecordOf names.Counter = HistoryValue (Unit {0}) CounterCall CounterRet
+RecordOf names.Set = HistoryValue (Unit {0}) SetCall SetRet
+RecordOf names.Queue = HistoryValue (Unit {0}) QueueCall QueueRet
+RecordOf names.Memory = HistoryValue (List (ℕ × ℕ)) (KeyedCall RegisterCall) RegisterRet
+RecordOf names.Counters = HistoryValue (List (ℕ × Unit {0})) (KeyedCall CounterCall) CounterRet
+RecordOf names.Sets = HistoryValue (List (ℕ × Unit {0})) (KeyedCall SetCall) SetRet
+RecordOf names.Queues = HistoryValue (List (ℕ × Unit {0})) (KeyedCall QueueCall) QueueRet
 
 abbrev pub history_from : (name : ObjectName) → RecordOf name → AnyHistory
 history_from names.Register h = histories.Register h

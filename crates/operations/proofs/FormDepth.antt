@@ -1,5 +1,5 @@
 -- How deep the forms of histories nest: little enough that what is written for one is read.
-use Rattle.std.proofs.Common.{◌≡◌, ◌≤◌, max, ℕ, List, [], ◌∷◌, ◌++◌, map, Option, Some, None, refl, arith}
+use Rattle.std.proofs.Common.{◌≡◌, ◌≤◌, ℕ, List, [], ◌∷◌, ◌++◌, map, Option, Some, None, refl, arith}
 use Rattle.serde_json.specs.Data.{Data, depth, items_depth}
 use Rattle.serde_json.specs.Read.{max_depth}
 use Rattle.serde_json.specs.View.{items_of}
@@ -7,7 +7,6 @@ use Rattle.objects.specs.declared.add_remove_set.SetCall.{SetCall}
 use Rattle.objects.specs.declared.add_remove_set.SetCall.TheVariants.{Add, Remove, Has}
 use Rattle.objects.specs.declared.add_remove_set.SetRet.{SetRet}
 use Rattle.objects.specs.declared.add_remove_set.SetRet.TheVariants as set_rets
-use Rattle.objects.specs.declared.counter.CounterCall.{CounterCall}
 use Rattle.objects.specs.declared.counter.CounterRet.{CounterRet}
 use Rattle.objects.specs.declared.counter.CounterRet.TheVariants as counter_rets
 use Rattle.objects.specs.declared.queue.QueueCall.{QueueCall}

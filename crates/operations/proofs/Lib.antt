@@ -7,6 +7,7 @@ pub mod FormDepth
 pub mod HistoryForm
 pub mod HistoryReading
 pub mod JsonLists
+pub mod LoneForms
 pub mod PartsForm
 pub mod PartsWritten
 pub mod ReadForms

@@ -17,7 +17,7 @@ use Rattle.operations.specs.declared.read_error.ReadError.{ReadError}
 use Rattle.operations.specs.declared.read_error.ReadError.TheVariants as errors
 use Rattle.operations.specs.CounterForm as counter
 use Rattle.operations.specs.Form.{EachCall, history_form}
-use Rattle.history.specs.History.{Record, IsHistory}
+use Rattle.history.specs.History.{HistoryValue, IsHistory}
 use Rattle.operations.specs.ObjectNames.{text_of, name_at}
 use Rattle.operations.specs.QueueForm as queue
 use Rattle.operations.specs.Reading.{parts_of, named_refusal}
@@ -28,19 +28,19 @@ use Rattle.operations.specs.Spelling.{plain_form, plain_at, plain_start_form, pl
 
 module _ {S C R : Type 0} where
   -- the form of a history of an object without keys, and of one under keys
-  abbrev pub plain_history_form : (C → List ℕ) → (C → List Data) → (R → List Data) → ObjectName → Record S C R → Data
+  abbrev pub plain_history_form : (C → List ℕ) → (C → List Data) → (R → List Data) → ObjectName → HistoryValue S C R → Data
   plain_history_form word_of arguments ret_form name h = history_form (text_of name) (plain_form word_of arguments ret_form) plain_start_form h
 
-  abbrev pub keyed_history_form : (C → List ℕ) → (C → List Data) → (R → List Data) → (S → Data) → ObjectName → Record (List (ℕ × S)) (KeyedCall C) R → Data
+  abbrev pub keyed_history_form : (C → List ℕ) → (C → List Data) → (R → List Data) → (S → Data) → ObjectName → HistoryValue (List (ℕ × S)) (KeyedCall C) R → Data
   keyed_history_form word_of arguments ret_form start_form name h =
       history_form (text_of name) (keyed_form word_of arguments ret_form) (table_form start_form) h
 
   -- a history from the plain start
-  abbrev pub IsPlainHistory : S → (C → R → Bool) → Record S C R → Type 0
+  abbrev pub IsPlainHistory : S → (C → R → Bool) → HistoryValue S C R → Type 0
   IsPlainHistory plain fits h = IsHistory (λ _. Unit {0}) fits h × (h.0 ≡ plain)
 
   -- a history whose start is a table of other starts than the plain one, with keys that fit their type
-  abbrev pub IsKeyedHistory : S → (C → R → Bool) → Record (List (ℕ × S)) (KeyedCall C) R → Type 0
+  abbrev pub IsKeyedHistory : S → (C → R → Bool) → HistoryValue (List (ℕ × S)) (KeyedCall C) R → Type 0
   IsKeyedHistory plain fits h = IsHistory (IsTable plain (λ _. Unit {0})) (λ c. fits c.call) h × EachCall (λ c. c.key < 2 ^ 32) h.1
 
 -- the form of a history: the name of its object, its sessions, and its start where it has one

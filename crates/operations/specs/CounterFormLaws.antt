@@ -11,6 +11,7 @@ use Rattle.operations.specs.CallLaws.{by_word, alone_read, number-read}
 use Rattle.operations.specs.CounterForm.{word_of, arguments, ret_form, call_at, ret_at}
 use Rattle.operations.specs.Form.{HaveNoFloats}
 use Rattle.operations.specs.Json.{unknown}
+use Rattle.operations.specs.PlainFormLaws.{IsSpelling}
 
 pub call_read : (w : List ℕ) (ds rest : List Data) (c : CounterCall) → call_at w ds ≡ Some (c, rest) → (w ≡ word_of c) × (ds ≡ arguments c ++ rest)
 call_read w ds rest c e =
@@ -52,3 +53,15 @@ arguments_have_no_float c = refl
 pub ret_has_no_float : (r : CounterRet) → HaveNoFloats (ret_form r)
 ret_has_no_float Done = refl
 ret_has_no_float (Value v) = refl
+
+-- all of it
+pub is_spelling : IsSpelling word_of arguments ret_form call_at ret_at matches
+is_spelling = record {
+  call_read = call_read;
+  call_again = call_again;
+  ret_read = ret_read;
+  ret_again = ret_again;
+  ret_is_known = ret_is_known;
+  arguments_have_no_float = arguments_have_no_float;
+  ret_has_no_float = ret_has_no_float;
+}

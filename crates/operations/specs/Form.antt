@@ -4,7 +4,7 @@ use Rattle.serde_json.specs.Data.{Data, string}
 use Rattle.serde_json.specs.View.{items_of}
 use Rattle.serde_json.specs.Written.{items_have_float}
 use Rattle.operations.specs.Json.{list, elements}
-use Rattle.history.specs.History.{Record, IsSession}
+use Rattle.history.specs.History.{HistoryValue, IsSession}
 
 -- no number of these is a float
 abbrev pub HaveNoFloats : List Data → Type 0
@@ -17,7 +17,7 @@ Fits fits c r = IfSome r (λ v. fits c v ≡ true)
 abbrev pub session_form : {C R : Type 0} → (C → Option R → Data) → List (C × Option R) → Data
 session_form operation_form es = list (map (λ e. operation_form e.0 e.1) es)
 
-abbrev pub history_form : {S C R : Type 0} → List ℕ → (C → Option R → Data) → (S → List Data) → Record S C R → Data
+abbrev pub history_form : {S C R : Type 0} → List ℕ → (C → Option R → Data) → (S → List Data) → HistoryValue S C R → Data
 history_form name operation_form start_form h = list (string name ∷ list (map (session_form operation_form) h.1) ∷ start_form h.0)
 
 -- every list is a session, and so is the empty one behind the last

@@ -43,7 +43,7 @@ word_key_rest-read (w ∷ k ∷ rest) p e =
     let key = map_from (λ (key : ℕ). (text.0, key, rest)) (key_at k) p text.2 in
     parts_are w k rest text.0 key.0 p (as_str-read w text.0 text.1) ((key_at-read k key.0 key.1).0) key.2
 
-word_key_rest-small : (ds : List Data) (p : List ℕ × ℕ × List Data) → word_key_rest ds ≡ Some p → p.1 < 2 ^ 32
+pub word_key_rest-small : (ds : List Data) (p : List ℕ × ℕ × List Data) → word_key_rest ds ≡ Some p → p.1 < 2 ^ 32
 word_key_rest-small [] p e = absurd cc
 word_key_rest-small (w ∷ []) p e = absurd cc
 word_key_rest-small (w ∷ k ∷ rest) p e =

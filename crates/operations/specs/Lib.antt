@@ -6,6 +6,7 @@ pub mod Form
 pub mod Json
 pub mod JsonLaws
 pub mod KeyedFormLaws
+pub mod LoneForm
 pub mod ObjectNames
 pub mod PlainFormLaws
 pub mod QueueForm

@@ -10,6 +10,7 @@ use Rattle.objects.specs.declared.queue.QueueRet.TheVariants.{Done, Popped}
 use Rattle.operations.specs.CallLaws.{by_word, alone_read, with_number_read, number-read}
 use Rattle.operations.specs.Form.{HaveNoFloats}
 use Rattle.operations.specs.Json.{unknown, whole_number}
+use Rattle.operations.specs.PlainFormLaws.{IsSpelling}
 use Rattle.operations.specs.QueueForm.{word_of, arguments, ret_form, call_at, popped_at, ret_at}
 use Rattle.operations.specs.Spelling.{call_with}
 
@@ -70,3 +71,15 @@ pub ret_has_no_float : (r : QueueRet) → HaveNoFloats (ret_form r)
 ret_has_no_float Done = refl
 ret_has_no_float (Popped None) = refl
 ret_has_no_float (Popped (Some v)) = refl
+
+-- all of it
+pub is_spelling : IsSpelling word_of arguments ret_form call_at ret_at matches
+is_spelling = record {
+  call_read = call_read;
+  call_again = call_again;
+  ret_read = ret_read;
+  ret_again = ret_again;
+  ret_is_known = ret_is_known;
+  arguments_have_no_float = arguments_have_no_float;
+  ret_has_no_float = ret_has_no_float;
+}

@@ -3,6 +3,7 @@
 use Rattle.std.specs.Prelude.{ℕ, zero, suc, List, [], ◌∷◌, length, take, Bool, true, false, nat_lt, Option, Some, None, option_and_then, option_map, slice_get, is_some, if◌then◌else◌}
 use Rattle.std.specs.Option.{option_or}
 use Rattle.std.specs.List.{list_any}
+use Rattle.history.specs.declared.limits.TheConstants.{MAX_OPERATIONS, MAX_SESSIONS}
 use Rattle.serde_json.specs.Data.{Data}
 use Rattle.serde_json.specs.Find.{as_str}
 use Rattle.operations.specs.Json.{elements}
@@ -35,14 +36,14 @@ module _ {C R : Type 0} (operation_at : Data → Option (C × Option R)) where
 
   abbrev pub operations_refusal : ℕ → Option (List Data) → Option ReadError
   operations_refusal s None = Some BadShape
-  operations_refusal s (Some ds) = if nat_lt 256 (length ds) then Some TooManyOps else first_among (length ds) (operation_refusal s ds)
+  operations_refusal s (Some ds) = if nat_lt MAX_OPERATIONS (length ds) then Some TooManyOps else first_among (length ds) (operation_refusal s ds)
 
   abbrev pub session_refusal : List Data → ℕ → Option ReadError
   session_refusal sessions s = operations_refusal s (option_and_then elements (slice_get sessions s))
 
   abbrev pub sessions_refusal : List Data → Option ReadError
   sessions_refusal sessions =
-      if nat_lt 16 (length sessions) then Some TooManySessions else first_among (length sessions) (session_refusal sessions)
+      if nat_lt MAX_SESSIONS (length sessions) then Some TooManySessions else first_among (length sessions) (session_refusal sessions)
 
 -- the name, the sessions, and what stands behind them: a list of a text, a list, and at most one more list
 abbrev pub named_parts : Data → Data → List Data → Option (List ℕ × List Data × List Data)

@@ -14,6 +14,7 @@ use Rattle.operations.specs.Form.{HaveNoFloats}
 use Rattle.operations.specs.Json.{whole_number, unknown}
 use Rattle.operations.specs.JsonLaws.{whole_number-read}
 use Rattle.operations.specs.CallLaws.{by_word, alone_read, with_number_read, number-read}
+use Rattle.operations.specs.PlainFormLaws.{IsSpelling}
 use Rattle.operations.specs.Spelling.{call_with}
 use Rattle.operations.specs.RegisterForm.{word_of, arguments, ret_form, call_at, ret_at, start_form, start_at}
 
@@ -83,3 +84,15 @@ ret_has_no_float (Value v) = refl
 
 pub start_has_no_float : (s : ℕ) → has_float (start_form s) ≡ false
 start_has_no_float s = refl
+
+-- all of it
+pub is_spelling : IsSpelling word_of arguments ret_form call_at ret_at matches
+is_spelling = record {
+  call_read = call_read;
+  call_again = call_again;
+  ret_read = ret_read;
+  ret_again = ret_again;
+  ret_is_known = ret_is_known;
+  arguments_have_no_float = arguments_have_no_float;
+  ret_has_no_float = ret_has_no_float;
+}

@@ -12,6 +12,7 @@ use Rattle.operations.specs.CallLaws.{by_word, with_number_read}
 use Rattle.operations.specs.Form.{HaveNoFloats}
 use Rattle.operations.specs.Json.{unknown}
 use Rattle.operations.specs.JsonLaws.{map_from}
+use Rattle.operations.specs.PlainFormLaws.{IsSpelling}
 use Rattle.operations.specs.SetForm.{word_of, arguments, ret_form, call_at, ret_at}
 use Rattle.operations.specs.Spelling.{call_with}
 
@@ -73,3 +74,15 @@ arguments_have_no_float (Has u) = refl
 pub ret_has_no_float : (r : SetRet) → HaveNoFloats (ret_form r)
 ret_has_no_float Done = refl
 ret_has_no_float (HasAnswer b) = refl
+
+-- all of it
+pub is_spelling : IsSpelling word_of arguments ret_form call_at ret_at matches
+is_spelling = record {
+  call_read = call_read;
+  call_again = call_again;
+  ret_read = ret_read;
+  ret_again = ret_again;
+  ret_is_known = ret_is_known;
+  arguments_have_no_float = arguments_have_no_float;
+  ret_has_no_float = ret_has_no_float;
+}

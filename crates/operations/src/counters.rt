@@ -2,10 +2,11 @@
 
 ghost use Rattle.std.specs.Prelude.{codes};
 ghost use Rattle.operations.specs.CounterForm as counter;
-ghost use Rattle.operations.specs.CounterFormLaws.{call_read, call_again, ret_read, ret_again, ret_is_known, arguments_have_no_float, ret_has_no_float};
+ghost use Rattle.operations.specs.CounterFormLaws as laws;
 ghost use Rattle.operations.specs.CallLaws.{no_start_read, no_start_again, no_start_has_no_float};
 ghost use Rattle.operations.specs.Spelling.{no_start_form, no_start_at};
 
+use crate::lone::is_done;
 use crate::spelled::Spelled;
 use objects::{Counter, CounterCall, CounterRet};
 use serde_json::Value;
@@ -30,23 +31,23 @@ impl Spelled for Counter {
 
     ghost start_at = { no_start_at };
 
-    ghost call_read = { call_read };
+    ghost call_read = { laws.call_read };
 
-    ghost call_again = { call_again };
+    ghost call_again = { laws.call_again };
 
-    ghost ret_read = { ret_read };
+    ghost ret_read = { laws.ret_read };
 
-    ghost ret_again = { ret_again };
+    ghost ret_again = { laws.ret_again };
 
-    ghost ret_is_known = { ret_is_known };
+    ghost ret_is_known = { laws.ret_is_known };
 
     ghost start_read = { no_start_read };
 
     ghost start_again = { no_start_again };
 
-    ghost arguments_have_no_float = { arguments_have_no_float };
+    ghost arguments_have_no_float = { laws.arguments_have_no_float };
 
-    ghost ret_has_no_float = { ret_has_no_float };
+    ghost ret_has_no_float = { laws.ret_has_no_float };
 
     ghost start_has_no_float = { no_start_has_no_float };
 
@@ -81,6 +82,14 @@ impl Spelled for Counter {
             (CounterCall::Get, [value]) => value.as_u64().map(CounterRet::Value),
             _ => None,
         }
+    }
+
+    fn read_ret_alone(value: &Value) -> Option<CounterRet> {
+        if is_done(value) {
+            return Some(CounterRet::Done);
+        }
+        let value = value.as_u64()?;
+        Some(CounterRet::Value(value))
     }
 
     fn push_arguments(_call: &CounterCall, _values: &mut Vec<Value>) -> Result<(), AllocError> {

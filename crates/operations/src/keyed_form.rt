@@ -5,6 +5,7 @@ ghost use Rattle.serde_json.specs.View.{view};
 ghost use Rattle.operations.specs.Json.{elements};
 ghost use Rattle.operations.specs.Spelling.{keyed_form, keyed_at, table_elements, table_form, table_at};
 ghost use Rattle.operations.specs.KeyedFormLaws.{keyed_read, keyed_is_call, keyed_again, keyed_has_no_float};
+ghost use Rattle.operations.specs.LoneForm.{keyed_call_form, lone_return_form};
 ghost use Rattle.operations.specs.TableFormLaws.{table_read, table_again, table_has_no_float};
 
 use crate::json::elements_of;
@@ -32,6 +33,10 @@ impl<O: Spelled> Named for Keyed<O> {
 
     ghost operation_form = { keyed_form O.word_of O.arguments O.ret_form };
 
+    ghost call_form = { keyed_call_form O.word_of O.arguments };
+
+    ghost return_form = { lone_return_form O.ret_form };
+
     ghost operation_at = { keyed_at O.call_at O.ret_at };
 
     ghost start_form = { table_form O.start_form };
@@ -46,7 +51,8 @@ impl<O: Spelled> Named for Keyed<O> {
 
     ghost operation_is_call = { keyed_is_call O.call_at O.ret_at };
 
-    ghost operation_again = { keyed_again O.word_of O.arguments O.ret_form O.call_at O.ret_at O.matches O.call_again O.ret_again O.ret_is_known };
+    ghost operation_again = { keyed_again O.word_of O.arguments O.ret_form O.call_at O.ret_at O.matches
+        O.call_again O.ret_again O.ret_is_known };
 
     ghost start_read = { table_read O.plain_start O.is_start O.start_form O.start_at O.start_read };
 
@@ -64,6 +70,20 @@ impl<O: Spelled> Named for Keyed<O> {
         let (word, key, rest) = keyed_parts(value)?;
         let (call, ret) = O::read_spelled(word, rest)?;
         Some((KeyedCall { key, call }, ret))
+    }
+
+    fn read_lone_call(value: &Value) -> Option<KeyedCall<O::Call>> {
+        let Some((word, key, rest)) = keyed_parts(value) else {
+            return None;
+        };
+        let Some(call) = O::read_whole_call(word, rest) else {
+            return None;
+        };
+        Some(KeyedCall { key, call })
+    }
+
+    fn read_lone_return(value: &Value) -> Option<O::Ret> {
+        O::read_ret_alone(value)
     }
 
     fn write_operation(

@@ -3,6 +3,7 @@ ghost use Rattle.serde_json.specs.Data.{Data};
 ghost use Rattle.serde_json.specs.View.{view};
 ghost use Rattle.serde_json.specs.Written.{has_float};
 ghost use Rattle.operations.specs.Form.{Fits, HaveNoFloats};
+ghost use Rattle.operations.specs.Reads.{IsRead, IsReadWithin};
 
 use object_trait::SeqObject;
 use serde_json::Value;
@@ -18,6 +19,12 @@ pub trait Named: SeqObject {
 
     /// The form of a call with its known return, or with none.
     ghost operation_form: { Self.Call → Option Self.Ret → Data };
+
+    /// The form of a call that stands without its return.
+    ghost call_form: { Self.Call → Data };
+
+    /// The form of a return that stands without its call.
+    ghost return_form: { Self.Ret → Data };
 
     /// The call and the return of a form.
     ghost operation_at: { Data → Option (Self.Call × Option Self.Ret) };
@@ -39,6 +46,14 @@ pub trait Named: SeqObject {
 
     fn read_operation(value: &Value) -> Option<(Self::Call, Option<Self::Ret>)>
         ensures { result ≡ operation_at (view value.now) };
+
+    /// The call whose form the value is, where it stands without its return.
+    fn read_lone_call(value: &Value) -> Option<Self::Call>
+        ensures { IsReadWithin is_call call_form (view value.now) result };
+
+    /// The return whose form the value is, where it stands without its call.
+    fn read_lone_return(value: &Value) -> Option<Self::Ret>
+        ensures { IsRead return_form (view value.now) result };
 
     fn write_operation(
         alloc: Global,

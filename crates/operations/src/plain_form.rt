@@ -2,13 +2,11 @@
 
 ghost use Rattle.std.specs.Prelude.{◌≡◌, codes, IfOk};
 ghost use Rattle.serde_json.specs.View.{view};
-ghost use Rattle.objects.specs.AddRemoveSet.{matches as set_matches};
-ghost use Rattle.objects.specs.Counter.{matches as counter_matches};
-ghost use Rattle.objects.specs.Queue.{matches as queue_matches};
-ghost use Rattle.objects.specs.Register.{matches as register_matches};
 ghost use Rattle.operations.specs.CounterForm as counter;
 ghost use Rattle.operations.specs.CounterFormLaws as counter_laws;
-ghost use Rattle.operations.specs.PlainFormLaws.{plain_read, plain_again, plain_has_no_float, plain_start_read, plain_start_again, plain_start_has_no_float};
+ghost use Rattle.operations.specs.LoneForm.{lone_return_form, plain_call_form};
+ghost use Rattle.operations.specs.PlainFormLaws.{plain_read, plain_again, plain_has_no_float};
+ghost use Rattle.operations.specs.PlainFormLaws.{plain_start_read, plain_start_again, plain_start_has_no_float};
 ghost use Rattle.operations.specs.QueueForm as queue;
 ghost use Rattle.operations.specs.QueueFormLaws as queue_laws;
 ghost use Rattle.operations.specs.RegisterForm as register;
@@ -31,6 +29,10 @@ impl Named for Register {
 
     ghost operation_form = { plain_form register.word_of register.arguments register.ret_form };
 
+    ghost call_form = { plain_call_form register.word_of register.arguments };
+
+    ghost return_form = { lone_return_form register.ret_form };
+
     ghost operation_at = { plain_at register.call_at register.ret_at };
 
     ghost start_form = { plain_start_form };
@@ -41,17 +43,17 @@ impl Named for Register {
 
     ghost has_form = { λ start. start ≡ 0 };
 
-    ghost operation_read = { plain_read register.word_of register.arguments register.ret_form register.call_at register.ret_at register_matches register_laws.call_read register_laws.ret_read };
+    ghost operation_read = { plain_read register_laws.is_spelling };
 
     ghost operation_is_call = { λ _ _ _ _. tt };
 
-    ghost operation_again = { plain_again register.word_of register.arguments register.ret_form register.call_at register.ret_at register_matches register_laws.call_again register_laws.ret_again register_laws.ret_is_known };
+    ghost operation_again = { plain_again register_laws.is_spelling };
 
     ghost start_read = { plain_start_read 0 (λ _. Unit {0}) tt };
 
     ghost start_again = { plain_start_again 0 (λ _. Unit {0}) };
 
-    ghost operation_has_no_float = { plain_has_no_float register.word_of register.arguments register.ret_form register_laws.arguments_have_no_float register_laws.ret_has_no_float };
+    ghost operation_has_no_float = { plain_has_no_float register_laws.is_spelling };
 
     ghost start_has_no_float = { plain_start_has_no_float };
 
@@ -63,12 +65,21 @@ impl Named for Register {
         Register::read_plain(value)
     }
 
+    fn read_lone_call(value: &Value) -> Option<RegisterCall> {
+        Register::read_plain_call(value)
+    }
+
+    fn read_lone_return(value: &Value) -> Option<RegisterRet> {
+        Register::read_ret_alone(value)
+    }
+
     fn write_operation(
         alloc: Global,
         call: RegisterCall,
         ret: Option<RegisterRet>,
     ) -> Result<Value, AllocError>
-        ensures form { IfOk result (λ v. view v ≡ plain_form register.word_of register.arguments register.ret_form call ret) }
+        ensures form { IfOk result
+            (λ v. view v ≡ plain_form register.word_of register.arguments register.ret_form call ret) }
         ensures numbers { Unit {0} }
     {
         Register::write_plain(alloc, &call, &ret)
@@ -88,6 +99,10 @@ impl Named for Counter {
 
     ghost operation_form = { plain_form counter.word_of counter.arguments counter.ret_form };
 
+    ghost call_form = { plain_call_form counter.word_of counter.arguments };
+
+    ghost return_form = { lone_return_form counter.ret_form };
+
     ghost operation_at = { plain_at counter.call_at counter.ret_at };
 
     ghost start_form = { plain_start_form };
@@ -98,17 +113,17 @@ impl Named for Counter {
 
     ghost has_form = { λ start. start ≡ tt };
 
-    ghost operation_read = { plain_read counter.word_of counter.arguments counter.ret_form counter.call_at counter.ret_at counter_matches counter_laws.call_read counter_laws.ret_read };
+    ghost operation_read = { plain_read counter_laws.is_spelling };
 
     ghost operation_is_call = { λ _ _ _ _. tt };
 
-    ghost operation_again = { plain_again counter.word_of counter.arguments counter.ret_form counter.call_at counter.ret_at counter_matches counter_laws.call_again counter_laws.ret_again counter_laws.ret_is_known };
+    ghost operation_again = { plain_again counter_laws.is_spelling };
 
     ghost start_read = { plain_start_read tt (λ _. Unit {0}) tt };
 
     ghost start_again = { plain_start_again tt (λ _. Unit {0}) };
 
-    ghost operation_has_no_float = { plain_has_no_float counter.word_of counter.arguments counter.ret_form counter_laws.arguments_have_no_float counter_laws.ret_has_no_float };
+    ghost operation_has_no_float = { plain_has_no_float counter_laws.is_spelling };
 
     ghost start_has_no_float = { plain_start_has_no_float };
 
@@ -120,12 +135,21 @@ impl Named for Counter {
         Counter::read_plain(value)
     }
 
+    fn read_lone_call(value: &Value) -> Option<CounterCall> {
+        Counter::read_plain_call(value)
+    }
+
+    fn read_lone_return(value: &Value) -> Option<CounterRet> {
+        Counter::read_ret_alone(value)
+    }
+
     fn write_operation(
         alloc: Global,
         call: CounterCall,
         ret: Option<CounterRet>,
     ) -> Result<Value, AllocError>
-        ensures form { IfOk result (λ v. view v ≡ plain_form counter.word_of counter.arguments counter.ret_form call ret) }
+        ensures form { IfOk result
+            (λ v. view v ≡ plain_form counter.word_of counter.arguments counter.ret_form call ret) }
         ensures numbers { Unit {0} }
     {
         Counter::write_plain(alloc, &call, &ret)
@@ -145,6 +169,10 @@ impl Named for AddRemoveSet {
 
     ghost operation_form = { plain_form set.word_of set.arguments set.ret_form };
 
+    ghost call_form = { plain_call_form set.word_of set.arguments };
+
+    ghost return_form = { lone_return_form set.ret_form };
+
     ghost operation_at = { plain_at set.call_at set.ret_at };
 
     ghost start_form = { plain_start_form };
@@ -155,17 +183,17 @@ impl Named for AddRemoveSet {
 
     ghost has_form = { λ start. start ≡ tt };
 
-    ghost operation_read = { plain_read set.word_of set.arguments set.ret_form set.call_at set.ret_at set_matches set_laws.call_read set_laws.ret_read };
+    ghost operation_read = { plain_read set_laws.is_spelling };
 
     ghost operation_is_call = { λ _ _ _ _. tt };
 
-    ghost operation_again = { plain_again set.word_of set.arguments set.ret_form set.call_at set.ret_at set_matches set_laws.call_again set_laws.ret_again set_laws.ret_is_known };
+    ghost operation_again = { plain_again set_laws.is_spelling };
 
     ghost start_read = { plain_start_read tt (λ _. Unit {0}) tt };
 
     ghost start_again = { plain_start_again tt (λ _. Unit {0}) };
 
-    ghost operation_has_no_float = { plain_has_no_float set.word_of set.arguments set.ret_form set_laws.arguments_have_no_float set_laws.ret_has_no_float };
+    ghost operation_has_no_float = { plain_has_no_float set_laws.is_spelling };
 
     ghost start_has_no_float = { plain_start_has_no_float };
 
@@ -177,12 +205,21 @@ impl Named for AddRemoveSet {
         AddRemoveSet::read_plain(value)
     }
 
+    fn read_lone_call(value: &Value) -> Option<SetCall> {
+        AddRemoveSet::read_plain_call(value)
+    }
+
+    fn read_lone_return(value: &Value) -> Option<SetRet> {
+        AddRemoveSet::read_ret_alone(value)
+    }
+
     fn write_operation(
         alloc: Global,
         call: SetCall,
         ret: Option<SetRet>,
     ) -> Result<Value, AllocError>
-        ensures form { IfOk result (λ v. view v ≡ plain_form set.word_of set.arguments set.ret_form call ret) }
+        ensures form { IfOk result
+            (λ v. view v ≡ plain_form set.word_of set.arguments set.ret_form call ret) }
         ensures numbers { Unit {0} }
     {
         AddRemoveSet::write_plain(alloc, &call, &ret)
@@ -202,6 +239,10 @@ impl Named for Queue {
 
     ghost operation_form = { plain_form queue.word_of queue.arguments queue.ret_form };
 
+    ghost call_form = { plain_call_form queue.word_of queue.arguments };
+
+    ghost return_form = { lone_return_form queue.ret_form };
+
     ghost operation_at = { plain_at queue.call_at queue.ret_at };
 
     ghost start_form = { plain_start_form };
@@ -212,17 +253,17 @@ impl Named for Queue {
 
     ghost has_form = { λ start. start ≡ tt };
 
-    ghost operation_read = { plain_read queue.word_of queue.arguments queue.ret_form queue.call_at queue.ret_at queue_matches queue_laws.call_read queue_laws.ret_read };
+    ghost operation_read = { plain_read queue_laws.is_spelling };
 
     ghost operation_is_call = { λ _ _ _ _. tt };
 
-    ghost operation_again = { plain_again queue.word_of queue.arguments queue.ret_form queue.call_at queue.ret_at queue_matches queue_laws.call_again queue_laws.ret_again queue_laws.ret_is_known };
+    ghost operation_again = { plain_again queue_laws.is_spelling };
 
     ghost start_read = { plain_start_read tt (λ _. Unit {0}) tt };
 
     ghost start_again = { plain_start_again tt (λ _. Unit {0}) };
 
-    ghost operation_has_no_float = { plain_has_no_float queue.word_of queue.arguments queue.ret_form queue_laws.arguments_have_no_float queue_laws.ret_has_no_float };
+    ghost operation_has_no_float = { plain_has_no_float queue_laws.is_spelling };
 
     ghost start_has_no_float = { plain_start_has_no_float };
 
@@ -234,12 +275,21 @@ impl Named for Queue {
         Queue::read_plain(value)
     }
 
+    fn read_lone_call(value: &Value) -> Option<QueueCall> {
+        Queue::read_plain_call(value)
+    }
+
+    fn read_lone_return(value: &Value) -> Option<QueueRet> {
+        Queue::read_ret_alone(value)
+    }
+
     fn write_operation(
         alloc: Global,
         call: QueueCall,
         ret: Option<QueueRet>,
     ) -> Result<Value, AllocError>
-        ensures form { IfOk result (λ v. view v ≡ plain_form queue.word_of queue.arguments queue.ret_form call ret) }
+        ensures form { IfOk result
+            (λ v. view v ≡ plain_form queue.word_of queue.arguments queue.ret_form call ret) }
         ensures numbers { Unit {0} }
     {
         Queue::write_plain(alloc, &call, &ret)

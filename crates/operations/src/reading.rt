@@ -4,20 +4,16 @@ ghost use Rattle.std.specs.Prelude.{◌≡◌, ◌<◌, ◌≤◌, ◌^◌, ℕ,
 ghost use Rattle.serde_json.specs.View.{view};
 ghost use Rattle.operations.specs.Form.{IsReadFrom, AreSessions, EachCall, ReadAs, session_at, session_form};
 ghost use Rattle.operations.specs.Reading.{first_among, operation_refusal, operations_refusal, sessions_refusal, named_refusal};
-ghost use Rattle.history.specs.History.{IsHistory, IsSession, Record};
+ghost use Rattle.history.specs.History.{IsHistory, IsSession, HistoryValue};
 ghost use Rattle.operations.specs.Json.{elements};
 ghost use Rattle.operations.specs.Refusals.{IsFirst};
 
 use crate::json::elements_of;
 use crate::named::Named;
 use crate::read_error::ReadError;
-use history::{History, OpId};
+use history::{History, MAX_OPERATIONS, MAX_SESSIONS, OpId};
 use serde_json::Value;
 use std::alloc::Global;
-
-const MOST_SESSIONS: usize = 16;
-
-const MOST_OPERATIONS: usize = 256;
 
 /// The operations of the session numbered `s`, from the elements of its form.
 fn read_operations<O: Named>(
@@ -25,9 +21,10 @@ fn read_operations<O: Named>(
     s: u64,
     values: &[Value],
 ) -> Result<Vec<(O::Call, Option<O::Ret>)>, ReadError>
-    requires { length values.now ≤ 256 }
+    requires { length values.now ≤ MAX_OPERATIONS }
     ensures read { IfOk result (λ es. IsReadFrom O.operation_at O.matches (map view values.now) es.items) }
-    ensures nothing_refused { IfOk result (λ _. first_among (length values.now) (operation_refusal O.operation_at s (map view values.now)) ≡ None) }
+    ensures nothing_refused { IfOk result
+        (λ _. first_among (length values.now) (operation_refusal O.operation_at s (map view values.now)) ≡ None) }
     ensures refused { IfErr result (IsFirst (first_among (length values.now) (operation_refusal O.operation_at s (map view values.now)))) }
 {
     let mut entries = Vec::new(alloc);
@@ -64,7 +61,7 @@ fn read_session<O: Named>(
     let Some(values) = elements_of(value) else {
         return Err(ReadError::BadShape);
     };
-    if values.len() > MOST_OPERATIONS {
+    if values.len() > MAX_OPERATIONS {
         return Err(ReadError::TooManyOps);
     }
     read_operations::<O>(alloc, s, values)
@@ -76,12 +73,12 @@ fn read_sessions<O: Named>(
     values: &[Value],
 ) -> Result<Vec<Vec<(O::Call, Option<O::Ret>)>>, ReadError>
     ensures read { IfOk result (λ ss. ReadAs O.operation_at (map view values.now) (map (λ es. es.items) ss.items)) }
-    ensures few { IfOk result (λ ss. vec_len ss ≤ 16) }
+    ensures few { IfOk result (λ ss. vec_len ss ≤ MAX_SESSIONS) }
     ensures are_sessions { IfOk result (λ ss. AreSessions O.matches (map (λ es. es.items) ss.items)) }
     ensures nothing_refused { OnOk result (sessions_refusal O.operation_at (map view values.now) ≡ None) }
     ensures refused { IfErr result (IsFirst (sessions_refusal O.operation_at (map view values.now))) }
 {
-    if values.len() > MOST_SESSIONS {
+    if values.len() > MAX_SESSIONS {
         return Err(ReadError::TooManySessions);
     }
     let mut sessions = Vec::new(alloc);
@@ -105,7 +102,7 @@ pub fn read_parts<O: Named>(
     ensures each_call { IfOk result (λ h. EachCall O.is_call h.1) }
 
     // The form of a history is read as that history.
-    ensures only { (h : Record O.Start O.Call O.Ret) → IsHistory O.is_start O.matches h → EachCall O.is_call h.1 → O.has_form h.0
+    ensures only { (h : HistoryValue O.Start O.Call O.Ret) → IsHistory O.is_start O.matches h → EachCall O.is_call h.1 → O.has_form h.0
         → map view sessions.now ≡ map (session_form O.operation_form) h.1 → map view rest.now ≡ O.start_form h.0
         → MatchResult result (λ g. g ≡ h) (λ e. e ≡ ReadError.Memory) }
     ensures refused { IfErr result

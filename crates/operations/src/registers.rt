@@ -2,8 +2,9 @@
 
 ghost use Rattle.std.specs.Prelude.{codes};
 ghost use Rattle.operations.specs.RegisterForm as register;
-ghost use Rattle.operations.specs.RegisterFormLaws.{call_read, call_again, ret_read, ret_again, ret_is_known, start_read, start_again, arguments_have_no_float, ret_has_no_float, start_has_no_float};
+ghost use Rattle.operations.specs.RegisterFormLaws as laws;
 
+use crate::lone::is_done;
 use crate::spelled::Spelled;
 use crate::words::first_number;
 use objects::{Register, RegisterCall, RegisterRet};
@@ -29,25 +30,25 @@ impl Spelled for Register {
 
     ghost start_at = { register.start_at };
 
-    ghost call_read = { call_read };
+    ghost call_read = { laws.call_read };
 
-    ghost call_again = { call_again };
+    ghost call_again = { laws.call_again };
 
-    ghost ret_read = { ret_read };
+    ghost ret_read = { laws.ret_read };
 
-    ghost ret_again = { ret_again };
+    ghost ret_again = { laws.ret_again };
 
-    ghost ret_is_known = { ret_is_known };
+    ghost ret_is_known = { laws.ret_is_known };
 
-    ghost start_read = { start_read };
+    ghost start_read = { laws.start_read };
 
-    ghost start_again = { start_again };
+    ghost start_again = { laws.start_again };
 
-    ghost arguments_have_no_float = { arguments_have_no_float };
+    ghost arguments_have_no_float = { laws.arguments_have_no_float };
 
-    ghost ret_has_no_float = { ret_has_no_float };
+    ghost ret_has_no_float = { laws.ret_has_no_float };
 
-    ghost start_has_no_float = { start_has_no_float };
+    ghost start_has_no_float = { laws.start_has_no_float };
 
     fn plain_name() -> &'static str {
         "register"
@@ -81,6 +82,14 @@ impl Spelled for Register {
             (RegisterCall::Read, [value]) => value.as_u64().map(RegisterRet::Value),
             _ => None,
         }
+    }
+
+    fn read_ret_alone(value: &Value) -> Option<RegisterRet> {
+        if is_done(value) {
+            return Some(RegisterRet::Done);
+        }
+        let value = value.as_u64()?;
+        Some(RegisterRet::Value(value))
     }
 
     fn push_arguments(call: &RegisterCall, values: &mut Vec<Value>) -> Result<(), AllocError> {

@@ -2,10 +2,11 @@
 
 ghost use Rattle.std.specs.Prelude.{codes};
 ghost use Rattle.operations.specs.SetForm as set;
-ghost use Rattle.operations.specs.SetFormLaws.{call_read, call_again, ret_read, ret_again, ret_is_known, arguments_have_no_float, ret_has_no_float};
+ghost use Rattle.operations.specs.SetFormLaws as laws;
 ghost use Rattle.operations.specs.CallLaws.{no_start_read, no_start_again, no_start_has_no_float};
 ghost use Rattle.operations.specs.Spelling.{no_start_form, no_start_at};
 
+use crate::lone::is_done;
 use crate::spelled::Spelled;
 use crate::words::first_number;
 use objects::{AddRemoveSet, SetCall, SetRet};
@@ -31,23 +32,23 @@ impl Spelled for AddRemoveSet {
 
     ghost start_at = { no_start_at };
 
-    ghost call_read = { call_read };
+    ghost call_read = { laws.call_read };
 
-    ghost call_again = { call_again };
+    ghost call_again = { laws.call_again };
 
-    ghost ret_read = { ret_read };
+    ghost ret_read = { laws.ret_read };
 
-    ghost ret_again = { ret_again };
+    ghost ret_again = { laws.ret_again };
 
-    ghost ret_is_known = { ret_is_known };
+    ghost ret_is_known = { laws.ret_is_known };
 
     ghost start_read = { no_start_read };
 
     ghost start_again = { no_start_again };
 
-    ghost arguments_have_no_float = { arguments_have_no_float };
+    ghost arguments_have_no_float = { laws.arguments_have_no_float };
 
-    ghost ret_has_no_float = { ret_has_no_float };
+    ghost ret_has_no_float = { laws.ret_has_no_float };
 
     ghost start_has_no_float = { no_start_has_no_float };
 
@@ -88,6 +89,14 @@ impl Spelled for AddRemoveSet {
             (SetCall::Has(_), [value]) => value.as_bool().map(SetRet::Has),
             _ => None,
         }
+    }
+
+    fn read_ret_alone(value: &Value) -> Option<SetRet> {
+        if is_done(value) {
+            return Some(SetRet::Done);
+        }
+        let there = value.as_bool()?;
+        Some(SetRet::Has(there))
     }
 
     fn push_arguments(call: &SetCall, values: &mut Vec<Value>) -> Result<(), AllocError> {

@@ -4,10 +4,13 @@ ghost use Rattle.serde_json.specs.View.{view};
 ghost use Rattle.serde_json.specs.Written.{has_float};
 ghost use Rattle.operations.specs.Form.{HaveNoFloats};
 ghost use Rattle.operations.specs.Json.{unknown};
+ghost use Rattle.operations.specs.LoneForm.{lone_return_form, plain_call_form, whole_call_at};
+ghost use Rattle.operations.specs.Reads.{IsRead, IsReadWithin};
 ghost use Rattle.operations.specs.Spelling.{entries_at, entry_at, entry_form, plain_at, plain_form, plain_start_at, rest_form, spelled_at};
 
 use crate::json::elements_of;
 use crate::keys::{entry_of, is_above, key_of};
+use crate::lone::is_nothing;
 use crate::unknown::{is_question_mark_alone, push_question_mark};
 use crate::words::{word_alone, word_and_rest};
 use object_trait::SeqObject;
@@ -62,6 +65,10 @@ pub trait Spelled: SeqObject {
 
     fn read_ret(call: &Self::Call, values: &[Value]) -> Option<Self::Ret>
         ensures { result ≡ ret_at call.now (map view values.now) };
+
+    /// The return that stands alone, without its call.
+    fn read_ret_alone(value: &Value) -> Option<Self::Ret>
+        ensures { IsRead (lone_return_form ret_form) (view value.now) result };
 
     /// Puts what a call takes behind the others. Where memory runs out they stay as they were.
     fn push_arguments(call: &Self::Call, values: &mut Vec<Value>) -> Result<(), AllocError>
@@ -126,6 +133,24 @@ pub trait Spelled: SeqObject {
     {
         let values = word_alone(alloc, Self::word(call))?;
         Ok(Value::from(Self::with_rest(alloc, call, ret, values)?))
+    }
+
+    /// The call that a word and the values behind it spell, where nothing stands behind what it takes.
+    fn read_whole_call(word: &str, values: &[Value]) -> Option<Self::Call>
+        ensures { result ≡ whole_call_at call_at word.now (map view values.now) }
+    {
+        let (call, rest) = Self::read_call(word, values)?;
+        if is_nothing(rest) { Some(call) } else { None }
+    }
+
+    /// The call without a key whose form the value is, where it stands without its return.
+    final fn read_plain_call(value: &Value) -> Option<Self::Call>
+        ensures { IsReadWithin (λ _. Unit {0}) (plain_call_form word_of arguments) (view value.now) result }
+    {
+        let Some((word, rest)) = word_and_rest(value) else {
+            return None;
+        };
+        Self::read_whole_call(word, rest)
     }
 
     /// The plain start, where nothing stands behind the sessions.

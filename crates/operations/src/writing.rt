@@ -7,7 +7,7 @@ ghost use Rattle.history.specs.History.{session, IsHistory};
 ghost use Rattle.operations.specs.Json.{list};
 
 use crate::named::Named;
-use history::History;
+use history::{History, MAX_SESSIONS};
 use serde_json::Value;
 use std::alloc::{AllocError, Global};
 
@@ -30,7 +30,7 @@ fn write_session<O: Named>(
 /// The form of all sessions.
 fn write_sessions<O: Named>(alloc: Global, history: &History<O>) -> Result<Value, AllocError>
     ensures form { IfOk result (λ v. view v ≡ list (map (session_form O.operation_form) history.now.1)) }
-    ensures few { OnOk result (length history.now.1 ≤ 16) }
+    ensures few { OnOk result (length history.now.1 ≤ MAX_SESSIONS) }
     ensures sessions { OnOk result (AreSessions O.matches history.now.1) }
     ensures calls { OnOk result (EachCall O.is_call history.now.1) }
 {

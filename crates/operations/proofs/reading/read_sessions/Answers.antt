@@ -16,7 +16,7 @@ returns-in_err-session-clause-refused g c =
     let ss = map (λ es. es.items) c.loop-s.sessions.items in
     let count : length ds ≡ length c.args.values.now = simp length-map in
     let few : sessions_refusal g.O.Named.operation_at ds ≡ first_among (length c.args.values.now) (session_refusal g.O.Named.operation_at ds) =
-    few_sessions g.O.Named.operation_at g.O.SeqObject.matches ds (rw count c.if-values-gt-MOST_SESSIONS.false) ∙ ap (λ n. first_among n (session_refusal g.O.Named.operation_at ds)) count in
+    few_sessions g.O.Named.operation_at g.O.SeqObject.matches ds (rw count c.if-values-gt-MAX_SESSIONS.false) ∙ ap (λ n. first_among n (session_refusal g.O.Named.operation_at ds)) count in
     let p = err_from_is_err_and c.from_residual.result c.from_residual.ensures.1 in
     rw (p.1, p.2) (IsFirst-moves (operations_refusal g.O.Named.operation_at c.loop-s.s (elements (view v))) (sessions_refusal g.O.Named.operation_at ds) _
     (λ x bad. few ∙ refused_there g.O.Named.operation_at g.O.SeqObject.matches (length c.args.values.now) ds ss c.loop-s.s (view v) x count c.loop-s.invariant here bad)
