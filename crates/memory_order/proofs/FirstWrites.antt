@@ -1,20 +1,20 @@
 -- The sources of a memory history: the first writes of what was read.
-use Rattle.std.specs.Prelude.{◌≡◌, ◌⊎◌, ◌↔◌, ℕ, ◌+◌, ◌<◌, ◌≤◌, List, [], ◌∷◌, ◌++◌, length, Option, Some, None, Contains, slice_get}
-use Rattle.std.proofs.Common.{arith, get_or, sym, ap, subst, subst₂, ◌∙◌, inl, inr, ⊎_elim, refl, length-append}
+use Rattle.std.specs.Prelude.{◌≡◌, ◌⊎◌, ◌↔◌, ℕ, ◌<◌, ◌≤◌, List, [], length, Option, Some, None, slice_get}
+use Rattle.std.proofs.Common.{arith, get_or, sym, ap, subst, subst₂, ◌∙◌, inl, inr, ⊎_elim}
 use Rattle.std.proofs.lemmas.Bool.{cases_lt, cases_order}
-use Rattle.std.proofs.lemmas.List.{get_or_past, get_or_append_left, get_or_push}
-use Rattle.std.proofs.lemmas.Option.{same_Some, slice_get-get_or, slice_get_within}
+use Rattle.std.proofs.lemmas.List.{get_or_past}
+use Rattle.std.proofs.lemmas.Option.{slice_get-get_or, slice_get_within}
 use Rattle.history.specs.declared.op_id.OpId.{OpId}
 use Rattle.history.specs.History.{IsOp, Precedes, session}
 use Rattle.memory_order.specs.declared.writes.Write.{Write}
 use Rattle.memory_order.specs.Memory.{MemoryHistory, initial, Writes, Reads, IsDifferentiated}
 use Rattle.memory_order.proofs.MemoryLaws.{same_read, write-of_history, read-of_history}
-use Rattle.causal_order.specs.Orders.{op, IsEarlier}
+use Rattle.causal_order.specs.Orders.{IsEarlier}
 use Rattle.causal_order.proofs.OrdersLaws.{same_op}
 use Rattle.memory_order.specs.Relations.{ReadsFrom, IsEdge, CO}
 use Rattle.causal_order.proofs.PathsLaws.{leads-wider}
 use Rattle.memory_order.proofs.RelationsLaws.{CO-of_history}
-use Rattle.memory_order.specs.SourceOrder.{LacksSource, CountsSourceOrder, IsSource, IsSourceEdge, SourceOrder, IsSourceOf, ListsSourcesBelow, ListsSourcesSoFar, ListsSources}
+use Rattle.memory_order.specs.SourceOrder.{LacksSource, CountsCO, CountsSourceOrder, IsSource, IsSourceEdge, SourceOrder, IsSourceOf, ListsSources}
 use Rattle.memory_order.specs.Sources.{Sources, HasSource, AreListed, IsStep, Comes, IsUnfinished, AreVectorsSoFar}
 use Rattle.causal_order.specs.Vectors.{IsListed, Counts, IsCounted}
 use Rattle.memory_order.specs.Steps.Written.{ListsWrites, IsLeastWrite}
@@ -30,49 +30,6 @@ module _ (h : MemoryHistory) where
           let same = same_read h r x v from.0 from.1 reads from.3 in
           least.least (record { op = u; key = from.0; value = from.1 }) (lists.each u from.0 from.1 from.2) (sym same.0) (sym same.1),
     )
-
-    -- where nobody wrote it, a source is missing
-    pub source-unwritten : (v ≡ initial h x → ⊥) → ((w : Write) → Contains writes w → w.key ≡ x → w.value ≡ v → ⊥) → LacksSource h
-    source-unwritten apart none = (r, x, v, reads, apart, λ w wrote. none (record { op = w; key = x; value = v }) (lists.each w x v wrote) refl refl)
-
-  -- the source of one operation more
-  pub ListsSourcesBelow-push : (s n : ℕ) (es after : List (Option OpId)) (e : Option OpId) → ListsSourcesBelow h s n es → n < 256
-      → IsSourceOf h (op s n) e → after ≡ es ++ e ∷ [] → ListsSourcesBelow h s (n + 1) after
-  ListsSourcesBelow-push s n es after e below room source is =
-      subst (λ (xs : List (Option OpId)). ListsSourcesBelow h s (n + 1) xs) (sym is) (record {
-        count = length-append es (e ∷ []) ∙ (let same = below.count in omega arith);
-        short = omega arith;
-        each = λ i f at.
-            let within = slice_get_within (es ++ e ∷ []) i f at in
-            let len = length-append es (e ∷ []) in
-            let count = below.count in
-            let here : get_or (es ++ e ∷ []) i f ≡ f = same_Some _ _ (sym (slice_get-get_or (es ++ e ∷ []) i f within) ∙ at) in
-            ⊎_elim
-            (λ (old : i < length es).
-            below.each i f (slice_get-get_or es i f old ∙ (λ j. Some ((sym (get_or_append_left es (e ∷ []) f i old) ∙ here) j))))
-            (λ (new : length es ≤ i).
-            let last : length es ≡ i = omega arith in
-            let place : n ≡ i = omega arith in
-            subst₂ (λ (k : ℕ) (g : Option OpId). IsSourceOf h (op s k) g) place (sym (get_or_push es e f i last) ∙ here) source)
-            (cases_lt i (length es));
-      })
-
-  -- the sources of one session more
-  pub ListsSourcesSoFar-push : (n : ℕ) (sources after : Sources) (es : List (Option OpId)) → ListsSourcesSoFar h n sources
-      → ListsSourcesBelow h n (length (session h n)) es → after ≡ sources ++ es ∷ [] → ListsSourcesSoFar h (n + 1) after
-  ListsSourcesSoFar-push n sources after es so_far below is =
-      subst (λ (xs : Sources). ListsSourcesSoFar h (n + 1) xs) (sym is) (record {
-        sessions = length-append sources (es ∷ []) ∙ (let same = so_far.sessions in omega arith);
-        each = λ s within. ⊎_elim
-            (λ (old : s < n).
-            let inside : s < length sources = let same = so_far.sessions in omega arith in
-            subst (λ (xs : List (Option OpId)). ListsSourcesBelow h s (length (session h s)) xs) (sym (get_or_append_left sources (es ∷ []) [] s inside)) (so_far.each s old))
-            (λ (new : n ≤ s).
-            let last : length sources ≡ s = let same = so_far.sessions in omega arith in
-            let place : n ≡ s = omega arith in
-            subst₂ (λ (k : ℕ) (xs : List (Option OpId)). ListsSourcesBelow h k (length (session h k)) xs) place (sym (get_or_push sources es [] s last)) below)
-            (cases_lt s n);
-      })
 
   -- a read has one source
   pub source-unique : (u w r : OpId) → IsSource h u r → IsSource h w r → u ≡ w
@@ -120,6 +77,20 @@ module _ (h : MemoryHistory) where
       (λ (before : Precedes a b × IsOp h b). inl before)
       (λ (reads : ReadsFrom h a b). inr (distinct-source distinct a b reads))
       edge)
+
+  -- and vectors of it count CO
+  pub counts-past : IsDifferentiated h → (v : Counts) → CountsSourceOrder h v → CountsCO h v
+  counts-past distinct v counts o a is_op =
+      let exact = counts.counted o a is_op in (
+        (λ counted. ⊎_elim
+            (λ (same : a ≡ o). inl same)
+            (λ (comes : SourceOrder h a o). inr (CO-from_sources a o comes))
+            (exact.0 counted)),
+        λ past. exact.1 (⊎_elim
+            (λ (same : a ≡ o). inl same)
+            (λ (comes : CO h a o). inr (CO-by_sources distinct a o comes))
+            past),
+      )
 
   module _ (sources : Sources) (lists : ListsSources h sources) where
     pub sources-length : (s : ℕ) → length (get_or sources s []) ≡ length (session h s)
@@ -201,19 +172,6 @@ module _ (h : MemoryHistory) where
             λ before. exact.1 (⊎_elim
                 (λ (same : a ≡ o). inl same)
                 (λ (comes : SourceOrder h a o). inr (steps-from_order a o comes))
-                before),
-          )
-
-      pub counts-past : IsDifferentiated h → (o a : OpId) → IsOp h o → IsCounted v o a ↔ ((a ≡ o) ⊎ CO h a o)
-      counts-past distinct o a is_op =
-          let exact = counts-exact o a is_op in (
-            (λ counted. ⊎_elim
-                (λ (same : a ≡ o). inl same)
-                (λ (comes : SourceOrder h a o). inr (CO-from_sources a o comes))
-                (exact.0 counted)),
-            λ before. exact.1 (⊎_elim
-                (λ (same : a ≡ o). inl same)
-                (λ (comes : CO h a o). inr (CO-by_sources distinct a o comes))
                 before),
           )
 

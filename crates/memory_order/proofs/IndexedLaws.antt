@@ -1,5 +1,5 @@
 -- What follows for the sources, the known reads and the last writes of a memory history.
-use Rattle.std.specs.Prelude.{◌≡◌, ◌↔◌, ℕ, ◌+◌, ◌<◌, ◌≤◌, List, [], ◌∷◌, ◌++◌, length, Option, Some, None, MatchOption, IfSome, Contains, unwrap_or}
+use Rattle.std.specs.Prelude.{◌≡◌, ◌≢◌, ◌↔◌, ℕ, Bool, false, IsTrue, ◌+◌, ◌<◌, ◌≤◌, List, [], ◌∷◌, ◌++◌, length, Option, Some, None, MatchOption, IfSome, Contains, slice_get, unwrap_or}
 use Rattle.std.proofs.Common.{arith, get_or, sym, ap, subst, subst₂, ◌∙◌, ⊎_elim, length-append}
 use Rattle.std.proofs.lemmas.Bool.{cases_eq, cases_lt}
 use Rattle.std.proofs.lemmas.List.{get_or_append_left, get_or_push}
@@ -11,9 +11,9 @@ use Rattle.memory_order.specs.declared.writes.Write.{Write}
 use Rattle.memory_order.specs.Memory.{MemoryHistory, initial, Writes, Reads}
 use Rattle.causal_order.specs.Orders.{op}
 use Rattle.memory_order.specs.Relations.{ReadsFrom}
-use Rattle.memory_order.specs.SourceOrder.{LacksSource, IsSourceOf, ListsSourcesBelow}
+use Rattle.memory_order.specs.SourceOrder.{LacksSource, IsSourceOf, ListsSources, ListsSourcesBelow}
 use Rattle.memory_order.specs.Sources.{Sources}
-use Rattle.memory_order.specs.Steps.Indexed.{IsSourceIfAny, ListsIfAnyBelow, ListsIfAnySoFar, ListsSourcesIfAny, IsKnownRead, ListsReadsBefore, ListsReads, end_of, listed_source, HasNoWriteBefore, IsLastWriteBefore}
+use Rattle.memory_order.specs.Steps.Indexed.{IsSourceIfAny, ListsIfAnyBelow, ListsIfAnySoFar, ListsSourcesIfAny, IsKnownRead, LacksItsSource, ListsReadsBefore, ListsReads, end_of, listed_source, HasNoWriteBefore, IsLastWriteBefore}
 use Rattle.memory_order.specs.Steps.Written.{IsBelowWrite, IsLeastWrite, ListsWrites}
 use Rattle.memory_order.proofs.FirstWrites.{source-unique, source-written}
 use Rattle.memory_order.proofs.ListedLaws.{listed-item, listed-none, listed-session, listed-end}
@@ -61,6 +61,14 @@ module _ (h : MemoryHistory) where
     short = below.short;
     each = λ i e at. if_any-source present (op s i) e (below.each i e at);
   }
+
+  pub sources-sourced : (lacks : Bool) → (IsTrue lacks ↔ LacksSource h) → lacks ≡ false → (sources : Sources) → ListsSourcesIfAny h sources → ListsSources h sources
+  sources-sourced lacks shows is_false sources lists =
+      let present : ¬ LacksSource h = λ missing. let yes = shows.1 missing in absurd cc in
+      record {
+        sessions = lists.sessions;
+        each = λ s inside. below-sourced present s (length (session h s)) (get_or sources s []) (lists.each s inside);
+      }
 
   -- the source of one operation more
   pub ListsIfAnyBelow-push : (s n : ℕ) (es after : List (Option OpId)) (e : Option OpId) → ListsIfAnyBelow h s n es → n < 256
@@ -161,6 +169,33 @@ module _ (h : MemoryHistory) where
         (k, listed-end (λ k. k.op) (IsKnownRead h) h known-of_history s reads ended before k known, λ i. r);
     no_other = before.no_other;
   }
+
+  -- a known read that lacks its source shows that a source is missing
+  pub its-missing : (k : KnownRead) → IsKnownRead h k → LacksItsSource h k → LacksSource h
+  its-missing k known lacks =
+      let none : (w : OpId) → ¬ ReadsFrom h w k.op = subst (λ (e : Option OpId). IsSourceIfAny h k.op e) lacks.0 known.source in
+      (k.op, lacks.1.0, lacks.1.1, lacks.1.2, lacks.1.3, λ w wrote. none w (lacks.1.0, lacks.1.1, wrote, lacks.1.2, lacks.1.3))
+
+  its-source : (k : KnownRead) → (x v : ℕ) → Reads h k.op x v → v ≢ initial h x → ((w : OpId) → ¬ Writes h w x v)
+      → (e : Option OpId) → IsSourceIfAny h k.op e → e ≡ None
+  its-source k x v reads apart unwritten None none = λ i. None
+  its-source k x v reads apart unwritten (Some w) source =
+      let from = source.0 in
+      let same = same_read h k.op x v from.0 from.1 reads from.3 in
+      absurd (unwritten w (subst₂ (λ (y u : ℕ). Writes h w y u) (sym same.0) (sym same.1) from.2))
+
+  -- where no listed read lacks its source, none is missing
+  pub none-missing : (reads : List KnownRead) → ListsReads h reads → (n : ℕ) → length reads ≤ n
+      → ((i : ℕ) (k : KnownRead) → i < n → slice_get reads i ≡ Some k → ¬ LacksItsSource h k) → ¬ LacksSource h
+  none-missing reads lists n ended none lacks =
+      let entry = lists.each lacks.0 lacks.1 lacks.2 lacks.3 in
+      let k = entry.0 in
+      let known = lists.no_other k entry.1 in
+      let at = slice_get-get_or reads entry.1.0 k entry.1.1 ∙ ap (λ (m : KnownRead). Some m) entry.1.2 in
+      let inside : entry.1.0 < length reads = entry.1.1 in
+      let this : Reads h k.op lacks.1 lacks.2 = subst (λ (o : OpId). Reads h o lacks.1 lacks.2) (sym entry.2) lacks.3 in
+      none entry.1.0 k (omega arith) at
+      (its-source k lacks.1 lacks.2 this lacks.4 lacks.5 k.source known.source, (lacks.1, lacks.2, this, lacks.4))
 
   -- the last write before an operation, by the sorted writes
   pub last-before : (writes : List Write) → ListsWrites h writes → (x : ℕ) (end : OpId) (e : Option OpId)

@@ -38,6 +38,9 @@ pub mod RightRaises
 pub mod RaisesCaused
 pub mod Released
 pub mod GrowingSteps
+pub mod Joined
+pub mod TakenIn
+pub mod TakenPasts
 pub mod FollowedReads
 pub mod StrictLaws
 pub mod RelationsMade
@@ -45,3 +48,4 @@ pub mod Saturating
 pub mod SourceWaits
 pub mod Conflicting
 pub mod HeldItems
+pub mod Elements

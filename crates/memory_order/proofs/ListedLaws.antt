@@ -3,7 +3,7 @@ use Rattle.std.specs.Prelude.{◌≡◌, ℕ, ◌+◌, ◌<◌, ◌≤◌, List,
 use Rattle.std.proofs.Common.{inl, inr, ⊎_elim, arith, subst, eq-or-lt_of_le}
 use Rattle.std.proofs.lemmas.List.Elements.{Contains-append_left, Contains-push, Contains-push_cases}
 use Rattle.history.specs.declared.op_id.OpId.{OpId}
-use Rattle.history.specs.History.{Record, IsOp, session}
+use Rattle.history.specs.History.{HistoryValue, IsOp, session}
 use Rattle.memory_order.proofs.EarlierLaws.{earlier_cases}
 use Rattle.memory_order.specs.Steps.Listed.{ListsBefore}
 use Rattle.causal_order.specs.Orders.{op, IsEarlier}
@@ -35,7 +35,7 @@ module _ {X : Type 0} (op_of : X → OpId) (belongs : X → Type 0) where
     no_other = before.no_other;
   }
 
-  module _ {S C R : Type 0} (h : Record S C R) (of_history : (y : X) → belongs y → IsOp h (op_of y)) where
+  module _ {S C R : Type 0} (h : HistoryValue S C R) (of_history : (y : X) → belongs y → IsOp h (op_of y)) where
     -- the end of a session
     pub listed-session : (s i : ℕ) (items : List X) → length (session h s) ≤ i
         → ListsBefore op_of belongs (op s i) items → ListsBefore op_of belongs (op (s + 1) 0) items

@@ -100,6 +100,44 @@ module _ (h : MemoryHistory) (free : Type 0) (reads : Ops) where
       (omega arith, omega arith, omega arith))
       a b grows (refl, omega arith, omega arith)
 
+  -- what a cause puts before an operation is within bounds, where those that are within them count no more
+  module _ (bound : ℕ → ℕ) (within : (r : OpId) → IsTrue (reads r) → r.index < bound r.session) where
+    abbrev IsBounded : Counts → Type 0
+    IsBounded v = (p : OpId) (y : ℕ) → p.index < bound p.session → count v p y ≤ bound y
+
+    caused-bounded : (v : Counts) → IsBounded v → (b : OpId) (u c : ℕ) → b.index < bound b.session → (cause : Cause) → IsCaused h reads v b u c cause → c ≤ bound u
+    caused-bounded v bounded b u c inside (Through m) through =
+        let below : m.index < bound m.session = ⊎_elim
+        (λ (counted : IsCounted v b m). let most = bounded b m.session inside in omega arith)
+        (λ (precedes : Precedes m b).
+        let before = precedes.1 in
+        subst (λ (t : ℕ). m.index < bound t) (sym precedes.0) (omega arith))
+        through.0 in
+        let most = bounded m u below in
+        let less = through.1 in
+        omega arith
+    caused-bounded v bounded b u c inside (Read r) ruled =
+        let most = bounded r u (within r ruled.2) in
+        let last = ruled.1 in
+        let below = ruled.5 in
+        omega arith
+
+    -- so they still count no more
+    pub grows-bounded : (a b : GrowingOrder) → Grows h free reads a b → IsBounded a.counts → IsBounded b.counts
+    grows-bounded a b grows = grows-keep h free reads (λ (x : GrowingOrder). IsBounded x.counts)
+        (λ x y before raise p z inside. ⊎_elim
+        (λ (same : count y.counts p z ≡ count x.counts p z). let most = before p z inside in omega arith)
+        (λ (change : IsChange x.counts y.counts raise.raised.op.session raise.raised.op.index raise.raised.end raise.raised.session raise.number raise.range p z).
+        let from = change.1 in
+        let here : raise.raised.op.index < bound raise.raised.op.session = subst (λ (t : ℕ). raise.raised.op.index < bound t) change.0 (omega arith) in
+        let most = caused-bounded x.counts before raise.raised.op raise.raised.session raise.number here raise.named raise.cause in
+        let value = change.5 in
+        subst (λ (t : ℕ). count y.counts p z ≤ bound t) (sym change.3) (omega arith))
+        (raise.range.each p z))
+        (λ x y before included p z inside. let most = before p z inside in let same = ap (λ (v : Counts). count v p z) included.counts in omega arith)
+        (λ x y before is released p z inside. let most = before p z inside in let same = ap (λ (v : Counts). count v p z) released.counts in omega arith)
+        a b grows
+
   -- so no more steps are left
   pub grows-left : (a b : GrowingOrder) → Grows h free reads a b → left_of h b ≤ left_of h a
   grows-left a b grows =

@@ -1,5 +1,5 @@
 -- Steps of a state in which vectors grow keep that its raises are right, and that they reach what is counted.
-use Rattle.std.specs.Prelude.{◌≡◌, ◌⊎◌, ℕ, ◌+◌, ◌-◌, ◌<◌, ◌≤◌, List, IsTrue, length, slice_index}
+use Rattle.std.specs.Prelude.{◌≡◌, ℕ, ◌+◌, ◌-◌, ◌<◌, ◌≤◌, List, IsTrue, length, slice_index}
 use Rattle.std.proofs.Common.{arith, sym, ap, subst, subst₂, ◌∙◌, ⊎_elim, inl, inr, length-append}
 use Rattle.history.specs.declared.op_id.OpId.{OpId}
 use Rattle.history.specs.History.{IsOp, Precedes, session}
@@ -10,7 +10,7 @@ use Rattle.memory_order.specs.declared.growing_order.Raise.{Raise}
 use Rattle.memory_order.specs.Memory.{MemoryHistory}
 use Rattle.memory_order.specs.Raises.{AreReached, AreRightRaises, IsRightCause, IsRightRaise, operation_of}
 use Rattle.memory_order.specs.Relations.{AreRivalWrites, IsPast}
-use Rattle.memory_order.specs.Steps.GrowthSteps.{Grows, IsCaused, IsGrowing, IsIn, IsInclusion, IsRaise, IsRelease, raises_from}
+use Rattle.memory_order.specs.Steps.GrowthSteps.{Grows, IsCaused, IsGrowing, IsIn, IsInclusion, IsRaise, IsRelease}
 use Rattle.causal_order.specs.Orders.{op, Ops, program_past}
 use Rattle.causal_order.specs.Vectors.{Counts, count, IsCounted}
 use Rattle.causal_order.proofs.OrdersLaws.{session-of_history}

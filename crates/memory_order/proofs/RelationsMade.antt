@@ -18,8 +18,9 @@ use Rattle.causal_order.specs.Orders.{op, program_past}
 use Rattle.memory_order.specs.Raises.{AreReached, AreRightRaises}
 use Rattle.memory_order.specs.Relations.{IsPast, HB}
 use Rattle.memory_order.specs.SourceOrder.{CountsSourceOrder, IsSource, IsSourceEdge, SourceOrder}
-use Rattle.memory_order.specs.Steps.GrowthSteps.{Always, Grows, IsCovered, IsFresh, IsGivenUp, IsIn, IsPending, IsReady, IsSettled, NoMore, NoReads, TakesPast, Waits}
-use Rattle.memory_order.specs.Steps.HappenedBefores.{AreReadsFollowed, AreSourcesIn, AreStrictOf, HasGrown, HasMorePairs, IsMade, IsOutcome, IsReadFollowed, IsReadDone, IsReadWaiting, IsSupported, TakesIn, TakesNext, Tells, last_of, past_count}
+use Rattle.memory_order.specs.Steps.GrowthSteps.{Always, Grows, IsCovered, IsFresh, IsGivenUp, IsIn, IsPending, IsSettled, NoMore, NoReads, Waits}
+use Rattle.memory_order.specs.Steps.HappenedBefores.{AreReadsFollowed, AreSourcesIn, AreStrictOf, HasGrown, HasMorePairs, IsLastBelow, IsMade, IsOutcome, IsReadFollowed, IsReadDone, IsReadWaiting, IsSupported, TakesIn, TakesNext, Tells, last_of, past_count}
+use Rattle.memory_order.specs.Steps.TakingIn.{IsReady, IsTransitive, TakesPast}
 use Rattle.causal_order.specs.Vectors.{Counts, count, list_of, IsCounted}
 use Rattle.memory_order.proofs.CountSumsLaws.{counted-within as all-within}
 use Rattle.memory_order.proofs.FirstWrites.{CO-from_sources, distinct-source}
@@ -28,12 +29,11 @@ use Rattle.memory_order.proofs.GrowthLaws.{grows-then, grows-wider}
 use Rattle.memory_order.proofs.HappenedBeforeLaws.{HB-earlier, HB-inside, in_past-from, past-of_history, past-program, program_past-from, program_past-parts}
 use Rattle.memory_order.proofs.HappenedBeforeVectors.{IsFixed, fixed-exact, supported-strict}
 use Rattle.causal_order.proofs.OrdersLaws.{same_op, session-of_history}
-use Rattle.memory_order.proofs.Raises.{TellsCycles, grows-cyclic, grows-most, grows-outside, grows-rises, grows-sums, grows-supported, grows-untouched, settled-within}
+use Rattle.memory_order.proofs.Raises.{TellsCycles, grows-bounded, grows-cyclic, grows-most, grows-outside, grows-rises, grows-sums, grows-supported, grows-untouched, settled-within}
 use Rattle.memory_order.proofs.RaisesCaused.{grows-few, grows-right}
 use Rattle.memory_order.proofs.RightRaises.{right-later}
 use Rattle.causal_order.proofs.PathsLaws.{leads-edge, leads-leads}
 use Rattle.memory_order.proofs.SourceVectors.{counts-before, counted-within, own-count, program-before}
-use Rattle.memory_order.proofs.StrictLaws.{strict-straight}
 
 -- nothing is in a list with no entries
 no-entry : (es : List Raised) → length es ≡ 0 → (e : Raised) → Contains es e → ⊥
@@ -59,36 +59,50 @@ module _ (h : MemoryHistory) (v : Counts) (counts : CountsSourceOrder h v) where
     own-past zero below = refl
     own-past (suc n) below = let own = own-count h v counts (op happened.session n) (omega arith) in omega arith
 
-    past-is : (s : ℕ) → slice_index happened.order.past.items s ≡ past_count v happened.session happened.taken s
-    past-is s = made.past s ∙ ap (λ (w : Counts). past_count w happened.session happened.taken s) same
+    past-most : (s : ℕ) → slice_index happened.order.past.items s ≤ past_count v happened.session happened.taken s
+    past-most s = let most = made.past s in let is = ap (λ (w : Counts). past_count w happened.session happened.taken s) same in omega arith
 
     begun-of : AreStrictOf h v made.strict
     begun-of = subst (λ (w : Counts). AreStrictOf h w made.strict) same made.begun
 
-    -- the next operation may be taken in
-    pub next-ready : IsReady h happened.order
-    next-ready = record {
-      growing = made.well_formed.order;
-      settled = made.settled;
-      straight = λ none.
-          let straight = strict-straight h v made.strict counts begun-of in
-          let is = made.untouched none in
-          record {
-            monotone = λ s j z is_op.
-                let one = straight.monotone s j z is_op in let first = is (op s j) z in let second = is (op s (j + 1)) z in omega arith;
-            within = λ b y i z is_op ends.
-                let one = straight.within b y i z is_op (sym (is b y) ∙ ends) in let first = is (op y i) z in let second = is b z in omega arith;
-          };
-    }
+    -- what is in comes before the next operation
+    pub in-before_next : (p : OpId) → IsIn happened.order p → p.index < count v next_op p.session
+    in-before_next p is_in = let most = past-most p.session in let less = past-before_next happened.taken p.session (omega arith) in omega arith
+
+    pub past-next_op : (s : ℕ) → slice_index happened.order.past.items s ≤ past_count v happened.session (suc happened.taken) s
+    past-next_op s = let most = past-most s in let less = past-before_next happened.taken s (omega arith) in omega arith
+
+    module _ (kept : ¬ IsGivenUp happened.order) where
+      -- the next operation may be taken in
+      pub next-ready : IsReady h happened.order
+      next-ready = record {
+        growing = made.well_formed.order;
+        begun = record {
+          causal = made.causal;
+          counts = made.counts;
+          strict = made.strict;
+          own = made.begun.own;
+          others = made.begun.others;
+          grown = made.grown;
+          outside = made.outside;
+          untouched = made.untouched;
+        };
+        transitive = made.transitive kept;
+      }
+
+      -- the operations of the session that were taken in are in
+      pub taken-in : (j : ℕ) → j < happened.taken → IsIn happened.order (op happened.session j)
+      taken-in j below =
+          let own = own-past happened.taken (omega arith) in
+          let is = ap (λ (w : Counts). past_count w happened.session happened.taken happened.session) same in
+          let all = made.all kept happened.session in
+          omega arith
 
     pub next-outside : slice_index happened.order.past.items happened.session ≤ happened.taken
-    next-outside = let is = past-is happened.session in let own = own-past happened.taken (omega arith) in omega arith
+    next-outside = let most = past-most happened.session in let own = own-past happened.taken (omega arith) in omega arith
 
     next-strict : (s : ℕ) → count happened.order.counts next_op s ≡ count made.strict next_op s
     next-strict s = made.outside next_op s next-outside
-
-    pub next-own : count happened.order.counts next_op happened.session ≡ happened.taken
-    next-own = next-strict happened.session ∙ begun-of.own next_op next
 
     module _ (after : GrowingOrder) (takes : TakesPast h happened.order after next_op) where
       -- then just its past is in
@@ -101,7 +115,7 @@ module _ (h : MemoryHistory) (v : Counts) (counts : CountsSourceOrder h v) where
           (λ (apart : s ≢ happened.session). ⊎_elim
           (λ (exists : s < length h.1).
           let is = takes.others s exists apart in
-          let before = past-is s in
+          let before = past-most s in
           let less = past-before_next happened.taken s (omega arith) in
           let counted = next-strict s ∙ begun-of.others next_op s next apart in
           omega arith)
@@ -130,13 +144,13 @@ module _ (h : MemoryHistory) (v : Counts) (counts : CountsSourceOrder h v) where
       -- what is counted of the past of the operation before is in the relation of the next one
       supported-in : (n : ℕ) → happened.taken ≡ n → (a b : OpId) → IsIn happened.order b → IsCounted happened.order.counts b a → HB h next_op a b
       supported-in zero first a b is_in counted =
-          let is = past-is b.session in
+          let most = past-most b.session in
           let none : past_count v happened.session happened.taken b.session ≡ 0 = ap (λ (n : ℕ). past_count v happened.session n b.session) first in
           absurd (omega arith)
       supported-in (suc n) more a b is_in counted =
           let p : OpId = op happened.session n in
           let p_is_op : IsOp h p = omega arith in
-          let is = past-is b.session in
+          let most = past-most b.session in
           let before : past_count v happened.session happened.taken b.session ≡ count v p b.session = ap (λ (k : ℕ). past_count v happened.session k b.session) more in
           let in_p : IsPast h p b = ⊎_elim
           (λ (same_op : b ≡ p). inl same_op)
@@ -145,7 +159,7 @@ module _ (h : MemoryHistory) (v : Counts) (counts : CountsSourceOrder h v) where
           HB-earlier h next_op p next (program_past-from next_op p refl (omega arith)) a b
           (made.supported distinct n (omega arith) a b in_p counted)
 
-      next-supported : IsSupported h next_op happened.order.counts
+      pub next-supported : IsSupported h next_op happened.order.counts
       next-supported a b in_b counted = ⊎_elim
           (λ (is_in : IsIn happened.order b). supported-in happened.taken refl a b is_in counted)
           (λ (outside : slice_index happened.order.past.items b.session ≤ b.index).
@@ -226,7 +240,102 @@ module _ (h : MemoryHistory) where
     taken = grown.taken;
   }
 
-  module _ (a m : HappenedBefore) (made : IsMade h a) (next : a.taken < length (session h a.session)) (takes : TakesIn h a m) where
+  -- in a state in which nothing waits all is followed
+  pub transitive-settled : (order : GrowingOrder) → IsTransitive order → IsSettled NoMore order
+  transitive-settled order transitive = record {
+    monotone = transitive.monotone;
+    followed = λ p y is_in fresh i z ends. inl (transitive.pasts p y i z is_in ends);
+  }
+
+  -- a relation that is given up
+  module _ (a : HappenedBefore) (made : IsMade h a) (next : a.taken < length (session h a.session)) (given : IsGivenUp a.order) where
+    abbrev later : HappenedBefore
+    later = record { session = a.session; taken = a.taken + 1; order = a.order; writes = a.writes; sources = a.sources }
+
+    given-past : (p : OpId) → IsIn a.order p → IsPast h (op a.session a.taken) p
+    given-past p is_in = ⊎_elim
+        (λ (same : p ≡ op a.session a.taken). inl same)
+        (λ (before : SourceOrder h p (op a.session a.taken)). inr (CO-from_sources h p (op a.session a.taken) before))
+        ((made.counts.counted (op a.session a.taken) p next).0 (in-before_next h made.causal made.counts a made refl next p is_in))
+
+    given-supported : IsDifferentiated h → IsSupported h (op a.session a.taken) a.order.counts
+    given-supported = next-supported h made.causal made.counts a made refl next
+
+    given-pairs : IsDifferentiated h → (n : ℕ) → n < a.order.added → HasMorePairs h (op a.session a.taken) n
+    given-pairs distinct n fewer = record {
+      causal = made.causal;
+      counts = made.counts;
+      strict = made.strict;
+      begun = made.begun;
+      now = a.order.counts;
+      held = made.well_formed.order.counts;
+      supported = given-supported distinct;
+      outside = λ p s not. made.outside p s (⊎_elim
+          (λ (is_in : IsIn a.order p). absurd (not (given-past p is_in)))
+          (λ (out : slice_index a.order.past.items p.session ≤ p.index). out)
+          (cases_lt p.index (slice_index a.order.past.items p.session)));
+      more = let sums = made.added in omega arith;
+    }
+
+    given-most : IsDifferentiated h → (most : Option ℕ) → MatchOption most ⊥ (λ n. n < a.order.added) → MatchOption most ⊥ (λ n. HasMorePairs h (op a.session a.taken) n)
+    given-most distinct None given_up = given_up
+    given-most distinct (Some n) given_up = given-pairs distinct n given_up
+
+    given-outcome : IsDifferentiated h → (told : Saturation) → Tells later told → IsOutcome h (op a.session a.taken) a.order.most a.order.counts told
+    given-outcome distinct Saturated tells = absurd (tells.0 given)
+    given-outcome distinct Cyclic tells = absurd (tells.0 given)
+    given-outcome distinct GivenUp tells = given-most distinct a.order.most tells
+
+    given-made : IsMade h later
+    given-made = record {
+      well_formed = record {
+        order = made.well_formed.order;
+        exists = made.well_formed.exists;
+        taken = omega arith;
+        writes = made.well_formed.writes;
+        by_variable = made.well_formed.by_variable;
+        sources = made.well_formed.sources;
+      };
+      causal = made.causal;
+      counts = made.counts;
+      strict = made.strict;
+      begun = made.begun;
+      grown = made.grown;
+      outside = made.outside;
+      untouched = made.untouched;
+      added = made.added;
+      past = λ s.
+          let one : a.taken + 1 ≡ suc a.taken = omega arith in
+          let same = ap (λ (n : ℕ). past_count made.causal a.session n s) one in
+          let most = past-next_op h made.causal made.counts a made refl next s in
+          omega arith;
+      all = λ not. absurd (not given);
+      cyclic = made.cyclic;
+      acyclic = made.acyclic;
+      supported = λ distinct n is.
+          let here : a.taken ≡ n = omega arith in
+          subst (λ (j : ℕ). IsSupported h (op a.session j) a.order.counts) here (given-supported distinct);
+      right = λ n is_op from. made.right n is_op (omega arith);
+      reached = made.reached;
+      few = made.few;
+      transitive = λ not. absurd (not given);
+      reads = λ not. absurd (not given);
+    }
+
+    -- that of the next operation is given up too
+    pub takes-given : TakesNext h a later
+    takes-given = record {
+      made = given-made;
+      session = refl;
+      taken = refl;
+      most = refl;
+      counts = λ p s. omega arith;
+      outcome = given-outcome;
+      few = λ distinct not. absurd (not given);
+      raised = λ distinct n below. given-pairs distinct n (let few = made.few in omega arith);
+    }
+
+  module _ (a m : HappenedBefore) (made : IsMade h a) (kept : ¬ IsGivenUp a.order) (next : a.taken < length (session h a.session)) (takes : TakesIn h a m) where
     abbrev o : OpId
     o = op a.session a.taken
 
@@ -244,8 +353,17 @@ module _ (h : MemoryHistory) where
           (λ (apart : j ≢ a.taken).
           let taken = takes.taken in
           let same = grown.taken in
-          let of_m : IsReadFollowed h (Waits NoMore m.order) m.order.counts (op a.session j) u =
-          grows-read h NoReads NoMore a.order m.order takes.past.grows (op a.session j) u (made.reads j u (omega arith) exists) in
+          let of_m : IsReadFollowed h (Waits NoMore m.order) m.order.counts (op a.session j) u = ⊎_elim
+          (λ (done : IsReadDone h a.order.counts (op a.session j) u). inl (λ w x t n source wrote last other.
+          let row = takes.past.kept (op a.session j) u (taken-in h made.causal made.counts a made refl next kept j (omega arith)) in
+          let less = done w x t n source wrote (subst (λ (k : ℕ). IsLastBelow h x u k n) row last) other in
+          let rises = grows-rises h Always NoReads a.order m.order takes.past.grows w u in
+          omega arith))
+          (λ (waiting : IsReadWaiting (Waits NoMore a.order) (op a.session j) u). absurd (⊎_elim
+          (λ (held : Contains a.order.pending.items waiting.0). no-entry a.order.pending.items (made.transitive kept).empty waiting.0 held)
+          (λ (none : ⊥). none)
+          waiting.1))
+          (made.reads kept j u (omega arith) exists) in
           grown-read NoMore m x grown j u (subst (λ (s : ℕ). IsReadFollowed h (Waits NoMore m.order) m.order.counts (op s j) u) (sym takes.session) of_m))
           (cases_eq j a.taken)
 
@@ -256,7 +374,7 @@ module _ (h : MemoryHistory) where
         -- all steps
         steps : Grows h Always (program_past o) a.order b.order
         steps =
-            let first = grows-wider h ⊥ Always (λ none. absurd none) NoReads (program_past o) (λ r none. absurd cc) a.order m.order takes.past.grows in
+            let first = grows-wider h Always Always (λ is. is) NoReads (program_past o) (λ r none. absurd cc) a.order m.order takes.past.grows in
             let second : Grows h Always (program_past o) m.order x.order = subst (λ (q : OpId). Grows h Always (program_past q) m.order x.order) last-m
             (grows-wider h ⊥ Always (λ none. absurd none) (program_past (last_of m)) (program_past (last_of m)) (λ r is. is) m.order x.order grown.order) in
             let third : Grows h Always (program_past o) x.order b.order = subst (λ (q : OpId). Grows h Always (program_past q) x.order b.order) (last-same ⊥ m x grown ∙ last-m) saturated.order in
@@ -309,32 +427,6 @@ module _ (h : MemoryHistory) where
         few-raises : length b.order.raises.items ≤ b.order.added
         few-raises = grows-few h Always (program_past o) a.order b.order steps made.few
 
-        -- the relation is made
-        pub made-next : IsMade h b
-        made-next = record {
-          well_formed = saturated.well_formed;
-          causal = made.causal;
-          counts = made.counts;
-          strict = made.strict;
-          begun = made.begun;
-          grown = λ p s. let before = made.grown p s in let rises = grows-rises h Always (program_past o) a.order b.order steps p s in omega arith;
-          outside = outside-next;
-          untouched = grows-untouched h Always (program_past o) made.strict a.order b.order steps made.untouched;
-          added = sums-next;
-          past = λ s. past-next s ∙ subst₂ (λ (t n : ℕ). count made.causal o s ≡ past_count made.causal t n s) (sym same-session) (sym same-taken) refl;
-          cyclic = tells-after.1;
-          acyclic = tells-after.2;
-          supported = λ distinct n is.
-              let here : o ≡ op b.session n = let taken = same-taken in same_op o (op b.session n) (sym same-session) (omega arith) in
-              subst (λ (q : OpId). IsSupported h q b.order.counts) here (supported-next distinct);
-          right = λ n is_op from. right-later h (op b.session n) o made.strict b.order.raises.items is_op
-              (program_past-from (op b.session n) o (sym same-session) (let taken = same-taken in omega arith)) right-next.0;
-          reached = right-next.1;
-          few = few-raises;
-          settled = settled;
-          reads = reads;
-        }
-
         module _ (waits : length b.order.pending.items ≡ 0) where
           -- where nothing waits, a vector counts what the last one counts that it counts
           followed-end : (p : OpId) (u i z : ℕ) → IsFresh (Waits NoMore b.order) b.order.counts p u → IsIn b.order p → count b.order.counts p u ≡ i + 1
@@ -372,6 +464,36 @@ module _ (h : MemoryHistory) where
               subst (λ (q : OpId). count b.order.counts (op p.session n) z ≤ count b.order.counts q z) here (settled.monotone p.session n z below) in
               omega arith)
               (cases_lt (count b.order.counts (op p.session n) u) (count b.order.counts p u))
+
+          bounded-m : (p : OpId) (y : ℕ) → p.index < slice_index b.order.past.items p.session → count m.order.counts p y ≤ slice_index b.order.past.items y
+          bounded-m p y below =
+              let same_p = ap (λ (es : List ℕ). slice_index es p.session) same-past in
+              let same_y = ap (λ (es : List ℕ). slice_index es y) same-past in
+              let most = takes.past.ready.transitive.inside p y (omega arith) in
+              omega arith
+
+          from-m : Grows h Always (program_past o) m.order b.order
+          from-m =
+              let second : Grows h Always (program_past o) m.order x.order = subst (λ (q : OpId). Grows h Always (program_past q) m.order x.order) last-m
+              (grows-wider h ⊥ Always (λ none. absurd none) (program_past (last_of m)) (program_past (last_of m)) (λ r is. is) m.order x.order grown.order) in
+              let third : Grows h Always (program_past o) x.order b.order = subst (λ (q : OpId). Grows h Always (program_past q) x.order b.order) (last-same ⊥ m x grown ∙ last-m) saturated.order in
+              grows-then h Always (program_past o) m.order x.order b.order second third
+
+          -- then the vectors are those of a transitive order
+          transitive-next : IsTransitive b.order
+          transitive-next = record {
+            empty = waits;
+            inside = grows-bounded h Always (program_past o) (λ s. slice_index b.order.past.items s)
+                (λ r is.
+                let parts = program_past-parts o r is in
+                let up_to = parts.1 in
+                let here = takes.past.here in
+                let same = ap (λ (es : List ℕ). slice_index es a.session) same-past in
+                subst (λ (t : ℕ). r.index < slice_index b.order.past.items t) (sym parts.0) (omega arith))
+                m.order b.order from-m bounded-m;
+            monotone = settled.monotone;
+            pasts = λ p u i z is_in ends. last-from p.index p refl is_in u i z ends;
+          }
 
           module _ (distinct : IsDifferentiated h) where
             in-past : (p : OpId) → IsPast h o p → IsIn b.order p
@@ -486,6 +608,36 @@ module _ (h : MemoryHistory) where
               (λ (none : length b.order.pending.items ≡ 0). none)
               (λ (given_up : IsGivenUp b.order). absurd (not given_up))
               ended
+
+          past-made : (s : ℕ) → slice_index b.order.past.items s ≡ past_count made.causal b.session b.taken s
+          past-made s = past-next s ∙ subst₂ (λ (t n : ℕ). count made.causal o s ≡ past_count made.causal t n s) (sym same-session) (sym same-taken) refl
+
+          -- the relation is made
+          pub made-next : IsMade h b
+          made-next = record {
+            well_formed = saturated.well_formed;
+            causal = made.causal;
+            counts = made.counts;
+            strict = made.strict;
+            begun = made.begun;
+            grown = λ p s. let before = made.grown p s in let rises = grows-rises h Always (program_past o) a.order b.order steps p s in omega arith;
+            outside = outside-next;
+            untouched = grows-untouched h Always (program_past o) made.strict a.order b.order steps made.untouched;
+            added = sums-next;
+            past = λ s. let is = past-made s in omega arith;
+            all = λ _ s. let is = past-made s in omega arith;
+            cyclic = tells-after.1;
+            acyclic = tells-after.2;
+            supported = λ distinct n is.
+                let here : o ≡ op b.session n = let taken = same-taken in same_op o (op b.session n) (sym same-session) (omega arith) in
+                subst (λ (q : OpId). IsSupported h q b.order.counts) here (supported-next distinct);
+            right = λ n is_op from. right-later h (op b.session n) o made.strict b.order.raises.items is_op
+                (program_past-from (op b.session n) o (sym same-session) (let taken = same-taken in omega arith)) right-next.0;
+            reached = right-next.1;
+            few = few-raises;
+            transitive = λ not. transitive-next (waits-none not);
+            reads = λ _. reads;
+          }
 
           pub outcome-next : IsDifferentiated h → (told : Saturation) → Tells b told → IsOutcome h o b.order.most b.order.counts told
           outcome-next distinct Saturated tells = let none = waits-none tells.0 in (exact-next none distinct, acyclic-next none distinct tells.1)

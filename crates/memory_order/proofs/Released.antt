@@ -1,12 +1,14 @@
 -- Raises that are taken out to be followed.
 use Rattle.std.specs.Prelude.{◌≡◌, ℕ, ◌+◌, ◌∷◌, ◌++◌, [], List, length, All, MatchOption, Option, Some, None, slice_index, option_to_list}
-use Rattle.std.proofs.Common.{arith, get_or, refl, sym, ap, subst, ◌∙◌, inl, length-append, append-nil}
+use Rattle.std.proofs.Common.{arith, get_or, inr, refl, sym, ap, subst, ◌∙◌, inl, length-append, append-nil}
 use Rattle.std.proofs.lemmas.List.{get_or_append_left, get_or_push}
 use Rattle.memory_order.specs.declared.growing_order.GrowingOrder.{GrowingOrder}
 use Rattle.memory_order.specs.declared.growing_order.Raised.{Raised}
 use Rattle.memory_order.specs.Memory.{MemoryHistory}
 use Rattle.memory_order.specs.Steps.GrowingOrders.{IsRaisedIn}
-use Rattle.memory_order.specs.Steps.GrowthSteps.{IsAtEnd, IsIn, IsGrowing, TakesOut}
+use Rattle.memory_order.specs.Steps.GrowthSteps.{Always, IsAtEnd, IsIn, IsGrowing, NoReads, TakesOut}
+use Rattle.memory_order.specs.Steps.TakingIn.{DropsRaise}
+use Rattle.memory_order.proofs.GrowthLaws.{grows-step}
 
 -- what holds of all of a list holds of all but the last, and of the last
 all-front : (P : Raised → Type 0) (xs ys : List Raised) (e : Raised) → ys ≡ xs ++ e ∷ [] → All P ys → All P xs × P e
@@ -68,3 +70,19 @@ module _ (h : MemoryHistory) (a b : GrowingOrder) (growing : IsGrowing h a) (cou
         past = past;
         ended = inl (empty none.1);
       }
+
+-- once one is taken out, it waits no more
+pub dropped : (h : MemoryHistory) (a b : GrowingOrder) (r : Option Raised) (m n : ℕ) → MatchOption r ((m ≡ 0) × (n ≡ 0)) (λ _. n + 1 ≡ m)
+    → (n ≡ 0 → length b.pending.items ≡ 0) → MatchOption r (IsAtEnd h a b) (TakesOut h a b) → DropsRaise h a b
+dropped h a b None m n none empty ended = record {
+  grows = grows-step h Always NoReads a b ended.growing (inr (inl ended.same));
+  counts = ended.same.counts;
+  past = ended.past;
+  fewer = λ few. empty none.1;
+}
+dropped h a b (Some e) m n one empty takes = record {
+  grows = grows-step h Always NoReads a b takes.growing (inr (inr (tt, takes.release)));
+  counts = takes.release.counts;
+  past = takes.release.past;
+  fewer = λ few. let more = ap (λ (es : List Raised). length es) takes.release.pending ∙ length-append b.pending.items (takes.release.raised ∷ []) in omega arith;
+}

@@ -51,7 +51,8 @@ module _ (h : MemoryHistory) where
     outside = λ p s behind. refl;
     untouched = λ same p s. refl;
     added = let added = begun.added in omega arith;
-    past = λ s. begun.past s ∙ ap (λ (n : ℕ). past_count v happened.session n s) (sym none);
+    past = λ s. let is = begun.past s in omega arith;
+    all = λ _ s. let nothing = ap (λ (n : ℕ). past_count v happened.session n s) none in omega arith;
     cyclic = λ is. let both : false ≡ true = sym begun.cyclic ∙ is in absurd cc;
     acyclic = λ not p is_op. strict.own p is_op;
     supported = λ distinct n is. absurd (omega arith);
@@ -59,11 +60,13 @@ module _ (h : MemoryHistory) where
         (record { each = λ k e at. absurd cc });
     reached = λ b s. inl (omega arith);
     few = let none = ap (λ (es : List Raise). length es) begun.raises in omega arith;
-    settled = record {
+    transitive = λ _. record {
+      empty = ap (λ (es : List Raised). length es) begun.pending;
+      inside = λ b y is_in. let is = begun.past b.session in absurd (omega arith);
       monotone = λ s j z below. let is = begun.past s in absurd (omega arith);
-      followed = λ b y is_in. let is = begun.past b.session in absurd (omega arith);
+      pasts = λ b y i z is_in. let is = begun.past b.session in absurd (omega arith);
     };
-    reads = λ j u below exists. absurd (omega arith);
+    reads = λ _ j u below exists. absurd (omega arith);
   }
 
   -- nothing grows

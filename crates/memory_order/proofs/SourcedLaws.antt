@@ -1,16 +1,15 @@
 -- The sources of operations, and their vectors.
-use Rattle.std.specs.Prelude.{◌≡◌, Option, Some, None, MatchOption}
-use Rattle.std.specs.Option.{option_flatten}
-use Rattle.std.proofs.Common.{arith, sym, subst, refl}
+use Rattle.std.specs.Prelude.{◌≡◌, Option, Some, None}
+use Rattle.std.proofs.Common.{arith, subst, refl}
 use Rattle.history.specs.declared.op_id.OpId.{OpId}
-use Rattle.history.specs.History.{Record, IsOp}
+use Rattle.history.specs.History.{HistoryValue, IsOp}
 use Rattle.memory_order.specs.Memory.{MemoryHistory}
 use Rattle.memory_order.proofs.MemoryLaws.{write-of_history}
-use Rattle.memory_order.specs.SourceOrder.{IsSource, IsSourceOf, LacksSource}
+use Rattle.memory_order.specs.SourceOrder.{IsSource, IsSourceOf}
 use Rattle.causal_order.specs.Vectors.{IsListed, Counts, AreVectorsOf}
 use Rattle.causal_order.specs.Topological.{AreSquare}
 
-module _ {S C R : Type 0} (h : Record S C R) (v : Counts) (vectors : AreVectorsOf h v) where
+module _ {S C R : Type 0} (h : HistoryValue S C R) (v : Counts) (vectors : AreVectorsOf h v) where
   -- an operation of the history has a vector
   pub listed-op : (o : OpId) → IsOp h o → IsListed v o
   listed-op o is_op = let same = vectors.one_each.operations o.session in omega arith
@@ -23,13 +22,6 @@ module _ {S C R : Type 0} (h : Record S C R) (v : Counts) (vectors : AreVectorsO
       let size = vectors.counts o is_op in
       let sessions = vectors.one_each.sessions in
       omega arith
-
-module _ (h : MemoryHistory) (o : OpId) where
-  -- what is found is the source, where no read lacks one
-  pub found-source : (found : Option (Option OpId)) (source : Option OpId) → ¬ LacksSource h
-      → MatchOption found (LacksSource h) (IsSourceOf h o) → source ≡ option_flatten found → IsSourceOf h o source
-  found-source None source sources lacks same = absurd (sources lacks)
-  found-source (Some e) source sources is_source same = subst (λ (s : Option OpId). IsSourceOf h o s) (sym same) is_source
 
 module _ (h : MemoryHistory) where
   -- the source that an operation has, or that it has none

@@ -1,21 +1,11 @@
--- Sessions of which the vector of an operation counts no more than the vector of the operation before it does, and raises of
--- nothing.
-use Rattle.std.specs.Prelude.{◌≡◌, ◌⊎◌, ℕ, ◌+◌, ◌<◌, ◌≤◌, List, [], length, Option, Some, None, MatchOption, slice_index_or}
-use Rattle.std.proofs.Common.{arith, ap, refl, ◌∙◌, ⊎_elim, inl, inr}
+-- Sessions of which a vector counts more than another one, and raises of nothing.
+use Rattle.std.specs.Prelude.{◌≡◌, ℕ, ◌<◌, ◌≤◌, List, length, Option, Some, None, MatchOption, slice_index_or}
+use Rattle.std.proofs.Common.{arith, ap, refl, ⊎_elim, inl}
 use Rattle.std.proofs.lemmas.Bool.{cases_lt}
 use Rattle.std.proofs.lemmas.List.{get_or_past}
 use Rattle.history.specs.declared.op_id.OpId.{OpId}
-use Rattle.memory_order.specs.declared.growing_order.Raised.{Raised}
-use Rattle.causal_order.specs.Orders.{op}
-use Rattle.memory_order.specs.Steps.GrowthSteps.{IsFollowed, IsRaisedFrom, IsStale}
+use Rattle.memory_order.specs.Steps.GrowthSteps.{IsRaisedFrom}
 use Rattle.causal_order.specs.Vectors.{Counts, count, list_of}
-
--- nothing has to be followed there
-pub stale-followed : (waits : Raised → Type 0) (v : Counts) (b : OpId) (y : ℕ) → IsStale v b y → IsFollowed waits v b y
-stale-followed waits v b y stale fresh i z ends = ⊎_elim
-    (λ (old : (j : ℕ) × (b.index ≡ j + 1) × (count v b y ≤ count v (op b.session j) y)). let more = fresh old.0 old.1 in let less = old.2 in absurd (omega arith))
-    (λ (none : count v b y ≡ 0). absurd (omega arith))
-    stale
 
 -- vectors in which nothing was raised, since no operation that is in comes so late
 pub raised-none : (v : Counts) (past t i u c : ℕ) → past ≤ i → IsRaisedFrom v v past t i u c
@@ -23,43 +13,6 @@ raised-none v past t i u c behind = record {
   changes = λ p s. inl refl;
   reached = λ below. absurd (omega arith);
 }
-
--- the first place where the vector counts more than others is the first such session
-module _ (v : Counts) (b : OpId) (n from : ℕ) (counts others : List ℕ) (is : counts ≡ list_of v b) (size : length (list_of v b) ≡ n) where
-  next-stale : ((y : ℕ) → slice_index_or counts y 0 ≤ slice_index_or others y 0 → IsStale v b y) → (found : Option ℕ)
-      → MatchOption found ((s : ℕ) → from ≤ s → s < length counts → slice_index_or counts s 0 ≤ slice_index_or others s 0)
-      (λ place. (from ≤ place) × (place < length counts) × ((s : ℕ) → from ≤ s → s < place → slice_index_or counts s 0 ≤ slice_index_or others s 0))
-      → MatchOption found ((y : ℕ) → from ≤ y → y < n → IsStale v b y)
-      (λ session. (from ≤ session) × (session < n) × ((y : ℕ) → from ≤ y → y < session → IsStale v b y))
-  next-stale stale None none = λ y above below.
-      let same = ap (λ (xs : List ℕ). length xs) is in
-      stale y (none y above (omega arith))
-  next-stale stale (Some place) found =
-      let same = ap (λ (xs : List ℕ). length xs) is in
-      let inside = found.1 in
-      (found.0, omega arith, λ y above below. stale y (found.2 y above below))
-
-  -- where no operation is before it
-  pub next-first : others ≡ [] → (found : Option ℕ)
-      → MatchOption found ((s : ℕ) → from ≤ s → s < length counts → slice_index_or counts s 0 ≤ slice_index_or others s 0)
-      (λ place. (from ≤ place) × (place < length counts) × ((s : ℕ) → from ≤ s → s < place → slice_index_or counts s 0 ≤ slice_index_or others s 0))
-      → MatchOption found ((y : ℕ) → from ≤ y → y < n → IsStale v b y)
-      (λ session. (from ≤ session) × (session < n) × ((y : ℕ) → from ≤ y → y < session → IsStale v b y))
-  next-first empty = next-stale (λ y less.
-      let nothing = ap (λ (xs : List ℕ). slice_index_or xs y 0) empty ∙ get_or_past [] y 0 (omega arith) in
-      let same = ap (λ (xs : List ℕ). slice_index_or xs y 0) is in
-      inr (omega arith))
-
-  -- where one is
-  pub next-behind : (j : ℕ) → b.index ≡ j + 1 → others ≡ list_of v (op b.session j) → (found : Option ℕ)
-      → MatchOption found ((s : ℕ) → from ≤ s → s < length counts → slice_index_or counts s 0 ≤ slice_index_or others s 0)
-      (λ place. (from ≤ place) × (place < length counts) × ((s : ℕ) → from ≤ s → s < place → slice_index_or counts s 0 ≤ slice_index_or others s 0))
-      → MatchOption found ((y : ℕ) → from ≤ y → y < n → IsStale v b y)
-      (λ session. (from ≤ session) × (session < n) × ((y : ℕ) → from ≤ y → y < session → IsStale v b y))
-  next-behind j next before = next-stale (λ y less.
-      let same = ap (λ (xs : List ℕ). slice_index_or xs y 0) is in
-      let there = ap (λ (xs : List ℕ). slice_index_or xs y 0) before in
-      inl (j, next, omega arith))
 
 -- the first place where one vector counts more than another
 module _ (v : Counts) (a b : OpId) (n from : ℕ) (counts others : List ℕ) (is : counts ≡ list_of v a) (are : others ≡ list_of v b) (size : length (list_of v a) ≡ n) where

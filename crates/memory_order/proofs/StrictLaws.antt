@@ -24,7 +24,7 @@ module _ (h : MemoryHistory) (v strict : Counts) (counts : CountsSourceOrder h v
       (cases_eq s p.session)
 
   -- a vector that counts another operation counts all that it counts
-  within-strict : (a b : OpId) (z : ℕ) → IsOp h b → IsCounted strict b a → count strict a z ≤ count strict b z
+  pub within-strict : (a b : OpId) (z : ℕ) → IsOp h b → IsCounted strict b a → count strict a z ≤ count strict b z
   within-strict a b z is_op counted =
       let more = strict-most b a.session is_op in
       let counted_v : IsCounted v b a = omega arith in

@@ -1,7 +1,7 @@
 -- How much vectors count in all.
 use Rattle.std.specs.Prelude.{ℕ, ◌+◌, length}
 use Rattle.std.proofs.Common.{zero, suc}
-use Rattle.history.specs.History.{Record, session}
+use Rattle.history.specs.History.{HistoryValue, session}
 use Rattle.causal_order.specs.Orders.{op}
 use Rattle.causal_order.specs.Vectors.{Counts, count}
 
@@ -10,7 +10,7 @@ abbrev pub sum_below : (ℕ → ℕ) → ℕ → ℕ
 sum_below f zero = 0
 sum_below f (suc n) = sum_below f n + f n
 
-module _ {S C R : Type 0} (h : Record S C R) where
+module _ {S C R : Type 0} (h : HistoryValue S C R) where
   -- the sum of what f gives for each operation of the history and each session
   abbrev pub sum_of_history : (ℕ → ℕ → ℕ → ℕ) → ℕ
   sum_of_history f = sum_below (λ s. sum_below (λ i. sum_below (λ t. f s i t) (length h.1)) (length (session h s))) (length h.1)

@@ -9,7 +9,7 @@ use Rattle.objects.specs.Table.{start_at}
 use Rattle.objects.specs.Register.{answer as register_answer}
 use Rattle.objects.specs.Keyed.{answer as keyed_answer}
 use Rattle.history.specs.declared.op_id.OpId.{OpId}
-use Rattle.history.specs.History.{Record, entry}
+use Rattle.history.specs.History.{HistoryValue, entry}
 
 -- a call of a memory: a write of a value to a variable, or a read of it
 abbrev pub MemoryCall : Type 0
@@ -17,7 +17,7 @@ MemoryCall = KeyedCall RegisterCall
 
 -- a history of a memory; its start is the table of the initial values that are not 0
 abbrev pub MemoryHistory : Type 0
-MemoryHistory = Record (List (ℕ × ℕ)) MemoryCall RegisterRet
+MemoryHistory = HistoryValue (List (ℕ × ℕ)) MemoryCall RegisterRet
 
 -- what a memory answers: to a read, the value that was written last to its variable, or the variable's initial value
 abbrev pub memory_answer : List (ℕ × ℕ) → List MemoryCall → MemoryCall → RegisterRet

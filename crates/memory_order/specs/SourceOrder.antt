@@ -1,10 +1,11 @@
 -- The order that a memory history has by the first write of each value that was read, and when it has none.
 use Rattle.std.specs.Prelude.{◌≡◌, ◌≢◌, ◌⊎◌, ◌↔◌, ℕ, ◌≤◌, ◌<◌, List, [], length, Option, MatchOption, Some, slice_get, slice_index_or}
+use Rattle.history.specs.declared.limits.TheConstants.{MAX_OPERATIONS}
 use Rattle.history.specs.declared.op_id.OpId.{OpId}
 use Rattle.history.specs.History.{IsOp, Precedes, session}
 use Rattle.memory_order.specs.Memory.{MemoryHistory, initial, Writes, Reads}
 use Rattle.causal_order.specs.Orders.{op, IsEarlier, Leads}
-use Rattle.memory_order.specs.Relations.{ReadsFrom, CO}
+use Rattle.memory_order.specs.Relations.{ReadsFrom, CO, IsPast}
 use Rattle.memory_order.specs.Sources.{Sources}
 use Rattle.causal_order.specs.Vectors.{Counts, AreVectorsOf, IsCounted}
 
@@ -36,7 +37,7 @@ module _ (h : MemoryHistory) where
   -- the sources of the first n operations of the session s
   pub record ListsSourcesBelow (s n : ℕ) (es : List (Option OpId)) : Type 0 where
     pub count : length es ≡ n
-    pub short : n ≤ 256
+    pub short : n ≤ MAX_OPERATIONS
     pub each : (i : ℕ) (e : Option OpId) → slice_get es i ≡ Some e → IsSourceOf (op s i) e
 
   -- the sources of all operations of the first n sessions
@@ -47,6 +48,10 @@ module _ (h : MemoryHistory) where
   -- the sources of all operations
   abbrev pub ListsSources : Sources → Type 0
   ListsSources sources = ListsSourcesSoFar (length h.1) sources
+
+  -- vectors count, for each operation, its past in CO
+  abbrev pub CountsCO : Counts → Type 0
+  CountsCO v = (o a : OpId) → IsOp h o → IsCounted v o a ↔ IsPast h o a
 
   -- each known read of a value that is not the initial one has a source, the order is no cycle, and vectors count, for
   -- each operation, what is before it in the order and the operation itself

@@ -1,5 +1,6 @@
 -- Lists of the sources of operations, and the order that sources and program order make.
 use Rattle.std.specs.Prelude.{◌≡◌, ◌⊎◌, ◌↔◌, ℕ, ◌<◌, ◌≤◌, List, [], length, Option, Some, slice_get, slice_index_or}
+use Rattle.history.specs.declared.limits.TheConstants.{MAX_OPERATIONS}
 use Rattle.history.specs.declared.op_id.OpId.{OpId}
 use Rattle.history.specs.History.{Precedes}
 use Rattle.causal_order.specs.Orders.{op, Leads}
@@ -19,7 +20,7 @@ AreListed sources = (o w : OpId) → HasSource sources o w → IsListed sources 
 
 -- each session has at most 256 operations
 abbrev pub AreShort : Sources → Type 0
-AreShort sources = (s : ℕ) → length (slice_index_or sources s []) ≤ 256
+AreShort sources = (s : ℕ) → length (slice_index_or sources s []) ≤ MAX_OPERATIONS
 
 -- an edge: program order, or from a source to the operation that it is the source of
 abbrev pub IsStep : Sources → OpId → OpId → Type 0

@@ -3,7 +3,8 @@ pub mod Written
 pub mod Listed
 pub mod GrowingOrders
 pub mod GrowthSteps
-pub mod HappenedBefores
 pub mod Indexed
+pub mod TakingIn
+pub mod HappenedBefores
 pub mod Conflicts
 pub mod SourceWaits

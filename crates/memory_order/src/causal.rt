@@ -107,7 +107,8 @@ impl<'a> CausalOrder<'a> {
 
     /// The last write of the variable of a read in a session, of those in the past of the read. O(log n) for n writes.
     pub fn last_write(&self, read: &KnownRead, session: u64) -> Option<OpId>
-        ensures { MatchOption result (HasNoWriteOfPast self.now read.now.key session read.now.op) (IsLastWriteOfPast self.now read.now.key session read.now.op) }
+        ensures { MatchOption result (HasNoWriteOfPast self.now read.now.key session read.now.op)
+            (IsLastWriteOfPast self.now read.now.key session read.now.op) }
     {
         let end = OpId {
             session,

@@ -9,8 +9,8 @@ ghost use Rattle.memory_order.specs.Steps.GrowingOrders.{AreHeldVectors};
 ghost use Rattle.memory_order.specs.Steps.Written.{AreByVariable, AreInOrder, IsSorted, ListsWrites};
 ghost use Rattle.causal_order.specs.Waits.{AreAlike, AreWaitsFor};
 
+use crate::found_sources::found_source;
 use crate::last_writes::{end_of_writes, writes_by_variable};
-use crate::reads_from::source_of;
 use crate::writes::{Write, sorted_writes};
 use causal_order::{Vectors, Waits};
 use history::{History, OpId};
@@ -66,7 +66,7 @@ fn add_conflicts_of(
             session: session as u64,
             index: index as u64,
         };
-        if let Some(source) = source_of(h, by_value, read).flatten() {
+        if let Some(source) = found_source(h, by_value, read) {
             waits.add(read, source);
             add_writes(
                 waits,

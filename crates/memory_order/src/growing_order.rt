@@ -1,13 +1,23 @@
 //! Orders of operations that contain program order, while they grow until they are transitive.
 
-ghost use Rattle.std.specs.Prelude.{◌≡◌, ◌<◌, ◌≤◌, ◌↔◌, ◌⊎◌, ◌+◌, [], ℕ, length, IfOk, IsTrue, MatchBool, MatchOption, OnOk, slice_index, slice_index_or};
+ghost use Rattle.std.specs.Prelude.{◌≡◌, ◌≢◌, ◌<◌, ◌≤◌, ◌↔◌, ◌⊎◌, ◌+◌, [], ℕ, length, slice_index, slice_index_or};
+ghost use Rattle.std.specs.Prelude.{IfOk, IsTrue, MatchBool, MatchOption, OnOk};
 ghost use Rattle.history.specs.History.{IsOp, Precedes, session as operations_of};
 ghost use Rattle.causal_order.specs.Orders.{op, Ops};
 ghost use Rattle.memory_order.specs.Steps.GrowingOrders.{AreHeldVectors};
-ghost use Rattle.memory_order.specs.Steps.GrowthSteps.{GrowsWithin, IsAroundBehind, IsAtEnd, IsBegun, IsCaused, IsFirstBehind, IsFollowed, IsGivenUp, IsGrowing, IsIn, IsIncluded, IsMonotone, IsOneRaise, IsPastBefore, IsPastOf, IsRaisedFrom, IsRaisedTo, IsReady, IsRuled, IsSettled, IsStale, NoMore, NoReads, TakesOut, TakesPast, TakesUpTo, Waits};
+ghost use Rattle.memory_order.specs.Steps.GrowthSteps.{Always, GrowsWithin, IsAroundBehind, IsAtEnd, IsBegun, IsCaused};
+ghost use Rattle.memory_order.specs.Steps.GrowthSteps.{IsFirstBehind, IsFollowed, IsGivenUp, IsGrowing, IsIn, IsIncluded};
+ghost use Rattle.memory_order.specs.Steps.GrowthSteps.{IsMonotone, IsOneRaise, IsPastOf, IsRaisedFrom, IsRaisedTo, IsRuled};
+ghost use Rattle.memory_order.specs.Steps.GrowthSteps.{IsSettled, NoMore, NoReads, TakesOut, Waits};
 ghost use Rattle.memory_order.specs.Steps.HappenedBefores.{AreStrictOf};
+ghost use Rattle.memory_order.specs.Steps.Indexed.{ListsSourcesIfAny, listed_source};
+ghost use Rattle.memory_order.specs.Steps.TakingIn.{DropsRaise, IncludesPast, IncludesUpTo, IsJoined, IsNextReady};
+ghost use Rattle.memory_order.specs.Steps.TakingIn.{IsRaisedAlone, IsReady, IsReadyIndex, TakesOne, TakesPast, TakesSome};
+ghost use Rattle.memory_order.specs.Steps.TakingIn.{before_at, row_of};
 ghost use Rattle.causal_order.specs.Vectors.{count, IsCounted};
 
+use crate::indexed::source_in;
+use crate::placing::Sources;
 use crate::strict::strict_vectors;
 use causal_order::Vectors;
 use history::{History, OpId};
@@ -134,59 +144,175 @@ impl GrowingOrder {
 
     /// Takes in an operation and what its vector counts, as far as they aren't in the order yet.
     ///
-    /// O(k^2) for each operation that is taken in, for k sessions, besides what is raised.
-    pub(crate) fn take_past(&mut self, h: &History<Memory>, op: OpId) -> Result<(), AllocError>
-        requires ready { IsReady h.now self.old }
-        requires is_op { IsOp h.now op }
-        requires next { slice_index self.old.past.items op.session ≤ op.index }
-        requires own { count self.old.counts op op.session ≡ op.index }
-        ensures { OnOk result (TakesPast h.now self.old self.new op) }
-    {
-        for session in 0..h.sessions() {
-            let count = self.count(h, op, session) as usize;
-            self.take_in_up_to(h, session, count)?;
-        }
-        self.take_in_up_to(h, op.session as usize, op.index as usize + 1)
-    }
-
-    /// Takes in operations of a session, up to an index.
-    fn take_in_up_to(
+    /// Each is taken in behind its source. So it is raised to what is before it once, and nothing has to be followed. O(k) where
+    /// nothing was added yet, for k sessions, and else O(k) for each operation that is taken in and for each raise.
+    pub(crate) fn take_past(
         &mut self,
         h: &History<Memory>,
-        session: usize,
-        end: usize,
+        sources: &Sources,
+        op: OpId,
     ) -> Result<(), AllocError>
         requires ready { IsReady h.now self.old }
-        requires session { session < length h.now.1 }
-        requires inside { end ≤ length (operations_of h.now session) }
-        ensures { OnOk result (TakesUpTo h.now self.old self.new session end) }
+        requires sources { ListsSourcesIfAny h.now sources.now }
+        requires is_op { IsOp h.now op }
+        requires next { slice_index self.old.past.items op.session ≤ op.index }
+        ensures { OnOk result (TakesPast h.now self.old self.new op) }
     {
-        for index in self.past[session] as usize..end {
-            let op = OpId {
+        if self.added == 0 {
+            self.include_past(h, op);
+            return Ok(());
+        }
+        while let Some(session) = self.next_ready(h, sources, op) {
+            self.take_in_ready(h, sources, op, session)?;
+        }
+        self.take_in(h, sources, op)
+    }
+
+    /// Takes in operations of a session that the vector of an operation counts, while the source of the next one is in the order.
+    fn take_in_ready(
+        &mut self,
+        h: &History<Memory>,
+        sources: &Sources,
+        op: OpId,
+        session: usize,
+    ) -> Result<(), AllocError>
+        requires ready { IsReady h.now self.old }
+        requires sources { ListsSourcesIfAny h.now sources.now }
+        requires is_op { IsOp h.now op }
+        requires next { slice_index self.old.past.items op.session ≤ op.index }
+        requires exists { session < length h.now.1 }
+        requires first { IsNextReady sources.now self.old op session }
+        ensures some { OnOk result (TakesSome h.now self.old self.new op) }
+        ensures more { OnOk result (slice_index self.old.past.items session < slice_index self.new.past.items session) }
+    {
+        while let Some(index) = self.ready_index(h, sources, op, session) {
+            let next = OpId {
                 session: session as u64,
                 index: index as u64,
             };
-            self.take_in(h, op)?;
+            self.take_in(h, sources, next)?;
         }
         Ok(())
     }
 
-    /// Takes the next operation of a session in: all that is before the operations that its vector counts comes before it.
-    /// Where nothing was added yet, its vector counts all that already.
+    /// The index of the next operation of a session, where it is counted by the vector of an operation and its source is in the
+    /// order. O(1).
+    fn ready_index(
+        &self,
+        h: &History<Memory>,
+        sources: &Sources,
+        op: OpId,
+        session: usize,
+    ) -> Option<u16>
+        requires growing { IsGrowing h.now self.now }
+        requires sources { ListsSourcesIfAny h.now sources.now }
+        requires is_op { IsOp h.now op }
+        requires exists { session < length h.now.1 }
+        ensures { MatchOption result (¬ IsNextReady sources.now self.now op session) (IsReadyIndex sources.now self.now op session) }
+    {
+        if self.is_ready(h, sources, op, session) {
+            Some(self.past[session])
+        } else {
+            None
+        }
+    }
+
+    /// Counts an operation and what its vector counts among the operations of the order. O(k) for k sessions.
+    fn include_past(&mut self, h: &History<Memory>, op: OpId)
+        requires growing { IsGrowing h.now self.old }
+        requires is_op { IsOp h.now op }
+        requires next { slice_index self.old.past.items op.session ≤ op.index }
+        requires own { count self.old.counts op op.session ≡ op.index }
+        ensures { IncludesPast h.now self.old self.new op }
+    {
+        for session in 0..h.sessions() {
+            let count = self.count(h, op, session);
+            self.include_up_to(h, session, count);
+        }
+        self.include(h, op);
+    }
+
+    /// Counts operations of a session among the operations of the order, up to an index. O(1).
+    fn include_up_to(&mut self, h: &History<Memory>, session: usize, end: u16)
+        requires growing { IsGrowing h.now self.old }
+        requires exists { session < length h.now.1 }
+        requires held { end ≤ length (operations_of h.now session) }
+        ensures { IncludesUpTo h.now self.old self.new session end }
+    {
+        if self.past[session] < end {
+            self.past[session] = end;
+        }
+    }
+
+    /// A session whose next operation is counted by the vector of an operation, while its source is in the order. None where all
+    /// that the vector counts is in the order. O(k) for k sessions.
+    fn next_ready(&self, h: &History<Memory>, sources: &Sources, op: OpId) -> Option<usize>
+        requires ready { IsReady h.now self.now }
+        requires sources { ListsSourcesIfAny h.now sources.now }
+        requires is_op { IsOp h.now op }
+        requires next { slice_index self.now.past.items op.session ≤ op.index }
+        ensures { MatchOption result ((t : ℕ) → count self.now.counts op t ≤ slice_index self.now.past.items t)
+            (λ t. (t < length h.now.1) × IsNextReady sources.now self.now op t) }
+    {
+        for session in 0..h.sessions() {
+            if self.is_ready(h, sources, op, session) {
+                return Some(session);
+            }
+        }
+        None
+    }
+
+    /// Whether the next operation of a session is counted by the vector of an operation, and its source is in the order. O(1).
+    fn is_ready(&self, h: &History<Memory>, sources: &Sources, op: OpId, session: usize) -> bool
+        requires growing { IsGrowing h.now self.now }
+        requires sources { ListsSourcesIfAny h.now sources.now }
+        requires is_op { IsOp h.now op }
+        requires exists { session < length h.now.1 }
+        ensures { IsTrue result ↔ IsNextReady sources.now self.now op session }
+    {
+        let index = self.past[session];
+        if self.count(h, op, session) <= index {
+            return false;
+        }
+        let next = OpId {
+            session: session as u64,
+            index: index as u64,
+        };
+        self.has_source_in(h, sources, next)
+    }
+
+    /// Whether the source of an operation, if it has one, is in the order. O(1).
+    fn has_source_in(&self, h: &History<Memory>, sources: &Sources, op: OpId) -> bool
+        requires growing { IsGrowing h.now self.now }
+        requires sources { ListsSourcesIfAny h.now sources.now }
+        ensures { IsTrue result ↔ MatchOption (listed_source sources.now op) Always (IsIn self.now) }
+    {
+        match source_in(sources, op) {
+            Some(source) => source.index < self.past[source.session as usize] as u64,
+            None => true,
+        }
+    }
+
+    /// Takes the next operation of a session in: all that is before the operation before it in its session, and before its
+    /// source, comes before it.
     ///
-    /// O(1) where nothing was added, and O(k^2) else, for k sessions, besides what it raises.
-    fn take_in(&mut self, h: &History<Memory>, op: OpId) -> Result<(), AllocError>
+    /// O(k) for k sessions, besides what it raises.
+    fn take_in(
+        &mut self,
+        h: &History<Memory>,
+        sources: &Sources,
+        op: OpId,
+    ) -> Result<(), AllocError>
         requires ready { IsReady h.now self.old }
+        requires sources { ListsSourcesIfAny h.now sources.now }
         requires is_op { IsOp h.now op }
         requires next { op.index ≡ slice_index self.old.past.items op.session }
-        ensures { OnOk result (TakesUpTo h.now self.old self.new op.session (op.index + 1)) }
+        requires source { MatchOption (listed_source sources.now op) Always (IsIn self.old) }
+        ensures { OnOk result (TakesOne h.now self.old self.new op) }
     {
         self.include(h, op);
-        if self.added == 0 {
-            return Ok(());
-        }
-        self.add_before(h, op)?;
-        self.add_all_last(h, op)
+        self.join(h, op, operation_before(op))?;
+        self.join(h, op, source_in(sources, op))
     }
 
     /// Counts the next operation of a session among the operations of the order.
@@ -199,58 +325,81 @@ impl GrowingOrder {
         self.past[op.session as usize] = op.index as u16 + 1;
     }
 
-    /// Puts all that is before the operation before an operation in its session before that.
-    fn add_before(&mut self, h: &History<Memory>, op: OpId) -> Result<(), AllocError>
+    /// Puts all that is before an operation, if there is one, before the last operation of a session that is in the order, which
+    /// no operation of the order is behind. O(k) for k sessions, besides what it raises.
+    fn join(
+        &mut self,
+        h: &History<Memory>,
+        op: OpId,
+        before: Option<OpId>,
+    ) -> Result<(), AllocError>
         requires growing { IsGrowing h.now self.old }
         requires is_op { IsOp h.now op }
-        requires is_in { IsIn self.old op }
-        ensures within { OnOk result (GrowsWithin h.now NoReads self.old self.new) }
-        ensures before { OnOk result (IsPastBefore self.new.counts op) }
+        requires last { slice_index self.old.past.items op.session ≡ op.index + 1 }
+        requires empty { length self.old.pending.items ≡ 0 }
+        requires before { MatchOption before Always
+            (λ m. IsOp h.now m × (m ≢ op) × (IsCounted self.old.counts op m ⊎ Precedes m op)) }
+        ensures { OnOk result (IsJoined h.now self.old self.new op (row_of self.old.counts before)) }
     {
-        if op.index == 0 {
-            return Ok(());
+        match before {
+            Some(before) => self.join_past(h, op, before),
+            None => Ok(()),
         }
-        let before = OpId {
-            session: op.session,
-            index: op.index - 1,
-        };
-        self.add_past(h, op, before)
     }
 
-    /// Puts all that is before the last operations of each session that the vector of an operation counts before the
-    /// operation. Those that the vector of the operation before it in its session counts too are passed over.
-    fn add_all_last(&mut self, h: &History<Memory>, op: OpId) -> Result<(), AllocError>
+    /// The same, for an operation that is there.
+    fn join_past(&mut self, h: &History<Memory>, op: OpId, before: OpId) -> Result<(), AllocError>
         requires growing { IsGrowing h.now self.old }
         requires is_op { IsOp h.now op }
-        requires is_in { IsIn self.old op }
-        ensures within { OnOk result (GrowsWithin h.now NoReads self.old self.new) }
-        ensures followed { OnOk result ((y : ℕ) → y < length h.now.1 → IsFollowed (Waits NoMore self.new) self.new.counts op y) }
+        requires last { slice_index self.old.past.items op.session ≡ op.index + 1 }
+        requires empty { length self.old.pending.items ≡ 0 }
+        requires before { IsOp h.now before }
+        requires apart { before ≢ op }
+        requires cause { IsCounted self.old.counts op before ⊎ Precedes before op }
+        ensures { OnOk result (IsJoined h.now self.old self.new op (count self.old.counts before)) }
     {
+        if is_within(self.counts.get(before), self.counts.get(op)) {
+            return Ok(());
+        }
         let mut from = 0;
-        while let Some(session) = self.next_fresh(h, op, from) {
-            self.add_last(h, op, session)?;
+        while let Some(session) = self.next_more(h, before, op, from) {
+            let count = self.count(h, before, session);
+            self.raise_alone(h, op, session, count, Cause::Through(before))?;
             from = session + 1;
         }
         Ok(())
     }
 
-    /// The first session from a number on of which the vector of an operation counts more than that of the operation before it
-    /// in its session. O(k) for k sessions.
-    fn next_fresh(&self, h: &History<Memory>, op: OpId, from: usize) -> Option<usize>
-        requires growing { IsGrowing h.now self.now }
+    /// Raises what the vector of the last operation of a session that is in the order counts. It does not wait to be followed.
+    fn raise_alone(
+        &mut self,
+        h: &History<Memory>,
+        op: OpId,
+        session: usize,
+        number: u16,
+        cause: Cause,
+    ) -> Result<(), AllocError>
+        requires growing { IsGrowing h.now self.old }
         requires is_op { IsOp h.now op }
-        ensures { MatchOption result ((y : ℕ) → from ≤ y → y < length h.now.1 → IsStale self.now.counts op y)
-            (λ session. (from ≤ session) × (session < length h.now.1) × ((y : ℕ) → from ≤ y → y < session → IsStale self.now.counts op y)) }
+        requires last { slice_index self.old.past.items op.session ≡ op.index + 1 }
+        requires empty { length self.old.pending.items ≡ 0 }
+        requires exists { session < length h.now.1 }
+        requires held { number ≤ length (operations_of h.now session) }
+        requires cause { IsCaused h.now NoReads self.old.counts op session number cause }
+        ensures { OnOk result (IsRaisedAlone h.now self.old self.new op session number) }
     {
-        let counts = self.counts.get(op);
-        if op.index == 0 {
-            return next_above(counts, &[], from);
-        }
-        let before = OpId {
-            session: op.session,
-            index: op.index - 1,
-        };
-        next_above(counts, self.counts.get(before), from)
+        let place = op.session as usize;
+        self.raise_from(h, place, op.index as usize, session, number, cause)?;
+        self.drop_raised(h);
+        Ok(())
+    }
+
+    /// Leaves out what was raised last, if it waits.
+    fn drop_raised(&mut self, h: &History<Memory>)
+        requires { IsGrowing h.now self.old }
+        ensures { DropsRaise h.now self.old self.new }
+    {
+        let _dropped = self.pending.pop();
     }
 
     /// Follows what was raised: the operation comes behind all that is before the last one counted, and what comes
@@ -322,7 +471,8 @@ impl GrowingOrder {
         requires source { IsOp h.now source }
         requires is_in { IsIn self.old source }
         requires write { IsOp h.now write }
-        ensures within { (reads : Ops) → IsRuled h.now reads self.old.counts source read write.session (write.index + 1) → OnOk result (GrowsWithin h.now reads self.old self.new) }
+        ensures within { (reads : Ops) → IsRuled h.now reads self.old.counts source read write.session (write.index + 1)
+            → OnOk result (GrowsWithin h.now reads self.old self.new) }
         ensures growing { OnOk result (IsGrowing h.now self.new) }
         ensures counted { OnOk result (IsCounted self.new.counts source write) }
     {
@@ -451,8 +601,12 @@ impl GrowingOrder {
         requires other { other < length h.now.1 }
         requires held { number ≤ length (operations_of h.now other) }
         ensures growing { OnOk result (IsGrowing h.now self.new) }
-        ensures within { (reads : Ops) → (index < slice_index self.old.past.items session → IsCaused h.now reads self.old.counts (op session index) other number cause) → OnOk result (GrowsWithin h.now reads self.old self.new) }
-        ensures raised { OnOk result (IsRaisedFrom self.old.counts self.new.counts (slice_index self.old.past.items session) session index other number) }
+        ensures within { (reads : Ops)
+            → (index < slice_index self.old.past.items session → IsCaused h.now reads self.old.counts (op session index) other number cause)
+            → OnOk result (GrowsWithin h.now reads self.old self.new) }
+        ensures raised { OnOk result
+            (IsRaisedFrom self.old.counts self.new.counts (slice_index self.old.past.items session) session index other number) }
+        ensures few { OnOk result (length self.new.pending.items ≤ length self.old.pending.items + 1) }
     {
         let end = self.raise_up_to(h, session, index, other, number, cause)?;
         if end == index {
@@ -490,7 +644,8 @@ impl GrowingOrder {
         requires other { other < length h.now.1 }
         requires held { number ≤ length (operations_of h.now other) }
         ensures raised { IfOk result (λ end. IsRaisedTo h.now self.old self.new session index end other number cause) }
-        ensures stopped { IfOk result (λ end. end < slice_index self.old.past.items session → number ≤ count self.old.counts (op session end) other) }
+        ensures stopped { IfOk result
+            (λ end. end < slice_index self.old.past.items session → number ≤ count self.old.counts (op session end) other) }
     {
         let first = OpId {
             session: session as u64,
@@ -528,7 +683,8 @@ impl GrowingOrder {
         requires is_op { IsOp h.now op }
         requires exists { session < length h.now.1 }
         requires held { number ≤ length (operations_of h.now session) }
-        ensures { IfOk result (λ raised. MatchBool raised (IsOneRaise h.now self.old self.new op session number cause) ((self.new ≡ self.old) × (number ≤ count self.old.counts op session))) }
+        ensures { IfOk result (λ raised. MatchBool raised (IsOneRaise h.now self.old self.new op session number cause)
+            ((self.new ≡ self.old) × (number ≤ count self.old.counts op session))) }
     {
         let before = self.count(h, op, session);
         if number <= before {
@@ -544,6 +700,19 @@ impl GrowingOrder {
         self.added += (number - before) as u32;
         Ok(true)
     }
+}
+
+/// The operation before an operation in its session, if there is one.
+fn operation_before(op: OpId) -> Option<OpId>
+    ensures { result ≡ before_at op.session op.index }
+{
+    if op.index == 0 {
+        return None;
+    }
+    Some(OpId {
+        session: op.session,
+        index: op.index - 1,
+    })
 }
 
 /// The first place from a number on at which a count is larger than the one at its place in others, where a place past the end has

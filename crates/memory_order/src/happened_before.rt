@@ -7,12 +7,16 @@ ghost use Rattle.causal_order.specs.Orders.{op};
 ghost use Rattle.memory_order.specs.SourceOrder.{CountsSourceOrder};
 ghost use Rattle.memory_order.specs.Steps.GrowingOrders.{IsRaisedIn};
 ghost use Rattle.memory_order.specs.Steps.GrowthSteps.{Always, IsGivenUp, IsIn, IsSettled, NoMore, Waits};
-ghost use Rattle.memory_order.specs.Steps.HappenedBefores.{AreReadsFollowed, AreSourcesIn, AreStrictOf, HasGrown, IsLastBelow, IsMade, IsReadFollowed, IsWellFormed, TakesIn, TakesNext, Tells, most_of, raises_of, session_of, taken_of, vectors_of};
+ghost use Rattle.memory_order.specs.Steps.Indexed.{ListsSourcesIfAny};
+ghost use Rattle.memory_order.specs.Steps.HappenedBefores.{AreReadsFollowed, AreSourcesIn, AreStrictOf, HasGrown};
+ghost use Rattle.memory_order.specs.Steps.HappenedBefores.{IsLastBelow, IsMade, IsReadFollowed, IsWellFormed, TakesIn};
+ghost use Rattle.memory_order.specs.Steps.HappenedBefores.{TakesNext, Tells, most_of, raises_of, session_of, taken_of, vectors_of};
 ghost use Rattle.causal_order.specs.Vectors.{Counts, count};
 
 use crate::causal::CausalOrder;
 use crate::growing_order::{GrowingOrder, Raise, Raised};
 use crate::last_writes::end_of_writes;
+use crate::placing::Sources;
 use crate::writes::Write;
 use causal_order::Vectors;
 use history::{History, OpId};
@@ -20,7 +24,7 @@ use objects::Memory;
 use std::alloc::{AllocError, Global};
 
 /// How many pairs a relation may have that the causal order doesn't have, where a certificate or a derivation is made of it.
-pub const MOST_PAIRS: u32 = 100_000;
+pub const MAX_PAIRS: u32 = 100_000;
 
 /// What is known of the happened-before relation of an operation.
 #[derive(Clone, Copy, Debug, PartialEq, Eq)]
@@ -87,24 +91,59 @@ impl HappenedBefore {
     ///
     /// Where values are distinct, its vectors then count exactly this relation, or it is given up: exactly where it has more
     /// pairs than it may have that the causal order doesn't have. After a cyclic relation those of the later operations are cyclic or
-    /// given up, and after one that is given up all are. Fails for want of memory alone, and nothing is left then. O(q k^2 +
+    /// given up, and after one that is given up all are. Fails for want of memory alone, and nothing is left then. O(q k +
     /// m k log p) for q operations and m pairs that the relation has more than before, and k sessions of at most p operations.
     pub fn take_next(self, order: &CausalOrder) -> Result<HappenedBefore, AllocError>
         requires made { IsMade order.now self }
         requires next { taken_of self < length (operations_of order.now (session_of self)) }
         ensures { IfOk result (TakesNext order.now self) }
     {
-        self.take_next_of(order.history())
+        self.take_next_of(order.history(), order.memory().sources())
     }
 
-    /// The same, of a history.
-    fn take_next_of(mut self, h: &History<Memory>) -> Result<HappenedBefore, AllocError>
+    /// The same, of a history and the sources of its operations.
+    fn take_next_of(
+        self,
+        h: &History<Memory>,
+        sources: &Sources,
+    ) -> Result<HappenedBefore, AllocError>
         requires made { IsMade h.now self }
+        requires sources { ListsSourcesIfAny h.now sources.now }
+        requires next { taken_of self < length (operations_of h.now (session_of self)) }
+        ensures { IfOk result (TakesNext h.now self) }
+    {
+        if self.order.is_given_up() {
+            Ok(self.pass_next(h))
+        } else {
+            self.make_next(h, sources)
+        }
+    }
+
+    /// The same, where the relation of the operation before is given up: so is that of the next one.
+    fn pass_next(mut self, h: &History<Memory>) -> HappenedBefore
+        requires made { IsMade h.now self }
+        requires next { taken_of self < length (operations_of h.now (session_of self)) }
+        requires given { IsGivenUp self.order }
+        ensures { TakesNext h.now self result }
+    {
+        self.taken += 1;
+        self
+    }
+
+    /// The same, where it is not given up.
+    fn make_next(
+        mut self,
+        h: &History<Memory>,
+        sources: &Sources,
+    ) -> Result<HappenedBefore, AllocError>
+        requires made { IsMade h.now self }
+        requires kept { ¬ IsGivenUp self.order }
+        requires sources { ListsSourcesIfAny h.now sources.now }
         requires next { taken_of self < length (operations_of h.now (session_of self)) }
         ensures { IfOk result (TakesNext h.now self) }
     {
         let index = self.taken;
-        self.take_in(h)?;
+        self.take_in(h, sources)?;
         self.follow_read_of_all(h, index)?;
         self.saturate(h)?;
         Ok(self)
@@ -145,8 +184,10 @@ impl HappenedBefore {
     }
 
     /// Takes the session's next operation in, with what is before it in the causal order.
-    fn take_in(&mut self, h: &History<Memory>) -> Result<(), AllocError>
+    fn take_in(&mut self, h: &History<Memory>, sources: &Sources) -> Result<(), AllocError>
         requires made { IsMade h.now self.old }
+        requires kept { ¬ IsGivenUp self.old.order }
+        requires sources { ListsSourcesIfAny h.now sources.now }
         requires next { taken_of self.old < length (operations_of h.now (session_of self.old)) }
         ensures { OnOk result (TakesIn h.now self.old self.new) }
     {
@@ -154,7 +195,7 @@ impl HappenedBefore {
             session: self.session as u64,
             index: self.taken as u64,
         };
-        self.order.take_past(h, op)?;
+        self.order.take_past(h, sources, op)?;
         self.taken += 1;
         Ok(())
     }
@@ -218,7 +259,8 @@ impl HappenedBefore {
         requires sources { AreSourcesIn h.now self.old }
         requires index { index < taken_of self.old }
         ensures grown { OnOk result (HasGrown h.now ⊥ self.old self.new) }
-        ensures followed { OnOk result ((u : ℕ) → u < length h.now.1 → IsReadFollowed h.now (Waits NoMore self.new.order) (vectors_of self.new) (op (session_of self.new) index) u) }
+        ensures followed { OnOk result ((u : ℕ) → u < length h.now.1
+            → IsReadFollowed h.now (Waits NoMore self.new.order) (vectors_of self.new) (op (session_of self.new) index) u) }
     {
         for session in 0..h.sessions() {
             self.follow_read(h, index, session)?;
@@ -239,7 +281,8 @@ impl HappenedBefore {
         requires index { index < taken_of self.old }
         requires exists { session < length h.now.1 }
         ensures grown { OnOk result (HasGrown h.now ⊥ self.old self.new) }
-        ensures followed { OnOk result (IsReadFollowed h.now (Waits NoMore self.new.order) (vectors_of self.new) (op (session_of self.new) index) session) }
+        ensures followed { OnOk result
+            (IsReadFollowed h.now (Waits NoMore self.new.order) (vectors_of self.new) (op (session_of self.new) index) session) }
     {
         let Some(source) = self.sources[index] else {
             return Ok(());

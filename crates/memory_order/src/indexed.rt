@@ -2,7 +2,8 @@
 
 ghost use Rattle.std.specs.Prelude.{◌≡◌, ◌↔◌, IfOk, IfSome, IsTrue, MatchOption};
 ghost use Rattle.memory_order.specs.Memory.{IsDifferentiated};
-ghost use Rattle.memory_order.specs.Steps.Indexed.{HasNoWriteBefore, IsLastWriteBefore, IsOrdered, IsSourceIfAny, IsUnordered, ListsReads, ListsSourcesIfAny, listed_source};
+ghost use Rattle.memory_order.specs.Steps.Indexed.{HasNoWriteBefore, IsLastWriteBefore, IsOrdered, IsUnordered};
+ghost use Rattle.memory_order.specs.Steps.Indexed.{IsSourceIfAny, ListsReads, ListsSourcesIfAny, listed_source};
 ghost use Rattle.memory_order.specs.Steps.Written.{AreByVariable, AreInOrder, IsSorted, ListsWrites};
 
 use crate::causal::CausalOrder;
@@ -10,7 +11,7 @@ use crate::differentiation::are_distinct;
 use crate::found_sources::found_sources;
 use crate::known_reads::{KnownRead, known_reads};
 use crate::last_writes::{last_write_before, sort_by_variable};
-use crate::order::memory_order;
+use crate::order::order_by_sources;
 use crate::placing::Sources;
 use crate::writes::{Write, sorted_writes};
 use causal_order::Vectors;
@@ -42,7 +43,9 @@ impl<'a> Model for IndexedMemory<'a> {
 
     ghost view = { λ memory. memory.history.now };
 
-    ghost invariant = { λ memory. IsIndex memory.history.now memory.writes.items memory.by_variable.items memory.sources memory.reads.items memory.is_differentiated memory.order };
+    ghost invariant = { λ memory.
+        IsIndex memory.history.now memory.writes.items memory.by_variable.items memory.sources memory.reads.items
+        memory.is_differentiated memory.order };
 }
 
 impl<'a> IndexedMemory<'a> {
@@ -58,7 +61,7 @@ impl<'a> IndexedMemory<'a> {
         let sources = found_sources(alloc, h, &writes)?;
         let reads = known_reads(alloc, h, &sources)?;
         let is_differentiated = are_distinct(h, &writes);
-        let order = memory_order(alloc, h)?;
+        let order = order_by_sources(alloc, h, &sources, &reads)?;
         Ok(IndexedMemory {
             history: h,
             writes,
@@ -145,7 +148,7 @@ impl<'a> IndexedMemory<'a> {
 }
 
 /// The source that is listed for an operation.
-fn source_in(sources: &Sources, op: OpId) -> Option<OpId>
+pub(crate) fn source_in(sources: &Sources, op: OpId) -> Option<OpId>
     ensures { result ≡ listed_source sources.now op }
 {
     if op.session >= sources.len() as u64 {

@@ -1,11 +1,13 @@
 //! The reads of a memory history whose returns are known.
 
-ghost use Rattle.std.specs.Prelude.{◌+◌, ◌<◌, length, IfOk, OnOk};
+ghost use Rattle.std.specs.Prelude.{◌+◌, ◌<◌, ◌↔◌, length, IfOk, IsTrue, OnOk};
 ghost use Rattle.causal_order.specs.Orders.{op as operation};
-ghost use Rattle.memory_order.specs.Steps.Indexed.{IsSourceIfAny, ListsReads, ListsReadsBefore, ListsSourcesIfAny};
+ghost use Rattle.memory_order.specs.SourceOrder.{LacksSource};
+ghost use Rattle.memory_order.specs.Steps.Indexed.{IsSourceIfAny, LacksItsSource, ListsReads, ListsReadsBefore};
+ghost use Rattle.memory_order.specs.Steps.Indexed.{ListsSourcesIfAny};
 
 use crate::placing::Sources;
-use crate::reads::known_read;
+use crate::reads::{initial_value, known_read};
 use history::{History, OpId};
 use objects::Memory;
 use std::alloc::{AllocError, Global};
@@ -81,4 +83,31 @@ fn push_read(
         source,
     })?;
     Ok(())
+}
+
+/// Whether one of the known reads returned a value that is not the initial one and that nobody writes. O(n log n) for n
+/// reads.
+pub(crate) fn lacks_source(h: &History<Memory>, reads: &[KnownRead]) -> bool
+    requires { ListsReads h.now reads.now }
+    ensures { IsTrue result ↔ LacksSource h.now }
+{
+    for read in reads {
+        if lacks_its_source(h, read) {
+            return true;
+        }
+    }
+    false
+}
+
+/// Whether a known read has no source and returned a value that is not the initial one.
+fn lacks_its_source(h: &History<Memory>, read: &KnownRead) -> bool
+    ensures { IsTrue result ↔ LacksItsSource h.now read.now }
+{
+    if read.source.is_some() {
+        return false;
+    }
+    match known_read(h, read.op) {
+        Some((key, value)) => value != initial_value(h, key),
+        None => false,
+    }
 }

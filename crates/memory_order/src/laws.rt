@@ -15,13 +15,16 @@ ghost use Rattle.causal_order.specs.Vectors.{Counts};
 ///
 /// This is so where values are distinct and vectors count the causal order, as those of `memory_order` do.
 pub fn happened_before_is_on_the_past()
-    ensures past { (h : MemoryHistory) (v : Counts) (o a b : Operation) → IsDifferentiated h → CountsSourceOrder h v → HB h o a b → IsPast h o a × IsPast h o b }
-    ensures same { (h : MemoryHistory) (v : Counts) (o a b : Operation) → IsDifferentiated h → CountsSourceOrder h v → HB h o a b ↔ HBWithin h o a b }
+    ensures past { (h : MemoryHistory) (v : Counts) (o a b : Operation) → IsDifferentiated h → CountsSourceOrder h v
+        → HB h o a b → IsPast h o a × IsPast h o b }
+    ensures same { (h : MemoryHistory) (v : Counts) (o a b : Operation) → IsDifferentiated h → CountsSourceOrder h v
+        → HB h o a b ↔ HBWithin h o a b }
 {}
 
 /// Each operation has vectors that count its happened-before relation.
 ///
 /// This is so where values are distinct and vectors count the causal order, as those of `memory_order` do.
 pub fn happened_before_has_vectors()
-    ensures { (h : MemoryHistory) (v : Counts) (o : Operation) → IsDifferentiated h → CountsSourceOrder h v → IsOp h o → (now : Counts) × IsHBVectors h o now }
+    ensures { (h : MemoryHistory) (v : Counts) (o : Operation) → IsDifferentiated h → CountsSourceOrder h v → IsOp h o
+        → (now : Counts) × IsHBVectors h o now }
 {}

@@ -1,14 +1,15 @@
-ghost use Rattle.std.specs.Prelude.{◌≡◌, ◌∷◌, ◌++◌, ◌<◌, ◌≢◌, ◌+◌, ◌-◌, ℕ, List, [], length, max, option_map, unwrap_or, slice_set, slice_index, slice_index_or, IfOk, IfNone, IfSome, OnOk, Some};
+ghost use Rattle.std.specs.Prelude.{◌≡◌, ◌<◌, ◌≢◌, ◌+◌, ℕ, List, [], length, max, slice_index, slice_index_or};
+ghost use Rattle.std.specs.Prelude.{IfOk, IfNone, IfSome, OnOk, Some};
 ghost use Rattle.history.specs.declared.op_id.OpId.{OpId as Operation};
 ghost use Rattle.memory_order.specs.Sources.{AreListed, AreShort, AreVectorsSoFar, Comes, HasSource, IsReady, IsUnfinished};
-ghost use Rattle.causal_order.specs.Vectors.{IsListed, count, list_of};
-ghost use Rattle.memory_order.specs.Steps.SourceWaits.{FollowsSources};
+ghost use Rattle.causal_order.specs.Vectors.{IsListed, list_of};
+ghost use Rattle.memory_order.specs.Steps.SourceWaits.{FollowsSources, counted_before, with_list};
 ghost use Rattle.causal_order.specs.Topological.{placed};
 ghost use Rattle.causal_order.specs.Waits.{AreAlike};
 
 use crate::source_waits::waits_for_sources;
 use causal_order::{OrderOrCycle, Rows, Vectors, topological_sort};
-use history::{History, OpId};
+use history::{History, MAX_OPERATIONS, OpId};
 use objects::Memory;
 use std::alloc::{AllocError, Global};
 
@@ -78,7 +79,7 @@ fn place(
     requires ready { IsReady sources.now vectors.old session }
     requires so_far { AreVectorsSoFar sources.now vectors.old }
     ensures so_far { OnOk result (AreVectorsSoFar sources.now vectors.new) }
-    ensures placed { OnOk result ((row : List ℕ) × (vectors.new ≡ slice_set vectors.old session (slice_index_or vectors.old session [] ++ row ∷ []))) }
+    ensures placed { OnOk result ((row : List ℕ) × (vectors.new ≡ with_list vectors.old session row)) }
 {
     let index = vectors.operations(session);
     let op = OpId {
@@ -98,12 +99,13 @@ fn vector_of(
 ) -> Result<Vec<u16>, AllocError>
     requires exists { op.session < length vectors.now }
     requires next { op.index ≡ length (slice_index_or vectors.now op.session []) }
-    requires short { op.index < 256 }
+    requires short { op.index < MAX_OPERATIONS }
     requires source { (w : Operation) → source ≡ Some w → IsListed vectors.now w }
     requires counts { (o : Operation) → IsListed vectors.now o → length (list_of vectors.now o) ≡ length vectors.now }
     ensures counts { IfOk result (λ row. length row.items ≡ length vectors.now) }
     ensures own { IfOk result (λ row. slice_index row.items op.session ≡ op.index + 1) }
-    ensures others { IfOk result (λ row. (s : ℕ) → s ≢ op.session → slice_index row.items s ≡ max (count vectors.now (record { session = op.session; index = op.index - 1 }) s) (unwrap_or (option_map (λ w. count vectors.now w s) source) 0)) }
+    ensures others { IfOk result (λ row.
+        (s : ℕ) → s ≢ op.session → slice_index row.items s ≡ counted_before vectors.now op source s) }
 {
     let mut row = vec![in alloc; 0; vectors.sessions()]?;
     if op.index > 0 {

@@ -8,7 +8,7 @@ ghost use Rattle.memory_order.specs.Steps.GrowingOrders.{AreHeldVectors};
 ghost use Rattle.memory_order.specs.Steps.HappenedBefores.{AreStrictBefore, AreStrictOf};
 
 use causal_order::Vectors;
-use history::{History, OpId};
+use history::{History, MAX_OPERATIONS, OpId};
 use objects::Memory;
 use std::alloc::{AllocError, Global};
 
@@ -23,7 +23,7 @@ pub(crate) fn strict_vectors(
     requires { AreHeldVectors h.now vectors.now }
     ensures held { IfOk result (AreHeldVectors h.now) }
     ensures strict { IfOk result (AreStrictOf h.now vectors.now) }
-    ensures short { OnOk result ((s : ℕ) → length (operations_of h.now s) ≤ 256) }
+    ensures short { OnOk result ((s : ℕ) → length (operations_of h.now s) ≤ MAX_OPERATIONS) }
 {
     let mut strict = vectors.copy(alloc)?;
     for session in 0..h.sessions() {
@@ -39,7 +39,7 @@ fn leave_out_own(h: &History<Memory>, session: usize, strict: &mut Vectors)
     ensures held { AreHeldVectors h.now strict.new }
     ensures strict { (v : Counts) → AreStrictBefore h.now v (operation session 0) strict.old
         → AreStrictBefore h.now v (operation (session + 1) 0) strict.new }
-    ensures short { length (operations_of h.now session) ≤ 256 }
+    ensures short { length (operations_of h.now session) ≤ MAX_OPERATIONS }
 {
     for index in 0..h.len(session as u64) {
         let op = OpId {

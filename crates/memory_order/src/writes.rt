@@ -1,6 +1,7 @@
 ghost use Rattle.std.specs.Prelude.{◌≡◌, ◌+◌, ◌<◌, ◌↔◌, length, Contains, IfOk, IsTrue, MatchOption, OnOk};
 ghost use Rattle.causal_order.specs.Orders.{op};
-ghost use Rattle.memory_order.specs.Steps.Written.{AreInOrder, IsLeastWrite, IsSorted, ListsWrites, ListsWritesBefore};
+ghost use Rattle.memory_order.specs.Steps.Written.{AreInOrder, IsLeastWrite, IsSorted, LacksWrite};
+ghost use Rattle.memory_order.specs.Steps.Written.{ListsWrites, ListsWritesBefore};
 
 use history::{History, OpId};
 use objects::{Memory, RegisterCall};
@@ -70,7 +71,7 @@ pub fn is_written(writes: &[Write], key: u32, value: u64) -> bool
 pub fn least_write(writes: &[Write], key: u32, value: u64) -> Option<OpId>
     requires sorted { IsSorted writes.now }
     requires in_order { AreInOrder writes.now }
-    ensures { MatchOption result ((w : Write) → Contains writes.now w → w.key ≡ key → w.value ≡ value → ⊥) (IsLeastWrite writes.now key value) }
+    ensures { MatchOption result (LacksWrite writes.now key value) (IsLeastWrite writes.now key value) }
 {
     let at = writes.partition_point(|write| (write.key, write.value) < (key, value));
     if at == writes.len() {

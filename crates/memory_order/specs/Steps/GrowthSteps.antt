@@ -1,7 +1,8 @@
 -- The steps in which the state grows in which vectors do. Nobody has to believe these definitions to trust an answer: they
 -- cite the fields of the structs and change as the loop does.
-use Rattle.std.specs.Prelude.{◌≡◌, ◌≢◌, ◌⊎◌, ℕ, ◌+◌, ◌*◌, ◌-◌, ◌<◌, ◌≤◌, ◌∷◌, ◌++◌, [], List, true, false, length, IsTrue, All, Contains, MatchOption, max, slice_index}
+use Rattle.std.specs.Prelude.{◌≡◌, ◌≢◌, ◌⊎◌, ℕ, ◌+◌, ◌*◌, ◌-◌, ◌<◌, ◌≤◌, ◌∷◌, ◌++◌, [], List, true, false, length, IsTrue, All, Contains, MatchOption, slice_index}
 use Rattle.std.proofs.Common.{zero, suc}
+use Rattle.history.specs.declared.limits.TheConstants.{MAX_OPERATIONS, MAX_SESSIONS}
 use Rattle.history.specs.declared.op_id.OpId.{OpId}
 use Rattle.history.specs.History.{IsOp, Precedes, session}
 use Rattle.memory_order.specs.declared.growing_order.Cause.{Cause}
@@ -67,10 +68,6 @@ module _ (waits : Raised → Type 0) where
   IsFollowed v b y = IsFresh v b y → (i z : ℕ) → count v b y ≡ i + 1
       → (count v (op y i) z ≤ count v b z) ⊎ (IsPending b y ⊎ IsCovered v (op y i) z)
 
--- the vector of b counts no more of the session y than that of the operation before b does, or nothing of it
-abbrev pub IsStale : Counts → OpId → ℕ → Type 0
-IsStale v b y = ((j : ℕ) × (b.index ≡ j + 1) × (count v b y ≤ count v (op b.session j) y)) ⊎ (count v b y ≡ 0)
-
 -- no count falls from one of the first operations of a session to the next
 abbrev pub IsMonotone : Counts → (ℕ → ℕ) → Type 0
 IsMonotone v past = (s j z : ℕ) → j + 1 < past s → count v (op s j) z ≤ count v (op s (j + 1)) z
@@ -83,10 +80,6 @@ pub record IsSettled (more : Raised → Type 0) (order : GrowingOrder) : Type 0 
 -- the vector of b counts all that the vector of m counts
 abbrev pub IsPastOf : Counts → OpId → OpId → Type 0
 IsPastOf v b m = (z : ℕ) → count v m z ≤ count v b z
-
--- the vector of b counts all that that of the operation before it in its session counts
-abbrev pub IsPastBefore : Counts → OpId → Type 0
-IsPastBefore v b = (j : ℕ) → b.index ≡ j + 1 → IsPastOf v b (op b.session j)
 
 -- so it is
 abbrev pub Always : Type 0
@@ -104,8 +97,8 @@ module _ (h : MemoryHistory) where
   -- the state speaks of operations of the history, and of no more of each session than is there
   pub record IsGrowing (order : GrowingOrder) : Type 0 where
     pub counts : AreHeldVectors h order.counts
-    pub few : length h.1 ≤ 16
-    pub short : (s : ℕ) → length (session h s) ≤ 256
+    pub few : length h.1 ≤ MAX_SESSIONS
+    pub short : (s : ℕ) → length (session h s) ≤ MAX_OPERATIONS
     pub sessions : length order.past.items ≡ length h.1
     pub past : (s : ℕ) → slice_index order.past.items s ≤ length (session h s)
     pub pending : All (IsRaisedIn h) order.pending.items
@@ -224,26 +217,6 @@ module _ (h : MemoryHistory) where
   pub record AreStraight (v : Counts) : Type 0 where
     pub monotone : (s j z : ℕ) → IsOp h (op s (j + 1)) → count v (op s j) z ≤ count v (op s (j + 1)) z
     pub within : (b : OpId) (y i z : ℕ) → IsOp h b → count v b y ≡ i + 1 → count v (op y i) z ≤ count v b z
-
-  -- a state in which operations may be taken in
-  pub record IsReady (order : GrowingOrder) : Type 0 where
-    pub growing : IsGrowing order
-    pub settled : IsSettled NoMore order
-    pub straight : order.added ≡ 0 → AreStraight order.counts
-
-  -- operations of the session s are taken in up to n
-  pub record TakesUpTo (before after : GrowingOrder) (s n : ℕ) : Type 0 where
-    pub ready : IsReady after
-    pub grows : Grows ⊥ NoReads before after
-    pub here : slice_index after.past.items s ≡ max (slice_index before.past.items s) n
-    pub others : (t : ℕ) → t ≢ s → slice_index after.past.items t ≡ slice_index before.past.items t
-
-  -- an operation is taken in with what its vector counts
-  pub record TakesPast (before after : GrowingOrder) (o : OpId) : Type 0 where
-    pub ready : IsReady after
-    pub grows : Grows ⊥ NoReads before after
-    pub here : slice_index after.past.items o.session ≡ o.index + 1
-    pub others : (t : ℕ) → t < length h.1 → t ≢ o.session → slice_index after.past.items t ≡ max (slice_index before.past.items t) (count before.counts o t)
 
   -- nothing waits, or more was added than may be
   pub record IsAtEnd (before after : GrowingOrder) : Type 0 where

@@ -17,7 +17,8 @@ use Rattle.memory_order.specs.Relations.{IsPast, HB}
 use Rattle.memory_order.specs.Raises.{AreReached, AreRightRaises}
 use Rattle.memory_order.specs.SourceOrder.{CountsSourceOrder, IsSource, ListsSourcesBelow}
 use Rattle.memory_order.specs.Steps.GrowingOrders.{AreHeldVectors}
-use Rattle.memory_order.specs.Steps.GrowthSteps.{Always, IsIn, Waits, NoMore, IsSettled, IsGrowing, IsGivenUp, Grows, TakesPast}
+use Rattle.memory_order.specs.Steps.GrowthSteps.{Always, IsIn, Waits, NoMore, IsGrowing, IsGivenUp, Grows}
+use Rattle.memory_order.specs.Steps.TakingIn.{IsTransitive, TakesPast}
 use Rattle.memory_order.specs.Steps.Written.{AreByVariable, ListsWrites}
 use Rattle.causal_order.specs.Vectors.{Counts, count, IsCounted}
 
@@ -120,7 +121,8 @@ module _ (h : MemoryHistory) where
 
   -- the state between two operations: its vectors began as those of the causal order, and only operations of the past of the
   -- last one were raised; what is counted is in its relation, and what it demands is followed or waits; for the last one and
-  -- each behind it in the session its raises are right, and what is counted is so since the beginning or since a raise
+  -- each behind it in the session its raises are right, and what is counted is so since the beginning or since a raise; where it
+  -- is not given up, nothing waits
   pub record IsMade (happened : HappenedBefore) : Type 0 where
     pub well_formed : IsWellFormed happened
     pub causal : Counts
@@ -131,7 +133,8 @@ module _ (h : MemoryHistory) where
     pub outside : (p : OpId) (s : ℕ) → slice_index happened.order.past.items p.session ≤ p.index → count happened.order.counts p s ≡ count strict p s
     pub untouched : happened.order.added ≡ 0 → (p : OpId) (s : ℕ) → count happened.order.counts p s ≡ count strict p s
     pub added : happened.order.added + all_counted h strict ≡ all_counted h happened.order.counts
-    pub past : (s : ℕ) → slice_index happened.order.past.items s ≡ past_count causal happened.session happened.taken s
+    pub past : (s : ℕ) → slice_index happened.order.past.items s ≤ past_count causal happened.session happened.taken s
+    pub all : ¬ IsGivenUp happened.order → (s : ℕ) → past_count causal happened.session happened.taken s ≤ slice_index happened.order.past.items s
     pub cyclic : happened.order.is_cyclic ≡ true → (p : OpId) × IsIn happened.order p × IsCounted happened.order.counts p p
     pub acyclic : happened.order.is_cyclic ≡ false → (p : OpId) → IsOp h p → count happened.order.counts p p.session ≡ p.index
     pub supported : IsDifferentiated h → (n : ℕ) → happened.taken ≡ n + 1 → IsSupported (op happened.session n) happened.order.counts
@@ -139,8 +142,8 @@ module _ (h : MemoryHistory) where
         → AreRightRaises h (op happened.session n) strict happened.order.raises.items
     pub reached : AreReached strict happened.order.raises.items happened.order.counts
     pub few : length happened.order.raises.items ≤ happened.order.added
-    pub settled : IsSettled NoMore happened.order
-    pub reads : AreReadsFollowed NoMore happened.taken happened
+    pub transitive : ¬ IsGivenUp happened.order → IsTransitive happened.order
+    pub reads : ¬ IsGivenUp happened.order → AreReadsFollowed NoMore happened.taken happened
 
   -- the relation of o has more pairs than a number that the causal order doesn't have: so much more do vectors count than those
   -- of the causal order, each without its own operation, which on the past of o count pairs of the relation alone, and elsewhere

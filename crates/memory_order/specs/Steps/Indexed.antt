@@ -1,10 +1,11 @@
 -- What is known of a memory history: the sources of its operations, its known reads, its last writes and its order.
-use Rattle.std.specs.Prelude.{◌≡◌, ◌⊎◌, ◌↔◌, ℕ, ◌+◌, ◌<◌, ◌≤◌, Bool, List, [], length, Contains, IsTrue, Option, None, Some, MatchOption, slice_get, slice_index_or, unwrap_or}
+use Rattle.std.specs.Prelude.{◌≡◌, ◌≢◌, ◌⊎◌, ◌↔◌, ℕ, ◌+◌, ◌<◌, ◌≤◌, Bool, List, [], length, Contains, IsTrue, Option, None, Some, MatchOption, slice_get, slice_index_or, unwrap_or}
+use Rattle.history.specs.declared.limits.TheConstants.{MAX_OPERATIONS}
 use Rattle.history.specs.declared.op_id.OpId.{OpId}
 use Rattle.history.specs.History.{IsOp, session}
 use Rattle.memory_order.specs.declared.known_reads.KnownRead.{KnownRead}
 use Rattle.memory_order.specs.declared.writes.Write.{Write}
-use Rattle.memory_order.specs.Memory.{MemoryHistory, Writes, Reads, IsDifferentiated}
+use Rattle.memory_order.specs.Memory.{MemoryHistory, initial, Writes, Reads, IsDifferentiated}
 use Rattle.causal_order.specs.Orders.{op}
 use Rattle.memory_order.specs.Relations.{ReadsFrom}
 use Rattle.memory_order.specs.SourceOrder.{CountsSourceOrder, IsSource, LacksSource, SourceOrder}
@@ -30,7 +31,7 @@ module _ (h : MemoryHistory) where
   -- these of the first n operations of the session s
   pub record ListsIfAnyBelow (s n : ℕ) (es : List (Option OpId)) : Type 0 where
     pub count : length es ≡ n
-    pub short : n ≤ 256
+    pub short : n ≤ MAX_OPERATIONS
     pub each : (i : ℕ) (e : Option OpId) → slice_get es i ≡ Some e → IsSourceIfAny (op s i) e
 
   -- these of all operations of the first n sessions
@@ -47,6 +48,10 @@ module _ (h : MemoryHistory) where
     pub value : ℕ
     pub reads : Reads h k.op k.key value
     pub source : IsSourceIfAny k.op k.source
+
+  -- k has no source, and is a known read of a value that is not the initial one
+  abbrev pub LacksItsSource : KnownRead → Type 0
+  LacksItsSource k = (k.source ≡ None) × ((x v : ℕ) × Reads h k.op x v × (v ≢ initial h x))
 
   -- the known reads earlier than o are listed, and nothing but known reads
   abbrev pub ListsReadsBefore : OpId → List KnownRead → Type 0

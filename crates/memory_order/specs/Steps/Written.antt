@@ -35,6 +35,10 @@ pub record IsLeastWrite (writes : List Write) (x v : ℕ) (o : OpId) : Type 0 wh
   pub writes_it : Contains writes (record { op = o; key = x; value = v })
   pub least : (w : Write) → Contains writes w → w.key ≡ x → w.value ≡ v → ¬ IsEarlier w.op o
 
+-- none of them writes it
+abbrev pub LacksWrite : List Write → ℕ → ℕ → Type 0
+LacksWrite writes x v = (w : Write) → Contains writes w → w.key ≡ x → w.value ≡ v → ⊥
+
 -- if two entries write one value to one variable, they are of one operation
 abbrev pub IsOne : Write → Write → Type 0
 IsOne a b = a.key ≡ b.key → a.value ≡ b.value → a.op ≡ b.op

@@ -7,8 +7,9 @@ use Rattle.memory_order.specs.Memory.{MemoryCall}
 use Rattle.causal_order.specs.Orders.{op}
 use Rattle.memory_order.specs.SourceOrder.{IsSource}
 use Rattle.memory_order.proofs.Conflicting.{due-more, due-other, due-session}
+use Rattle.memory_order.proofs.IndexedLaws.{if_any-source}
 use Rattle.memory_order.proofs.MemoryLaws.{write-of_history}
-use Rattle.memory_order.proofs.SourcedLaws.{found-source, source-some, source-none}
+use Rattle.memory_order.proofs.SourcedLaws.{source-some, source-none}
 use Rattle.causal_order.proofs.WaitsLaws.{alike-trans}
 use Rattle.memory_order.proofs.conflicts.add_conflicts_of.Goals as goal
 use Rattle.memory_order.proofs.conflicts.add_conflicts_of.Goals.{in-Some, in_default}
@@ -18,8 +19,8 @@ add-requires-clause-other c =
     let h = c.args.h.now in
     let o = op c.args.session c.loop-index.index in
     let w = c.in-Some.source in
-    let is = found-source h o c.source_of.result c.flatten.result c.requires.sources c.source_of.ensures c.flatten.ensures in
-    let source : IsSource h w o = source-some h o w c.flatten.result is c.in-Some.is in
+    let is = if_any-source h c.requires.sources o c.found_source.result c.found_source.ensures in
+    let source : IsSource h w o = source-some h o w c.found_source.result is c.in-Some.is in
     let is_op : IsOp h w = write-of_history h w source.0.0 source.0.1 source.0.2 in
     let same = c.loop-index.invariant.alike.operations w.session in
     omega arith
@@ -29,8 +30,8 @@ add_writes-requires-clause-op c =
     let h = c.args.h.now in
     let o = op c.args.session c.loop-index.index in
     let w = c.in-Some.source in
-    let is = found-source h o c.source_of.result c.flatten.result c.requires.sources c.source_of.ensures c.flatten.ensures in
-    let source : IsSource h w o = source-some h o w c.flatten.result is c.in-Some.is in
+    let is = if_any-source h c.requires.sources o c.found_source.result c.found_source.ensures in
+    let source : IsSource h w o = source-some h o w c.found_source.result is c.in-Some.is in
     let is_op : IsOp h w = write-of_history h w source.0.0 source.0.1 source.0.2 in
     let same = c.loop-index.invariant.alike.operations w.session in
     let again = c.add.ensures.alike.operations w.session in
@@ -57,14 +58,14 @@ loop-index-preserved c =
     let o = op s i in
     let before = c.loop-index.waits in
     let inv = c.loop-index.invariant in
-    let is = found-source h o c.source_of.result c.flatten.result c.requires.sources c.source_of.ensures c.flatten.ensures in
-    elim c.match-flatten.branch [
+    let is = if_any-source h c.requires.sources o c.found_source.result c.found_source.ensures in
+    elim c.match-found_source.branch [
       | in-Some w ↦
           let between = w.add.new.self in
           let after = w.add_writes.new.waits in
           rw w.waits-is (record {
             alike = alike-trans after between h.1 w.add_writes.ensures.alike (alike-trans between before h.1 w.add.ensures.alike inv.alike);
-            so_far = due-more h v s i before inv.so_far w.in-Some.source (source-some h o w.in-Some.source c.flatten.result is w.in-Some.is) between after w.add.ensures
+            so_far = due-more h v s i before inv.so_far w.in-Some.source (source-some h o w.in-Some.source c.found_source.result is w.in-Some.is) between after w.add.ensures
                 c.args.by_variable.now c.requires.same_writes w.call.result.key
                 (λ x y reads. ap (λ (k : MemoryCall). k.key)
                 (same_Some _ _ (sym (ap (option_map (λ (e : MemoryCall × Option RegisterRet). e.0)) reads) ∙ w.call.ensures)))
@@ -72,7 +73,7 @@ loop-index-preserved c =
           })
       | in_default w ↦ rw w.waits-is (record {
         alike = inv.alike;
-        so_far = due-other h v s i before inv.so_far (source-none h o c.flatten.result is w.in_default.not-Some);
+        so_far = due-other h v s i before inv.so_far (source-none h o c.found_source.result is w.in_default.not-Some);
       })
     ]
 

@@ -1,13 +1,22 @@
-use Rattle.memory_order.proofs.GrowingSteps.{taken-straight, taken-raised}
-use Rattle.memory_order.proofs.Outcomes.{on_ok-both}
+use Rattle.std.proofs.Common.{arith, ap}
+use Rattle.causal_order.specs.Vectors.{Counts, count}
+use Rattle.memory_order.proofs.Outcomes.{on_ok-one}
+use Rattle.memory_order.proofs.TakenIn.{source-cause, taken-one}
 use Rattle.memory_order.proofs.growing_order.GrowingOrder.take_in.Goals as goal
 
-pub returns-then-self-eq0 : goal.returns-then-self-eq0
-returns-then-self-eq0 c = taken-straight c.args.h.now c.args.self.now c.include.new.self c.args.op c.requires.ready c.requires.is_op c.requires.next c.include.ensures c.if-self-eq0.true
+pub join-requires-2-clause-before : goal.join-requires-2-clause-before
+join-requires-2-clause-before c =
+    source-cause c.args.h.now c.args.sources.now c.requires.sources c.args.self.now c.requires.ready c.args.op c.requires.is_op c.requires.next c.requires.source
+    c.join.new.self
+    (λ z.
+    let same = ap (λ (v : Counts). count v c.args.op z) c.include.ensures.inclusion.counts in
+    let here = c.in_ok-join.ensures.here z in
+    omega arith)
+    c.source_in.result c.source_in.ensures
 
 pub returns : goal.returns
 returns c =
-    on_ok-both c.add_all_last.result _ _ _
-    (λ within followed. taken-raised c.args.h.now c.args.self.now c.include.new.self c.args.op c.requires.ready c.requires.is_op c.requires.next c.include.ensures
-    c.add_before.new.self c.add_all_last.new.self c.in_ok-add_before.ensures.within c.in_ok-add_before.ensures.before within followed)
-    c.add_all_last.ensures.within c.add_all_last.ensures.followed
+    on_ok-one c.join-2.result _ _
+    (λ second. taken-one c.args.h.now c.args.sources.now c.requires.sources c.args.self.now c.requires.ready c.args.op c.requires.is_op c.requires.next c.requires.source
+    c.include.new.self c.join.new.self c.join-2.new.self c.include.ensures (rw c.operation_before.ensures at c.in_ok-join.ensures) (rw c.source_in.ensures at second))
+    c.join-2.ensures

@@ -1,31 +1,35 @@
-use Rattle.std.proofs.Common.{arith}
-use Rattle.causal_order.specs.Vectors.{count}
-use Rattle.memory_order.proofs.GrowingSteps.{past-grows, past-below, past-rest, past-all}
 use Rattle.memory_order.proofs.Outcomes.{on_ok-one}
+use Rattle.memory_order.proofs.TakenPasts.{included-past, last-source, left-fewer, some-all, some-none, some-then, unraised-own}
 use Rattle.memory_order.proofs.growing_order.GrowingOrder.take_past.Goals as goal
+
+pub include_past-requires-clause-own : goal.include_past-requires-clause-own
+include_past-requires-clause-own c = unraised-own c.args.h.now c.args.self.now c.requires.ready c.args.op c.requires.is_op c.requires.next
+
+pub returns-then-self-eq0 : goal.returns-then-self-eq0
+returns-then-self-eq0 c =
+    included-past c.args.h.now c.args.self.now c.requires.ready c.args.op c.requires.is_op c.requires.next c.include_past.new.self c.if-self-eq0.true c.include_past.ensures
+
+pub loop-session-init : goal.loop-session-init
+loop-session-init c = some-none c.args.h.now c.args.self.now c.requires.ready c.args.op c.requires.is_op c.requires.next
 
 pub loop-session-preserved : goal.loop-session-preserved
 loop-session-preserved c =
-    let h = c.args.h.now in
-    let a = c.args.self.now in
-    let at = c.loop-session.self in
-    let x = c.take_in_up_to.new.self in
-    let before = c.loop-session.invariant in
-    let k = c.loop-session.session in
-    let takes = rw c.count-count.ensures at c.in_ok-take_in_up_to.ensures in
-    record {
-      ready = takes.ready;
-      grows = past-grows h a at c.args.op k c.requires.next c.requires.own before.grows before.below before.rest x (count at.counts c.args.op k) takes;
-      below = past-below h a at c.args.op k c.requires.next c.requires.own before.grows before.below before.rest x takes;
-      rest = past-rest h a at c.args.op k c.requires.next c.requires.own before.grows before.below before.rest x (count at.counts c.args.op k) takes;
-    }
+    some-then c.args.h.now c.args.self.now c.requires.ready c.args.op c.requires.is_op c.requires.next c.loop-session.self c.loop-session.invariant c.take_in_ready.new.self
+    c.in_ok-take_in_ready.ensures.some
+
+pub loop-session-smaller : goal.loop-session-smaller
+loop-session-smaller c =
+    left-fewer c.args.h.now c.args.self.now c.requires.ready c.args.op c.requires.is_op c.requires.next c.loop-session.self c.loop-session.invariant c.take_in_ready.new.self
+    c.in-Some.session c.in-Some.ensures.0 c.in_ok-take_in_ready.ensures.some c.in_ok-take_in_ready.ensures.more
+
+pub take_in-requires-clause-source : goal.take_in-requires-clause-source
+take_in-requires-clause-source c =
+    last-source c.args.h.now c.args.self.now c.requires.ready c.args.op c.requires.is_op c.requires.next c.loop-session.self c.loop-session.invariant c.in_default.ensures
+    c.args.sources.now c.requires.sources
 
 pub returns : goal.returns
 returns c =
-    let before = c.loop-session.invariant in
-    let ended = c.loop-session-test.false in
-    let sessions = c.sessions-session-end.ensures.count in
-    on_ok-one c.take_in_up_to-2.result _ _
-    (λ takes. past-all c.args.h.now c.args.self.now c.loop-session.self c.args.op c.loop-session.session c.requires.next c.requires.own
-    before.grows before.below before.rest c.take_in_up_to-2.new.self (omega arith) takes)
-    c.take_in_up_to-2.ensures
+    on_ok-one c.take_in.result _ _
+    (λ one. some-all c.args.h.now c.args.self.now c.requires.ready c.args.op c.requires.is_op c.requires.next c.loop-session.self c.loop-session.invariant c.in_default.ensures
+    c.take_in.new.self one)
+    c.take_in.ensures

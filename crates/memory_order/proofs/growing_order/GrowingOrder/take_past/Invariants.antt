@@ -1,14 +1,14 @@
-use Rattle.std.proofs.Common.{◌≡◌, ℕ, ◌<◌, ◌≤◌}
-use Rattle.std.specs.Prelude.{max, slice_index}
-use Rattle.memory_order.specs.Steps.GrowthSteps.{Grows, IsReady, NoReads}
-use Rattle.causal_order.specs.Vectors.{count}
+use Rattle.std.proofs.Common.{◌-◌, length}
+use Rattle.std.specs.Prelude.{slice_index}
+use Rattle.history.specs.History.{session}
+use Rattle.memory_order.specs.CountSums.{sum_below}
+use Rattle.memory_order.specs.Steps.TakingIn.{TakesSome}
 use Rattle.memory_order.proofs.growing_order.GrowingOrder.take_past.Given as goal
 
--- what the vector counts of the sessions so far is taken in
+-- some of what the vector counts is taken in
 abbrev pub invariant-loop-session : goal.invariant-loop-session
-invariant-loop-session l = record {
-  ready : IsReady l.h l.self;
-  grows : Grows l.h ⊥ NoReads l.fn.self l.self;
-  below : (s : ℕ) → s < l.session → slice_index l.self.past.items s ≡ max (slice_index l.fn.self.past.items s) (count l.fn.self.counts l.op s);
-  rest : (s : ℕ) → l.session ≤ s → slice_index l.self.past.items s ≡ slice_index l.fn.self.past.items s;
-}
+invariant-loop-session l = TakesSome l.h l.fn.self l.self l.op
+
+-- how many operations are left
+abbrev pub decreases-loop-session : goal.decreases-loop-session
+decreases-loop-session l = sum_below (λ t. length (session l.h t) - slice_index l.self.past.items t) (length l.h.1)

@@ -1,15 +1,12 @@
 use Rattle.std.proofs.Common.{arith, refl}
-use Rattle.memory_order.proofs.RelationsMade.{next-ready, next-outside, next-own}
+use Rattle.memory_order.proofs.RelationsMade.{next-ready, next-outside}
 use Rattle.memory_order.proofs.happened_before.HappenedBefore.take_in.Goals as goal
 
 pub take_past-requires-clause-ready : goal.take_past-requires-clause-ready
-take_past-requires-clause-ready c = next-ready c.args.h.now c.requires.made.causal c.requires.made.counts c.args.self.now c.requires.made refl c.requires.next
+take_past-requires-clause-ready c = next-ready c.args.h.now c.requires.made.causal c.requires.made.counts c.args.self.now c.requires.made refl c.requires.next c.requires.kept
 
 pub take_past-requires-clause-next : goal.take_past-requires-clause-next
 take_past-requires-clause-next c = next-outside c.args.h.now c.requires.made.causal c.requires.made.counts c.args.self.now c.requires.made refl c.requires.next
-
-pub take_past-requires-clause-own : goal.take_past-requires-clause-own
-take_past-requires-clause-own c = next-own c.args.h.now c.requires.made.causal c.requires.made.counts c.args.self.now c.requires.made refl c.requires.next
 
 pub returns : goal.returns
 returns c =

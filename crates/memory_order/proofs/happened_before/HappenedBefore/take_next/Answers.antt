@@ -1,8 +1,9 @@
-use Rattle.std.proofs.Common.{◌<◌, length, subst, sym}
+use Rattle.std.proofs.Common.{◌<◌, ◌∙◌, length, subst, sym}
 use Rattle.std.specs.Prelude.{IfOk}
 use Rattle.history.specs.History.{session}
 use Rattle.memory_order.specs.Memory.{MemoryHistory}
 use Rattle.memory_order.specs.Steps.HappenedBefores.{IsMade, TakesNext, session_of, taken_of}
+use Rattle.memory_order.specs.Steps.Indexed.{ListsSourcesIfAny}
 use Rattle.memory_order.proofs.happened_before.HappenedBefore.take_next.Goals as goal
 
 pub take_next_of-requires-clause-made : goal.take_next_of-requires-clause-made
@@ -14,3 +15,7 @@ take_next_of-requires-clause-next c =
 
 pub returns : goal.returns
 returns c = subst (λ (h : MemoryHistory). IfOk c.take_next_of.result (TakesNext h c.args.self)) c.history.ensures c.take_next_of.ensures
+
+pub take_next_of-requires-clause-sources : goal.take_next_of-requires-clause-sources
+take_next_of-requires-clause-sources c =
+    subst (λ (h : MemoryHistory). ListsSourcesIfAny h c.sources.result.now) (c.memory.ensures ∙ sym c.history.ensures) c.sources.ensures
