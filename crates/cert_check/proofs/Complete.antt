@@ -2,7 +2,7 @@
 use Rattle.std.proofs.Common.{ℕ, ◌<◌, ◌≤◌, ⊎_elim, List, [], length, filter, arith, refl, sym, subst}
 use Rattle.std.proofs.lemmas.Bool.{cases_lt}
 use Rattle.history.specs.declared.op_id.OpId.{OpId}
-use Rattle.history.specs.History.{Record, IsOp, session}
+use Rattle.history.specs.History.{HistoryValue, IsOp, session}
 use Rattle.causal_order.proofs.EachOperation.{by_operation, by_operation-one_each, list_of-by_operation}
 use Rattle.causal_order.specs.Orders.{Ops, Order, only, program_past, past, IsLinearization}
 use Rattle.causal_order.specs.Vectors.{list_of}
@@ -18,7 +18,7 @@ use Rattle.cert_check.proofs.Sessions.{sessions_of}
 use Rattle.cert_check.proofs.Sound.{explained-meets}
 use Rattle.cert_check.proofs.PastPieces.{named_past, named_whole, whole-ends, past_vector-ok, past-schedule, whole-piece}
 
-module _ {S C R : Type 0} (answer : S → List C → C → R) (h : Record S C R) where
+module _ {S C R : Type 0} (answer : S → List C → C → R) (h : HistoryValue S C R) where
   module _ (co : Order) (causal : IsCausalOrder h co) (kept : OpId → Ops)
       (explained : (o : OpId) → IsOp h o → (ops : List OpId) × IsLinearization (past co o) co ops × Explains answer h ops (kept o)) where
     abbrev IsScheduled : OpId → List ℕ → Type 0

@@ -4,7 +4,7 @@ use Rattle.std.specs.Prelude.{IsTrue, filter, slice_get, ◌==◌}
 use Rattle.std.proofs.lemmas.Bool.{and_parts, or_cases}
 use Rattle.std.proofs.lemmas.Option.{same_Some}
 use Rattle.history.specs.declared.op_id.OpId.{OpId}
-use Rattle.history.specs.History.{Record, IsOp, session}
+use Rattle.history.specs.History.{HistoryValue, IsOp, session}
 use Rattle.causal_order.specs.Orders.{Order, only, past, StandsAt, IsLinearization}
 use Rattle.cert_check.specs.Criteria.{every, IsCausalOrder}
 use Rattle.cert_check.proofs.FilteredLaws.{filter_keeps, filter_from, filter_in_order}
@@ -20,7 +20,7 @@ only-same o a t =
 equal_unless_apart : (j k : ℕ) → (j < k → ⊥) → (k < j → ⊥) → j ≡ k
 equal_unless_apart j k not_below not_above = omega arith
 
-module _ {S C R : Type 0} (h : Record S C R) (co : Order) (causal : IsCausalOrder h co) where
+module _ {S C R : Type 0} (h : HistoryValue S C R) (co : Order) (causal : IsCausalOrder h co) where
   pub past_of_history : (o a : OpId) → IsOp h o → IsTrue (past co o a) → IsTrue (every h a)
   past_of_history o a is_op inside =
       ⊎_elim

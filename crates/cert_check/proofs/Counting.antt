@@ -6,7 +6,7 @@ use Rattle.std.proofs.lemmas.Bool.{cases_eq, cases_lt, cases_Bool, or_cases, or_
 use Rattle.std.proofs.lemmas.List.{get_or_past}
 use Rattle.std.proofs.lemmas.List.FromFn.{length-map-range_with_len, get_or-map-range_with_len}
 use Rattle.history.specs.declared.op_id.OpId.{OpId}
-use Rattle.history.specs.History.{Record, IsOp, session}
+use Rattle.history.specs.History.{HistoryValue, IsOp, session}
 use Rattle.causal_order.specs.Orders.{op, Order, only, past}
 use Rattle.causal_order.proofs.EachOperation.{by_operation, by_operation-one_each, list_of-by_operation}
 use Rattle.causal_order.specs.Vectors.{Counts, count, IsCounted, AreVectorsOf}
@@ -41,7 +41,7 @@ below_reach-passes p closed (suc n) i below = ⊎_elim
     (λ (no_here : p n ≡ false). below_reach-passes p closed n i (subst (λ (b : Bool). i < cond b (suc n) (reach p n)) no_here below))
     (cases_Bool (p n))
 
-module _ {S C R : Type 0} (h : Record S C R) (co : Order) (causal : IsCausalOrder h co) where
+module _ {S C R : Type 0} (h : HistoryValue S C R) (co : Order) (causal : IsCausalOrder h co) where
   -- for each session, how many of its operations are in the past of o
   past_counts : OpId → List ℕ
   past_counts o = map (λ s. reach (λ i. past co o (op s i)) (length (session h s))) (range_with_len 0 (length h.1))

@@ -6,7 +6,7 @@ use Rattle.std.proofs.lemmas.List.{take-append-drop, drop_more, take_at}
 use Rattle.std.proofs.lemmas.List.Elements.{filter-append}
 use Rattle.std.proofs.lemmas.Option.{slice_get_within, get_or_from_slice_get}
 use Rattle.history.specs.declared.op_id.OpId.{OpId}
-use Rattle.history.specs.History.{Record, IsOp, calls, entry, session}
+use Rattle.history.specs.History.{HistoryValue, IsOp, calls, entry, session}
 use Rattle.causal_order.specs.Orders.{op, StandsAt}
 use Rattle.causal_order.proofs.OrdersLaws.{same_op}
 use Rattle.causal_order.specs.Vectors.{Counts, count, IsCounted, IsVectorOk}
@@ -75,7 +75,7 @@ module _ {X : Type 0} (p : X → Bool) where
       (cases_lt j k)
 
 -- a list that names each operation of a history as often as it is there
-module _ {S C R : Type 0} (h : Record S C R) (list : List ℕ) (whole : (s : ℕ) → times s list ≡ length (session h s)) where
+module _ {S C R : Type 0} (h : HistoryValue S C R) (list : List ℕ) (whole : (s : ℕ) → times s list ≡ length (session h s)) where
   times-whole : (s i : ℕ) → times s (take i list) ≤ length (session h s)
   times-whole s i =
       let all = whole s in
@@ -119,7 +119,7 @@ not_named_yet list i n s here counts at o apart not_yet =
     (cases_eq s o.session)
 
 -- the piece of an operation by the one list, at the operation's place
-module _ {S C R : Type 0} (answer : S → List C → C → R) (h : Record S C R) (v : Counts) (list : List ℕ) (o : OpId) (good : IsVectorOk h v o)
+module _ {S C R : Type 0} (answer : S → List C → C → R) (h : HistoryValue S C R) (v : Counts) (list : List ℕ) (o : OpId) (good : IsVectorOk h v o)
     (i : ℕ) (stands : StandsAt (named list) i o) (counts : List ℕ) (at : AreCountsAt list (i + 1) (length h.1) counts) where
   counts_itself : IsTrue (counted v o o)
   counts_itself = let own = good.own in lt-ltb o.index (count v o o.session) (omega arith)

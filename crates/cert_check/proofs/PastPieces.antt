@@ -4,7 +4,7 @@ use Rattle.std.specs.Prelude.{IsTrue}
 use Rattle.std.specs.Cmp.{both_ways}
 use Rattle.std.proofs.lemmas.Bool.{cases_lt, or_cases, or_left, or_right}
 use Rattle.history.specs.declared.op_id.OpId.{OpId}
-use Rattle.history.specs.History.{Record, IsOp, session}
+use Rattle.history.specs.History.{HistoryValue, IsOp, session}
 use Rattle.causal_order.specs.Orders.{op, Ops, Order, only, past, IsLinearization}
 use Rattle.causal_order.specs.Vectors.{Counts, count, IsCounted, IsWithin, IsVectorOk}
 use Rattle.cert_check.specs.Criteria.{every, IsCausalOrder, Explains}
@@ -26,7 +26,7 @@ same_count m n up down = ⊎_elim
     (cases_lt n m))
     (cases_lt m n)
 
-module _ {S C R : Type 0} (h : Record S C R) (co : Order) (causal : IsCausalOrder h co) where
+module _ {S C R : Type 0} (h : HistoryValue S C R) (co : Order) (causal : IsCausalOrder h co) where
   -- a linearization of a set that is closed under co stands in program order
   linearization-in_order : (set : Ops) (ops : List OpId) → ((a : OpId) → IsTrue (set a) → IsOp h a)
       → ((a b : OpId) → IsTrue (set b) → IsTrue (co a b) → IsTrue (set a)) → IsLinearization set co ops → IsInProgramOrder ops

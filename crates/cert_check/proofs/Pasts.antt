@@ -4,7 +4,7 @@ use Rattle.std.specs.Prelude.{IsTrue}
 use Rattle.std.specs.Cmp.{both_ways}
 use Rattle.std.proofs.lemmas.Bool.{and_parts, and_from, or_cases, or_left, or_right, cases_Bool, cases_eq, false_from_ne_true, not_from_true, not_from_false, true≢false}
 use Rattle.history.specs.declared.op_id.OpId.{OpId}
-use Rattle.history.specs.History.{Record, IsOp, session}
+use Rattle.history.specs.History.{HistoryValue, IsOp, session}
 use Rattle.causal_order.specs.Orders.{op, only, past}
 use Rattle.causal_order.proofs.OrdersLaws.{same_op}
 use Rattle.causal_order.specs.Vectors.{Counts, count, IsCounted, IsWithin, IsVectorOk}
@@ -23,14 +23,14 @@ only-other o a apart = false_from_ne_true (only o a) (λ alone. apart (only-same
 not_both : (b : Bool) → not b ≡ true → b ≡ true → ⊥
 not_both b e holds = true≢false (sym e ∙ not_from_true b holds)
 
-module _ {S C R : Type 0} (h : Record S C R) where
+module _ {S C R : Type 0} (h : HistoryValue S C R) where
   pub every-op : (a : OpId) → IsTrue (every h a) → IsOp h a
   every-op a inside = ltb-true a.index (length (session h a.session)) inside
 
   pub op-every : (a : OpId) → IsOp h a → IsTrue (every h a)
   op-every a is_op = lt-ltb a.index (length (session h a.session)) is_op
 
-module _ {S C R : Type 0} (h : Record S C R) (v : Counts) where
+module _ {S C R : Type 0} (h : HistoryValue S C R) (v : Counts) where
   -- another operation of the history that the vector of b counts
   pub record IsCountedBefore (a b : OpId) : Type 0 where
     pub apart : a ≡ b → ⊥

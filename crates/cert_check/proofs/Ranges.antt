@@ -3,7 +3,7 @@ use Rattle.std.proofs.Common.{ℕ, ◌<◌, ◌≤◌, ◌^◌, Bool, List, [], 
 use Rattle.std.proofs.lemmas.List.Elements.{All-from_get_or}
 use Rattle.std.proofs.lemmas.Option.{slice_get-get_or}
 use Rattle.history.specs.declared.op_id.OpId.{OpId}
-use Rattle.history.specs.History.{Record, IsOp, IsHistory, session}
+use Rattle.history.specs.History.{HistoryValue, IsOp, IsHistory, session}
 use Rattle.causal_order.specs.Orders.{op, StandsAt}
 use Rattle.causal_order.specs.Vectors.{ByOperation, Counts, count, list_of, HasOneEach}
 use Rattle.causal_order.proofs.OrdersLaws.{session-of_history}
@@ -22,7 +22,7 @@ counts-below v o lengths existing short = All-from_get_or (λ n. n < 2 ^ 16) (li
     let few = short s in
     omega arith)
 
-module _ {S C R : Type 0} (h : Record S C R) where
+module _ {S C R : Type 0} (h : HistoryValue S C R) where
   -- lists that are in range for each operation of the history
   lists-below : (limit : ℕ) (lists : ByOperation ℕ) → HasOneEach h lists
       → ((o : OpId) → IsOp h o → All (λ n. n < limit) (list_of lists o)) → AreBelow limit lists

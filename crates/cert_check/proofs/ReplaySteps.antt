@@ -7,7 +7,7 @@ use Rattle.std.proofs.lemmas.List.{length-set}
 use Rattle.std.proofs.lemmas.List.Elements.{filter_map-append}
 use Rattle.std.proofs.lemmas.Option.{same_Some}
 use Rattle.history.specs.declared.op_id.OpId.{OpId}
-use Rattle.history.specs.History.{Record, IsOp, calls, entry}
+use Rattle.history.specs.History.{HistoryValue, IsOp, calls, entry}
 use Rattle.causal_order.specs.Orders.{Ops, op, StandsAt}
 use Rattle.causal_order.proofs.OrdersLaws.{same_op, session-of_history}
 use Rattle.causal_order.specs.Vectors.{Counts, count, IsCounted}
@@ -16,7 +16,7 @@ use Rattle.cert_check.specs.Steps.Replays.{AreCountsAt, IsAnsweredAfter, IsStepO
 use Rattle.cert_check.proofs.Named.{times-next, times-same, times-other, times-take-le, named_at, named_is, take_next, counted_from_before, before_from_counted}
 
 -- one call more
-pub calls_push : {S C R : Type 0} (h : Record S C R) (ops : List OpId) (o : OpId) (c : C)
+pub calls_push : {S C R : Type 0} (h : HistoryValue S C R) (ops : List OpId) (o : OpId) (c : C)
     → option_map (λ (e : C × Option R). e.0) (entry h o) ≡ Some c → calls h (ops ++ o ∷ []) ≡ calls h ops ++ c ∷ []
 calls_push {S} {C} {R} h ops o c is =
     let call : OpId → Option C = λ o. option_map (λ (e : C × Option R). e.0) (entry h o) in
@@ -98,7 +98,7 @@ module _ (v : Counts) (list : List ℕ) (i n : ℕ) (o : OpId) (stands : StandsA
       (cases_lt (get_or counts s 0) (count v o s))
 
 -- one step of a replay that takes in what it names
-module _ {S C R X : Type 0} (stands : X → S → List C → Type 0) (answer : S → List C → C → R) (h : Record S C R) (v : Counts) (kept : Ops)
+module _ {S C R X : Type 0} (stands : X → S → List C → Type 0) (answer : S → List C → C → R) (h : HistoryValue S C R) (v : Counts) (kept : Ops)
     (list : List ℕ) (i s : ℕ) (here : slice_get list i ≡ Some s) (counts : List ℕ) (at : AreCountsAt list i (length h.1) counts) where
   pub step-absent : ¬ IsOp h (op s (get_or counts s 0)) → ¬ IsStepOk answer h v kept (named list) i
   step-absent absent = λ ok.

@@ -3,7 +3,7 @@ use Rattle.std.proofs.Common.{◌≡◌, ℕ, ◌<◌, ◌≤◌, List, length, 
 use Rattle.std.proofs.lemmas.Bool.{cases_lt}
 use Rattle.std.proofs.lemmas.Option.{slice_get_within}
 use Rattle.history.specs.declared.op_id.OpId.{OpId}
-use Rattle.history.specs.History.{Record}
+use Rattle.history.specs.History.{HistoryValue}
 use Rattle.causal_order.specs.Orders.{Ops, StandsAt}
 use Rattle.causal_order.specs.Vectors.{Counts, count, IsVectorOk}
 use Rattle.cert_check.specs.Certificates.{IsScheduledPiece}
@@ -21,7 +21,7 @@ nothing_past list i past o there =
 pub counts_at_end : (list : List ℕ) (i n : ℕ) (counts : List ℕ) → AreCountsAt list i n counts → length list ≤ i → (s : ℕ) → get_or counts s 0 ≡ times s list
 counts_at_end list i n counts at past s = at.each s ∙ ap (times s) (take_all i list past)
 
-module _ {S C R : Type 0} (answer : S → List C → C → R) (h : Record S C R) (v : Counts) (kept : Ops) (list : List ℕ) where
+module _ {S C R : Type 0} (answer : S → List C → C → R) (h : HistoryValue S C R) (v : Counts) (kept : Ops) (list : List ℕ) where
   pub steps_all : (i : ℕ) → length list ≤ i → ((j : ℕ) → j < i → IsStepOk answer h v kept (named list) j) → AreStepsOk answer h v kept (named list)
   steps_all i past steps j =
       ⊎_elim

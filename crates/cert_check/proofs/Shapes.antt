@@ -4,7 +4,7 @@ use Rattle.std.specs.Prelude.{All, Some, slice_get}
 use Rattle.std.proofs.lemmas.Bool.{cases_lt}
 use Rattle.std.proofs.lemmas.List.{get_or_past}
 use Rattle.std.proofs.lemmas.Option.{slice_get-get_or, slice_get_within, get_or_from_slice_get}
-use Rattle.history.specs.History.{Record, session}
+use Rattle.history.specs.History.{HistoryValue, session}
 use Rattle.causal_order.specs.Orders.{op}
 use Rattle.causal_order.proofs.OrdersLaws.{session-of_history}
 use Rattle.cert_check.specs.Schedules.{times}
@@ -34,7 +34,7 @@ times_none list n s small large =
     (λ (none : times s list ≤ 0). omega arith)
     (cases_lt 0 (times s list))
 
-module _ {S C R : Type 0} (h : Record S C R) where
+module _ {S C R : Type 0} (h : HistoryValue S C R) where
   -- each number of a list that names each operation is that of a session
   pub names_within : (list : List ℕ) → ((s : ℕ) → times s list ≡ length (session h s)) → All (λ s. s < length h.1) list
   names_within list exact = λ k d below.

@@ -3,7 +3,7 @@
 use Rattle.std.proofs.Common.{◌≡◌, ◌≢◌, ℕ, List, length, arith, sym, subst}
 use Rattle.std.specs.Prelude.{filter}
 use Rattle.history.specs.declared.op_id.OpId.{OpId}
-use Rattle.history.specs.History.{Record, IsOp, session}
+use Rattle.history.specs.History.{HistoryValue, IsOp, session}
 use Rattle.causal_order.specs.Orders.{only, past, StandsAt, IsLinearization}
 use Rattle.causal_order.specs.Vectors.{Counts, list_of, IsCounted, IsVectorOk}
 use Rattle.cert_check.specs.declared.certificate.Certificate.{Certificate}
@@ -16,7 +16,7 @@ use Rattle.cert_check.proofs.ConvergentLaws.{cut_is_linearization}
 use Rattle.cert_check.proofs.Named.{named_each, named_within, named_once}
 use Rattle.cert_check.proofs.Pasts.{every-op, op-every, counted_before-parts, counted_before-causal, past-from_counted, counted-from_past, past-is_counted}
 
-module _ {S C R : Type 0} (h : Record S C R) (v : Counts) (good : (o : OpId) → IsOp h o → IsVectorOk h v o) where
+module _ {S C R : Type 0} (h : HistoryValue S C R) (v : Counts) (good : (o : OpId) → IsOp h o → IsVectorOk h v o) where
   -- what a schedule of an operation names is a linearization of its past
   pub scheduled_past : (o : OpId) (schedule : List ℕ) → IsOp h o → IsSchedule h v o schedule
       → IsLinearization (past (counted_before h v) o) (counted_before h v) (named schedule)
@@ -60,7 +60,7 @@ module _ {S C R : Type 0} (h : Record S C R) (v : Counts) (good : (o : OpId) →
         omega arith;
   }
 
-module _ {S C R : Type 0} (answer : S → List C → C → R) (h : Record S C R) where
+module _ {S C R : Type 0} (answer : S → List C → C → R) (h : HistoryValue S C R) where
   -- what a certificate names where every piece explains its operation
   pub explained-witness : (c : Certificate) → HasShapeOf h c → IsExplainedThroughout answer h c → IsWitness answer h c
   explained-witness (Cc v schedules) shape explained =

@@ -1,6 +1,7 @@
 -- The JSON form of a certificate: `["cc", vectors, schedules]`, `["cm", vectors, schedules]` or `["ccv", vectors, list]`
 -- (this project's profile).
 use Rattle.std.specs.Prelude.{◌≡◌, ⊤, ℕ, ◌<◌, ◌^◌, [], ◌∷◌, All}
+use Rattle.history.specs.declared.limits.TheConstants.{MAX_SESSIONS}
 use Rattle.serde_json.specs.Data.{Data}
 use Rattle.operations.specs.Reads.{number_form, list_form, worded}
 use Rattle.causal_order.specs.Vectors.{ByOperation}
@@ -27,16 +28,11 @@ AreBelow limit = All (All (All (λ n. n < limit)))
 
 -- a certificate, of counts below 2 ^ 16 and session numbers below 16
 abbrev pub IsCertificate : Certificate → Type 0
-IsCertificate (Cc vectors schedules) = AreBelow (2 ^ 16) vectors × AreBelow 16 schedules
-IsCertificate (Cm vectors schedules) = AreBelow (2 ^ 16) vectors × AreBelow 16 schedules
-IsCertificate (Ccv vectors arbitration) = AreBelow (2 ^ 16) vectors × All (λ s. s < 16) arbitration
+IsCertificate (Cc vectors schedules) = AreBelow (2 ^ 16) vectors × AreBelow MAX_SESSIONS schedules
+IsCertificate (Cm vectors schedules) = AreBelow (2 ^ 16) vectors × AreBelow MAX_SESSIONS schedules
+IsCertificate (Ccv vectors arbitration) = AreBelow (2 ^ 16) vectors × All (λ s. s < MAX_SESSIONS) arbitration
 
 -- why a value is refused: it is the form of no certificate, or memory ran out
 abbrev pub IsRefusedFor : Data → CertError → Type 0
 IsRefusedFor d Memory = ⊤
 IsRefusedFor d BadCertificate = (c : Certificate) → IsCertificate c → ¬ (d ≡ form_of c)
-
--- the number of a refusal
-abbrev pub number_of : CertError → ℕ
-number_of Memory = 8
-number_of BadCertificate = 20

@@ -2,7 +2,7 @@
 -- returns, as a criterion demands (this project's profile).
 use Rattle.std.specs.Prelude.{◌≡◌, ◌≢◌, ℕ, List, Option, Some, filter, length, nat_lt}
 use Rattle.history.specs.declared.op_id.OpId.{OpId}
-use Rattle.history.specs.History.{Record, IsOp, session}
+use Rattle.history.specs.History.{HistoryValue, IsOp, session}
 use Rattle.causal_order.specs.Orders.{Ops, IsEarlier, StandsAt, only, program_past}
 use Rattle.causal_order.specs.Vectors.{Counts, list_of, count, HasOneEach, AreVectorsOf, IsCounted, IsVectorOk}
 use Rattle.cert_check.specs.declared.criterion.Criterion.{Criterion}
@@ -31,12 +31,12 @@ counted v o a = nat_lt a.index (count v o a.session)
 module _ {S C R : Type 0} where
   -- a certificate has the shape of a history: a vector for each operation, and a schedule for each or one list in which
   -- each session occurs as often as it has operations, and no other number occurs
-  abbrev pub HasShapeOf : Record S C R → Certificate → Type 0
+  abbrev pub HasShapeOf : HistoryValue S C R → Certificate → Type 0
   HasShapeOf h (Cc vectors schedules) = AreVectorsOf h vectors × HasOneEach h schedules
   HasShapeOf h (Cm vectors schedules) = AreVectorsOf h vectors × HasOneEach h schedules
   HasShapeOf h (Ccv vectors arbitration) = AreVectorsOf h vectors × ((s : ℕ) → times s arbitration ≡ length (session h s))
 
-module _ {S C R : Type 0} (answer : S → List C → C → R) (h : Record S C R) where
+module _ {S C R : Type 0} (answer : S → List C → C → R) (h : HistoryValue S C R) where
   -- the piece of o by a schedule: its vector and its schedule are good, and the operations that the schedule names
   -- explain the known returns that are kept
   pub record IsScheduledPiece (v : Counts) (schedule : List ℕ) (o : OpId) (kept : Ops) : Type 0 where
@@ -74,7 +74,7 @@ module _ {S C R : Type 0} (answer : S → List C → C → R) (h : Record S C R)
 
 -- a case file: a history, a criterion and, where there is one, a certificate
 abbrev pub CaseRecord : Type 0 → Type 0 → Type 0 → Type 0
-CaseRecord S C R = Record S C R × Criterion × Option Certificate
+CaseRecord S C R = HistoryValue S C R × Criterion × Option Certificate
 
 module _ {S C R : Type 0} where
   -- the certificate, where there is one, is for the criterion and has the shape of the history

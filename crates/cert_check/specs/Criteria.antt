@@ -2,24 +2,24 @@
 -- for a history h and what its object answers from a start after earlier calls.
 use Rattle.std.specs.Prelude.{◌≡◌, ℕ, IsTrue, List, Some, filter, length, take, nat_lt}
 use Rattle.history.specs.declared.op_id.OpId.{OpId}
-use Rattle.history.specs.History.{Record, IsOp, Precedes, session, entry, calls}
+use Rattle.history.specs.History.{HistoryValue, IsOp, Precedes, session, entry, calls}
 use Rattle.cert_check.specs.declared.criterion.Criterion.{Criterion}
 use Rattle.cert_check.specs.declared.criterion.Criterion.TheVariants.{Cc, Cm, Ccv}
 use Rattle.causal_order.specs.Orders.{Ops, Order, only, program_past, past, StandsAt, IsLinearization}
 
 module _ {S C R : Type 0} where
   -- all operations of a history
-  abbrev pub every : Record S C R → Ops
+  abbrev pub every : HistoryValue S C R → Ops
   every h a = nat_lt a.index (length (session h a.session))
 
   -- a causal order: a strict partial order on the operations of h that contains program order
-  pub record IsCausalOrder (h : Record S C R) (co : Order) : Type 0 where
+  pub record IsCausalOrder (h : HistoryValue S C R) (co : Order) : Type 0 where
     pub of_history : (a b : OpId) → IsTrue (co a b) → IsOp h a × IsOp h b
     pub transitive : (a b c : OpId) → IsTrue (co a b) → IsTrue (co b c) → IsTrue (co a c)
     pub irreflexive : (a : OpId) → ¬ IsTrue (co a a)
     pub program_order : (a b : OpId) → IsOp h b → Precedes a b → IsTrue (co a b)
 
-module _ {S C R : Type 0} (answer : S → List C → C → R) (h : Record S C R) where
+module _ {S C R : Type 0} (answer : S → List C → C → R) (h : HistoryValue S C R) where
   -- in the list ops the known return of each operation of the set is the answer after the calls before it; the returns
   -- of all other operations are hidden
   abbrev pub Explains : List OpId → Ops → Type 0

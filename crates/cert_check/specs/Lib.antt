@@ -2,6 +2,7 @@ pub mod Criteria
 pub mod Schedules
 pub mod Certificates
 pub mod Witnesses
+pub mod CertErrors
 pub mod DeskErrors
 pub mod CriterionNames
 pub mod CertificateForm

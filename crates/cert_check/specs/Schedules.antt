@@ -2,7 +2,7 @@
 use Rattle.std.specs.Prelude.{◌≡◌, ◌≢◌, ℕ, ◌<◌, ◌==◌, ◌++◌, List, [], ◌∷◌}
 use Rattle.std.specs.List.{count_by}
 use Rattle.history.specs.declared.op_id.OpId.{OpId}
-use Rattle.history.specs.History.{Record, IsOp}
+use Rattle.history.specs.History.{HistoryValue, IsOp}
 use Rattle.causal_order.specs.Orders.{op, StandsAt}
 use Rattle.causal_order.specs.Vectors.{Counts, count, IsCounted}
 
@@ -25,7 +25,7 @@ StandsBefore ops k a = (j : ℕ) × (j < k) × StandsAt ops j a
 module _ {S C R : Type 0} where
   -- a schedule of the operation o: what it names is there, each named operation comes after all others that its own
   -- vector counts, and as many of each session are named as the vector of o counts
-  pub record IsSchedule (h : Record S C R) (v : Counts) (o : OpId) (schedule : List ℕ) : Type 0 where
+  pub record IsSchedule (h : HistoryValue S C R) (v : Counts) (o : OpId) (schedule : List ℕ) : Type 0 where
     pub existing : (k : ℕ) (a : OpId) → StandsAt (named schedule) k a → IsOp h a
     pub after_counted : (k : ℕ) (b a : OpId) → StandsAt (named schedule) k b → IsCounted v b a → a ≢ b → StandsBefore (named schedule) k a
     pub ends : (s : ℕ) → times s schedule ≡ count v o s

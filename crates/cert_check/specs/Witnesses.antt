@@ -2,7 +2,7 @@
 -- project's profile).
 use Rattle.std.specs.Prelude.{⊤, ◌&&◌, not, List, filter}
 use Rattle.history.specs.declared.op_id.OpId.{OpId}
-use Rattle.history.specs.History.{Record, IsOp}
+use Rattle.history.specs.History.{HistoryValue, IsOp}
 use Rattle.causal_order.specs.Orders.{Ops, Order, only, program_past, past, IsLinearization}
 use Rattle.causal_order.specs.Vectors.{Counts, list_of}
 use Rattle.cert_check.specs.declared.criterion.Criterion.{Criterion}
@@ -19,7 +19,7 @@ kept_by criteria.Cc = only
 kept_by criteria.Cm = program_past
 kept_by criteria.Ccv = only
 
-module _ {S C R : Type 0} (h : Record S C R) where
+module _ {S C R : Type 0} (h : HistoryValue S C R) where
   -- a comes before b: they are different operations of the history, and the vector of b counts a
   abbrev pub counted_before : Counts → Order
   counted_before v a b = not (only b a) && (every h a && (every h b && counted v b a))
@@ -40,7 +40,7 @@ module _ {S C R : Type 0} (h : Record S C R) where
   IsArbitrated (Cm vectors schedules) = ⊤
   IsArbitrated (Ccv vectors arbitration) = IsLinearization (every h) (counted_before vectors) (named arbitration)
 
-module _ {S C R : Type 0} (answer : S → List C → C → R) (h : Record S C R) where
+module _ {S C R : Type 0} (answer : S → List C → C → R) (h : HistoryValue S C R) where
   -- the order of a certificate is causal, and what it lists as the past of each operation is a linearization of that past
   -- under this order, which explains the known returns that the certificate's criterion keeps
   pub record IsWitness (c : Certificate) : Type 0 where

@@ -1,5 +1,5 @@
 ghost use Rattle.std.specs.Prelude.{◌≡◌};
-ghost use Rattle.cert_check.specs.CertificateForm.{number_of};
+ghost use Rattle.cert_check.specs.CertErrors.{number_of};
 
 use std::alloc::{AllocError, AllocFailed};
 use thiserror::Error;

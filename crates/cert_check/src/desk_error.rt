@@ -56,7 +56,7 @@ impl<T: Drop> From<AllocFailed<T>> for DeskError {
 }
 
 impl DeskError {
-    /// The number by which the refusal is reported.
+    /// The number by which the refusal is reported: 8, 10, or 21 to 26.
     pub fn number(&self) -> u8
         ensures { result ≡ number_of self.now }
     {

@@ -3,6 +3,7 @@ ghost use Rattle.serde_json.specs.Data.{Data};
 ghost use Rattle.serde_json.specs.View.{view};
 ghost use Rattle.operations.specs.Reads.{number_form, IsReadWithin};
 
+use history::MAX_SESSIONS;
 use serde_json::Value;
 
 /// Session numbers are below this.
@@ -33,9 +34,11 @@ impl Number for u16 {
 
 /// A session number.
 impl Number for u8 {
+    ghost use Rattle.history.specs.declared.limits.TheConstants.{MAX_SESSIONS};
+
     ghost form = { number_form };
 
-    ghost fits = { λ n. n < 16 };
+    ghost fits = { λ n. n < MAX_SESSIONS };
 
     fn read(value: &Value) -> Option<u8> {
         let session = u8::try_from(value.as_u64()?).ok()?;

@@ -5,7 +5,7 @@ use Rattle.std.proofs.lemmas.Bool.{cases_eq, cases_lt, ne_eqb}
 use Rattle.std.proofs.lemmas.List.{get_or_past}
 use Rattle.std.proofs.lemmas.List.Sums.{sum_by-append}
 use Rattle.std.proofs.lemmas.List.Folds.{sum_by-replicate}
-use Rattle.history.specs.History.{Record, session}
+use Rattle.history.specs.History.{HistoryValue, session}
 use Rattle.cert_check.specs.Schedules.{times}
 use Rattle.certify.specs.ByProgramOrder.{in_turn}
 
@@ -21,7 +21,7 @@ times-other n s t apart =
     let none : n * cond (s == t) 1 0 ≡ n * 0 = ap (λ b. n * cond b 1 0) (ne_eqb s t apart) in
     each ∙ none ∙ omega arith
 
-module _ {S C R : Type 0} (h : Record S C R) where
+module _ {S C R : Type 0} (h : HistoryValue S C R) where
   -- a session that hasn't had its turn isn't named
   pub in_turn-later : (n s : ℕ) → n ≤ s → times s (in_turn h n) ≡ 0
   in_turn-later zero s later = refl

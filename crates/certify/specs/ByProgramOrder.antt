@@ -2,7 +2,7 @@
 use Rattle.std.specs.Prelude.{◌≡◌, ℕ, ◌+◌, ◌++◌, List, [], length, replicate}
 use Rattle.std.proofs.Common.{zero, suc}
 use Rattle.history.specs.declared.op_id.OpId.{OpId}
-use Rattle.history.specs.History.{Record, IsOp, session}
+use Rattle.history.specs.History.{HistoryValue, IsOp, session}
 use Rattle.causal_order.specs.ProgramOrder.{IsOwnVector}
 use Rattle.causal_order.specs.Vectors.{ByOperation, Counts, list_of}
 use Rattle.cert_check.specs.declared.certificate.Certificate.{Certificate}
@@ -14,20 +14,20 @@ IsOwnSchedule o schedule = schedule ≡ replicate (o.index + 1) o.session
 
 module _ {S C R : Type 0} where
   -- each vector counts the operation and what is before it in program order
-  abbrev pub AreOwnVectors : Record S C R → Counts → Type 0
+  abbrev pub AreOwnVectors : HistoryValue S C R → Counts → Type 0
   AreOwnVectors h vectors = (o : OpId) → IsOp h o → IsOwnVector (length h.1) o (list_of vectors o)
 
   -- each schedule names the operation and what is before it in program order
-  abbrev pub AreOwnSchedules : Record S C R → ByOperation ℕ → Type 0
+  abbrev pub AreOwnSchedules : HistoryValue S C R → ByOperation ℕ → Type 0
   AreOwnSchedules h schedules = (o : OpId) → IsOp h o → IsOwnSchedule o (list_of schedules o)
 
   -- the numbers of the first n sessions, one after another, each as often as its session has operations
-  abbrev pub in_turn : Record S C R → ℕ → List ℕ
+  abbrev pub in_turn : HistoryValue S C R → ℕ → List ℕ
   in_turn h zero = []
   in_turn h (suc n) = in_turn h n ++ replicate (length (session h n)) n
 
   -- the vectors and the schedules are by program order, and the one list has the sessions in turn
-  abbrev pub IsByProgramOrder : Record S C R → Certificate → Type 0
+  abbrev pub IsByProgramOrder : HistoryValue S C R → Certificate → Type 0
   IsByProgramOrder h (Cc vectors schedules) = AreOwnVectors h vectors × AreOwnSchedules h schedules
   IsByProgramOrder h (Cm vectors schedules) = AreOwnVectors h vectors × AreOwnSchedules h schedules
   IsByProgramOrder h (Ccv vectors arbitration) = AreOwnVectors h vectors × (arbitration ≡ in_turn h (length h.1))

@@ -4,7 +4,7 @@ ghost use Rattle.causal_order.specs.Vectors.{HasOneEach};
 ghost use Rattle.certify.specs.ByProgramOrder.{AreOwnSchedules, IsOwnSchedule};
 
 use cert_check::Schedules;
-use history::History;
+use history::{History, MAX_SESSIONS};
 use object_trait::SeqObject;
 use std::alloc::{AllocError, Global};
 
@@ -32,7 +32,7 @@ fn push_own_schedules<O: SeqObject>(
     session: usize,
     schedules: &mut Schedules,
 ) -> Result<(), AllocError>
-    requires few { length h.now.1 ≤ 16 }
+    requires few { length h.now.1 ≤ MAX_SESSIONS }
     requires exists { session < length h.now.1 }
     requires so_far { AreGatheredBefore h.now IsOwnSchedule session schedules.old }
     ensures { OnOk result (AreGatheredBefore h.now IsOwnSchedule (session + 1) schedules.new) }

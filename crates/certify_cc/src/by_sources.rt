@@ -14,7 +14,7 @@ ghost use Rattle.certify_cc.specs.BySources.{IsBySources, IsScheduleFor};
 use crate::schedule::schedule_of;
 use causal_order::Vectors;
 use cert_check::{Certificate, Criterion, Schedules};
-use history::{History, OpId};
+use history::{History, MAX_SESSIONS, OpId};
 use memory_order::{CausalOrder, IndexedMemory};
 use objects::Memory;
 use std::alloc::{AllocError, Global};
@@ -51,7 +51,8 @@ pub fn make_by_order(alloc: Global, order: &CausalOrder) -> Result<Certificate, 
     ensures criterion { IfOk result (λ c. criterion_of c ≡ Criterion.Cc) }
     ensures shape { IfOk result (HasShapeOf order.now) }
     ensures exact { IfOk result (IsBySources order.now) }
-    ensures explained { ¬ HasOverwrittenStart order.now → ¬ HasOverwrittenRead order.now → IfOk result (IsExplainedThroughout memory_answer order.now) }
+    ensures explained { ¬ HasOverwrittenStart order.now → ¬ HasOverwrittenRead order.now
+        → IfOk result (IsExplainedThroughout memory_answer order.now) }
 {
     order.memory().history().value_is_history();
     let vectors = order.vectors().copy(alloc)?;
@@ -67,7 +68,8 @@ fn schedules_by_sources(
 ) -> Result<Schedules, AllocError>
     requires counts { CountsSourceOrder order.now vectors.now }
     ensures shape { IfOk result (HasOneEach order.now) }
-    ensures exact { IfOk result (λ schedules. (o : Operation) → IsOp order.now o → IsScheduleFor order.now vectors.now o (list_of schedules o)) }
+    ensures exact { IfOk result (λ schedules. (o : Operation) → IsOp order.now o
+        → IsScheduleFor order.now vectors.now o (list_of schedules o)) }
 {
     let mut schedules = Schedules::new(alloc);
     for session in 0..order.memory().history().sessions() {
@@ -85,7 +87,7 @@ fn push_schedules(
     schedules: &mut Schedules,
 ) -> Result<(), AllocError>
     requires counts { CountsSourceOrder order.now vectors.now }
-    requires few { length order.now.1 ≤ 16 }
+    requires few { length order.now.1 ≤ MAX_SESSIONS }
     requires exists { session < length order.now.1 }
     requires so_far { AreGatheredBefore order.now (IsScheduleFor order.now vectors.now) session schedules.old }
     ensures { OnOk result (AreGatheredBefore order.now (IsScheduleFor order.now vectors.now) (session + 1) schedules.new) }

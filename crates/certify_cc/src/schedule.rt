@@ -7,7 +7,7 @@ ghost use Rattle.causal_order.specs.Topological.{AreSquare, IsFullWalk};
 ghost use Rattle.certify_cc.specs.BySources.{AreApart, IsApart, IsBySource};
 
 use causal_order::{Vectors, Walk};
-use history::OpId;
+use history::{MAX_SESSIONS, OpId};
 use std::alloc::{AllocError, Global};
 
 /// A walk through the past of an operation by the topological rule. Where the operation has a source, what isn't after
@@ -20,7 +20,7 @@ pub fn schedule_of(
     op: OpId,
     source: Option<OpId>,
 ) -> Result<Walk, AllocError>
-    requires few { length vectors.now ≤ 16 }
+    requires few { length vectors.now ≤ MAX_SESSIONS }
     requires square { AreSquare vectors.now }
     requires listed { IsListed vectors.now op }
     requires source { (w : Operation) → source ≡ Some w → IsListed vectors.now w }
@@ -44,7 +44,7 @@ fn limits_apart_from(
     op: OpId,
     write: OpId,
 ) -> Result<Vec<u16>, AllocError>
-    requires few { length vectors.now ≤ 16 }
+    requires few { length vectors.now ≤ MAX_SESSIONS }
     requires square { AreSquare vectors.now }
     requires listed { IsListed vectors.now op }
     requires write { IsListed vectors.now write }
@@ -61,7 +61,7 @@ fn limits_apart_from(
 
 /// How many of the first operations of a session, up to a limit, have a vector that doesn't count a write.
 fn limit_apart_from(vectors: &Vectors, session: usize, limit: u16, write: OpId) -> u16
-    requires few { length vectors.now ≤ 16 }
+    requires few { length vectors.now ≤ MAX_SESSIONS }
     requires square { AreSquare vectors.now }
     requires exists { session < length vectors.now }
     requires write { IsListed vectors.now write }

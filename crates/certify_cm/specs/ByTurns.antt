@@ -1,5 +1,6 @@
 -- The certificate of causal memory of a memory history by its happened-before relations (this project's profile).
 use Rattle.std.specs.Prelude.{ℕ, ◌+◌, ◌⊎◌, List, Some}
+use Rattle.memory_order.specs.declared.happened_before.TheConstants.{MAX_PAIRS}
 use Rattle.history.specs.declared.op_id.OpId.{OpId}
 use Rattle.history.specs.History.{IsOp}
 use Rattle.memory_order.specs.HappenedBeforeVectors.{IsHBVectors}
@@ -22,7 +23,7 @@ module _ (h : MemoryHistory) where
   -- in happened-before of o no operation is before itself, and it has at most 100,000 pairs that the causal order doesn't have
   pub record MayTakeTurns (o : OpId) : Type 0 where
     pub acyclic : (a : OpId) → ¬ HB h o a a
-    pub few : HasFewPairs h o (Some 100000)
+    pub few : HasFewPairs h o (Some MAX_PAIRS)
 
   -- where values are distinct, o may take turns, and so it is in the schedule
   abbrev pub TakesTurns : OpId → List ℕ → Type 0
@@ -31,7 +32,7 @@ module _ (h : MemoryHistory) where
   -- in happened-before of some operation an operation is before itself, or it has more than 100,000 pairs that the causal order
   -- doesn't have
   abbrev pub HasNoTurns : Type 0
-  HasNoTurns = (o : OpId) × IsOp h o × (((a : OpId) × HB h o a a) ⊎ HasMorePairs h o 100000)
+  HasNoTurns = (o : OpId) × IsOp h o × (((a : OpId) × HB h o a a) ⊎ HasMorePairs h o MAX_PAIRS)
 
   -- the vectors are those of the order of program order and sources, and the schedules go by turns of happened-before
   pub record AreByTurns (v : Counts) (schedules : List (List (List ℕ))) : Type 0 where

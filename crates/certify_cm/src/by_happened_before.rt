@@ -14,8 +14,8 @@ ghost use Rattle.certify_cm.specs.ByTurns.{HasNoTurns, IsByTurns, TakesTurns};
 use crate::schedule::schedule_of;
 use causal_order::Vectors;
 use cert_check::{Certificate, Criterion, Schedules};
-use history::{History, OpId};
-use memory_order::{CausalOrder, HappenedBefore, IndexedMemory, MOST_PAIRS, Saturation};
+use history::{History, MAX_SESSIONS, OpId};
+use memory_order::{CausalOrder, HappenedBefore, IndexedMemory, MAX_PAIRS, Saturation};
 use objects::Memory;
 use std::alloc::{AllocError, Global};
 
@@ -121,14 +121,14 @@ fn push_schedules(
     session: usize,
     schedules: &mut Schedules,
 ) -> Result<bool, AllocError>
-    requires few { length order.now.1 ≤ 16 }
+    requires few { length order.now.1 ≤ MAX_SESSIONS }
     requires exists { session < length order.now.1 }
     requires so_far { AreGatheredBefore order.now (TakesTurns order.now) session schedules.old }
     ensures all { IfOk result (λ all. IsTrue all → AreGatheredBefore order.now (TakesTurns order.now) (session + 1) schedules.new) }
     ensures none { IsDifferentiated order.now → IfOk result (λ all. IsFalse all → HasNoTurns order.now) }
 {
     let h = order.history();
-    let mut happened = HappenedBefore::of(alloc, order, session, Some(MOST_PAIRS))?;
+    let mut happened = HappenedBefore::of(alloc, order, session, Some(MAX_PAIRS))?;
     schedules.push_session()?;
     for index in 0..h.len(session as u64) {
         happened = happened.take_next(order)?;

@@ -6,7 +6,7 @@ ghost use Rattle.memory_order.specs.Steps.GrowingOrders.{AreHeldVectors};
 ghost use Rattle.certify_cm.specs.Turns.{AreTurns};
 
 use causal_order::{Vectors, Walk};
-use history::{History, OpId};
+use history::{History, MAX_OPERATIONS, MAX_SESSIONS, OpId};
 use objects::Memory;
 use std::alloc::{AllocError, Global};
 
@@ -21,8 +21,8 @@ pub fn schedule_of(
     vectors: &Vectors,
     op: OpId,
 ) -> Result<Walk, AllocError>
-    requires few { length h.now.1 ≤ 16 }
-    requires short { length (session h.now op.session) ≤ 256 }
+    requires few { length h.now.1 ≤ MAX_SESSIONS }
+    requires short { length (session h.now op.session) ≤ MAX_OPERATIONS }
     requires vectors { AreHeldVectors h.now vectors.now }
     requires is_op { IsOp h.now op }
     ensures { IfOk result (AreTurns vectors.now op.session (op.index + 1)) }
