@@ -1,5 +1,6 @@
 -- Derivations: lists of lines, each of which gives a pair of operations in the happened-before relation of an operation.
 use Rattle.std.specs.Prelude.{◌≡◌, ℕ, ◌-◌, ◌<◌, ◌≤◌, List, length, take, Some, slice_get, IsTrue}
+use Rattle.bad_patterns.specs.declared.derived_pairs.TheConstants.{MAX_LINES}
 use Rattle.history.specs.declared.op_id.OpId.{OpId}
 use Rattle.bad_patterns.specs.declared.derivation.Line.{Line}
 use Rattle.bad_patterns.specs.declared.derivation.Line.TheVariants.{Co, Tr, Rf}
@@ -45,7 +46,7 @@ pub record GivePairs (h : MemoryHistory) (o : OpId) (lines : List Line) (n : ℕ
 -- at least one line and at most 100,000, each of which gives a pair, the last of them (a, b)
 pub record IsDerivation (h : MemoryHistory) (o : OpId) (lines : List Line) (a b : OpId) : Type 0 where
   pub some : 0 < length lines
-  pub bounded : length lines ≤ 100000
+  pub bounded : length lines ≤ MAX_LINES
   pub pairs : List Pair
   pub given : GivePairs h o lines (length lines) pairs
   pub last : slice_get pairs (length pairs - 1) ≡ Some (a, b)

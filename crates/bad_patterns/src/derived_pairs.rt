@@ -18,7 +18,7 @@ use objects::Memory;
 use std::alloc::{AllocError, Global};
 
 /// How many lines a derivation may have.
-pub const MOST_LINES: usize = 100_000;
+pub const MAX_LINES: usize = 100_000;
 
 /// Two operations, the one that happened before first.
 pub type Pair = (OpId, OpId);
@@ -41,7 +41,7 @@ pub fn derived_pair(
     ensures { IfOk result (λ found. MatchOption found ((a b : OpId) → ¬ IsDerivation h.now op lines.now a b)
         (λ pair. IsDerivation h.now op lines.now pair.0 pair.1)) }
 {
-    if lines.len() > MOST_LINES {
+    if lines.len() > MAX_LINES {
         return Ok(None);
     }
     let mut pairs = Vec::new(alloc);
@@ -137,7 +137,7 @@ fn rival_pair(
 fn comes_before_source(h: &History<Memory>, op: OpId, write: OpId, read: OpId, source: OpId) -> bool
     ensures { IsTrue result ↔ (IsTrue (program_past op read) × AreRivalWrites h.now write source) }
 {
-    is_in_program_past(op, read) && are_rival_writes(h, write, source)
+    read.is_in_program_past_of(op) && are_rival_writes(h, write, source)
 }
 
 /// The pair of a number, where there is one.
@@ -145,11 +145,4 @@ fn pair_at(pairs: &[Pair], i: u64) -> Option<Pair>
     ensures { result ≡ slice_get pairs.now i }
 {
     pairs.get(i as usize).copied()
-}
-
-/// Whether the second is the first operation, or before it in program order.
-pub fn is_in_program_past(op: OpId, earlier: OpId) -> bool
-    ensures { result ≡ program_past op earlier }
-{
-    earlier.session == op.session && earlier.index <= op.index
 }

@@ -6,7 +6,7 @@ ghost use Rattle.memory_order.specs.Steps.Written.{AreInOrder, IsSorted, ListsWr
 ghost use Rattle.bad_patterns.specs.Patterns.{IsDerivationOfCycle, IsDerivationOfInitialRead};
 
 use crate::derivation::Derivation;
-use crate::derived_pairs::{derived_pair, is_in_program_past};
+use crate::derived_pairs::derived_pair;
 use crate::edges::reads_initial;
 use history::{History, OpId};
 use memory_order::Write;
@@ -55,5 +55,5 @@ pub fn is_derivation_of_initial_read(
     let Some(pair) = derived_pair(alloc, h, writes, op, derivation.lines())? else {
         return Ok(false);
     };
-    Ok(is_in_program_past(op, pair.1) && reads_initial(h, pair.0, pair.1))
+    Ok(pair.1.is_in_program_past_of(op) && reads_initial(h, pair.0, pair.1))
 }

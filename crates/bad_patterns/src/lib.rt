@@ -20,7 +20,7 @@ mod thin_air;
 
 pub use checking::{check_pattern, is_shown};
 pub use derivation::{Derivation, Line};
-pub use derived_pairs::{MOST_LINES, Pair, is_in_program_past};
+pub use derived_pairs::{MAX_LINES, Pair};
 pub use kind::Kind;
 pub use link::{Link, Links};
 pub use memory_order::is_differentiated;

@@ -1,5 +1,6 @@
 -- What a decision says of a memory history and a criterion. (This project's profile.)
 use Rattle.std.specs.Prelude.{Some}
+use Rattle.pattern_search.specs.declared.search.derivations.TheConstants.{MAX_RAISES}
 use Rattle.cert_check.specs.declared.criterion.Criterion.{Criterion}
 use Rattle.cert_check.specs.declared.criterion.Criterion.TheVariants.{Cc, Cm, Ccv}
 use Rattle.cert_check.specs.Criteria.{Meets}
@@ -15,7 +16,7 @@ use Rattle.decision.specs.declared.deciding.Decision.TheVariants as decisions
 abbrev pub IsDecided : MemoryHistory → Criterion → Decision → Type 0
 IsDecided h criterion decisions.Meets = Meets memory_answer h criterion
 IsDecided h criterion (decisions.Excluded pattern) = IsBadPattern h criterion pattern
-IsDecided h criterion (decisions.ExcludedBy kind) = IsTrueNo h criterion kind × HasLargeHB h (Some 19999)
+IsDecided h criterion (decisions.ExcludedBy kind) = IsTrueNo h criterion kind × HasLargeHB h (Some MAX_RAISES)
 IsDecided h criterion decisions.Open = ¬ IsDifferentiated h
 
 -- the decision for one criterion

@@ -25,7 +25,8 @@ use Rattle.bad_patterns.specs.declared.link.Link.TheVariants.{Co, Cf}
 use Rattle.bad_patterns.specs.Paths.{GoesFrom, IsCycle}
 use Rattle.pattern_search.specs.Steps.Conflicts.{AreLinksOf, IsConflictBy, IsConflictCycle, IsConflictStep, IsLastConflict, LinksTo}
 use Rattle.bad_patterns.proofs.ReadPasts.{itself}
-use Rattle.pattern_search.proofs.ReadPatterns.{at-listed, source-of}
+use Rattle.memory_order.proofs.Elements.{at-listed}
+use Rattle.pattern_search.proofs.ReadPatterns.{source-of}
 
 -- the test of operations for equality
 pub same_operations : (a b : OpId) → (((a.session == b.session) && (a.index == b.index)) ≡ true) ↔ (a ≡ b)

@@ -11,6 +11,7 @@ use Rattle.memory_order.specs.Relations.{IsEdge, ReadsFrom}
 use Rattle.causal_order.specs.Orders.{Leads}
 use Rattle.memory_order.specs.SourceOrder.{IsCyclic}
 use Rattle.memory_order.specs.Sources.{Sources, HasSource, AreListed}
+use Rattle.memory_order.specs.Steps.Indexed.{IsSourceIfAny, ListsSourcesIfAny}
 use Rattle.causal_order.specs.Vectors.{IsListed, Counts}
 use Rattle.causal_order.specs.Waits.{AreAlike, AreWaits, AreWaitsFor, IsAwaited, IsWaitEdge, IsWaitingCycle}
 use Rattle.memory_order.proofs.MemoryLaws.{read-of_history, same_read, write-of_history, write-or_read}
@@ -18,9 +19,8 @@ use Rattle.causal_order.proofs.PushedLaws.{listed-length}
 use Rattle.causal_order.proofs.PathsLaws.{leads-edge, leads-leads, leads-within}
 use Rattle.causal_order.proofs.WaitsLead.{first-leads}
 use Rattle.bad_patterns.specs.Patterns.{IsCyclicPath}
-use Rattle.pattern_search.specs.Steps.KnownSources.{IsKnownSourceOf, ListsKnownSources}
 
-module _ (h : MemoryHistory) (sources : Sources) (lists : ListsKnownSources h sources) where
+module _ (h : MemoryHistory) (sources : Sources) (lists : ListsSourcesIfAny h sources) where
   known-length : (s : ℕ) → length (get_or sources s []) ≡ length (session h s)
   known-length s = ⊎_elim
       (λ (inside : s < length h.1). (lists.each s inside).count)
@@ -33,7 +33,7 @@ module _ (h : MemoryHistory) (sources : Sources) (lists : ListsKnownSources h so
   pub known-alike : AreAlike sources h.1
   known-alike = record { sessions = lists.sessions; operations = known-length }
 
-  known-entry : (r : OpId) (e : Option OpId) → slice_get (get_or sources r.session []) r.index ≡ Some e → IsKnownSourceOf h r e
+  known-entry : (r : OpId) (e : Option OpId) → slice_get (get_or sources r.session []) r.index ≡ Some e → IsSourceIfAny h r e
   known-entry r e at =
       let inside : r.session < length h.1 =
       let below = listed-length sources r.session r.index (slice_get_within _ r.index e at) in
@@ -41,7 +41,7 @@ module _ (h : MemoryHistory) (sources : Sources) (lists : ListsKnownSources h so
       (lists.each r.session inside).each r.index e at
 
   known-source : (r w : OpId) → HasSource sources r w → ReadsFrom h w r
-  known-source r w has = known-entry r (Some w) has
+  known-source r w has = (known-entry r (Some w) has).0
 
   pub known-exist : AreListed sources
   known-exist o w has =

@@ -1,5 +1,4 @@
 pub mod First
-pub mod KnownSources
 pub mod KnownCycles
 pub mod KnownConflicts
 pub mod ConflictLinks

@@ -1,7 +1,7 @@
 -- What a search for known reads that come too late finds, and what it excludes.
-use Rattle.std.proofs.Common.{◌≡◌, ℕ, ◌+◌, ◌<◌, ◌≤◌, List, length, get_or, inl, inr, ⊎_elim, refl, arith, ap, sym, ◌∙◌, subst, eq-or-lt_of_le}
-use Rattle.std.specs.Prelude.{◌≢◌, Option, Some, None, Contains, slice_get}
-use Rattle.std.proofs.lemmas.Option.{same_Some, slice_get_within, slice_get-get_or, get_or_from_slice_get}
+use Rattle.std.proofs.Common.{◌≡◌, ℕ, ◌+◌, ◌<◌, ◌≤◌, List, length, inl, inr, ⊎_elim, refl, arith, ap, sym, ◌∙◌, subst, eq-or-lt_of_le}
+use Rattle.std.specs.Prelude.{◌≢◌, Option, Some, None, slice_get}
+use Rattle.std.proofs.lemmas.Option.{same_Some}
 use Rattle.history.specs.declared.op_id.OpId.{OpId}
 use Rattle.history.specs.History.{IsOp}
 use Rattle.memory_order.specs.declared.known_reads.KnownRead.{KnownRead}
@@ -12,6 +12,7 @@ use Rattle.memory_order.specs.Relations.{ReadsFrom}
 use Rattle.memory_order.specs.SourceOrder.{IsSourceEdge, LacksSource, SourceOrder}
 use Rattle.memory_order.specs.Steps.Indexed.{HasNoWriteOfPast, IsKnownRead, IsLastWriteOfPast, IsSourceIfAny, IsSourcePast, ListsReads}
 use Rattle.memory_order.proofs.CausalOrders.{later-of_history}
+use Rattle.memory_order.proofs.Elements.{at-listed}
 use Rattle.memory_order.proofs.FirstWrites.{CO-by_sources, distinct-source}
 use Rattle.memory_order.proofs.GrowingOrdersLaws.{SourceOrder-of_history}
 use Rattle.memory_order.proofs.IndexedLaws.{if_any-source, if_any-unique}
@@ -21,24 +22,6 @@ use Rattle.causal_order.proofs.PathsLaws.{leads-last}
 use Rattle.bad_patterns.specs.Paths.{GoesFrom}
 use Rattle.bad_patterns.specs.Patterns.{ArePathsToOverwrittenRead, IsPathToInitialRead}
 use Rattle.pattern_search.specs.Steps.Routes.{AreWritesBefore, IsWriteBefore}
-
--- an element of a list
-pub listed-at : {X : Type 0} (xs : List X) (i : ℕ) (x : X) → slice_get xs i ≡ Some x → Contains xs x
-listed-at xs i x at = (i, slice_get_within xs i x at, get_or_from_slice_get xs i x x at)
-
-pub at-listed : {X : Type 0} (xs : List X) (x : X) → (inside : Contains xs x) → slice_get xs inside.0 ≡ Some x
-at-listed xs x inside = slice_get-get_or xs inside.0 x inside.1 ∙ ap (λ y. Some y) inside.2
-
--- what holds of the first elements of a list, and of the next
-pub each-more : {X : Type 0} (P : X → Type 0) (xs : List X) (n : ℕ) (d : X)
-    → ((i : ℕ) (x : X) → i < n → slice_get xs i ≡ Some x → P x) → n < length xs → P (get_or xs n d)
-    → (i : ℕ) (x : X) → i < n + 1 → slice_get xs i ≡ Some x → P x
-each-more P xs n d before inside here i x below at = ⊎_elim
-    (λ (last : i ≡ n).
-    let there : slice_get xs n ≡ Some x = ap (slice_get xs) (sym last) ∙ at in
-    subst P (get_or_from_slice_get xs n x d there) here)
-    (λ (earlier : i < n). before i x earlier at)
-    (let up_to : i ≤ n = omega arith in eq-or-lt_of_le up_to)
 
 module _ (h : MemoryHistory) where
   -- what comes before an operation is in its past

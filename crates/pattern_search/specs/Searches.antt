@@ -1,5 +1,6 @@
 -- What a search of the happened-before relations of a memory history comes to.
 use Rattle.std.specs.Prelude.{◌⊎◌, ℕ, IsTrue, MatchOption, Option, Some}
+use Rattle.pattern_search.specs.declared.search.derivations.TheConstants.{MAX_RAISES}
 use Rattle.history.specs.declared.op_id.OpId.{OpId}
 use Rattle.history.specs.History.{IsOp}
 use Rattle.cert_check.specs.declared.criterion.Criterion.TheVariants.{Cm}
@@ -24,13 +25,13 @@ module _ (h : MemoryHistory) where
 
   -- no kind against causal memory is present, or some relation has more than 19,999 pairs that the causal order doesn't have
   abbrev pub IsFreeOrLarge : Type 0
-  IsFreeOrLarge = IsFreeOf h Cm ⊎ HasLargeHB (Some 19999)
+  IsFreeOrLarge = IsFreeOf h Cm ⊎ HasLargeHB (Some MAX_RAISES)
 
 -- a search shows a bad pattern against causal memory, or names a kind against it that is present, where some relation has more
 -- than 19,999 pairs that the causal order doesn't have, or is open and one thing is so, or comes to nothing and another is so
 abbrev pub ComesTo : MemoryHistory → Type 0 → Type 0 → Searched → Type 0
 ComesTo h undecided nothing (Pattern pattern) = IsBadPattern h Cm pattern × IsFirstFound h pattern
-ComesTo h undecided nothing (Present kind) = IsTrue (is_against kind Cm) × IsPresent h kind × HasLargeHB h (Some 19999)
+ComesTo h undecided nothing (Present kind) = IsTrue (is_against kind Cm) × IsPresent h kind × HasLargeHB h (Some MAX_RAISES)
 ComesTo h undecided nothing Open = undecided
 ComesTo h undecided nothing Nothing = nothing
 

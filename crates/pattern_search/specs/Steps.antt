@@ -1,7 +1,6 @@
 -- What single functions say to one another, in terms of their own data: no promise to a reader rests on it.
 pub mod Conflicts
 pub mod Found
-pub mod KnownSources
 pub mod Routes
 pub mod Relations
 pub mod Reasons

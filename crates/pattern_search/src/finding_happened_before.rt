@@ -8,11 +8,11 @@ ghost use Rattle.pattern_search.specs.Steps.Found.{IsFirstFound};
 ghost use Rattle.pattern_search.specs.Steps.Relations.{HasNoCycle, HasNoStart, IsClearBefore, IsRelation, IsRelationOfLast};
 ghost use Rattle.memory_order.specs.Memory.{IsDifferentiated};
 
-use crate::search::{Relation, cycle_in, derivation_of, overwritten_start_in};
+use crate::search::{MAX_RAISES, Relation, cycle_in, derivation_of, overwritten_start_in};
 use crate::searched::Searched;
 use bad_patterns::{Kind, Pattern};
 use cert_check::Criterion;
-use memory_order::{CausalOrder, MOST_PAIRS};
+use memory_order::{CausalOrder, MAX_PAIRS};
 use std::alloc::{AllocError, Global};
 
 /// A pattern of one of the kinds that rest on happened-before relations, where those are against the criterion.
@@ -27,12 +27,12 @@ pub fn find_happened_before(
     requires { IsDifferentiated order.now }
     ensures found { IfOk result (λ found. IfSome found (IsBadPattern order.now criterion)) }
     ensures first { IfOk result (λ found. IfSome found (IsFirstFound order.now)) }
-    ensures none { criterion ≡ Cm → IfOk result (λ found. IfNone found (IsClear order.now ⊎ HasLargeHB order.now (Some 19999))) }
+    ensures none { criterion ≡ Cm → IfOk result (λ found. IfNone found (IsClear order.now ⊎ HasLargeHB order.now (Some MAX_RAISES))) }
 {
     if !Kind::CyclicHB.is_against(criterion) {
         return Ok(None);
     }
-    match search_happened_before(alloc, order, Some(MOST_PAIRS))? {
+    match search_happened_before(alloc, order, Some(MAX_PAIRS))? {
         Searched::Pattern(pattern) => Ok(Some(pattern)),
         Searched::Present(_) => Ok(None),
         Searched::Open => Ok(None),

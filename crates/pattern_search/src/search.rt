@@ -16,7 +16,7 @@ mod routes_back;
 
 pub use conflicts::cycle_with_conflicts;
 pub use cycles::cyclic_order;
-pub use derivations::derivation_of;
+pub use derivations::{MAX_RAISES, derivation_of};
 pub use happened::{cycle_in, overwritten_start_in};
 pub use reads::{overwritten_read, overwritten_start};
 pub use relations::Relation;

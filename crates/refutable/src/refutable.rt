@@ -1,5 +1,5 @@
 ghost use Rattle.std.specs.Prelude.{◌↔◌, List, Option, IfOk, IsTrue};
-ghost use Rattle.history.specs.History.{Record};
+ghost use Rattle.history.specs.History.{HistoryValue};
 ghost use Rattle.cert_check.specs.declared.criterion.Criterion.{Criterion as AnyCriterion};
 ghost use Rattle.cert_check.specs.Criteria.{Meets};
 ghost use Rattle.bad_patterns.specs.declared.kind.Kind.{Kind};
@@ -17,10 +17,10 @@ use std::alloc::{AllocError, Global};
 /// Its law holds for every implementation: a history for which a pattern passes does not meet the criterion.
 pub trait Refutable: SeqObject {
     /// A pattern passes its test: it shows that a history does not meet a criterion.
-    ghost passes: { Record Self.Start Self.Call Self.Ret → AnyCriterion → AnyPattern → Type 0 };
+    ghost passes: { HistoryValue Self.Start Self.Call Self.Ret → AnyCriterion → AnyPattern → Type 0 };
 
     /// A kind of pattern excludes a criterion for a history.
-    ghost excluded: { Record Self.Start Self.Call Self.Ret → AnyCriterion → Kind → Type 0 };
+    ghost excluded: { HistoryValue Self.Start Self.Call Self.Ret → AnyCriterion → Kind → Type 0 };
 
     /// Whether a pattern shows that the history does not meet the criterion.
     ///
@@ -36,8 +36,8 @@ pub trait Refutable: SeqObject {
     /// The kind of a pattern that passes excludes the criterion, and the history does not meet it. The function does nothing:
     /// what it ensures is the law.
     fn passing_patterns_exclude()
-        ensures excluded { (h : Record Self.Start Self.Call Self.Ret) (criterion : AnyCriterion) (pattern : AnyPattern)
+        ensures excluded { (h : HistoryValue Self.Start Self.Call Self.Ret) (criterion : AnyCriterion) (pattern : AnyPattern)
             → passes h criterion pattern → excluded h criterion (kind_of pattern) }
-        ensures not_met { (h : Record Self.Start Self.Call Self.Ret) (criterion : AnyCriterion) (pattern : AnyPattern)
+        ensures not_met { (h : HistoryValue Self.Start Self.Call Self.Ret) (criterion : AnyCriterion) (pattern : AnyPattern)
             → passes h criterion pattern → ¬ Meets Self.answer h criterion };
 }

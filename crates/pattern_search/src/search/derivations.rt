@@ -11,10 +11,14 @@ use crate::search::drafts::Draft;
 use crate::search::needed::needed_raises;
 use crate::search::reasons::{Reasons, last_counted, raise_of};
 use crate::search::relations::Relation;
-use bad_patterns::{Derivation, Pair};
+use bad_patterns::{Derivation, MAX_LINES, Pair};
 use history::OpId;
 use memory_order::CausalOrder;
 use std::alloc::{AllocError, Global};
+
+/// The most raises of a relation of which each pair is sure to have a derivation within [`MAX_LINES`]: five lines a raise, and
+/// a few for the pair itself.
+pub const MAX_RAISES: usize = 19_999;
 
 /// A derivation of a pair of a happened-before relation, with no line that the pair doesn't rest on.
 ///
@@ -29,7 +33,7 @@ pub fn derivation_of(
     requires distinct { IsDifferentiated order.now }
     requires relation { IsRelation order.now relation.now }
     requires before { HB order.now relation.now.0 pair.0 pair.1 }
-    ensures { IfOk result (λ made. MatchOption made (19999 < length relation.now.2)
+    ensures { IfOk result (λ made. MatchOption made (MAX_RAISES < length relation.now.2)
         (λ derivation. IsDerivation order.now relation.now.0 derivation pair.0 pair.1)) }
 {
     let reasons = Reasons::of(alloc, relation.raises())?;
@@ -53,7 +57,8 @@ fn write_pair(
     requires draft { IsDraft order.now op draft.old }
     requires grounded { AreGrounded order.now op reasons.now }
     requires premise { IsPremise order.now op reasons.now (length reasons.now) pair }
-    ensures { IfOk result (λ written. MatchOption written (19999 < length reasons.now) (EndsIn order.now op 100000 pair draft.new)) }
+    ensures { IfOk result (λ written. MatchOption written (MAX_RAISES < length reasons.now)
+        (EndsIn order.now op MAX_LINES pair draft.new)) }
 {
     let Some(number) = raise_of(order, reasons, pair) else {
         return Ok(Some(draft.push_causal(order, op, pair)?));
@@ -79,7 +84,8 @@ fn write_raise(
     requires draft { IsDraft order.now op draft.old }
     requires grounded { AreGrounded order.now op reasons.now }
     requires exists { number < length reasons.now }
-    ensures { (e : CountRaise) → slice_get reasons.now number ≡ Some e → IfOk result (λ written. MatchOption written (19999 < length reasons.now)
+    ensures { (e : CountRaise) → slice_get reasons.now number ≡ Some e
+        → IfOk result (λ written. MatchOption written (MAX_RAISES < length reasons.now)
         (EndsIn order.now op 99998 (last_of e, e.op) draft.new)) }
 {
     let needed = needed_raises(alloc, order, reasons, number)?;
@@ -113,7 +119,7 @@ fn write_rest(
     requires size { length needed.now ≡ length reasons.now }
     requires closed { AreClosedFrom order.now reasons.now needed.now 0 }
     requires so_far { AreWritten order.now op reasons.now needed.now number draft.old written.now }
-    ensures { IfOk result (λ line. MatchOption line (19999 < length reasons.now)
+    ensures { IfOk result (λ line. MatchOption line (MAX_RAISES < length reasons.now)
         (λ n. AreWritten order.now op reasons.now needed.now (number + 1) draft.new (written.now ++ n ∷ []))) }
 {
     if !needed[number] {

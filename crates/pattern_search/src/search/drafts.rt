@@ -10,7 +10,7 @@ ghost use Rattle.pattern_search.specs.Steps.Reasons.{AreGrounded, ArePremises, I
 
 use crate::search::reasons::{Reasons, last_counted, raise_of};
 use crate::search::routes_back::path_between;
-use bad_patterns::{Derivation, Line, MOST_LINES, Pair};
+use bad_patterns::{Derivation, Line, MAX_LINES, Pair};
 use history::OpId;
 use memory_order::{CausalOrder, Cause, Raise};
 use std::alloc::{AllocError, Global};
@@ -57,9 +57,9 @@ impl Draft {
 
     /// Whether there is room for the lines of a raise and of a pair behind it.
     pub fn has_room(&self) -> bool
-        ensures { IsTrue result ↔ (length self.now.0 + 7 ≤ 100000) }
+        ensures { IsTrue result ↔ (length self.now.0 + 7 ≤ MAX_LINES) }
     {
-        self.lines.len() <= MOST_LINES - 7
+        self.lines.len() <= MAX_LINES - 7
     }
 
     /// Puts a line that gives a pair behind the others. Its number.

@@ -7,7 +7,7 @@ ghost use Rattle.memory_order.specs.Relations.{HB};
 ghost use Rattle.memory_order.specs.Steps.Indexed.{IsKnownRead};
 
 use crate::search::relations::Relation;
-use bad_patterns::{Pair, is_in_program_past};
+use bad_patterns::Pair;
 use history::OpId;
 use memory_order::{CausalOrder, KnownRead};
 
@@ -37,7 +37,7 @@ fn write_before(order: &CausalOrder, relation: &Relation, read: &KnownRead) -> O
     ensures { MatchOption result ((w : Operation) → ¬ IsWriteHappened order.now relation.now.0 read.now w)
         (IsWriteHappened order.now relation.now.0 read.now) }
 {
-    if read.source.is_some() || !is_in_program_past(relation.op(), read.op) {
+    if read.source.is_some() || !read.op.is_in_program_past_of(relation.op()) {
         return None;
     }
     for session in 0..order.sessions() {

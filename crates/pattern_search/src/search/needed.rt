@@ -1,7 +1,8 @@
 ghost use Rattle.std.specs.Prelude.{◌≡◌, ℕ, ◌+◌, ◌<◌, true, length, slice_get, IfOk, Some};
 ghost use Rattle.history.specs.declared.op_id.OpId.{OpId as Operation};
 ghost use Rattle.memory_order.specs.declared.growing_order.Raise.{Raise as CountRaise};
-ghost use Rattle.pattern_search.specs.Steps.Reasons.{AreClosedFrom, AreGrounded, ArePremises, IsBefore, IsGrounded, IsMarked, IsPremise, MarksBelow};
+ghost use Rattle.pattern_search.specs.Steps.Reasons.{AreClosedFrom, AreGrounded, ArePremises, IsBefore};
+ghost use Rattle.pattern_search.specs.Steps.Reasons.{IsGrounded, IsMarked, IsPremise, MarksBelow};
 
 use crate::search::reasons::{Reasons, last_counted, raise_of};
 use bad_patterns::Pair;
@@ -37,7 +38,8 @@ fn need_rests(order: &CausalOrder, reasons: &Reasons, number: usize, needed: &mu
     requires size { length needed.old.items ≡ length reasons.now }
     requires grounded { (o : Operation) × AreGrounded order.now o reasons.now }
     ensures marks { MarksBelow number needed.old.items needed.new.items }
-    ensures closed { AreClosedFrom order.now reasons.now needed.old.items (number + 1) → AreClosedFrom order.now reasons.now needed.new.items number }
+    ensures closed { AreClosedFrom order.now reasons.now needed.old.items (number + 1)
+        → AreClosedFrom order.now reasons.now needed.new.items number }
 {
     if !needed[number] {
         return;

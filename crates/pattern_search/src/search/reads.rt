@@ -71,7 +71,8 @@ pub fn overwritten_read(
 /// the read. There is none where the read is the first of its session that has this write in its past.
 fn writes_before(order: &CausalOrder, read: &KnownRead) -> Option<(OpId, OpId)>
     requires { IsKnownRead order.now read.now }
-    ensures { MatchOption result ((a b : Operation) → ¬ AreWritesBefore order.now read.now a b) (λ writes. AreWritesBefore order.now read.now writes.0 writes.1) }
+    ensures { MatchOption result ((a b : Operation) → ¬ AreWritesBefore order.now read.now a b)
+        (λ writes. AreWritesBefore order.now read.now writes.0 writes.1) }
 {
     let source = read.source?;
     if !is_counted_before(order.vectors(), read.op, source) {
@@ -91,12 +92,8 @@ fn writes_before(order: &CausalOrder, read: &KnownRead) -> Option<(OpId, OpId)>
 fn is_counted_before(vectors: &Vectors, op: OpId, earlier: OpId) -> bool
     ensures { IsTrue result ↔ IsCountedBefore vectors.now op earlier }
 {
-    if op.index == 0 {
-        return false;
+    match op.before() {
+        Some(before) => has_counted(vectors, before, earlier),
+        None => false,
     }
-    let before = OpId {
-        session: op.session,
-        index: op.index - 1,
-    };
-    has_counted(vectors, before, earlier)
 }

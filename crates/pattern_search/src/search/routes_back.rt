@@ -64,7 +64,8 @@ fn push_source(
     requires apart { reached.session ≢ from.session }
     ensures counted { IfOk result (λ source. IsCounted vectors.now source from) }
     ensures before { IfOk result (λ source. SourceOrder order.now source reached) }
-    ensures route { IfOk result (λ source. (to : Operation) → GoesFrom order.now (reverse ops.old.items) reached to → GoesFrom order.now (reverse ops.new.items) source to) }
+    ensures route { IfOk result (λ source. (to : Operation) → GoesFrom order.now (reverse ops.old.items) reached to
+        → GoesFrom order.now (reverse ops.new.items) source to) }
 {
     let first = first_counting(vectors, from, reached);
     push_apart(reached, first, ops)?;

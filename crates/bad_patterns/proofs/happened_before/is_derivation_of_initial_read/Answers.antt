@@ -7,15 +7,15 @@ returns-in_default c =
     let found = rw c.lines.ensures at c.in_ok-pair.ensures in
     initial-none c.args.h.now c.args.op c.args.derivation.now (rw c.in_default.is at found)
 
-pub returns-then-is_in_program_past : goal.returns-then-is_in_program_past
-returns-then-is_in_program_past c =
+pub returns-then-is_in_program_past_of : goal.returns-then-is_in_program_past_of
+returns-then-is_in_program_past_of c =
     let found = rw c.lines.ensures at c.in_ok-pair.ensures in
     initial-some c.args.h.now c.args.op c.args.derivation.now c.requires.differentiated c.in-Some.pair (rw c.in-Some.is at found)
-    (sym c.is_in_program_past.ensures ∙ c.if-is_in_program_past.true) c.reads_initial.result c.reads_initial.ensures
+    (sym c.is_in_program_past_of.ensures ∙ c.if-is_in_program_past_of.true) c.reads_initial.result c.reads_initial.ensures
 
-pub returns-else-is_in_program_past : goal.returns-else-is_in_program_past
-returns-else-is_in_program_past c =
+pub returns-else-is_in_program_past_of : goal.returns-else-is_in_program_past_of
+returns-else-is_in_program_past_of c =
     let found = rw c.lines.ensures at c.in_ok-pair.ensures in
     let apart = initial-apart c.args.h.now c.args.op c.args.derivation.now c.requires.differentiated c.in-Some.pair (rw c.in-Some.is at found)
-    (sym c.is_in_program_past.ensures ∙ c.if-is_in_program_past.false) in
-    rw c.if-is_in_program_past.false apart
+    (sym c.is_in_program_past_of.ensures ∙ c.if-is_in_program_past_of.false) in
+    rw c.if-is_in_program_past_of.false apart

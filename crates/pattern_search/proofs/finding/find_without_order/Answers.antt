@@ -3,15 +3,13 @@ use Rattle.history.specs.declared.op_id.OpId.{OpId}
 use Rattle.memory_order.specs.Memory.{MemoryHistory}
 use Rattle.memory_order.specs.SourceOrder.{IsCyclic}
 use Rattle.bad_patterns.specs.Kinds.{IsThinAirRead}
-use Rattle.pattern_search.specs.Steps.KnownSources.{ListsKnownSources}
-use Rattle.pattern_search.proofs.KnownSources.{known-sources}
+use Rattle.memory_order.specs.Steps.Indexed.{ListsSourcesIfAny}
 use Rattle.pattern_search.proofs.NothingFound.{unordered-shown}
 use Rattle.pattern_search.proofs.finding.find_without_order.Goals as goal
 
 pub cyclic_order-requires-clause-sources : goal.cyclic_order-requires-clause-sources
 cyclic_order-requires-clause-sources c =
-    subst (λ (h : MemoryHistory). ListsKnownSources h c.sources.result.now) (sym c.history.ensures)
-    (known-sources c.args.memory.now c.sources.result.now c.sources.ensures)
+    subst (λ (h : MemoryHistory). ListsSourcesIfAny h c.sources.result.now) (sym c.history.ensures) c.sources.ensures
 
 pub unreachable-requires : goal.unreachable-requires
 unreachable-requires c =

@@ -3,7 +3,7 @@ use Rattle.std.proofs.lemmas.Option.{slice_get_within, slice_get-get_or}
 use Rattle.history.specs.declared.op_id.OpId.{OpId}
 use Rattle.pattern_search.specs.Steps.Relations.{IsWriteHappened}
 use Rattle.pattern_search.proofs.HappenedReads.{happened-start, no-happened}
-use Rattle.pattern_search.proofs.ReadPatterns.{each-more, listed-at}
+use Rattle.memory_order.proofs.Elements.{each-more, listed-at}
 use Rattle.pattern_search.proofs.search.happened.overwritten_start_in.Goals as goal
 
 pub returns-in-Some : goal.returns-in-Some

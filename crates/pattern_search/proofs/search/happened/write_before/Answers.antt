@@ -10,7 +10,7 @@ use Rattle.pattern_search.proofs.search.happened.write_before.Goals as goal
 pub returns-in-Some : goal.returns-in-Some
 returns-in-Some c =
     let kept : IsTrue (program_past c.args.relation.now.0 c.args.read.now.op) =
-    subst (λ (x : OpId). IsTrue (program_past x c.args.read.now.op)) c.op.ensures (sym c.is_in_program_past.ensures ∙ c.if-not-is_in_program_past.false) in
+    subst (λ (x : OpId). IsTrue (program_past x c.args.read.now.op)) c.op.ensures (sym c.is_in_program_past_of.ensures ∙ c.if-not-is_in_program_past_of.false) in
     let initially = none-from c.args.read.now.source (sym c.is_some.ensures ∙ c.if-is_some.false) in
     happened-found c.args.order.now c.args.relation.now c.requires.relation c.args.read.now kept c.loop-session.session c.in-Some.write initially
     (subst₂ (λ (g : MemoryHistory) (n : ℕ). IsLastWriteBefore g c.args.read.now.key (op c.loop-session.session n) c.in-Some.write)
@@ -19,7 +19,7 @@ returns-in-Some c =
 pub loop-session-preserved : goal.loop-session-preserved
 loop-session-preserved c =
     let kept : IsTrue (program_past c.args.relation.now.0 c.args.read.now.op) =
-    subst (λ (x : OpId). IsTrue (program_past x c.args.read.now.op)) c.op.ensures (sym c.is_in_program_past.ensures ∙ c.if-not-is_in_program_past.false) in
+    subst (λ (x : OpId). IsTrue (program_past x c.args.read.now.op)) c.op.ensures (sym c.is_in_program_past_of.ensures ∙ c.if-not-is_in_program_past_of.false) in
     happened-more c.args.order.now c.args.relation.now c.requires.relation c.args.read.now kept c.loop-session.session c.loop-session.invariant
     (subst₂ (λ (g : MemoryHistory) (n : ℕ). HasNoWriteBefore g c.args.read.now.key (op c.loop-session.session n))
     c.memory.ensures c.count.ensures c.in_default.ensures)
@@ -27,6 +27,6 @@ loop-session-preserved c =
 pub returns : goal.returns
 returns c =
     let kept : IsTrue (program_past c.args.relation.now.0 c.args.read.now.op) =
-    subst (λ (x : OpId). IsTrue (program_past x c.args.read.now.op)) c.op.ensures (sym c.is_in_program_past.ensures ∙ c.if-not-is_in_program_past.false) in
+    subst (λ (x : OpId). IsTrue (program_past x c.args.read.now.op)) c.op.ensures (sym c.is_in_program_past_of.ensures ∙ c.if-not-is_in_program_past_of.false) in
     let ended : length c.args.order.now.1 ≤ c.loop-session.session = omega arith in
     happened-ended c.args.order.now c.args.relation.now c.requires.relation c.args.read.now kept c.loop-session.session ended c.loop-session.invariant

@@ -2,7 +2,8 @@ use Rattle.std.proofs.Common.{◌≤◌, length, arith}
 use Rattle.std.proofs.lemmas.Option.{slice_get_within, slice_get-get_or}
 use Rattle.history.specs.declared.op_id.OpId.{OpId}
 use Rattle.pattern_search.specs.Steps.Routes.{AreWritesBefore}
-use Rattle.pattern_search.proofs.ReadPatterns.{each-more, listed-at, past-from_before, no-read, read-found}
+use Rattle.memory_order.proofs.Elements.{each-more, listed-at}
+use Rattle.pattern_search.proofs.ReadPatterns.{past-from_before, no-read, read-found}
 use Rattle.pattern_search.proofs.search.reads.overwritten_read.Goals as goal
 
 pub returns-in-Some-clause-found : goal.returns-in-Some-clause-found
