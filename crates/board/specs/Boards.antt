@@ -2,7 +2,7 @@
 use Rattle.std.specs.Prelude.{◌≡◌, ℕ, ◌+◌, ◌<◌, Bool, List, [], length, replicate, Option, Some, None, is_none, slice_get, slice_index_or, slice_set}
 use Rattle.std.specs.List.{count_by, sum_by}
 use Rattle.history.specs.declared.op_id.OpId.{OpId}
-use Rattle.history.specs.History.{Record, session}
+use Rattle.history.specs.History.{HistoryValue, session}
 use Rattle.cert_check.specs.declared.checking.Outcome.{Outcome}
 use Rattle.bad_patterns.specs.declared.pattern.Pattern.{Pattern}
 
@@ -23,7 +23,7 @@ abbrev pub fresh_rows : ℕ → SessionRows
 fresh_rows n = record { rows = replicate n None; next = 0 }
 
 -- one row for each operation of a history, none with a verdict and none handed out
-pub record AreRowsOf {S C R : Type 0} (h : Record S C R) (sessions : List SessionRows) : Type 0 where
+pub record AreRowsOf {S C R : Type 0} (h : HistoryValue S C R) (sessions : List SessionRows) : Type 0 where
   pub many : length sessions ≡ length h.1
   pub each : (s : ℕ) → s < length h.1 → slice_get sessions s ≡ Some (fresh_rows (length (session h s)))
 

@@ -17,7 +17,7 @@ use std::alloc::{AllocError, Global};
 use std::marker::Model;
 
 /// How many cases a board may have.
-pub const MOST_CASES: usize = 64;
+pub const MAX_CASES: usize = 64;
 
 /// What is known of some cases: for each its mark, its rows, which row is handed out next, and the pattern that refutes it.
 ///
@@ -31,12 +31,13 @@ pub struct Board<M: Mark> {
 impl<M: Mark> Model for Board<M> {
     ghost use Rattle.std.specs.Prelude.{◌≤◌, List, length, vec_capacity};
     ghost use Rattle.board.specs.Boards.{CaseState};
+    ghost use Rattle.board.specs.declared.board.TheConstants.{MAX_CASES};
 
     ghost Value = { List (CaseState M) };
 
     ghost view = { λ b. b.cases.items };
 
-    ghost invariant = { λ b. 64 ≤ vec_capacity b.cases };
+    ghost invariant = { λ b. MAX_CASES ≤ vec_capacity b.cases };
 }
 
 impl<M: Mark> Board<M> {
@@ -46,7 +47,7 @@ impl<M: Mark> Board<M> {
     pub fn new(alloc: Global) -> Result<Board<M>, AllocError>
         ensures { IfOk result (λ b. b ≡ []) }
     {
-        let cases = Vec::with_capacity(alloc, MOST_CASES)?;
+        let cases = Vec::with_capacity(alloc, MAX_CASES)?;
         Ok(Board { cases })
     }
 
@@ -69,13 +70,13 @@ impl<M: Mark> Board<M> {
     /// `Full` where 64 cases are filed; the board is then as before. O(1).
     pub fn file(&mut self, mark: M, rows: CaseRows) -> Result<usize, BoardError>
         ensures number { IfOk result (λ number. number ≡ length self.old) }
-        ensures room { IfOk result (λ _. length self.old < 64) }
+        ensures room { IfOk result (λ _. length self.old < MAX_CASES) }
         ensures filed { OnOk result (self.new ≡ self.old ++ fresh_case mark rows ∷ []) }
-        ensures refused { IfErr result (λ e. (e ≡ BoardError.Full) × (64 ≤ length self.old)) }
+        ensures refused { IfErr result (λ e. (e ≡ BoardError.Full) × (MAX_CASES ≤ length self.old)) }
         ensures unchanged { OnErr result (self.new ≡ self.old) }
     {
         let number = self.cases.len();
-        if number >= MOST_CASES {
+        if number >= MAX_CASES {
             return Err(BoardError::Full);
         }
         self.cases.push_reserved(FiledCase::new(mark, rows));

@@ -42,7 +42,7 @@ impl From<BoardError> for DeskError {
 }
 
 impl BoardError {
-    /// The number by which the refusal is reported.
+    /// The number by which the refusal is reported: 22 to 26.
     pub fn number(&self) -> u8
         ensures { result ≡ number_of self.now }
     {

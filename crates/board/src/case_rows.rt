@@ -2,7 +2,7 @@ ghost use Rattle.std.specs.Prelude.{◌≡◌, ◌≤◌, [], true, false, lengt
 ghost use Rattle.board.specs.Boards.{AreRowsOf};
 
 use crate::case_session::CaseSession;
-use history::History;
+use history::{History, MAX_SESSIONS};
 use object_trait::SeqObject;
 use std::alloc::{AllocError, Global};
 use std::marker::Model;
@@ -17,12 +17,13 @@ pub struct CaseRows {
 impl Model for CaseRows {
     ghost use Rattle.std.specs.Prelude.{◌≤◌, Bool, List, length};
     ghost use Rattle.board.specs.Boards.{SessionRows};
+    ghost use Rattle.history.specs.declared.limits.TheConstants.{MAX_SESSIONS};
 
     ghost Value = { Bool × List SessionRows };
 
     ghost view = { λ r. (r.has_certificate, r.sessions.items) };
 
-    ghost invariant = { λ r. length r.sessions.items ≤ 16 };
+    ghost invariant = { λ r. length r.sessions.items ≤ MAX_SESSIONS };
 }
 
 impl CaseRows {
@@ -57,7 +58,7 @@ impl CaseRows {
     pub(crate) fn into_parts(self) -> (bool, Vec<CaseSession>)
         ensures certificate { result.0 ≡ self.0 }
         ensures rows { result.1.items ≡ self.1 }
-        ensures few { length result.1.items ≤ 16 }
+        ensures few { length result.1.items ≤ MAX_SESSIONS }
     {
         (self.has_certificate, self.sessions)
     }

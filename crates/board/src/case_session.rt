@@ -4,6 +4,7 @@ ghost use Rattle.board.specs.Events.{IsFreeIn};
 ghost use Rattle.board.specs.Steps.InSessions.{IsFirstFree, IsExplainedIn, IsFirstUnexplainedIn};
 
 use cert_check::Outcome;
+use history::MAX_OPERATIONS;
 use std::alloc::{AllocError, Global};
 use std::marker::Model;
 
@@ -17,12 +18,13 @@ pub struct CaseSession {
 impl Model for CaseSession {
     ghost use Rattle.std.specs.Prelude.{◌≤◌, length};
     ghost use Rattle.board.specs.Boards.{SessionRows};
+    ghost use Rattle.history.specs.declared.limits.TheConstants.{MAX_OPERATIONS};
 
     ghost Value = { SessionRows };
 
     ghost view = { λ t. record { rows = t.rows.items; next = t.next } };
 
-    ghost invariant = { λ t. length t.rows.items ≤ 256 };
+    ghost invariant = { λ t. length t.rows.items ≤ MAX_OPERATIONS };
 }
 
 impl CaseSession {
@@ -30,7 +32,7 @@ impl CaseSession {
     ///
     /// Fails for want of memory alone.
     pub(crate) fn new(alloc: Global, operations: usize) -> Result<CaseSession, AllocError>
-        requires { operations ≤ 256 }
+        requires { operations ≤ MAX_OPERATIONS }
         ensures { IfOk result (λ t. t ≡ fresh_rows operations) }
     {
         let mut rows = Vec::with_capacity(alloc, operations)?;
@@ -79,7 +81,7 @@ impl CaseSession {
     /// How many rows have no verdict.
     pub(crate) fn open(&self) -> usize
         ensures count { result ≡ open_of self.now }
-        ensures few { result ≤ 256 }
+        ensures few { result ≤ MAX_OPERATIONS }
     {
         self.rows.iter().filter(|row| row.is_none()).count()
     }

@@ -11,7 +11,7 @@ use crate::case_session::CaseSession;
 use crate::mark::Mark;
 use bad_patterns::Pattern;
 use cert_check::Outcome;
-use history::OpId;
+use history::{MAX_SESSIONS, OpId};
 use std::marker::Model;
 
 /// A case of a board.
@@ -26,12 +26,13 @@ pub struct FiledCase<M: Mark> {
 impl<M: Mark> Model for FiledCase<M> {
     ghost use Rattle.std.specs.Prelude.{◌≤◌, length};
     ghost use Rattle.board.specs.Boards.{CaseState};
+    ghost use Rattle.history.specs.declared.limits.TheConstants.{MAX_SESSIONS};
 
     ghost Value = { CaseState M };
 
     ghost view = { λ c. record { mark = c.mark; has_certificate = c.has_certificate; sessions = c.sessions.items; pattern = c.pattern } };
 
-    ghost invariant = { λ c. length c.sessions.items ≤ 16 };
+    ghost invariant = { λ c. length c.sessions.items ≤ MAX_SESSIONS };
 }
 
 impl<M: Mark> FiledCase<M> {

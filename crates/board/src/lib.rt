@@ -13,7 +13,7 @@ mod mark;
 mod piece;
 
 pub use answer::Answer;
-pub use board::{Board, MOST_CASES};
+pub use board::{Board, MAX_CASES};
 pub use board_error::BoardError;
 pub use case_rows::CaseRows;
 pub use mark::Mark;

@@ -1,5 +1,5 @@
 -- Where no kind against a criterion is present, it is met, and the makers make certificates that explain each operation.
-use Rattle.std.proofs.Common.{refl}
+use Rattle.std.proofs.Common.{refl, arith, ⊎_elim, inl, inr}
 use Rattle.std.specs.Prelude.{◌≡◌, ◌≢◌, ◌⊎◌, IsTrue, Option, Some, None, Result, Ok, Err, IfNone, IfOk, IfSome, IsSome, IsSomeAnd}
 use Rattle.history.specs.declared.op_id.OpId.{OpId}
 use Rattle.causal_order.specs.Orders.{Leads}
@@ -12,10 +12,14 @@ use Rattle.memory_order.specs.OverwrittenReads.{HasOverwrittenRead, HasOverwritt
 use Rattle.memory_order.specs.Relations.{CO, CF}
 use Rattle.memory_order.specs.SourceOrder.{IsCyclic, LacksSource}
 use Rattle.bad_patterns.specs.declared.kind.Kind.{Kind}
-use Rattle.bad_patterns.specs.declared.kind.Kind.TheVariants.{CyclicCO, ThinAirRead, WriteCOInitRead, WriteCORead, CyclicCF}
+use Rattle.bad_patterns.specs.declared.kind.Kind.TheVariants.{CyclicCO, ThinAirRead, WriteCOInitRead, WriteCORead, WriteHBInitRead, CyclicHB, CyclicCF}
 use Rattle.bad_patterns.specs.Kinds.{is_against, IsFreeOf, IsPresent, Shows}
 use Rattle.decision.proofs.Completeness.{free-meets}
-use Rattle.collector.specs.Decided.{IsDecided}
+use Rattle.memory_order.specs.HappenedBeforePatterns.{HasHBCycle, HasStartOverwrittenInHB}
+use Rattle.certify_cm.specs.ByTurns.{HasNoTurns}
+use Rattle.pattern_search.specs.Searches.{HasLargeHB, IsFreeOrLarge}
+use Rattle.pattern_search.proofs.SearchedLaws.{large-less}
+use Rattle.collector.specs.Decided.{HasFewRaises, IsDecided}
 
 -- a certificate is made, and what is made is so
 pub some-and : {A E : Type 0} (P : A → Type 0) (made : Result (Option A) E) → IfOk made (λ m. IsSome m) → IfOk made (λ m. IfSome m P) → IfOk made (λ m. IsSomeAnd m P)
@@ -23,20 +27,28 @@ some-and P (Ok (Some m)) some holds = holds
 some-and P (Ok None) some holds = absurd cc
 some-and P (Err e) some holds = tt
 
+-- a certificate is made where what there is without one is not so
+pub some-made : {A E : Type 0} {P : Type 0} (made : Result (Option A) E) → IfOk made (λ m. IfNone m P) → ¬ P → IfOk made (λ m. IsSome m)
+some-made (Ok (Some m)) none refuted = refl
+some-made (Ok None) none refuted = absurd (refuted none)
+some-made (Err e) none refuted = tt
+
 -- what is so where there is none
 pub at-none : {A : Type 0} {P : Type 0} (found : Option A) → found ≡ None → IfNone found P → P
 at-none (Some x) none holds = absurd cc
 at-none None none holds = holds
 
 module _ (h : MemoryHistory) where
-  pub decided-apart : (criterion : Criterion) → IsDecided h criterion → criterion ≢ Cm
-  decided-apart Cc decided = λ same. absurd cc
-  decided-apart Cm decided = absurd decided
-  decided-apart Ccv decided = λ same. absurd cc
+  -- a search that is exact for the other criteria, and for causal memory but where a relation is too large, is exact
+  pub none-free : (criterion : Criterion) → IsDecided h criterion → (criterion ≢ Cm → IsFreeOf h criterion) → (criterion ≡ Cm → IsFreeOrLarge h) → IsFreeOf h criterion
+  none-free Cc decided exact memory = exact (λ same. absurd cc)
+  none-free Cm decided exact memory =
+      ⊎_elim (λ (free : IsFreeOf h Cm). free) (λ (large : HasLargeHB h (Some 19999)). absurd (decided.1 large)) (memory refl)
+  none-free Ccv decided exact memory = exact (λ same. absurd cc)
 
   pub decided-distinct : (criterion : Criterion) → IsDecided h criterion → IsDifferentiated h
   decided-distinct Cc distinct = distinct
-  decided-distinct Cm none = absurd none
+  decided-distinct Cm decided = decided.0
   decided-distinct Ccv distinct = distinct
 
   pub free-met : IsMemoryHistory h → (criterion : Criterion) → IsDecided h criterion → IsFreeOf h criterion → Meets memory_answer h criterion
@@ -57,3 +69,16 @@ module _ (h : MemoryHistory) where
 
     pub free-conflicts : IsTrue (is_against CyclicCF criterion) → (a : OpId) → ¬ Leads (λ b c. CO h b c ⊎ CF h b c) a a
     free-conflicts against a cycle = free CyclicCF against (distinct, (a, cycle))
+
+    pub free-start_in_hb : IsTrue (is_against WriteHBInitRead criterion) → ¬ HasStartOverwrittenInHB h
+    free-start_in_hb against shown = free WriteHBInitRead against (distinct, shown)
+
+    pub free-cycle_in_hb : IsTrue (is_against CyclicHB criterion) → ¬ HasHBCycle h
+    free-cycle_in_hb against cycle = free CyclicHB against (distinct, cycle)
+
+  -- where no kind against causal memory is present and no relation is too large, each operation may take turns
+  pub free-turns : IsDifferentiated h → IsFreeOf h Cm → HasFewRaises h → ¬ ((IsCyclic h ⊎ LacksSource h) ⊎ HasNoTurns h)
+  free-turns distinct free few (inl (inl cyclic)) = free-acyclic distinct Cm free refl cyclic
+  free-turns distinct free few (inl (inr lacks)) = free-sourced distinct Cm free refl lacks
+  free-turns distinct free few (inr (o, is_op, inl cycle)) = free-cycle_in_hb distinct Cm free refl (o, cycle.0, cycle.1)
+  free-turns distinct free few (inr (o, is_op, inr large)) = few (large-less h 19999 100000 (omega arith) (o, is_op, large))

@@ -1,7 +1,7 @@
 -- What a desk says of a case file that it holds open or refuted no more.
 use Rattle.std.proofs.Common.{List, Option, Some, None}
 use Rattle.history.specs.declared.op_id.OpId.{OpId}
-use Rattle.history.specs.History.{Record}
+use Rattle.history.specs.History.{HistoryValue}
 use Rattle.cert_check.specs.declared.criterion.Criterion.{Criterion}
 use Rattle.cert_check.specs.Certificates.{CaseRecord}
 use Rattle.bad_patterns.specs.declared.pattern.Pattern.{Pattern}
@@ -10,7 +10,7 @@ use Rattle.desk.specs.Answers.{IsTrueAnswer}
 use Rattle.collector.specs.Judgements.{IsSaidOfFile}
 use Rattle.collector.proofs.JudgedLaws.{said-of_file, said-of_none}
 
-module _ {S C R : Type 0} (answer : S → List C → C → R) (passes : Record S C R → Criterion → Pattern → Type 0) (file : CaseRecord S C R) where
+module _ {S C R : Type 0} (answer : S → List C → C → R) (passes : HistoryValue S C R → Criterion → Pattern → Type 0) (file : CaseRecord S C R) where
   -- a yes of a desk is what is said of the file
   pub yes-said : IsTrueAnswer answer passes file Yes → IsSaidOfFile answer file Yes
   yes-said (certificate, same, explained) = said-of_file answer file Yes certificate same explained

@@ -2,7 +2,7 @@
 use Rattle.std.proofs.Common.{◌≡◌, ℕ, refl, sym, subst, List, Option, Some, None}
 use Rattle.std.specs.Prelude.{MatchOption, IfSome, IsSome, IsSomeAnd, Result, Ok, Err, IfOk}
 use Rattle.history.specs.declared.op_id.OpId.{OpId}
-use Rattle.history.specs.History.{Record}
+use Rattle.history.specs.History.{HistoryValue}
 use Rattle.cert_check.specs.declared.certificate.Certificate.{Certificate}
 use Rattle.cert_check.specs.declared.criterion.Criterion.{Criterion}
 use Rattle.cert_check.specs.Certificates.{CaseRecord, HasShapeOf, IsCaseFile, IsExplainedThroughout, IsFirstUnexplained, criterion_of}
@@ -53,7 +53,7 @@ founded-met met excluded unexplained (Unknown place) founded same = absurd cc
 founded-met met excluded unexplained (Open n) founded same = absurd cc
 
 -- what is made for a criterion and has the shape of the history makes a case file
-pub made-case_file : {S C R : Type 0} (h : Record S C R) (criterion : Criterion) (made : Option Certificate)
+pub made-case_file : {S C R : Type 0} (h : HistoryValue S C R) (criterion : Criterion) (made : Option Certificate)
     → IfSome made (λ c. criterion_of c ≡ criterion) → IfSome made (λ c. HasShapeOf h c) → IsCaseFile (h, criterion, made)
 made-case_file h criterion None fits shape certificate same = absurd cc
 made-case_file h criterion (Some c) fits shape certificate same =
@@ -73,7 +73,7 @@ module _ {S C R : Type 0} (answer : S → List C → C → R) where
       subst (λ (c : Option Certificate). MatchOption c (Unknown None ≡ Unknown None) (λ given. IsSaidOf answer file.0 given (Unknown None))) (sym none) refl
 
   -- what is said of a file is founded
-  module _ (law : (h : Record S C R) (c : Certificate) → HasShapeOf h c → IsExplainedThroughout answer h c → Meets answer h (criterion_of c)) where
+  module _ (law : (h : HistoryValue S C R) (c : Certificate) → HasShapeOf h c → IsExplainedThroughout answer h c → Meets answer h (criterion_of c)) where
     pub said-founded : (file : CaseRecord S C R) → IsCaseFile file → (said : Answer) → IsSaidOfFile answer file said
         → IsFounded (Meets answer file.0 file.1) (λ kind. ⊥) (IsUnexplainedOf answer file.0 file.1) said
     said-founded (h, criterion, None) is_file Yes holds = absurd cc
@@ -104,14 +104,14 @@ module _ {S C R : Type 0} (answer : S → List C → C → R) where
   said-known (h, criterion, Some given) certificate same explained (Open n) holds = absurd holds
 
   -- where what was made explains every operation, the answer is known
-  pub made-known : (h : Record S C R) (criterion : Criterion) (made : Option Certificate) (file : CaseRecord S C R) → file ≡ (h, criterion, made)
+  pub made-known : (h : HistoryValue S C R) (criterion : Criterion) (made : Option Certificate) (file : CaseRecord S C R) → file ≡ (h, criterion, made)
       → IsSomeAnd made (λ c. IsExplainedThroughout answer h c) → (said : Answer) → IsSaidOfFile answer file said → IsKnown said
   made-known h criterion None file same explained said holds = absurd explained
   made-known h criterion (Some c) file same explained said holds =
       said-known (h, criterion, Some c) c refl explained said (subst (λ (f : CaseRecord S C R). IsSaidOfFile answer f said) same holds)
 
   -- what is founded for a file is founded for what it was made of
-  pub made-founded : (h : Record S C R) (criterion : Criterion) (made : Option Certificate) (file : CaseRecord S C R) → file ≡ (h, criterion, made)
+  pub made-founded : (h : HistoryValue S C R) (criterion : Criterion) (made : Option Certificate) (file : CaseRecord S C R) → file ≡ (h, criterion, made)
       → (a : Answer) → IsFounded (Meets answer file.0 file.1) (λ kind. ⊥) (IsUnexplainedOf answer file.0 file.1) a
       → IsFounded (Meets answer h criterion) (λ kind. ⊥) (IsUnexplainedOf answer h criterion) a
   made-founded h criterion made file same a founded =

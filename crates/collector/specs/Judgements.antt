@@ -1,7 +1,8 @@
 -- What is said of a history and a criterion, and when it is true.
 use Rattle.std.specs.Prelude.{◌≡◌, ⊤, ℕ, ◌≤◌, List, Option, MatchOption, Some, None}
+use Rattle.collector.specs.declared.judging.TheConstants.{MAX_WORKERS}
 use Rattle.history.specs.declared.op_id.OpId.{OpId}
-use Rattle.history.specs.History.{Record}
+use Rattle.history.specs.History.{HistoryValue}
 use Rattle.cert_check.specs.declared.certificate.Certificate.{Certificate}
 use Rattle.cert_check.specs.declared.criterion.Criterion.{Criterion}
 use Rattle.cert_check.specs.declared.desk_error.DeskError.{DeskError}
@@ -11,7 +12,7 @@ use Rattle.bad_patterns.specs.declared.kind.Kind.{Kind}
 use Rattle.board.specs.declared.answer.Answer.{Answer}
 use Rattle.board.specs.declared.answer.Answer.TheVariants.{Yes, No, Unknown, Open}
 
-module _ {S C R : Type 0} (answer : S → List C → C → R) (h : Record S C R) where
+module _ {S C R : Type 0} (answer : S → List C → C → R) (h : HistoryValue S C R) where
   -- a certificate of the criterion has the shape of the history, and o is the first operation that it doesn't explain
   abbrev pub IsUnexplainedOf : Criterion → OpId → Type 0
   IsUnexplainedOf criterion o =
@@ -48,7 +49,7 @@ IsKnown (Open n) = ⊥
 
 -- how many workers there may be
 abbrev pub AreWorkers : ℕ → Type 0
-AreWorkers n = (1 ≤ n) × (n ≤ 16)
+AreWorkers n = (1 ≤ n) × (n ≤ MAX_WORKERS)
 
 -- why nothing is said: there may not be so many workers, or memory ran out
 abbrev pub IsJudgeError : ℕ → DeskError → Type 0

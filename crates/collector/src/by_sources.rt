@@ -2,9 +2,9 @@ ghost use Rattle.std.specs.Prelude.{◌≡◌, IfNone, IfOk, IfSome, IsSomeAnd};
 ghost use Rattle.bad_patterns.specs.Patterns.{IsBadPattern};
 ghost use Rattle.cert_check.specs.Certificates.{HasShapeOf, IsExplainedThroughout, criterion_of};
 ghost use Rattle.cert_check.specs.Criteria.{Meets};
-ghost use Rattle.cert_check.specs.declared.criterion.Criterion.TheVariants.{Cc, Ccv};
+ghost use Rattle.cert_check.specs.declared.criterion.Criterion.TheVariants.{Cc, Ccv, Cm};
 ghost use Rattle.memory_order.specs.Memory.{IsDifferentiated, memory_answer};
-ghost use Rattle.collector.specs.Decided.{IsDecided};
+ghost use Rattle.collector.specs.Decided.{HasFewRaises, IsDecided};
 
 use crate::judged::Judged;
 use bad_patterns::Pattern;
@@ -32,7 +32,7 @@ impl Judged for Memory {
     ) -> Result<Option<Certificate>, AllocError> {
         match criterion {
             Criterion::Cc => make_for_consistency(alloc, h),
-            Criterion::Cm => certify_cm::make_memory(alloc, h),
+            Criterion::Cm => make_for_causal_memory(alloc, h),
             Criterion::Ccv => make_for_convergence(alloc, h),
         }
     }
@@ -66,6 +66,20 @@ fn make_for_consistency(
 {
     present_kinds_exclude_criteria();
     certify_cc::make_memory(alloc, h)
+}
+
+/// A certificate of causal memory of a memory history.
+fn make_for_causal_memory(
+    alloc: Global,
+    h: &History<Memory>,
+) -> Result<Option<Certificate>, AllocError>
+    ensures criterion { IfOk result (λ made. IfSome made (λ c. criterion_of c ≡ Cm)) }
+    ensures shape { IfOk result (λ made. IfSome made (HasShapeOf h.now)) }
+    ensures decided { IsDifferentiated h.now → HasFewRaises h.now → Meets memory_answer h.now Cm
+        → IfOk result (λ made. IsSomeAnd made (IsExplainedThroughout memory_answer h.now)) }
+{
+    present_kinds_exclude_criteria();
+    certify_cm::make_memory(alloc, h)
 }
 
 /// A certificate of causal convergence of a memory history.

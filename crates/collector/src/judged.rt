@@ -1,5 +1,5 @@
 ghost use Rattle.std.specs.Prelude.{◌≡◌, List, Option, IfNone, IfOk, IfSome, IsSomeAnd};
-ghost use Rattle.history.specs.History.{Record};
+ghost use Rattle.history.specs.History.{HistoryValue};
 ghost use Rattle.cert_check.specs.declared.criterion.Criterion.{Criterion as AnyCriterion};
 ghost use Rattle.cert_check.specs.Certificates.{HasShapeOf, IsExplainedThroughout, criterion_of};
 ghost use Rattle.cert_check.specs.Criteria.{Meets};
@@ -16,7 +16,7 @@ use std::alloc::{AllocError, Global};
 /// certificate that is made explains every operation.
 pub trait Judged: Refutable {
     /// Whether find and make are exact for a history and a criterion.
-    ghost decides: { Record Self.Start Self.Call Self.Ret → AnyCriterion → Type 0 };
+    ghost decides: { HistoryValue Self.Start Self.Call Self.Ret → AnyCriterion → Type 0 };
 
     /// A pattern that shows that the history does not meet the criterion, where the search finds one.
     ///

@@ -16,7 +16,7 @@ use std::sync::Wait;
 use std::thread::Threads;
 
 /// How many workers there may be.
-pub const MOST_WORKERS: usize = 16;
+pub const MAX_WORKERS: usize = 16;
 
 /// What is known of a history and a criterion.
 ///
@@ -118,5 +118,5 @@ pub fn judge_with<O: Judged + Send + Sync, R: Threads + Wait + Sync, G: Gate>(
 fn are_workers(workers: usize) -> bool
     ensures { IsTrue result ↔ AreWorkers workers }
 {
-    1 <= workers && workers <= MOST_WORKERS
+    1 <= workers && workers <= MAX_WORKERS
 }

@@ -10,4 +10,4 @@ mod working;
 pub use by_program_order::ByProgramOrder;
 pub use desk::{Answer, Gate, OpenGate};
 pub use judged::Judged;
-pub use judging::{MOST_WORKERS, judge, judge_with};
+pub use judging::{MAX_WORKERS, judge, judge_with};

@@ -4,7 +4,7 @@ use Rattle.std.specs.Prelude.{true, false, Option, Some, None, is_some, slice_ge
 use denote.Ref.{Bor}
 use Rattle.std.proofs.lemmas.Option.{same_Some, slice_get_within}
 use Rattle.history.specs.declared.op_id.OpId.{OpId}
-use Rattle.history.specs.History.{Record}
+use Rattle.history.specs.History.{HistoryValue}
 use Rattle.cert_check.specs.declared.criterion.Criterion.{Criterion}
 use Rattle.cert_check.specs.declared.certificate.Certificate.{Certificate}
 use Rattle.cert_check.specs.declared.checking.Outcome.TheVariants.{Explained, Unexplained}
@@ -31,7 +31,7 @@ none_of : {X : Type 0} (x : Option X) → is_some x ≡ false → x ≡ None
 none_of None e = refl
 none_of (Some y) e = absurd cc
 
-module _ {S C R : Type 0} (answer : S → List C → C → R) (passes : Record S C R → Criterion → Pattern → Type 0) where
+module _ {S C R : Type 0} (answer : S → List C → C → R) (passes : HistoryValue S C R → Criterion → Pattern → Type 0) where
   refuted-by : (file : CaseRecord S C R) (pattern : Option Pattern) (kind : Kind) → ((p : Pattern) → pattern ≡ Some p → PassesFor passes file p)
       → option_map kind_of pattern ≡ Some kind → IsRefutedBy passes file kind
   refuted-by file None kind known is = absurd cc
@@ -135,15 +135,15 @@ module _ {S C R : Type 0} (answer : S → List C → C → R) (passes : Record S
       kept_patterns cases c result all agree taken' (subst Stands e_number stands)
 
 -- a yes that is true shows that the history meets the criterion, and a no that it does not
-module _ {S C R : Type 0} (answer : S → List C → C → R) (passes : Record S C R → Criterion → Pattern → Type 0) (file : CaseRecord S C R) where
-  pub yes_met : IsCaseFile file → ((h : Record S C R) (c : Certificate) → HasShapeOf h c → IsExplainedThroughout answer h c → Meets answer h (criterion_of c))
+module _ {S C R : Type 0} (answer : S → List C → C → R) (passes : HistoryValue S C R → Criterion → Pattern → Type 0) (file : CaseRecord S C R) where
+  pub yes_met : IsCaseFile file → ((h : HistoryValue S C R) (c : Certificate) → HasShapeOf h c → IsExplainedThroughout answer h c → Meets answer h (criterion_of c))
       → (a : Answer) → IsTrueAnswer answer passes file a → a ≡ Yes → Meets answer file.0 file.1
   yes_met kept law a truth is_yes =
       let said : IsTrueAnswer answer passes file Yes = subst (λ (b : Answer). IsTrueAnswer answer passes file b) is_yes truth in
       let shaped = kept said.0 said.1 in
       subst (λ (criterion : Criterion). Meets answer file.0 criterion) shaped.0 (law file.0 said.0 shaped.1 said.2)
 
-  pub no_unmet : ((h : Record S C R) (criterion : Criterion) (p : Pattern) → passes h criterion p → ¬ Meets answer h criterion)
+  pub no_unmet : ((h : HistoryValue S C R) (criterion : Criterion) (p : Pattern) → passes h criterion p → ¬ Meets answer h criterion)
       → (a : Answer) → IsTrueAnswer answer passes file a → (kind : Kind) → a ≡ No kind → ¬ Meets answer file.0 file.1
   no_unmet law a truth kind is_no =
       let said : IsTrueAnswer answer passes file (No kind) = subst (λ (b : Answer). IsTrueAnswer answer passes file b) is_no truth in

@@ -5,7 +5,7 @@ use Rattle.std.proofs.lemmas.Bool.{cases_eq, cases_lt}
 use Rattle.std.proofs.lemmas.List.{length-set, get_or-set_same, get_or-set_other, length-map, length-replicate, get_or-replicate, ext_get_or, get_or_append_left, get_or_past, length-append, get_or_at}
 use Rattle.std.proofs.lemmas.Option.{same_Some, slice_get_within, slice_get-get_or, get_or_from_slice_get}
 use Rattle.history.specs.declared.op_id.OpId.{OpId}
-use Rattle.history.specs.History.{Record, session}
+use Rattle.history.specs.History.{HistoryValue, session}
 use Rattle.causal_order.proofs.OrdersLaws.{same_op}
 use Rattle.cert_check.specs.declared.criterion.Criterion.{Criterion}
 use Rattle.cert_check.specs.declared.checking.Outcome.{Outcome}
@@ -93,7 +93,7 @@ module _ {S C R : Type 0} where
       let both = same_place (s.mark.place == mark.place) (row_refusal (row_of s o)) e in
       (s, refl, eqb-true s.mark.place mark.place both.0, waiting_row s o (waiting (row_of s o) both.1))
 
-  module _ (answer : S → List C → C → R) (passes : Record S C R → Criterion → Pattern → Type 0) where
+  module _ (answer : S → List C → C → R) (passes : HistoryValue S C R → Criterion → Pattern → Type 0) where
     -- where one case stays true, all do
     changed : (old new : List (CaseState (FileAt S C R))) (number : ℕ) (s t : CaseState (FileAt S C R)) → slice_get old number ≡ Some s
         → new ≡ set old number t → AreTrueCases answer passes old → IsTrueCase answer passes t → AreTrueCases answer passes new

@@ -2,7 +2,7 @@
 use Rattle.std.specs.Prelude.{◌≡◌, ℕ, ◌<◌, ◌≤◌, List, length, Some, None, IsSome}
 use Rattle.std.specs.List.{sum_by}
 use Rattle.history.specs.declared.op_id.OpId.{OpId}
-use Rattle.history.specs.History.{Record}
+use Rattle.history.specs.History.{HistoryValue}
 use Rattle.cert_check.specs.declared.criterion.Criterion.{Criterion}
 use Rattle.cert_check.specs.declared.certificate.Certificate.{Certificate}
 use Rattle.cert_check.specs.Certificates.{CaseRecord, IsExplainedThroughout, IsFirstUnexplained}
@@ -15,7 +15,7 @@ use Rattle.desk.specs.Files.{PassesFor}
 
 module _ {S C R : Type 0} where
   -- how many operations a history has
-  abbrev pub operations_of : Record S C R → ℕ
+  abbrev pub operations_of : HistoryValue S C R → ℕ
   operations_of h = sum_by length h.1
 
   -- the file has a certificate of which every piece explains its operation
@@ -29,10 +29,10 @@ module _ {S C R : Type 0} where
       (certificate : Certificate) × (file.2 ≡ Some certificate) × IsFirstUnexplained answer file.0 certificate o
 
   -- a pattern of this kind passes its test for the file
-  abbrev pub IsRefutedBy : (Record S C R → Criterion → Pattern → Type 0) → CaseRecord S C R → Kind → Type 0
+  abbrev pub IsRefutedBy : (HistoryValue S C R → Criterion → Pattern → Type 0) → CaseRecord S C R → Kind → Type 0
   IsRefutedBy passes file kind = (p : Pattern) × (kind_of p ≡ kind) × PassesFor passes file p
 
-module _ {S C R : Type 0} (answer : S → List C → C → R) (passes : Record S C R → Criterion → Pattern → Type 0) (file : CaseRecord S C R) where
+module _ {S C R : Type 0} (answer : S → List C → C → R) (passes : HistoryValue S C R → Criterion → Pattern → Type 0) (file : CaseRecord S C R) where
   -- an answer is true of a file: with a yes every piece of its certificate explains; a no names the kind of a pattern that
   -- passes; unknown names the first operation that its piece does not explain, or says that there is no certificate; and
   -- where so many rows are open there are as many operations

@@ -1,7 +1,7 @@
 -- The case files of a desk, and what its board keeps true of them. (This project's profile.)
 use Rattle.std.specs.Prelude.{◌≡◌, ◌↔◌, ℕ, Bool, true, false, List, [], map, length, Some, None, IsSome, is_some, slice_get}
 use Rattle.history.specs.declared.op_id.OpId.{OpId}
-use Rattle.history.specs.History.{Record, IsOp}
+use Rattle.history.specs.History.{HistoryValue, IsOp}
 use Rattle.cert_check.specs.declared.criterion.Criterion.{Criterion}
 use Rattle.cert_check.specs.declared.checking.Outcome.{Outcome}
 use Rattle.cert_check.specs.declared.checking.Outcome.TheVariants.{Explained}
@@ -60,10 +60,10 @@ module _ {S C R : Type 0} where
   IsOutcome answer file o outcome = (outcome ≡ Explained) ↔ IsExplainedIn answer file o
 
   -- a pattern that was accepted passes its test for the history and the criterion of a file
-  abbrev pub PassesFor : (Record S C R → Criterion → Pattern → Type 0) → CaseRecord S C R → Pattern → Type 0
+  abbrev pub PassesFor : (HistoryValue S C R → Criterion → Pattern → Type 0) → CaseRecord S C R → Pattern → Type 0
   PassesFor passes file p = passes file.0 file.1 p
 
-module _ {S C R : Type 0} (answer : S → List C → C → R) (passes : Record S C R → Criterion → Pattern → Type 0) where
+module _ {S C R : Type 0} (answer : S → List C → C → R) (passes : HistoryValue S C R → Criterion → Pattern → Type 0) where
   -- what a board says of a case is true of the case's file: it has one row for each operation where there is a
   -- certificate, each verdict is what the check of the piece comes to, and the pattern passes its test
   pub record IsTrueCase (s : CaseState (FileAt S C R)) : Type 0 where

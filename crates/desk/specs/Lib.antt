@@ -1,3 +1,4 @@
 pub mod Answers
 pub mod Files
 pub mod Refusals
+pub mod Steps

@@ -1,9 +1,10 @@
-ghost use Rattle.std.specs.Prelude.{◌≡◌, ◌≢◌, ◌<◌, ◌≤◌, ◌↔◌, ℕ, ◌∷◌, ◌++◌, [], false, length, IfOk, IfErr, IfSome, IsNone, IsTrue, OnOk, OnErr};
-ghost use Rattle.std.specs.Prelude.{MatchOption, None, Some, option_copied, slice_get};
-ghost use Rattle.board.specs.Boards.{CaseState, fresh_case, row_of, handed_out, with_verdict, refuted};
-ghost use Rattle.board.specs.Events.{IsChanged, IsIdleAt, IsDueOf, IsStanding, put_refusal, ask_refusal};
-ghost use Rattle.desk.specs.Files.{AreRowsFor, HasPiece, PassesFor, file_at, place_of};
+ghost use Rattle.std.specs.Prelude.{◌≡◌, ◌≢◌, ◌<◌, ◌≤◌, ◌↔◌, ℕ, ◌∷◌, ◌++◌, [], false, length, option_copied, slice_get};
+ghost use Rattle.std.specs.Prelude.{IfOk, IfErr, IfSome, IsNone, IsTrue, MatchOption, None, OnOk, OnErr, Some};
+ghost use Rattle.board.specs.Boards.{CaseState, fresh_case, row_of, handed_out, refuted};
+ghost use Rattle.board.specs.Events.{IsChanged, IsIdleAt, IsDueOf, IsStanding};
+ghost use Rattle.desk.specs.Files.{AreRowsFor, HasPiece, PassesFor};
 ghost use Rattle.desk.specs.Answers.{IsTrueAnswer};
+ghost use Rattle.desk.specs.Steps.Cases.{IsPut, refusal_of_ticket, refusal_of_verdict};
 
 use crate::shelf::Shelf;
 use crate::shelf_name::ShelfName;
@@ -11,7 +12,7 @@ use crate::ticket::Ticket;
 use crate::token::Token;
 use crate::verdict::Verdict;
 use bad_patterns::Pattern;
-use board::{Answer, Board, BoardError, CaseRows, MOST_CASES, Piece};
+use board::{Answer, Board, BoardError, CaseRows, MAX_CASES, Piece};
 use history::OpId;
 use refutable::Refutable;
 use std::alloc::{AllocError, Global};
@@ -46,9 +47,9 @@ impl<O: Refutable, K: ShelfName> Cases<O, K> {
 
     /// Whether 64 cases are filed.
     pub fn is_full(&self) -> bool
-        ensures { IsTrue result ↔ (64 ≤ length self.now) }
+        ensures { IsTrue result ↔ (MAX_CASES ≤ length self.now) }
     {
-        self.board.cases() >= MOST_CASES
+        self.board.cases() >= MAX_CASES
     }
 
     /// Files a case, and gives its number.
@@ -56,7 +57,7 @@ impl<O: Refutable, K: ShelfName> Cases<O, K> {
         requires rows { AreRowsFor token.file rows }
         ensures number { IfOk result (λ number. number ≡ length self.old) }
         ensures filed { OnOk result (self.new ≡ self.old ++ fresh_case token rows ∷ []) }
-        ensures refused { IfErr result (λ e. (e ≡ BoardError.Full) × (64 ≤ length self.old)) }
+        ensures refused { IfErr result (λ e. (e ≡ BoardError.Full) × (MAX_CASES ≤ length self.old)) }
         ensures unchanged { OnErr result (self.new ≡ self.old) }
     {
         self.board.file(token, rows)
@@ -112,9 +113,9 @@ impl<O: Refutable, K: ShelfName> Cases<O, K> {
     /// Puts a verdict, as the board does.
     pub fn put(&mut self, shelf: &Shelf<O>, verdict: &Verdict<O, K>) -> Result<(), BoardError>
         requires { shelf.now ≡ K.shelf }
-        ensures accepted { IfOk result (λ _. put_refusal place_of (slice_get self.old verdict.now.case_of.number) (file_at verdict.now.case_of) verdict.now.op ≡ None) }
-        ensures filled { OnOk result (IsChanged verdict.now.case_of.number (λ s. with_verdict s verdict.now.op verdict.now.outcome) self.old self.new) }
-        ensures refused { IfErr result (λ e. put_refusal place_of (slice_get self.old verdict.now.case_of.number) (file_at verdict.now.case_of) verdict.now.op ≡ Some e) }
+        ensures accepted { IfOk result (λ _. refusal_of_verdict self.old verdict.now ≡ None) }
+        ensures filled { OnOk result (IsPut verdict.now self.old self.new) }
+        ensures refused { IfErr result (λ e. refusal_of_verdict self.old verdict.now ≡ Some e) }
         ensures unchanged { OnErr result (self.new ≡ self.old) }
     {
         let ticket = verdict.ticket();
@@ -137,9 +138,9 @@ impl<O: Refutable, K: ShelfName> Cases<O, K> {
     ) -> Result<(), BoardError>
         requires shelf { shelf.now ≡ K.shelf }
         requires passes { PassesFor O.passes ticket.now.file pattern }
-        ensures accepted { IfOk result (λ _. ask_refusal place_of (slice_get self.old ticket.now.number) (file_at ticket.now) ≡ None) }
+        ensures accepted { IfOk result (λ _. refusal_of_ticket self.old ticket.now ≡ None) }
         ensures refuted { OnOk result (IsChanged ticket.now.number (λ s. refuted s pattern) self.old self.new) }
-        ensures refused { IfErr result (λ e. ask_refusal place_of (slice_get self.old ticket.now.number) (file_at ticket.now) ≡ Some e) }
+        ensures refused { IfErr result (λ e. refusal_of_ticket self.old ticket.now ≡ Some e) }
         ensures unchanged { OnErr result (self.new ≡ self.old) }
     {
         self.agree(shelf, ticket);
@@ -152,7 +153,7 @@ impl<O: Refutable, K: ShelfName> Cases<O, K> {
         requires { shelf.now ≡ K.shelf }
         ensures answer { IfOk result (λ a. (s : CaseState _) → slice_get self.now ticket.now.number ≡ Some s → IsStanding s a) }
         ensures truth { IfOk result (IsTrueAnswer O.answer O.passes ticket.now.file) }
-        ensures refused { IfErr result (λ e. ask_refusal place_of (slice_get self.now ticket.now.number) (file_at ticket.now) ≡ Some e) }
+        ensures refused { IfErr result (λ e. refusal_of_ticket self.now ticket.now ≡ Some e) }
     {
         self.agree(shelf, ticket);
         self.board.ask(ticket.number(), ticket.token())
@@ -165,9 +166,10 @@ impl<O: Refutable, K: ShelfName> Cases<O, K> {
         ticket: &Ticket<O, K>,
     ) -> Result<Option<&Pattern>, BoardError>
         requires { shelf.now ≡ K.shelf }
-        ensures pattern { IfOk result (λ p. (s : CaseState _) → slice_get self.now ticket.now.number ≡ Some s → option_copied p ≡ s.pattern) }
+        ensures pattern { IfOk result (λ p. (s : CaseState _) → slice_get self.now ticket.now.number ≡ Some s
+            → option_copied p ≡ s.pattern) }
         ensures passes { IfOk result (λ p. IfSome p (λ r. PassesFor O.passes ticket.now.file r.now)) }
-        ensures refused { IfErr result (λ e. ask_refusal place_of (slice_get self.now ticket.now.number) (file_at ticket.now) ≡ Some e) }
+        ensures refused { IfErr result (λ e. refusal_of_ticket self.now ticket.now ≡ Some e) }
     {
         self.agree(shelf, ticket);
         self.board.pattern(ticket.number(), ticket.token())

@@ -135,8 +135,8 @@ impl<O: Refutable, K: ShelfName> Desk<O, K> {
 
     /// Puts a verdict into its row.
     ///
-    /// `Stranger` where it is of another case than the ticket's; else `Doubled` where the row has a verdict. The board is then
-    /// as before. `Stranger` and `NoSuch` also where the board has no such case, which no run meets.
+    /// `Stranger` exactly where it is of another case than the ticket's; else `Doubled` where the row has a verdict. The board
+    /// is then as before. `NoSuch` where the board has no such case, which no run meets.
     pub fn put(
         &self,
         rt: &impl Wait,
@@ -150,14 +150,17 @@ impl<O: Refutable, K: ShelfName> Desk<O, K> {
         if !verdict.ticket().is_same_case(ticket) {
             return Err(DeskError::Stranger);
         }
-        self.cases.lock(rt).put(&self.shelf, &verdict)?;
-        Ok(())
+        match self.cases.lock(rt).put(&self.shelf, &verdict) {
+            Ok(()) => Ok(()),
+            Err(BoardError::Doubled) => Err(DeskError::Doubled),
+            Err(_no_such_row) => Err(DeskError::NoSuch),
+        }
     }
 
     /// Takes a pattern against a case. A second good pattern changes nothing.
     ///
     /// `NotThatPattern` where it does not pass its test, which is made outside the lock, and `Memory`. The board is then as
-    /// before. `Stranger` and `NoSuch` where the board has no such case, which no run meets.
+    /// before. `NoSuch` where the board has no such case, which no run meets.
     pub fn refute(
         &self,
         rt: &impl Wait,
@@ -171,8 +174,10 @@ impl<O: Refutable, K: ShelfName> Desk<O, K> {
         if !O::check_pattern(self.alloc, file.history(), file.criterion(), &pattern)? {
             return Err(DeskError::NotThatPattern);
         }
-        self.cases.lock(rt).refute(&self.shelf, ticket, pattern)?;
-        Ok(())
+        match self.cases.lock(rt).refute(&self.shelf, ticket, pattern) {
+            Ok(()) => Ok(()),
+            Err(_no_such_case) => Err(DeskError::NoSuch),
+        }
     }
 
     /// How a case stands.

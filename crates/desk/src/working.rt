@@ -14,7 +14,7 @@ use refutable::Refutable;
 use std::sync::Wait;
 
 /// How often one call of `work` takes a piece.
-const MOST_TURNS: u32 = 65_536;
+const MAX_TURNS: u32 = 65_536;
 
 impl<O: Refutable, K: ShelfName> Desk<O, K> {
     /// Takes pieces, checks each outside the lock, between `enter` and `leave` of the gate, and puts the verdicts, until
@@ -23,11 +23,11 @@ impl<O: Refutable, K: ShelfName> Desk<O, K> {
     /// A verdict that comes second is passed over. Fails for want of memory alone: the piece that it had taken stays without a
     /// verdict, and the verdicts already put stay.
     pub fn work<G: Gate>(&self, rt: &impl Wait, gate: &G) -> Result<u32, DeskError>
-        ensures turns { IfOk result (λ put. put ≤ 65536) }
+        ensures turns { IfOk result (λ put. put ≤ MAX_TURNS) }
         ensures refused { IfErr result (λ e. e ≡ DeskError.Memory) }
     {
         let mut put = 0;
-        for _turn in 0..MOST_TURNS {
+        for _turn in 0..MAX_TURNS {
             let Some((ticket, op)) = self.take(rt) else {
                 return Ok(put);
             };

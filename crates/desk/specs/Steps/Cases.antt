@@ -1,0 +1,19 @@
+-- What the board of a desk does with a verdict or a question about a case.
+use Rattle.std.specs.Prelude.{List, Option, slice_get}
+use Rattle.board.specs.declared.board_error.BoardError.{BoardError}
+use Rattle.board.specs.Boards.{CaseState, with_verdict}
+use Rattle.board.specs.Events.{IsChanged, put_refusal, ask_refusal}
+use Rattle.desk.specs.Files.{CaseOf, FileAt, VerdictOf, file_at, place_of}
+
+module _ {S C R : Type 0} where
+  -- what a verdict is refused for, if anything
+  abbrev pub refusal_of_verdict : List (CaseState (FileAt S C R)) → VerdictOf S C R → Option BoardError
+  refusal_of_verdict cases verdict = put_refusal place_of (slice_get cases verdict.case_of.number) (file_at verdict.case_of) verdict.op
+
+  -- the verdict stands in the row of its operation, and nothing else changed
+  abbrev pub IsPut : VerdictOf S C R → List (CaseState (FileAt S C R)) → List (CaseState (FileAt S C R)) → Type 0
+  IsPut verdict = IsChanged verdict.case_of.number (λ s. with_verdict s verdict.op verdict.outcome)
+
+  -- what a question about a case, or a pattern against it, is refused for, if anything
+  abbrev pub refusal_of_ticket : List (CaseState (FileAt S C R)) → CaseOf S C R → Option BoardError
+  refusal_of_ticket cases ticket = ask_refusal place_of (slice_get cases ticket.number) (file_at ticket)
