@@ -1,0 +1,11 @@
+//! The causal store (Ahamad, Neiger, Burns, Kohli and Hutto, "Causal memory", 1995): answers follow the order in which updates
+//! were taken in.
+#![tactic(auto)]
+
+mod as_taken_in;
+
+pub use as_taken_in::AsTakenIn;
+pub use replica::{Acted, ActedOf, Delivery, Replica, ReplicaError, Update, UpdateOf};
+
+/// A replica of the causal store.
+pub type CausalReplica<O> = Replica<O, AsTakenIn>;

@@ -1,0 +1,11 @@
+//! The store of Lamport's clocks (Lamport, "Time, clocks and the ordering of events in a distributed system", 1978): answers
+//! follow the stamps of updates, then their sessions, then their numbers.
+#![tactic(auto)]
+
+mod by_stamp;
+
+pub use by_stamp::ByStamp;
+pub use replica::{Acted, ActedOf, Delivery, Replica, ReplicaError, Update, UpdateOf};
+
+/// A replica of the store of Lamport's clocks.
+pub type LamportReplica<O> = Replica<O, ByStamp>;

@@ -1,0 +1,43 @@
+-- What the parts of a replica say to one another.
+use Rattle.std.specs.Prelude.{◌≡◌, ℕ, ◌<◌, ◌≤◌, Bool, List, length, take, Option, Some, slice_get, slice_index}
+use Rattle.history.specs.declared.limits.TheConstants.{MAX_OPERATIONS, MAX_SESSIONS}
+use Rattle.replica.specs.declared.update.UpdateOf.{UpdateOf}
+use Rattle.replica.specs.Updates.{calls, many, reach}
+use Rattle.replica.specs.Replaying.{SameUpdates}
+use Rattle.replica.specs.Replicas.{ReplicaState, IsReady}
+
+-- updates in order, and for how many more there is room
+pub record TakenState (C : Type 0) : Type 0 where
+  pub updates : List (UpdateOf C)
+  pub room : ℕ
+
+-- the counts are how many updates each session wrote, and the ends how far they reach
+pub record IsTally {C : Type 0} (updates : List (UpdateOf C)) (counts ends : List ℕ) : Type 0 where
+  pub counted : (s : ℕ) → s < MAX_SESSIONS → slice_index counts s ≡ many updates s
+  pub ended : (s : ℕ) → s < MAX_SESSIONS → slice_index ends s ≡ reach updates s
+
+-- a state stands for these calls, with queries put between them
+abbrev pub Serves : {S C Z : Type 0} → (C → Bool) → (Z → S → List C → Type 0) → Z → S → List C → Type 0
+Serves {S} {C} {Z} query stands z start cs = (ds : List C) × SameUpdates query cs ds × stands z start ds
+
+-- the object has taken in so many of the updates, the first ones; or it has to be made anew
+pub record IsFollowing {S C Z : Type 0} (query : C → Bool) (stands : Z → S → List C → Type 0) (object : Z) (start : S) (updates : List (UpdateOf C)) (applied : Option ℕ) : Type 0 where
+  pub within : (n : ℕ) → applied ≡ Some n → n ≤ length updates
+  pub serves : (n : ℕ) → applied ≡ Some n → Serves query stands object start (calls (take n updates))
+
+-- the start of an object, the updates that its answers follow, and for how many more there is room
+pub record LogState (S C : Type 0) : Type 0 where
+  pub start : S
+  pub updates : List (UpdateOf C)
+  pub room : ℕ
+
+-- what a replica keeps: it is one of at most 16 sessions, it has had at most 256 operations, and there is room to take in all that it holds
+pub record IsReplica (session sessions operations room held : ℕ) : Type 0 where
+  pub own : session < sessions
+  pub few : sessions ≤ MAX_SESSIONS
+  pub short : operations ≤ MAX_OPERATIONS
+  pub spare : held ≤ room
+
+-- none of the first so many updates is ready
+abbrev pub NoneReady : {S C : Type 0} → ReplicaState S C → List (UpdateOf C) → ℕ → Type 0
+NoneReady {S} {C} r us n = (j : ℕ) (v : UpdateOf C) → j < n → slice_get us j ≡ Some v → ¬ IsReady r v

@@ -1,0 +1,19 @@
+//! What the replicas of the stores share: updates, the order of those that were taken in, and the object that answers.
+#![tactic(auto)]
+
+mod acted;
+mod delivery;
+mod follower;
+mod replica;
+mod replica_error;
+mod taken;
+mod update;
+mod update_log;
+mod update_order;
+
+pub use acted::{Acted, ActedOf};
+pub use delivery::Delivery;
+pub use replica::Replica;
+pub use replica_error::ReplicaError;
+pub use update::{Update, UpdateOf};
+pub use update_order::UpdateOrder;
