@@ -3,7 +3,7 @@ use Rattle.std.proofs.Common.{◌≡◌, ℕ, zero, suc, ◌<◌, inl, inr, List
 use Rattle.std.specs.Prelude.{Bool}
 use Rattle.std.proofs.lemmas.List.{take-append-le, take_at}
 use Rattle.std.proofs.lemmas.Option.{slice_get_within}
-use Rattle.history.specs.History.{Record}
+use Rattle.history.specs.History.{HistoryValue}
 use Rattle.cert_check.specs.declared.criterion.Criterion.{Criterion}
 use Rattle.bad_patterns.specs.declared.pattern.Pattern.{Pattern}
 use Rattle.recorder.proofs.Telling.{get_pushed, get_push_cases}
@@ -12,14 +12,14 @@ use Rattle.world.specs.declared.reply.ReplyOf.{ReplyOf}
 use Rattle.world.specs.Runs.{Replied, IsReply, IsRun}
 use Rattle.world.proofs.RunsRecorded.{run_front}
 
-module _ {S C R : Type 0} (fits : C → R → Bool) (answer : S → List C → C → R) (passes : Record S C R → Criterion → Pattern → Type 0) (start : S) (k : ℕ) where
+module _ {S C R : Type 0} (fits : C → R → Bool) (answer : S → List C → C → R) (passes : HistoryValue S C R → Criterion → Pattern → Type 0) (start : S) (k : ℕ) where
   pub run_none : IsRun fits answer passes start k []
   run_none zero step reply at = absurd (cc)
   run_none (suc i) step reply at = absurd (cc)
 
-  module _ (es : List (Replied S C R)) (step : StepOf C R) (reply : ReplyOf (Record S C R)) where
+  module _ (es : List (Replied S C R)) (step : StepOf C R) (reply : ReplyOf (HistoryValue S C R)) where
     -- what holds of the last step of a longer run holds of a step at some place of it
-    at_place : IsReply fits answer passes start k es step reply → (i : ℕ) (step' : StepOf C R) (reply' : ReplyOf (Record S C R)) → i ≡ length es
+    at_place : IsReply fits answer passes start k es step reply → (i : ℕ) (step' : StepOf C R) (reply' : ReplyOf (HistoryValue S C R)) → i ≡ length es
         → ◌≡◌ {A = Replied S C R} (step, reply) (step', reply') → IsReply fits answer passes start k (take i (es ++ (step, reply) ∷ [])) step' reply'
     at_place here i step' reply' e same =
         subst (λ (before : List (Replied S C R)). IsReply fits answer passes start k before step' reply') (sym (take_at es ((step, reply) ∷ []) i (sym e)))

@@ -3,7 +3,7 @@ use Rattle.std.proofs.Common.{◌≡◌, ℕ, zero, suc, ◌<◌, ◌⊎◌, inl
 use Rattle.std.specs.Prelude.{Bool, Option, Some, None, option_map, slice_get}
 use Rattle.std.proofs.lemmas.Option.{slice_get_within}
 use Rattle.std.proofs.lemmas.List.{take-take}
-use Rattle.history.specs.History.{Record}
+use Rattle.history.specs.History.{HistoryValue}
 use Rattle.causal_order.specs.Orders.{op}
 use Rattle.cert_check.specs.declared.criterion.Criterion.{Criterion}
 use Rattle.bad_patterns.specs.declared.pattern.Pattern.{Pattern}
@@ -35,33 +35,33 @@ recorded_none k = record { run = run_none k 256; follows = λ z told at. absurd 
     none zero told h = cc
     none (suc z) told h = cc
 
-module _ {S C R : Type 0} (fits : C → R → Bool) (start : S) (k : ℕ) (es : List (Event C R)) (was : IsRecorded k es) (reply : ReplyOf (Record S C R)) where
+module _ {S C R : Type 0} (fits : C → R → Bool) (start : S) (k : ℕ) (es : List (Event C R)) (was : IsRecorded k es) (reply : ReplyOf (HistoryValue S C R)) where
   begin_recorded : (s : ℕ) (c : C) (o : Option Refusal) → begin_refusal k s (begun s es) (ended s es) ≡ o → reply ≡ unless o (Done (op s (length (begun s es)))) → IsRecorded k (after es (began c reply))
   begin_recorded s c None none e =
-      subst (λ (r : ReplyOf (Record S C R)). IsRecorded k (after es (began c r))) (sym e)
+      subst (λ (r : ReplyOf (HistoryValue S C R)). IsRecorded k (after es (began c r))) (sym e)
       (recorded_more k es was (Began (op s (length (begun s es))) c) (begin_can k es was.run s c none) tt)
-  begin_recorded s c (Some x) some e = subst (λ (r : ReplyOf (Record S C R)). IsRecorded k (after es (began c r))) (sym e) was
+  begin_recorded s c (Some x) some e = subst (λ (r : ReplyOf (HistoryValue S C R)). IsRecorded k (after es (began c r))) (sym e) was
 
   end_recorded : (s : ℕ) (x : R) (o : Option Refusal) → end_refusal k s (begun s es) (ended s es) fits x ≡ o → reply ≡ unless o (Done (op s (length (ended s es)))) → IsRecorded k (after es (ended_with x reply))
   end_recorded s x None none e =
-      subst (λ (r : ReplyOf (Record S C R)). IsRecorded k (after es (ended_with x r))) (sym e)
+      subst (λ (r : ReplyOf (HistoryValue S C R)). IsRecorded k (after es (ended_with x r))) (sym e)
       (recorded_more k es was (Ended (op s (length (ended s es))) x) (end_can k es was.run s fits x none) tt)
-  end_recorded s x (Some y) some e = subst (λ (r : ReplyOf (Record S C R)). IsRecorded k (after es (ended_with x r))) (sym e) was
+  end_recorded s x (Some y) some e = subst (λ (r : ReplyOf (HistoryValue S C R)). IsRecorded k (after es (ended_with x r))) (sym e) was
 
   start_recorded : (told : List ℕ) → ((reply ≡ Sealer (length (sealers es))) × IsTellable k es told) ⊎ ((reply ≡ Refused NoSuch) × ¬ IsTellable k es told) → IsRecorded k (after es (started told reply))
   start_recorded told (inl h) =
-      subst (λ (r : ReplyOf (Record S C R)). IsRecorded k (after es (started told r))) (sym h.0)
+      subst (λ (r : ReplyOf (HistoryValue S C R)). IsRecorded k (after es (started told r))) (sym h.0)
       (recorded_more k es was (Started (length (sealers es)) told) (refl, h.1.0, h.1.1) tt)
-  start_recorded told (inr h) = subst (λ (r : ReplyOf (Record S C R)). IsRecorded k (after es (started told r))) (sym h.0) was
+  start_recorded told (inr h) = subst (λ (r : ReplyOf (HistoryValue S C R)). IsRecorded k (after es (started told r))) (sym h.0) was
 
   look_refused : (z : ℕ) → reply ≡ Refused NoSuch → IsRecorded k (after es (looked z reply))
-  look_refused z e = subst (λ (r : ReplyOf (Record S C R)). IsRecorded k (after es (looked z r))) (sym e) was
+  look_refused z e = subst (λ (r : ReplyOf (HistoryValue S C R)). IsRecorded k (after es (looked z r))) (sym e) was
 
   look_at : (z : ℕ) (told : List ℕ) → slice_get (sealers es) z ≡ Some told → (next : Option Cell) → next_cell (after_looks (fresh_plan k 256 told) (looks z es)) ≡ next
       → IsLookReply es next reply → IsRecorded k (after es (looked z reply))
   look_at z told at None is h = look_refused z h
   look_at z told at (Some cell) is h =
-      subst (λ (r : ReplyOf (Record S C R)). IsRecorded k (after es (looked z r))) (sym h.1)
+      subst (λ (r : ReplyOf (HistoryValue S C R)). IsRecorded k (after es (looked z r))) (sym h.1)
       (recorded_more k es was (Looked z cell h.0) (slice_get_within (sealers es) z told at, h.2) (λ told' at'.
       let same : Some told ≡ Some told' = sym at ∙ at' in
       let is' : told ≡ told' = cc in
@@ -101,18 +101,18 @@ module _ {A : Type 0} where
   take_end (y ∷ xs) zero e = absurd (cc)
   take_end (y ∷ xs) (suc n) e = ap (λ (zs : List A). y ∷ zs) (take_end xs n e)
 
-module _ {S C R : Type 0} (fits : C → R → Bool) (answer : S → List C → C → R) (passes : Record S C R → Criterion → Pattern → Type 0) (start : S) (k : ℕ) where
+module _ {S C R : Type 0} (fits : C → R → Bool) (answer : S → List C → C → R) (passes : HistoryValue S C R → Criterion → Pattern → Type 0) (start : S) (k : ℕ) where
   -- a front of a run is a run
-  pub run_front : (es : List (StepOf C R × ReplyOf (Record S C R))) (j : ℕ) → IsRun fits answer passes start k es → IsRun fits answer passes start k (take j es)
+  pub run_front : (es : List (StepOf C R × ReplyOf (HistoryValue S C R))) (j : ℕ) → IsRun fits answer passes start k es → IsRun fits answer passes start k (take j es)
   run_front es j run i step reply at =
       let f = take-from j es i (step, reply) at in let l : i < j = f.0 in
-      subst (λ (before : List (StepOf C R × ReplyOf (Record S C R))). IsReply fits answer passes start k before step reply) (sym (take-take i j es (omega arith))) (run i step reply f.1)
+      subst (λ (before : List (StepOf C R × ReplyOf (HistoryValue S C R))). IsReply fits answer passes start k before step reply) (sym (take-take i j es (omega arith))) (run i step reply f.1)
 
-  module _ (es : List (StepOf C R × ReplyOf (Record S C R))) (run : IsRun fits answer passes start k es) where
-    front_next : (n : ℕ) (o : Option (StepOf C R × ReplyOf (Record S C R))) → slice_get es n ≡ o → IsRecorded k (events (take n es)) → IsRecorded k (events (take (suc n) es))
-    front_next n None at was = subst (λ (xs : List (StepOf C R × ReplyOf (Record S C R))). IsRecorded k (events xs)) (sym (take_end es n at)) was
+  module _ (es : List (StepOf C R × ReplyOf (HistoryValue S C R))) (run : IsRun fits answer passes start k es) where
+    front_next : (n : ℕ) (o : Option (StepOf C R × ReplyOf (HistoryValue S C R))) → slice_get es n ≡ o → IsRecorded k (events (take n es)) → IsRecorded k (events (take (suc n) es))
+    front_next n None at was = subst (λ (xs : List (StepOf C R × ReplyOf (HistoryValue S C R))). IsRecorded k (events xs)) (sym (take_end es n at)) was
     front_next n (Some e) at was =
-        subst (λ (xs : List (StepOf C R × ReplyOf (Record S C R))). IsRecorded k (events xs)) (sym (take_next es n e at))
+        subst (λ (xs : List (StepOf C R × ReplyOf (HistoryValue S C R))). IsRecorded k (events xs)) (sym (take_next es n e at))
         (subst (λ (evs : List (Event C R)). IsRecorded k evs) (sym (events_more (take n es) e.0 e.1))
         (step_recorded fits start k (events (take n es)) was e.1 e.0 (run n e.0 e.1 at).0))
 
@@ -121,4 +121,4 @@ module _ {S C R : Type 0} (fits : C → R → Bool) (answer : S → List C → C
     front_recorded (suc n) = front_next n (slice_get es n) refl (front_recorded n)
 
     pub run_recorded : IsRecorded k (events es)
-    run_recorded = subst (λ (xs : List (StepOf C R × ReplyOf (Record S C R))). IsRecorded k (events xs)) (take_all (length es) es (omega arith)) (front_recorded (length es))
+    run_recorded = subst (λ (xs : List (StepOf C R × ReplyOf (HistoryValue S C R))). IsRecorded k (events xs)) (take_all (length es) es (omega arith)) (front_recorded (length es))

@@ -4,7 +4,7 @@ use Rattle.std.specs.Prelude.{◌↔◌, Bool, true, Option, Some, None, option_
 use Rattle.std.proofs.lemmas.Bool.{cases_eq, ltb-true, lt-ltb}
 use Rattle.std.proofs.lemmas.List.{length-append}
 use Rattle.std.proofs.lemmas.Option.{slice_get_within}
-use Rattle.history.specs.History.{Record}
+use Rattle.history.specs.History.{HistoryValue}
 use Rattle.recorder.proofs.Telling.{get_push_cases}
 use Rattle.snapshot.specs.declared.cell.Cell.{Cell}
 use Rattle.snapshot.specs.declared.cell.Cell.TheVariants.{Return, Call}
@@ -153,7 +153,7 @@ module _ {S C R : Type 0} (fits : C → R → Bool) (w : State S C R) where
       → Takes fits (Start told) w (Sealer (length w.plans)) v
   start_done told st v t stands is start k es shows =
       let many : length w.plans ≡ length (sealers es) = shows.as_many in (
-        inl (ap {B = ReplyOf (Record S C R)} (λ (n : ℕ). Sealer n) many, tellable start k es w shows told t),
+        inl (ap {B = ReplyOf (HistoryValue S C R)} (λ (n : ℕ). Sealer n) many, tellable start k es w shows told t),
         subst (λ (u : State S C R). Shows start k (es ++ Started (length w.plans) told ∷ []) u) (sym is)
             (subst (λ (n : ℕ). Shows start k (es ++ Started n told ∷ []) (with_plan w st)) (sym many) (start_shows start k es w shows told st t stands)),
       )
@@ -161,7 +161,7 @@ module _ {S C R : Type 0} (fits : C → R → Bool) (w : State S C R) where
   pub look_refused : (z : ℕ) → next_in (slice_get w.plans z) ≡ None → Takes fits (Looking z) w (Refused NoSuch) w
   look_refused z none start k es shows =
       let same : None ≡ next_of (plan k es z) = sym none ∙ next_planned start k es w shows z in
-      (subst (λ (o : Option Cell). IsLookReply {H = Record S C R} es o (Refused NoSuch)) same refl, shows)
+      (subst (λ (o : Option Cell). IsLookReply {H = HistoryValue S C R} es o (Refused NoSuch)) same refl, shows)
 
   pub look_there : (z : ℕ) (cell : Cell) → next_in (slice_get w.plans z) ≡ Some cell → z < length w.plans
   look_there z cell e = by (slice_get w.plans z) refl e
@@ -178,7 +178,7 @@ module _ {S C R : Type 0} (fits : C → R → Bool) (w : State S C R) where
       true_look = let same = full_same start k es w shows cell in (λ e. same.0 (sym is ∙ e), λ h. is ∙ same.1 h)
 
       by : (a : Option PlanState) (b : Option (List ℕ)) → slice_get w.plans z ≡ a → slice_get (sealers es) z ≡ b → next_in a ≡ Some cell
-          → IsLookReply {H = Record S C R} es (next_of (plan k es z)) (Found cell full) × Shows start k (es ++ Looked z cell full ∷ []) v
+          → IsLookReply {H = HistoryValue S C R} es (next_of (plan k es z)) (Found cell full) × Shows start k (es ++ Looked z cell full ∷ []) v
       by None b at start_at h = absurd (cc)
       by (Some st) None at start_at h =
           let past : length (sealers es) ≤ z = none_past (sealers es) z start_at in
@@ -189,7 +189,7 @@ module _ {S C R : Type 0} (fits : C → R → Bool) (w : State S C R) where
           let named : next_cell (after_looks (fresh_plan k 256 told) (looks z es)) ≡ Some cell = sym planned ∙ h in
           let whole : Some cell ≡ next_of (plan k es z) = sym next ∙ next_planned start k es w shows z in
           let g = gave st at in (
-            subst (λ (o : Option Cell). IsLookReply {H = Record S C R} es o (Found cell full)) whole (full, refl, true_look),
+            subst (λ (o : Option Cell). IsLookReply {H = HistoryValue S C R} es o (Found cell full)) whole (full, refl, true_look),
             subst (λ (u : State S C R). Shows start k (es ++ Looked z cell full ∷ []) u) (sym g.1) (look_shows start k es w shows z st g.0 told cell full at start_at named true_look g.2),
           )
 

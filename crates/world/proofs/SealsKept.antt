@@ -5,7 +5,7 @@ use Rattle.std.specs.List.{filter_map}
 use Rattle.std.proofs.Math.Seq.{take-append_seam}
 use Rattle.std.proofs.lemmas.List.{append-nil}
 use Rattle.std.proofs.lemmas.List.Elements.{filter_map-append}
-use Rattle.history.specs.History.{Record}
+use Rattle.history.specs.History.{HistoryValue}
 use Rattle.snapshot.specs.declared.cell.Cell.{Cell}
 use Rattle.snapshot.specs.Plans.{Look, Plan, fresh_plan, after_looks, looked_at, next_cell, Follows}
 use Rattle.snapshot.specs.Runs.{Event, counts_of, look_of, sealers, looks, sealed, HasSealed}
@@ -30,14 +30,14 @@ no_more p (l ∷ ls) more f none = no_more (looked_at p (Some l.0) l.1) ls more 
 
 module _ {S C R : Type 0} (start : S) (es : List (Event C R)) where
   -- a plan that has sealed is finished
-  when_sealed : (p : Plan) (h : Record S C R) (o : Option Cell) → next_cell p ≡ o → sealed_when start es p o ≡ Some h → (next_cell p ≡ None) × (sealed start es p ≡ h)
+  when_sealed : (p : Plan) (h : HistoryValue S C R) (o : Option Cell) → next_cell p ≡ o → sealed_when start es p o ≡ Some h → (next_cell p ≡ None) × (sealed start es p ≡ h)
   when_sealed p h None none e = (none, let same : sealed start es p ≡ h = some_same (sealed start es p) h e in same)
     where
-      some_same : (a b : Record S C R) → Some a ≡ Some b → a ≡ b
+      some_same : (a b : HistoryValue S C R) → Some a ≡ Some b → a ≡ b
       some_same a b e = cc
   when_sealed p h (Some cell) some e = absurd (cc)
 
-module _ {S C R : Type 0} (start : S) (k : ℕ) (es : List (Event C R)) (z : ℕ) (h : Record S C R) where
+module _ {S C R : Type 0} (start : S) (k : ℕ) (es : List (Event C R)) (z : ℕ) (h : HistoryValue S C R) where
   -- what is sealed is sealed by the finished plan of a sealer that started
   abbrev pub IsSealedBy : List ℕ → Type 0
   IsSealedBy told =
@@ -58,7 +58,7 @@ module _ {S C R : Type 0} (start : S) (k : ℕ) (es : List (Event C R)) (z : ℕ
       → sealed start es (after_looks (fresh_plan k 256 told) (looks z es)) ≡ h → sealed_by start es (option_map (λ t. after_looks (fresh_plan k 256 t) (looks z es)) o) ≡ Some h
   seal_from told o e none is =
       ap (λ (x : Option (List ℕ)). sealed_by start es (option_map (λ t. after_looks (fresh_plan k 256 t) (looks z es)) x)) e
-      ∙ (ap (sealed_when start es (after_looks (fresh_plan k 256 told) (looks z es))) none ∙ ap {B = Option (Record S C R)} (λ (x : Record S C R). Some x) is)
+      ∙ (ap (sealed_when start es (after_looks (fresh_plan k 256 told) (looks z es))) none ∙ ap {B = Option (HistoryValue S C R)} (λ (x : HistoryValue S C R). Some x) is)
 
   pub seal_of_parts : (told : List ℕ) → IsSealedBy told → seal start k es z ≡ Some h
   seal_of_parts told s = seal_from told (slice_get (sealers es) z) s.0 s.1 s.2
@@ -73,10 +73,10 @@ module _ {S C R : Type 0} (start : S) (k : ℕ) (es : List (Event C R)) (z : ℕ
     pub seal_is_cut : seal start k es z ≡ Some h → IsConsistentCut es z h
     seal_is_cut e =
         let s = seal_parts e in
-        subst (λ (x : Record S C R). IsConsistentCut es z x) s.1.2
+        subst (λ (x : HistoryValue S C R). IsConsistentCut es z x) s.1.2
         (seals_are_cuts k 256 es z (after_looks (fresh_plan k 256 s.0) (looks z es)) start was.run (has_sealed s.0 s.1))
 
-module _ {S C R : Type 0} (start : S) (k : ℕ) (front rest es : List (Event C R)) (whole : front ++ rest ≡ es) (before : IsRecorded k front) (was : IsRecorded k es) (z : ℕ) (h : Record S C R) where
+module _ {S C R : Type 0} (start : S) (k : ℕ) (front rest es : List (Event C R)) (whole : front ++ rest ≡ es) (before : IsRecorded k front) (was : IsRecorded k es) (z : ℕ) (h : HistoryValue S C R) where
   -- what was sealed stays sealed
   pub seal_kept : seal start k front z ≡ Some h → seal start k es z ≡ Some h
   seal_kept e =

@@ -6,7 +6,7 @@ use Rattle.std.proofs.lemmas.Grind.{get_or-set_at}
 use Rattle.std.proofs.lemmas.List.{get_or-set_other}
 use Rattle.std.proofs.lemmas.Option.{slice_get_within}
 use Rattle.history.specs.declared.op_id.OpId.{OpId}
-use Rattle.history.specs.History.{Record}
+use Rattle.history.specs.History.{HistoryValue}
 use Rattle.causal_order.specs.Orders.{op}
 use Rattle.snapshot.specs.Plans.{Look, fresh_plan, after_looks}
 use Rattle.snapshot.specs.Walks.{Stands}
@@ -128,7 +128,7 @@ module _ {S C R : Type 0} (start : S) (k : ℕ) (es : List (Event C R)) (w : Sta
 module _ {S C R : Type 0} (fits : C → R → Bool) (w : State S C R) (s : ℕ) where
   pub begin_refused : (c : C) (x : Refusal) → begin_refusal (length w.lanes) s (lane_of w s).0 (lane_of w s).1 ≡ Some x → Takes fits (Begin s c) w (Refused x) w
   begin_refused c x e start k es shows = (
-    sym (ap {B = ReplyOf (Record S C R)} (λ (o : Option Refusal). unless o (Done (op s (length (begun s es))))) (sym (begin_same start k es w shows s) ∙ e)),
+    sym (ap {B = ReplyOf (HistoryValue S C R)} (λ (o : Option Refusal). unless o (Done (op s (length (begun s es))))) (sym (begin_same start k es w shows s) ∙ e)),
     shows,
   )
 
@@ -137,14 +137,14 @@ module _ {S C R : Type 0} (fits : C → R → Bool) (w : State S C R) (s : ℕ) 
   begin_done c v e is start k es shows =
       let none : begin_refusal k s (begun s es) (ended s es) ≡ None = sym (begin_same start k es w shows s) ∙ e in
       let many : length (lane_of w s).0 ≡ length (begun s es) = ap (λ (l : List C × List R). length l.0) (shows.lanes s) in (
-        ap {B = ReplyOf (Record S C R)} (λ (n : ℕ). Done (op s n)) many ∙ sym (ap {B = ReplyOf (Record S C R)} (λ (o : Option Refusal). unless o (Done (op s (length (begun s es))))) none),
+        ap {B = ReplyOf (HistoryValue S C R)} (λ (n : ℕ). Done (op s n)) many ∙ sym (ap {B = ReplyOf (HistoryValue S C R)} (λ (o : Option Refusal). unless o (Done (op s (length (begun s es))))) none),
         subst (λ (u : State S C R). Shows start k (es ++ Began (op s (length (lane_of w s).0)) c ∷ []) u) (sym is)
             (subst (λ (n : ℕ). Shows start k (es ++ Began (op s n) c ∷ []) (with_call w s c)) (sym many) (begin_shows start k es w shows s c none)),
       )
 
   pub end_refused : (r : R) (x : Refusal) → end_refusal (length w.lanes) s (lane_of w s).0 (lane_of w s).1 fits r ≡ Some x → Takes fits (End s r) w (Refused x) w
   end_refused r x e start k es shows = (
-    sym (ap {B = ReplyOf (Record S C R)} (λ (o : Option Refusal). unless o (Done (op s (length (ended s es))))) (sym (end_same start k es w shows s fits r) ∙ e)),
+    sym (ap {B = ReplyOf (HistoryValue S C R)} (λ (o : Option Refusal). unless o (Done (op s (length (ended s es))))) (sym (end_same start k es w shows s fits r) ∙ e)),
     shows,
   )
 
@@ -153,7 +153,7 @@ module _ {S C R : Type 0} (fits : C → R → Bool) (w : State S C R) (s : ℕ) 
   end_done r v e is start k es shows =
       let none : end_refusal k s (begun s es) (ended s es) fits r ≡ None = sym (end_same start k es w shows s fits r) ∙ e in
       let many : length (lane_of w s).1 ≡ length (ended s es) = ap (λ (l : List C × List R). length l.1) (shows.lanes s) in (
-        ap {B = ReplyOf (Record S C R)} (λ (n : ℕ). Done (op s n)) many ∙ sym (ap {B = ReplyOf (Record S C R)} (λ (o : Option Refusal). unless o (Done (op s (length (ended s es))))) none),
+        ap {B = ReplyOf (HistoryValue S C R)} (λ (n : ℕ). Done (op s n)) many ∙ sym (ap {B = ReplyOf (HistoryValue S C R)} (λ (o : Option Refusal). unless o (Done (op s (length (ended s es))))) none),
         subst (λ (u : State S C R). Shows start k (es ++ Ended (op s (length (lane_of w s).1)) r ∷ []) u) (sym is)
             (subst (λ (n : ℕ). Shows start k (es ++ Ended (op s n) r ∷ []) (with_return w s r)) (sym many) (end_shows start k es w shows fits s r none)),
       )

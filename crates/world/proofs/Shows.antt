@@ -2,7 +2,7 @@
 use Rattle.std.proofs.Common.{◌≡◌, ℕ, zero, suc, ◌+◌, ◌<◌, ◌≤◌, List, ◌∷◌, length, take, refl, sym, ◌∙◌, ap, arith, subst}
 use Rattle.std.specs.Prelude.{Bool, Option, Some, None, option_map, slice_get}
 use Rattle.std.proofs.lemmas.Option.{slice_get_within}
-use Rattle.history.specs.History.{Record}
+use Rattle.history.specs.History.{HistoryValue}
 use Rattle.snapshot.specs.declared.cell.Cell.{Cell}
 use Rattle.snapshot.specs.Plans.{Look, Plan, fresh_plan, after_looks, next_cell, returns_found, calls_found}
 use Rattle.snapshot.specs.Walks.{Stands}
@@ -59,7 +59,7 @@ module _ {S C R : Type 0} (start : S) (k : ℕ) (es : List (Event C R)) (w : Sta
       let next : next_cell p ≡ Some n.0 = sym (next_is st p (shows.plans z st told at start_at)) ∙ n.1 in
       ap (sealed_when start es p) next
 
-  seal_some : (z : ℕ) (st : PlanState) (h : Record S C R) (a : Option PlanState) (b : Option (List ℕ)) → slice_get w.plans z ≡ a → slice_get (sealers es) z ≡ b → done_in a ≡ Some st
+  seal_some : (z : ℕ) (st : PlanState) (h : HistoryValue S C R) (a : Option PlanState) (b : Option (List ℕ)) → slice_get w.plans z ≡ a → slice_get (sealers es) z ≡ b → done_in a ≡ Some st
       → ((p : Plan) → Stands st p → p.lanes ≡ length w.lanes → h ≡ found_in w p)
       → sealed_by start es (option_map (λ told. after_looks (fresh_plan k 256 told) (looks z es)) b) ≡ Some h
   seal_some z st h None b at start_at e found = absurd (cc)
@@ -74,19 +74,19 @@ module _ {S C R : Type 0} (start : S) (k : ℕ) (es : List (Event C R)) (w : Sta
       let next : next_cell p ≡ None = sym (next_is st' p stands) ∙ d.1 in
       let lanes : p.lanes ≡ k = planned_lanes told (looks z es) in
       let is : h ≡ found_in w p = found p (subst (λ (x : PlanState). Stands x p) d.0 stands) (lanes ∙ sym shows.many) in
-      ap (sealed_when start es p) next ∙ ap {B = Option (Record S C R)} (λ (x : Record S C R). Some x) (sym (is ∙ found_sealed p lanes))
+      ap (sealed_when start es p) next ∙ ap {B = Option (HistoryValue S C R)} (λ (x : HistoryValue S C R). Some x) (sym (is ∙ found_sealed p lanes))
 
   -- the seal of a sealer in whose plan no cell is next, and of another
   pub not_sealed : (z : ℕ) → done_in (slice_get w.plans z) ≡ None → seal start k es z ≡ None
   not_sealed z e = seal_none z (slice_get w.plans z) (slice_get (sealers es) z) refl refl e
 
-  pub is_sealed : (z : ℕ) (st : PlanState) (h : Record S C R) → done_in (slice_get w.plans z) ≡ Some st → ((p : Plan) → Stands st p → p.lanes ≡ length w.lanes → h ≡ found_in w p) → seal start k es z ≡ Some h
+  pub is_sealed : (z : ℕ) (st : PlanState) (h : HistoryValue S C R) → done_in (slice_get w.plans z) ≡ Some st → ((p : Plan) → Stands st p → p.lanes ≡ length w.lanes → h ≡ found_in w p) → seal start k es z ≡ Some h
   is_sealed z st h e found = seal_some z st h (slice_get w.plans z) (slice_get (sealers es) z) refl refl e found
 
 module _ {S C R : Type 0} (fits : C → R → Bool) (w : State S C R) (z : ℕ) where
   pub show_refused : done_in (slice_get w.plans z) ≡ None → Takes fits (Show z) w (Refused NoSuch) w
-  show_refused e start k es shows = (sym (ap {B = ReplyOf (Record S C R)} (λ (o : Option (Record S C R)). show_reply o) (not_sealed start k es w shows z e)), shows)
+  show_refused e start k es shows = (sym (ap {B = ReplyOf (HistoryValue S C R)} (λ (o : Option (HistoryValue S C R)). show_reply o) (not_sealed start k es w shows z e)), shows)
 
-  pub show_done : (st : PlanState) (h : Record S C R) → done_in (slice_get w.plans z) ≡ Some st → ((p : Plan) → Stands st p → p.lanes ≡ length w.lanes → h ≡ found_in w p)
+  pub show_done : (st : PlanState) (h : HistoryValue S C R) → done_in (slice_get w.plans z) ≡ Some st → ((p : Plan) → Stands st p → p.lanes ≡ length w.lanes → h ≡ found_in w p)
       → Takes fits (Show z) w (Sealed h) w
-  show_done st h e found start k es shows = (sym (ap {B = ReplyOf (Record S C R)} (λ (o : Option (Record S C R)). show_reply o) (is_sealed start k es w shows z st h e found)), shows)
+  show_done st h e found start k es shows = (sym (ap {B = ReplyOf (HistoryValue S C R)} (λ (o : Option (HistoryValue S C R)). show_reply o) (is_sealed start k es w shows z st h e found)), shows)

@@ -1,7 +1,7 @@
 -- In a run, a yes and a no are true of the history that the case was filed from.
 use Rattle.std.proofs.Common.{◌≡◌, ℕ, List, take, refl, sym, ◌∙◌, ap, subst}
 use Rattle.std.specs.Prelude.{Bool, Option, Some, None, option_map, slice_get}
-use Rattle.history.specs.History.{Record}
+use Rattle.history.specs.History.{HistoryValue}
 use Rattle.cert_check.specs.declared.criterion.Criterion.{Criterion}
 use Rattle.cert_check.specs.declared.certificate.Certificate.{Certificate}
 use Rattle.cert_check.specs.Criteria.{Meets}
@@ -34,13 +34,13 @@ mapped : (o : Option Pattern) (kind : Kind) → option_map kind_of o ≡ Some ki
 mapped None kind e = absurd (cc)
 mapped (Some p) kind e = (p, refl, let same : kind_of p ≡ kind = cc in same)
 
-module _ {S C R : Type 0} (answer : S → List C → C → R) (before : List (StepOf C R × ReplyOf (Record S C R))) (c : ℕ) (standing : Standing) where
+module _ {S C R : Type 0} (answer : S → List C → C → R) (before : List (StepOf C R × ReplyOf (HistoryValue S C R))) (c : ℕ) (standing : Standing) where
   asked : (o : Option (CaseRecord S C R)) → IsAskReply answer before c o (Answer standing) → (file : CaseRecord S C R) × (o ≡ Some file) × IsAnswer answer before c file standing
   asked None e = absurd (cc)
-  asked (Some file) h = (file, refl, subst (λ (x : Standing). IsAnswer answer before c file x) (sym (same_answer {H = Record S C R} standing h.0 h.1)) h.2)
+  asked (Some file) h = (file, refl, subst (λ (x : Standing). IsAnswer answer before c file x) (sym (same_answer {H = HistoryValue S C R} standing h.0 h.1)) h.2)
 
-module _ {S C R : Type 0} (fits : C → R → Bool) (answer : S → List C → C → R) (passes : Record S C R → Criterion → Pattern → Type 0) (start : S) (k : ℕ) (es : List (StepOf C R × ReplyOf (Record S C R))) (run : IsRun fits answer passes start k es) where
-  from_front : (i c : ℕ) (f : Filing) (h : Record S C R) → slice_get (filings (take i es)) c ≡ Some f → seal start k (events (take i es)) f.sealer ≡ Some h → IsFiledFrom start k es c h f.criterion
+module _ {S C R : Type 0} (fits : C → R → Bool) (answer : S → List C → C → R) (passes : HistoryValue S C R → Criterion → Pattern → Type 0) (start : S) (k : ℕ) (es : List (StepOf C R × ReplyOf (HistoryValue S C R))) (run : IsRun fits answer passes start k es) where
+  from_front : (i c : ℕ) (f : Filing) (h : HistoryValue S C R) → slice_get (filings (take i es)) c ≡ Some f → seal start k (events (take i es)) f.sealer ≡ Some h → IsFiledFrom start k es c h f.criterion
   from_front i c f h filed sealed = record {
     sealer = f.sealer;
     certificate = f.certificate;
@@ -48,7 +48,7 @@ module _ {S C R : Type 0} (fits : C → R → Bool) (answer : S → List C → C
     sealed = seal_later fits answer passes start k es run i f.sealer h sealed;
   }
 
-  pub yes_is_true : ((h : Record S C R) (certificate : Certificate) → HasShapeOf h certificate → IsExplainedThroughout answer h certificate → Meets answer h (criterion_of certificate))
+  pub yes_is_true : ((h : HistoryValue S C R) (certificate : Certificate) → HasShapeOf h certificate → IsExplainedThroughout answer h certificate → Meets answer h (criterion_of certificate))
       → EachYesIsTrue start k es answer
   yes_is_true shows i c at =
       let front = run_front fits answer passes start k es i run in
@@ -59,11 +59,11 @@ module _ {S C R : Type 0} (fits : C → R → Bool) (answer : S → List C → C
       let has : f.0.certificate ≡ Some a.2.0 = ap (λ (x : CaseRecord S C R). x.2) f.2.2 ∙ a.2.1.1 in
       let fit = good.fitting a.2.0 has in
       let explained : IsExplainedThroughout answer f.2.0 a.2.0 = subst (λ (x : CaseRecord S C R). IsExplainedThroughout answer x.0 a.2.0) (sym f.2.2) a.2.3 in
-      let shape : HasShapeOf f.2.0 a.2.0 = subst (λ (x : Record S C R). HasShapeOf x a.2.0) same fit.1 in
+      let shape : HasShapeOf f.2.0 a.2.0 = subst (λ (x : HistoryValue S C R). HasShapeOf x a.2.0) same fit.1 in
       (f.2.0, f.0.criterion, from_front i c f.0 f.2.0 f.1 f.2.1, subst (λ (q : Criterion). Meets answer f.2.0 q) fit.0 (shows f.2.0 a.2.0 shape explained))
 
-  pub no_is_true : (excluded : Record S C R → Criterion → Kind → Type 0) → ((h : Record S C R) (q : Criterion) (p : Pattern) → passes h q p → excluded h q (kind_of p))
-      → ((h : Record S C R) (q : Criterion) (p : Pattern) → passes h q p → ¬ Meets answer h q) → EachNoIsTrue start k es answer excluded
+  pub no_is_true : (excluded : HistoryValue S C R → Criterion → Kind → Type 0) → ((h : HistoryValue S C R) (q : Criterion) (p : Pattern) → passes h q p → excluded h q (kind_of p))
+      → ((h : HistoryValue S C R) (q : Criterion) (p : Pattern) → passes h q p → ¬ Meets answer h q) → EachNoIsTrue start k es answer excluded
   no_is_true excluded exclude not_met i c kind at =
       let front = run_front fits answer passes start k es i run in
       let a = asked answer (take i es) c (No kind) (case_file start k (take i es) c) (run i (Ask c) (Answer (No kind)) at).1 in

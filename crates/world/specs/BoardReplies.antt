@@ -1,7 +1,8 @@
 -- Which reply a step of a worker or of the desk's users has, read off the steps and replies before.
 use Rattle.std.specs.Prelude.{◌≡◌, ◌≢◌, ◌↔◌, ◌⊎◌, ℕ, ◌<◌, if◌then◌else◌, List, [], length, Option, Some, None, IsSome, option_map, slice_get, nat_lt}
+use Rattle.board.specs.declared.board.TheConstants.{MAX_CASES}
 use Rattle.history.specs.declared.op_id.OpId.{OpId}
-use Rattle.history.specs.History.{Record, IsOp}
+use Rattle.history.specs.History.{HistoryValue, IsOp}
 use Rattle.causal_order.specs.Orders.{IsEarlier}
 use Rattle.cert_check.specs.declared.criterion.Criterion.{Criterion}
 use Rattle.cert_check.specs.declared.certificate.Certificate.{Certificate}
@@ -27,30 +28,30 @@ module _ {S C R : Type 0} where
   abbrev pub HasPiece : CaseRecord S C R → OpId → Type 0
   HasPiece f o = IsSome f.2 × IsOp f.0 o
 
-module _ {S C R : Type 0} (es : List (StepOf C R × ReplyOf (Record S C R))) where
+module _ {S C R : Type 0} (es : List (StepOf C R × ReplyOf (HistoryValue S C R))) where
   -- the next case, where 64 are not filed
-  abbrev pub next_case : ReplyOf (Record S C R)
-  next_case = if nat_lt (length (filings es)) 64 then Case (length (filings es)) else Refused Full
+  abbrev pub next_case : ReplyOf (HistoryValue S C R)
+  next_case = if nat_lt (length (filings es)) MAX_CASES then Case (length (filings es)) else Refused Full
 
   -- a history is filed where the certificate, if there is one, fits it
-  abbrev pub IsFileReply : Criterion → Option Certificate → Option (Record S C R) → ReplyOf (Record S C R) → Type 0
+  abbrev pub IsFileReply : Criterion → Option Certificate → Option (HistoryValue S C R) → ReplyOf (HistoryValue S C R) → Type 0
   IsFileReply criterion certificate None r = r ≡ Refused NoSuch
   IsFileReply criterion certificate (Some h) r =
       (IsCaseFile (h, criterion, certificate) × (r ≡ next_case)) ⊎ ((¬ IsCaseFile (h, criterion, certificate)) × (r ≡ Refused ShapeMismatch))
 
   -- a verdict is accepted by its own case, once for each operation
-  abbrev pub IsPutTo : ℕ → Piece → ReplyOf (Record S C R) → Type 0
+  abbrev pub IsPutTo : ℕ → Piece → ReplyOf (HistoryValue S C R) → Type 0
   IsPutTo c piece r =
       ((piece.number ≢ c) × (r ≡ Refused Stranger))
       ⊎ ((piece.number ≡ c) × ((HasVerdict es c piece.op × (r ≡ Refused Doubled)) ⊎ ((¬ HasVerdict es c piece.op) × (r ≡ Accepted))))
 
-  abbrev pub IsPutReply : ℕ → Option Filing → Option Piece → ReplyOf (Record S C R) → Type 0
+  abbrev pub IsPutReply : ℕ → Option Filing → Option Piece → ReplyOf (HistoryValue S C R) → Type 0
   IsPutReply c None piece r = r ≡ Refused NoSuch
   IsPutReply c (Some f) None r = r ≡ Refused NoSuch
   IsPutReply c (Some f) (Some piece) r = IsPutTo c piece r
 
   -- a pattern is accepted where it passes
-  abbrev pub IsRefuteReply : (Record S C R → Criterion → Pattern → Type 0) → Pattern → Option (CaseRecord S C R) → ReplyOf (Record S C R) → Type 0
+  abbrev pub IsRefuteReply : (HistoryValue S C R → Criterion → Pattern → Type 0) → Pattern → Option (CaseRecord S C R) → ReplyOf (HistoryValue S C R) → Type 0
   IsRefuteReply passes pattern None r = r ≡ Refused NoSuch
   IsRefuteReply passes pattern (Some f) r = (passes f.0 f.1 pattern × (r ≡ Accepted)) ⊎ ((¬ passes f.0 f.1 pattern) × (r ≡ Refused NotThatPattern))
 
@@ -62,9 +63,9 @@ module _ {S C R : Type 0} (es : List (StepOf C R × ReplyOf (Record S C R))) whe
     pub no_other : (i : ℕ) (o : OpId) → slice_get ops i ≡ Some o → IsOp f.0 o × ¬ HasVerdict es c o
     pub once : (i j : ℕ) (o : OpId) → slice_get ops i ≡ Some o → slice_get ops j ≡ Some o → i ≡ j
 
-module _ {S C R : Type 0} (answer : S → List C → C → R) (es : List (StepOf C R × ReplyOf (Record S C R))) where
+module _ {S C R : Type 0} (answer : S → List C → C → R) (es : List (StepOf C R × ReplyOf (HistoryValue S C R))) where
   -- a piece is checked: the next verdict says whether it explains its operation
-  abbrev pub IsWorkReply : OpId → Option (CaseRecord S C R) → ReplyOf (Record S C R) → Type 0
+  abbrev pub IsWorkReply : OpId → Option (CaseRecord S C R) → ReplyOf (HistoryValue S C R) → Type 0
   IsWorkReply o None r = r ≡ Refused NoSuch
   IsWorkReply o (Some f) r =
       ((¬ HasPiece f o) × (r ≡ Refused NoSuch))
@@ -83,11 +84,11 @@ module _ {S C R : Type 0} (answer : S → List C → C → R) (es : List (StepOf
   IsAnswer c f Yes = (certificate : Certificate) × IsUndecided c f certificate × AreOpen es c f 0 × IsExplainedThroughout answer f.0 certificate
   IsAnswer c f (Unknown (Some o)) = (certificate : Certificate) × IsUndecided c f certificate × AreOpen es c f 0 × IsFirstUnexplained answer f.0 certificate o
 
-  abbrev pub IsAskReply : ℕ → Option (CaseRecord S C R) → ReplyOf (Record S C R) → Type 0
+  abbrev pub IsAskReply : ℕ → Option (CaseRecord S C R) → ReplyOf (HistoryValue S C R) → Type 0
   IsAskReply c None r = r ≡ Refused NoSuch
   IsAskReply c (Some f) r = (standing : Standing) × (r ≡ Answer standing) × IsAnswer c f standing
 
-module _ {S C R : Type 0} (start : S) (k : ℕ) (es : List (StepOf C R × ReplyOf (Record S C R))) where
+module _ {S C R : Type 0} (start : S) (k : ℕ) (es : List (StepOf C R × ReplyOf (HistoryValue S C R))) where
   -- a piece that may be taken: of a case with a certificate that no pattern refutes, not taken yet and without a verdict
   pub record IsFree (c : ℕ) (o : OpId) : Type 0 where
     pub file : CaseRecord S C R
@@ -107,12 +108,12 @@ module _ {S C R : Type 0} (start : S) (k : ℕ) (es : List (StepOf C R × ReplyO
   IsTake None = (c : ℕ) (o : OpId) → ¬ IsFree c o
   IsTake (Some piece) = IsFirstFree piece
 
-  abbrev pub IsTakeReply : ReplyOf (Record S C R) → Type 0
+  abbrev pub IsTakeReply : ReplyOf (HistoryValue S C R) → Type 0
   IsTakeReply r = (piece : Option Piece) × (r ≡ Taken piece) × IsTake piece
 
-module _ {S C R : Type 0} (answer : S → List C → C → R) (passes : Record S C R → Criterion → Pattern → Type 0) (start : S) (k : ℕ) (es : List (StepOf C R × ReplyOf (Record S C R))) where
+module _ {S C R : Type 0} (answer : S → List C → C → R) (passes : HistoryValue S C R → Criterion → Pattern → Type 0) (start : S) (k : ℕ) (es : List (StepOf C R × ReplyOf (HistoryValue S C R))) where
   -- the reply of a step of a worker or of the desk's users, where these were the steps before. Of other steps it says nothing
-  abbrev pub IsBoardReply : StepOf C R → ReplyOf (Record S C R) → Type 0
+  abbrev pub IsBoardReply : StepOf C R → ReplyOf (HistoryValue S C R) → Type 0
   IsBoardReply (File z criterion certificate) r = IsFileReply es criterion certificate (seal start k (events es) z) r
   IsBoardReply Take r = IsTakeReply start k es r
   IsBoardReply (Work c o) r = IsWorkReply answer es o (case_file start k es c) r

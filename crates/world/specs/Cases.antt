@@ -2,7 +2,7 @@
 use Rattle.std.specs.Prelude.{◌≡◌, ℕ, ◌==◌, if◌then◌else◌, List, Option, Some, None, slice_get}
 use Rattle.std.specs.List.{filter_map}
 use Rattle.history.specs.declared.op_id.OpId.{OpId}
-use Rattle.history.specs.History.{Record}
+use Rattle.history.specs.History.{HistoryValue}
 use Rattle.cert_check.specs.declared.criterion.Criterion.{Criterion}
 use Rattle.cert_check.specs.declared.certificate.Certificate.{Certificate}
 use Rattle.cert_check.specs.Certificates.{CaseRecord}
@@ -88,11 +88,11 @@ module _ {C R H : Type 0} (es : List (StepOf C R × ReplyOf H)) where
   HasVerdict c o = (n v : ℕ) × (slice_get puts n ≡ Some (c, v)) × (slice_get verdicts v ≡ Some record { number = c; op = o })
 
 -- a filing with the history that was filed
-abbrev pub filed_with : {S C R : Type 0} → Filing → Option (Record S C R) → Option (CaseRecord S C R)
+abbrev pub filed_with : {S C R : Type 0} → Filing → Option (HistoryValue S C R) → Option (CaseRecord S C R)
 filed_with f None = None
 filed_with f (Some h) = Some (h, f.criterion, f.certificate)
 
-module _ {S C R : Type 0} (start : S) (k : ℕ) (es : List (StepOf C R × ReplyOf (Record S C R))) where
+module _ {S C R : Type 0} (start : S) (k : ℕ) (es : List (StepOf C R × ReplyOf (HistoryValue S C R))) where
   abbrev pub file_of : Option Filing → Option (CaseRecord S C R)
   file_of None = None
   file_of (Some f) = filed_with f (seal start k (events es) f.sealer)

@@ -1,6 +1,6 @@
 -- What a run says of the histories that its cases were filed from.
 use Rattle.std.specs.Prelude.{◌≡◌, ℕ, List, Option, Some, slice_get}
-use Rattle.history.specs.History.{Record}
+use Rattle.history.specs.History.{HistoryValue}
 use Rattle.snapshot.specs.Cuts.{IsConsistentCut}
 use Rattle.cert_check.specs.declared.criterion.Criterion.{Criterion}
 use Rattle.cert_check.specs.declared.certificate.Certificate.{Certificate}
@@ -15,13 +15,13 @@ use Rattle.world.specs.Happened.{events}
 use Rattle.world.specs.LaneReplies.{seal}
 use Rattle.world.specs.Cases.{filings}
 
-module _ {S C R : Type 0} (start : S) (k : ℕ) (es : List (StepOf C R × ReplyOf (Record S C R))) where
+module _ {S C R : Type 0} (start : S) (k : ℕ) (es : List (StepOf C R × ReplyOf (HistoryValue S C R))) where
   -- each sealer that has finished has sealed a consistent cut of what its sessions recorded
   abbrev pub SealsAreCuts : Type 0
-  SealsAreCuts = (z : ℕ) (h : Record S C R) → seal start k (events es) z ≡ Some h → IsConsistentCut (events es) z h
+  SealsAreCuts = (z : ℕ) (h : HistoryValue S C R) → seal start k (events es) z ≡ Some h → IsConsistentCut (events es) z h
 
   -- the case was filed from a finished sealer, which sealed this history, to be judged by this criterion
-  pub record IsFiledFrom (c : ℕ) (h : Record S C R) (criterion : Criterion) : Type 0 where
+  pub record IsFiledFrom (c : ℕ) (h : HistoryValue S C R) (criterion : Criterion) : Type 0 where
     pub sealer : ℕ
     pub certificate : Option Certificate
     pub filed : slice_get (filings es) c ≡ Some record { sealer = sealer; criterion = criterion; certificate = certificate }
@@ -31,10 +31,10 @@ module _ {S C R : Type 0} (start : S) (k : ℕ) (es : List (StepOf C R × ReplyO
   abbrev pub EachYesIsTrue : (S → List C → C → R) → Type 0
   EachYesIsTrue answer =
       (i c : ℕ) → slice_get es i ≡ Some (Ask c, Answer Yes)
-      → (h : Record S C R) × (criterion : Criterion) × IsFiledFrom c h criterion × Meets answer h criterion
+      → (h : HistoryValue S C R) × (criterion : Criterion) × IsFiledFrom c h criterion × Meets answer h criterion
 
   -- each no is true: the kind excludes the criterion in that history, which does not meet it
-  abbrev pub EachNoIsTrue : (S → List C → C → R) → (Record S C R → Criterion → Kind → Type 0) → Type 0
+  abbrev pub EachNoIsTrue : (S → List C → C → R) → (HistoryValue S C R → Criterion → Kind → Type 0) → Type 0
   EachNoIsTrue answer excluded =
       (i c : ℕ) (kind : Kind) → slice_get es i ≡ Some (Ask c, Answer (No kind))
-      → (h : Record S C R) × (criterion : Criterion) × IsFiledFrom c h criterion × excluded h criterion kind × ¬ Meets answer h criterion
+      → (h : HistoryValue S C R) × (criterion : Criterion) × IsFiledFrom c h criterion × excluded h criterion kind × ¬ Meets answer h criterion

@@ -1,6 +1,7 @@
 -- Which reply a step of a session or of a sealer has, read off what happened before.
 use Rattle.std.specs.Prelude.{◌≡◌, ◌↔◌, ◌⊎◌, ℕ, ◌≤◌, Bool, true, if◌then◌else◌, List, length, Option, Some, None, option_map, slice_get, slice_index, nat_lt}
-use Rattle.history.specs.History.{Record}
+use Rattle.history.specs.declared.limits.TheConstants.{MAX_OPERATIONS}
+use Rattle.history.specs.History.{HistoryValue}
 use Rattle.causal_order.specs.Orders.{op}
 use Rattle.snapshot.specs.declared.cell.Cell.{Cell}
 use Rattle.snapshot.specs.Plans.{Plan, fresh_plan, after_looks, next_cell}
@@ -20,7 +21,7 @@ unless (Some refusal) reply = Refused refusal
 -- why a session of n calls may not begin another, where this is the call that it has not ended
 abbrev pub begin_within : {C : Type 0} → Option C → ℕ → Option Refusal
 begin_within (Some c) n = Some StillPending
-begin_within None n = if nat_lt n 256 then None else Some LaneFull
+begin_within None n = if nat_lt n MAX_OPERATIONS then None else Some LaneFull
 
 -- why a session may not end with a return, where this is the call that it has not ended
 abbrev pub end_within : {C R : Type 0} → (C → R → Bool) → R → Option C → Option Refusal
@@ -42,7 +43,7 @@ module _ {C R : Type 0} (k : ℕ) (es : List (Event C R)) where
 
   -- the plan of a sealer that started, behind its looks: each session has 256 places
   abbrev pub plan : ℕ → Option Plan
-  plan z = option_map (λ told. after_looks (fresh_plan k 256 told) (looks z es)) (slice_get (sealers es) z)
+  plan z = option_map (λ told. after_looks (fresh_plan k MAX_OPERATIONS told) (looks z es)) (slice_get (sealers es) z)
 
 -- the cell that is next in a plan, where there is one
 abbrev pub next_of : Option Plan → Option Cell
@@ -57,16 +58,16 @@ module _ {C R H : Type 0} (es : List (Event C R)) where
 
 module _ {S C R : Type 0} (start : S) (es : List (Event C R)) where
   -- what is sealed by a plan, when no cell is next in it
-  abbrev pub sealed_when : Plan → Option Cell → Option (Record S C R)
+  abbrev pub sealed_when : Plan → Option Cell → Option (HistoryValue S C R)
   sealed_when p (Some cell) = None
   sealed_when p None = Some (sealed start es p)
 
-  abbrev pub sealed_by : Option Plan → Option (Record S C R)
+  abbrev pub sealed_by : Option Plan → Option (HistoryValue S C R)
   sealed_by None = None
   sealed_by (Some p) = sealed_when p (next_cell p)
 
 -- the history of a sealer that has finished
-abbrev pub seal : {S C R : Type 0} → S → ℕ → List (Event C R) → ℕ → Option (Record S C R)
+abbrev pub seal : {S C R : Type 0} → S → ℕ → List (Event C R) → ℕ → Option (HistoryValue S C R)
 seal start k es z = sealed_by start es (plan k es z)
 
 abbrev pub show_reply : {H : Type 0} → Option H → ReplyOf H
@@ -75,7 +76,7 @@ show_reply (Some h) = Sealed h
 
 module _ {S C R : Type 0} (fits : C → R → Bool) (start : S) (k : ℕ) (es : List (Event C R)) where
   -- the reply of a step of a session or of a sealer, where these events happened before. Of other steps it says nothing
-  abbrev pub IsLaneReply : StepOf C R → ReplyOf (Record S C R) → Type 0
+  abbrev pub IsLaneReply : StepOf C R → ReplyOf (HistoryValue S C R) → Type 0
   IsLaneReply (Begin s c) reply = reply ≡ unless (begin_refusal k s (begun s es) (ended s es)) (Done (op s (length (begun s es))))
   IsLaneReply (End s r) reply = reply ≡ unless (end_refusal k s (begun s es) (ended s es) fits r) (Done (op s (length (ended s es))))
   IsLaneReply (Start told) reply = ((reply ≡ Sealer (length (sealers es))) × IsTellable k es told) ⊎ ((reply ≡ Refused NoSuch) × ¬ IsTellable k es told)

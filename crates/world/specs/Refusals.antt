@@ -1,5 +1,7 @@
 -- The refusals of steps, and their numbers.
 use Rattle.std.specs.Prelude.{ℕ}
+use Rattle.board.specs.declared.board_error.BoardError.{BoardError}
+use Rattle.board.specs.declared.board_error.BoardError.TheVariants as boards
 use Rattle.world.specs.declared.refusal.Refusal.{Refusal}
 use Rattle.world.specs.declared.refusal.Refusal.TheVariants.{LaneFull, StillPending, NothingPending, WrongReturn, ShapeMismatch, Full, NotThatPattern, Doubled, Stranger, NoSuch}
 
@@ -14,3 +16,11 @@ number_of NotThatPattern = 23
 number_of Doubled = 24
 number_of Stranger = 25
 number_of NoSuch = 26
+
+-- the refusal of a step that a refusal of the board is
+abbrev pub refusal_of : BoardError → Refusal
+refusal_of boards.Full = Full
+refusal_of boards.NotThatPattern = NotThatPattern
+refusal_of boards.Doubled = Doubled
+refusal_of boards.Stranger = Stranger
+refusal_of boards.NoSuch = NoSuch

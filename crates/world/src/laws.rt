@@ -1,7 +1,7 @@
 //! What holds of every run of the world. The functions do nothing: what they ensure is the law.
 
 ghost use Rattle.std.specs.Prelude.{◌↔◌, ◌∷◌, ◌++◌, [], ℕ, List};
-ghost use Rattle.history.specs.History.{Record};
+ghost use Rattle.history.specs.History.{HistoryValue};
 ghost use Rattle.world.specs.declared.step.StepOf.{StepOf as AnyStep};
 ghost use Rattle.world.specs.declared.reply.ReplyOf.{ReplyOf as AnyReply};
 ghost use Rattle.world.specs.Runs.{IsReply, IsRun, Replied};
@@ -15,7 +15,7 @@ use refutable::Refutable;
 pub fn runs_are_made_step_by_step<O: Refutable>()
     ensures none { (start : O.Start) (k : ℕ) → IsRun O.matches O.answer O.passes start k [] }
     ensures more { (start : O.Start) (k : ℕ) (es : List (Replied O.Start O.Call O.Ret)) (step : AnyStep O.Call O.Ret)
-        (reply : AnyReply (Record O.Start O.Call O.Ret)) → IsRun O.matches O.answer O.passes start k (es ++ (step, reply) ∷ [])
+        (reply : AnyReply (HistoryValue O.Start O.Call O.Ret)) → IsRun O.matches O.answer O.passes start k (es ++ (step, reply) ∷ [])
         ↔ (IsRun O.matches O.answer O.passes start k es × IsReply O.matches O.answer O.passes start k es step reply) }
 {}
 

@@ -4,6 +4,7 @@ ghost use Rattle.snapshot.specs.Walks.{Stands};
 ghost use Rattle.snapshot.specs.Steps.PlanStates.{PlanState};
 ghost use Rattle.world.specs.LaneReplies.{begin_refusal, end_refusal};
 ghost use Rattle.world.specs.Steps.Recordings.{Gave, IsTellableIn, Shows, Takes, done_in, found_in, is_full_in, lane_of, next_in};
+ghost use Rattle.world.specs.Steps.Worlds.{IsSealIn};
 ghost use Rattle.world.specs.Steps.Recordings.{with_call, with_plan, with_return};
 
 use crate::lane::Lane;
@@ -11,14 +12,13 @@ use crate::refusal::Refusal;
 use crate::reply::{Reply, ReplyOf};
 use crate::step::StepOf;
 use crate::told::Told;
-use history::{History, OpId};
+use history::{History, MAX_OPERATIONS, MAX_SESSIONS, OpId};
 use object_trait::SeqObject;
 use snapshot::{Cell, CutPlan};
 use std::alloc::{AllocError, Global};
 use std::marker::Model;
 
 /// How many operations a session may have.
-const MOST_OPERATIONS: usize = 256;
 
 /// The sessions and the sealers of a recorder, as they stand between two steps.
 #[derive(Drop)]
@@ -43,7 +43,7 @@ impl<O: SeqObject> Recording<O> {
     ///
     /// Fails for want of memory alone. O(k).
     pub fn new(alloc: Global, k: usize, start: O::Start) -> Result<Recording<O>, AllocError>
-        requires few { k ≤ 16 }
+        requires few { k ≤ MAX_SESSIONS }
         requires start { O.is_start start }
         ensures { IfOk result (λ w. Shows start k [] w) }
     {
@@ -84,7 +84,7 @@ impl<O: SeqObject> Recording<O> {
         if self.lanes[s].pending().is_some() {
             return Some(Refusal::StillPending);
         }
-        if self.lanes[s].begun() < MOST_OPERATIONS {
+        if self.lanes[s].begun() < MAX_OPERATIONS {
             None
         } else {
             Some(Refusal::LaneFull)
@@ -204,9 +204,9 @@ impl<O: SeqObject> Recording<O> {
     fn push_plan(&mut self, alloc: Global, told: &[u16]) -> Result<(), AllocError>
         requires { IsTellableIn self.old told.now }
         ensures { OnOk result ((st : PlanState) × (self.new ≡ with_plan self.old st)
-            × Stands st (fresh_plan (length self.old.lanes) 256 told.now)) }
+            × Stands st (fresh_plan (length self.old.lanes) MAX_OPERATIONS told.now)) }
     {
-        let plan = CutPlan::new(alloc, self.lanes.len(), MOST_OPERATIONS, told)?;
+        let plan = CutPlan::new(alloc, self.lanes.len(), MAX_OPERATIONS, told)?;
         self.plans.push(plan)?;
         Ok(())
     }
@@ -264,6 +264,21 @@ impl<O: SeqObject> Recording<O> {
             Some(plan) => {
                 let history = self.sealed(alloc, plan)?;
                 Ok(ReplyOf::Sealed(history))
+            }
+        }
+    }
+
+    /// The history of a sealer, where it has finished.
+    ///
+    /// Fails for want of memory alone. O(n + k) for n operations of k sessions.
+    pub fn history(&self, alloc: Global, z: usize) -> Result<Option<History<O>>, AllocError>
+        ensures { IfOk result (λ h. IsSealIn self.now z h) }
+    {
+        match self.finished(z) {
+            None => Ok(None),
+            Some(plan) => {
+                let history = self.sealed(alloc, plan)?;
+                Ok(Some(history))
             }
         }
     }

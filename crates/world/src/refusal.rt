@@ -1,6 +1,7 @@
 ghost use Rattle.std.specs.Prelude.{◌≡◌};
 ghost use Rattle.world.specs.Refusals.{number_of};
 
+use board::BoardError;
 use thiserror::Error;
 
 /// Why a step was refused.
@@ -36,6 +37,23 @@ pub enum Refusal {
     /// What the step names is not there.
     #[error("there is no such session, sealer, case, verdict or piece")]
     NoSuch,
+}
+
+impl From<BoardError> for Refusal {
+    ghost use Rattle.std.specs.Prelude.{◌≡◌};
+    ghost use Rattle.world.specs.Refusals.{refusal_of};
+
+    ghost from_gives = { λ error refusal. refusal ≡ refusal_of error };
+
+    fn from(error: BoardError) -> Refusal {
+        match error {
+            BoardError::Full => Refusal::Full,
+            BoardError::NotThatPattern => Refusal::NotThatPattern,
+            BoardError::Doubled => Refusal::Doubled,
+            BoardError::Stranger => Refusal::Stranger,
+            BoardError::NoSuch => Refusal::NoSuch,
+        }
+    }
 }
 
 impl Refusal {

@@ -1,6 +1,7 @@
 -- What the sessions and sealers of a running world keep, and that it is what happened.
 use Rattle.std.specs.Prelude.{◌≡◌, ℕ, ◌+◌, ◌≤◌, Bool, true, List, [], ◌∷◌, ◌++◌, length, take, Option, Some, None, slice_get, slice_index, slice_index_or, slice_set, nat_lt, zero, suc}
-use Rattle.history.specs.History.{Record}
+use Rattle.history.specs.declared.limits.TheConstants.{MAX_OPERATIONS, MAX_SESSIONS}
+use Rattle.history.specs.History.{HistoryValue}
 use Rattle.snapshot.specs.declared.cell.Cell.{Cell}
 use Rattle.snapshot.specs.declared.cell.Cell.TheVariants.{Return, Call}
 use Rattle.snapshot.specs.Plans.{Plan, fresh_plan, after_looks, looked_at, next_cell, returns_found, calls_found, Follows}
@@ -20,7 +21,7 @@ pub record State (S C R : Type 0) : Type 0 where
 
 -- what a session keeps: each return fits its call
 pub record IsLane {C R : Type 0} (fits : C → R → Bool) (lane : List C × List R) : Type 0 where
-  pub short : length lane.0 ≤ 256
+  pub short : length lane.0 ≤ MAX_OPERATIONS
   pub ended_once : length lane.1 ≤ length lane.0
   pub fitting : (i : ℕ) (c : C) (r : R) → slice_get lane.0 i ≡ Some c → slice_get lane.1 i ≡ Some r → fits c r ≡ true
 
@@ -32,7 +33,7 @@ module _ {S C R : Type 0} where
   -- what a state keeps
   pub record IsState (is_start : S → Type 0) (fits : C → R → Bool) (w : State S C R) : Type 0 where
     pub start : is_start w.start
-    pub few : length w.lanes ≤ 16
+    pub few : length w.lanes ≤ MAX_SESSIONS
     pub each : (s : ℕ) → IsLane fits (lane_of w s)
 
   -- after a session's calls and returns became these
@@ -70,7 +71,7 @@ module _ {S C R : Type 0} where
   found_lanes w p s (suc n) = found_lane w p s ∷ found_lanes w p (s + 1) n
 
   -- the history that a plan found
-  abbrev pub found_in : State S C R → Plan → Record S C R
+  abbrev pub found_in : State S C R → Plan → HistoryValue S C R
   found_in w p = (w.start, found_lanes w p 0 (length w.lanes))
 
 -- the cell that is next in a plan, where there is a plan
@@ -90,8 +91,8 @@ done_in (Some st) = if_done st (state_next st)
 module _ {C R : Type 0} (k : ℕ) (es : List (Event C R)) where
   -- a run in which each look was at the cell that was next in the sealer's plan
   pub record IsRecorded : Type 0 where
-    pub run : IsRun k 256 es
-    pub follows : (z : ℕ) (told : List ℕ) → slice_get (sealers es) z ≡ Some told → Follows (fresh_plan k 256 told) (looks z es)
+    pub run : IsRun k MAX_OPERATIONS es
+    pub follows : (z : ℕ) (told : List ℕ) → slice_get (sealers es) z ≡ Some told → Follows (fresh_plan k MAX_OPERATIONS told) (looks z es)
 
 -- the state is the one behind these events
 pub record Shows {S C R : Type 0} (start : S) (k : ℕ) (es : List (Event C R)) (w : State S C R) : Type 0 where
@@ -101,7 +102,7 @@ pub record Shows {S C R : Type 0} (start : S) (k : ℕ) (es : List (Event C R)) 
   pub recorded : IsRecorded k es
   pub as_many : length w.plans ≡ length (sealers es)
   pub plans : (z : ℕ) (st : PlanState) (told : List ℕ) → slice_get w.plans z ≡ Some st → slice_get (sealers es) z ≡ Some told
-      → Stands st (after_looks (fresh_plan k 256 told) (looks z es))
+      → Stands st (after_looks (fresh_plan k MAX_OPERATIONS told) (looks z es))
 
 -- one event more, where there is one
 abbrev pub after : {A : Type 0} → List A → Option A → List A
@@ -110,7 +111,7 @@ after es (Some e) = es ++ e ∷ []
 
 -- from all that may have happened where this was the old state, the reply is that of the step, and the new state is the one
 -- behind it
-abbrev pub Takes : {S C R : Type 0} → (C → R → Bool) → StepOf C R → State S C R → ReplyOf (Record S C R) → State S C R → Type 0
+abbrev pub Takes : {S C R : Type 0} → (C → R → Bool) → StepOf C R → State S C R → ReplyOf (HistoryValue S C R) → State S C R → Type 0
 Takes {S} {C} {R} fits step old reply new =
     (start : S) (k : ℕ) (es : List (Event C R)) → Shows start k es old
     → IsLaneReply fits start k es step reply × Shows start k (after es (event step reply)) new
