@@ -1,0 +1,2 @@
+pub mod CaseForms
+pub mod StepForms

@@ -1,0 +1,4 @@
+pub mod ReplyLines
+pub mod StepForm
+pub mod StepWords
+pub mod Steps

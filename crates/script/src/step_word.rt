@@ -1,0 +1,62 @@
+ghost use Rattle.operations.specs.Reads.{IsRead};
+ghost use Rattle.script.specs.StepWords.{name_of};
+
+/// The word that a step of a script begins with.
+#[derive(Clone, Copy, Debug, PartialEq, Eq)]
+pub enum StepWord {
+    /// A session begins an operation.
+    Begin,
+    /// A session ends its operation.
+    End,
+    /// A sealer starts.
+    Start,
+    /// A sealer looks, once or several times.
+    Look,
+    /// The history of a sealer is shown.
+    Show,
+    /// The history of a sealer is filed.
+    File,
+    /// A piece is taken.
+    Take,
+    /// A piece is checked.
+    Work,
+    /// A verdict is put to a case.
+    Put,
+    /// A pattern is put against a case.
+    Refute,
+    /// It is asked how a case stands.
+    Ask,
+}
+
+impl StepWord {
+    /// The step word that a text is, or none where it is none.
+    pub fn named(word: &str) -> Option<StepWord>
+        ensures { IsRead name_of word.now result }
+    {
+        if word == "begin" {
+            Some(StepWord::Begin)
+        } else if word == "end" {
+            Some(StepWord::End)
+        } else if word == "start" {
+            Some(StepWord::Start)
+        } else if word == "look" {
+            Some(StepWord::Look)
+        } else if word == "show" {
+            Some(StepWord::Show)
+        } else if word == "file" {
+            Some(StepWord::File)
+        } else if word == "take" {
+            Some(StepWord::Take)
+        } else if word == "work" {
+            Some(StepWord::Work)
+        } else if word == "put" {
+            Some(StepWord::Put)
+        } else if word == "refute" {
+            Some(StepWord::Refute)
+        } else if word == "ask" {
+            Some(StepWord::Ask)
+        } else {
+            None
+        }
+    }
+}
