@@ -2,7 +2,7 @@
 use Rattle.std.proofs.Common.{◌≡◌, refl, subst, sym, List, Option, Some, None, MatchOption}
 use Rattle.std.specs.Prelude.{IfOk, IfSome, Result, Ok, Err}
 use Rattle.std.proofs.lemmas.Option.{same_Some}
-use Rattle.history.specs.History.{Record}
+use Rattle.history.specs.History.{HistoryValue}
 use Rattle.operations.specs.declared.any_history.AnyHistory.{AnyHistory}
 use Rattle.bad_patterns.specs.declared.kind.Kind.{Kind}
 use Rattle.board.specs.declared.answer.Answer.{Answer}
@@ -33,7 +33,7 @@ founded_names history criterion (Unknown (Some o)) founded = founded
 founded_names history criterion (Open n) founded = founded
 
 -- what the pieces of a certificate show is founded
-module _ {S C R : Type 0} (answer : S → List C → C → R) (h : Record S C R) (criterion : Criterion) (excluded : Kind → Type 0) where
+module _ {S C R : Type 0} (answer : S → List C → C → R) (h : HistoryValue S C R) (criterion : Criterion) (excluded : Kind → Type 0) where
   certified_is_founded : (certificate : Certificate) (said : Answer) → criterion_of certificate ≡ criterion → HasShapeOf h certificate
       → IsSaidOf answer h certificate said → (said ≡ Yes → Meets answer h criterion)
       → IsFounded (Meets answer h criterion) excluded (IsUnexplainedOf answer h criterion) said
@@ -57,7 +57,7 @@ module _ {S C R : Type 0} (answer : S → List C → C → R) (h : Record S C R)
   file_is_founded made (Err e) same shape shown met = tt
 
 -- a certificate that was made is one of a case file
-pub made_is_file : {S C R : Type 0} (h : Record S C R) (criterion : Criterion) (made : Option Certificate)
+pub made_is_file : {S C R : Type 0} (h : HistoryValue S C R) (criterion : Criterion) (made : Option Certificate)
     → IfSome made (λ c. criterion_of c ≡ criterion) → IfSome made (HasShapeOf h) → IsCaseFile (h, criterion, made)
 made_is_file h criterion None same shape = λ certificate is. absurd cc
 made_is_file h criterion (Some made) same shape =

@@ -7,7 +7,7 @@ use Rattle.objects.specs.Counter.{matches as counter_matches}
 use Rattle.objects.specs.Queue.{matches as queue_matches}
 use Rattle.objects.specs.Register.{matches as register_matches}
 use Rattle.objects.specs.declared.keyed.KeyedCall.{KeyedCall}
-use Rattle.history.specs.History.{Record}
+use Rattle.history.specs.History.{HistoryValue}
 use Rattle.operations.specs.declared.any_history.AnyHistory.{AnyHistory}
 use Rattle.operations.specs.declared.any_history.AnyHistory.TheVariants as histories
 use Rattle.operations.specs.declared.object_name.ObjectName.TheVariants as names
@@ -44,7 +44,7 @@ module _ {C R : Type 0} (word_of : C → List ℕ) (arguments : C → List Data)
     (call_again : (c : C) (rest : List Data) → call_at (word_of c) (arguments c ++ rest) ≡ Some (c, rest))
     (ret_again : (c : C) (r : R) → fits c r ≡ true → ret_at c (ret_form r) ≡ Some r)
     (ret_is_known : (r : R) → ret_form r ≢ unknown ∷ []) where
-  plain_fine : {S : Type 0} (plain : S) (h : Record S C R) → IsPlainHistory plain fits h
+  plain_fine : {S : Type 0} (plain : S) (h : HistoryValue S C R) → IsPlainHistory plain fits h
       → named_refusal (plain_at call_at ret_at) (plain_start_at plain) (map (session_form (plain_form word_of arguments ret_form)) h.1) [] ≡ None
   plain_fine plain h is =
       let read =
@@ -55,7 +55,7 @@ module _ {C R : Type 0} (word_of : C → List ℕ) (arguments : C → List Data)
 
   keyed_fine : {S : Type 0} (plain : S) (start_form : S → Data) (start_at : Data → Option S)
       → ((s : S) → Unit {0} → s ≢ plain → start_at (start_form s) ≡ Some s)
-      → (h : Record (List (ℕ × S)) (KeyedCall C) R) → IsKeyedHistory plain fits h
+      → (h : HistoryValue (List (ℕ × S)) (KeyedCall C) R) → IsKeyedHistory plain fits h
       → named_refusal (keyed_at call_at ret_at) (table_at start_at) (map (session_form (keyed_form word_of arguments ret_form)) h.1) (table_form start_form h.0) ≡ None
   keyed_fine plain start_form start_at start_again h is =
       let ss = map (session_form (keyed_form word_of arguments ret_form)) h.1 in

@@ -17,7 +17,7 @@ use Rattle.engine.specs.declared.command_line.Order.{Order}
 use Rattle.engine.specs.declared.command_line.Order.TheVariants.{Judge, Check}
 use Rattle.engine.specs.declared.failure.RunError.{RunError}
 use Rattle.engine.specs.declared.failure.RunError.TheVariants.{History, BadCertificate, ShapeMismatch, TooLong, Memory, ReadFault, WriteFault}
-use Rattle.engine.specs.declared.input.TheConstants.{MOST_INPUT_BYTES}
+use Rattle.engine.specs.declared.input.TheConstants.{MAX_INPUT_BYTES}
 use Rattle.engine.specs.Checking.{HasOtherShape, HasShape, IsCheckReport, IsPair, IsPairError, pair_form, pair_refusal}
 use Rattle.engine.specs.Failure.{failure_status, refusal_status}
 use Rattle.engine.specs.Running.{Answers, Fails, IsAnswer, IsAnswerError, IsReport}
@@ -196,10 +196,10 @@ pub reported_history : (text answer : List ℕ) (h : AnyHistory) → IsAnyHistor
 reported_history text answer h is json report = one_history text report.history h report.is_history is report.read json
 
 -- what is too long is not answered, and refused for that alone
-pub too_long-not_answered : (order : Order) (bytes : List ℕ) (before after : Option (List ℕ)) → MOST_INPUT_BYTES < length bytes → Answers order (Some bytes) before after → ⊥
+pub too_long-not_answered : (order : Order) (bytes : List ℕ) (before after : Option (List ℕ)) → MAX_INPUT_BYTES < length bytes → Answers order (Some bytes) before after → ⊥
 too_long-not_answered order bytes before after long answers = let same : length answers.input ≡ length bytes = ap length answers.whole in let within = answers.within in omega arith
 
-pub too_long-fails : (order : Order) (bytes : List ℕ) (e : RunError) → MOST_INPUT_BYTES < length bytes → Fails order (Some bytes) e → (e ≡ TooLong) ⊎ ((e ≡ Memory) ⊎ (e ≡ ReadFault))
+pub too_long-fails : (order : Order) (bytes : List ℕ) (e : RunError) → MAX_INPUT_BYTES < length bytes → Fails order (Some bytes) e → (e ≡ TooLong) ⊎ ((e ≡ Memory) ⊎ (e ≡ ReadFault))
 too_long-fails order bytes (History p) long fails = let same : length fails.0 ≡ length bytes = ap length fails.1 in let within = fails.2 in absurd (omega arith)
 too_long-fails order bytes BadCertificate long fails = let same : length fails.0 ≡ length bytes = ap length fails.1 in let within = fails.2 in absurd (omega arith)
 too_long-fails order bytes ShapeMismatch long fails = let same : length fails.0 ≡ length bytes = ap length fails.1 in let within = fails.2 in absurd (omega arith)

@@ -1,7 +1,7 @@
 -- What the first words of a list are, and what the others ask for.
 use Rattle.std.proofs.Common.{◌≡◌, ◌≤◌, ◌<◌, ℕ, List, [], ◌∷◌, length, map, drop, get_or, sym, arith}
 use Rattle.clap.specs.Words.{Text}
-use Rattle.engine.specs.Workers.{IsNumberOfWorkers}
+use Rattle.collector.specs.Judgements.{AreWorkers}
 use Rattle.engine.specs.CommandLine.{AskFor, GivesNoOrder, workers_of}
 
 pub one_word : {A : Type 0} (f : A → Text) (xs : List A) (a : A) → 1 ≤ length xs → length xs < 2 → a ≡ get_or xs 0 a → map f xs ≡ f a ∷ []
@@ -17,7 +17,7 @@ two_words f (x ∷ y ∷ []) a b least most first second = λ i. f (sym first i)
 two_words f (x ∷ y ∷ z ∷ xs) a b least most first second = absurd (omega arith)
 
 -- words behind the first two that ask for no number of workers give no order
-pub no_number : {A : Type 0} (f : A → Text) (xs : List A) → ((n : ℕ) → IsNumberOfWorkers n → ¬ AskFor n (map f (drop 2 xs))) → GivesNoOrder (map f xs)
+pub no_number : {A : Type 0} (f : A → Text) (xs : List A) → ((n : ℕ) → AreWorkers n → ¬ AskFor n (map f (drop 2 xs))) → GivesNoOrder (map f xs)
 no_number f [] none order is = is
 no_number f (x ∷ []) none order is = is
 no_number f (x ∷ y ∷ xs) none order is = none (workers_of order) is.1 is.2

@@ -7,7 +7,8 @@ use Rattle.clap.specs.declared.builder.action.ArgAction.TheVariants.{Set}
 use Rattle.clap.specs.declared.builder.value_parser.ValueParser.TheVariants.{Unsigned}
 use Rattle.clap.specs.declared.error.kind.ErrorKind.{ErrorKind}
 use Rattle.clap.specs.declared.error.kind.ErrorKind.TheVariants.{DisplayHelp, OutOfMemory}
-use Rattle.engine.specs.Workers.{IsNumberOfWorkers}
+use Rattle.collector.specs.declared.judging.TheConstants.{MAX_WORKERS}
+use Rattle.collector.specs.Judgements.{AreWorkers}
 use Rattle.engine.specs.declared.command_line.Order.{Order}
 use Rattle.engine.specs.declared.command_line.Order.TheVariants.{Judge, Check}
 use Rattle.engine.specs.declared.command_line.Usage.{Usage}
@@ -45,7 +46,7 @@ abbrev pub IsCommandLine : Order → List Text → Type 0
 IsCommandLine order [] = ⊥
 IsCommandLine order (program ∷ []) = ⊥
 IsCommandLine order (program ∷ word ∷ words) =
-    (word ≡ command_word order) × IsNumberOfWorkers (workers_of order) × AskFor (workers_of order) words
+    (word ≡ command_word order) × AreWorkers (workers_of order) × AskFor (workers_of order) words
 
 -- words that are no command line
 abbrev pub GivesNoOrder : List Text → Type 0
@@ -62,7 +63,7 @@ abbrev pub workers : Rule
 workers = record (new_rule (codes "workers")) {
   long = Some (codes "workers");
   action = Some Set;
-  parser = Some (Unsigned 1 16);
+  parser = Some (Unsigned 1 MAX_WORKERS);
   value_names = 1;
 }
 

@@ -1,4 +1,3 @@
-pub mod Workers
 pub mod CommandLine
 pub mod Failure
 pub mod Report

@@ -12,7 +12,7 @@ use Rattle.objects.specs.Counter.{answer as counter_answer}
 use Rattle.objects.specs.AddRemoveSet.{answer as set_answer}
 use Rattle.objects.specs.Queue.{answer as queue_answer}
 use Rattle.objects.specs.Keyed.{answer as keyed_answer}
-use Rattle.history.specs.History.{Record}
+use Rattle.history.specs.History.{HistoryValue}
 use Rattle.memory_order.specs.Memory.{IsDifferentiated, memory_answer}
 use Rattle.cert_check.specs.Criteria.{Meets}
 use Rattle.cert_check.specs.CriterionNames.{name_of}
@@ -25,7 +25,7 @@ use Rattle.engine.specs.declared.report.Report.{Report}
 
 -- a fact about what an object answers and a history of it
 abbrev pub Fact : Type 1
-Fact = (S C R : Type 0) → (S → List C → C → R) → Record S C R → Type 0
+Fact = (S C R : Type 0) → (S → List C → C → R) → HistoryValue S C R → Type 0
 
 -- the fact about a history and what its own object answers
 abbrev pub HoldsOf : Fact → AnyHistory → Type 0
@@ -84,6 +84,18 @@ abbrev pub answer_for : Report → Criterion → Answer
 answer_for report Cc = report.cc
 answer_for report Cm = report.cm
 answer_for report Ccv = report.ccv
+
+-- each answer of a report is true of a history
+abbrev pub EachIsTrueOf : AnyHistory → Report → Type 0
+EachIsTrueOf history report = (criterion : Criterion) → IsTrueOf history criterion (answer_for report criterion)
+
+-- each names an operation only where it is the first that a certificate doesn't explain
+abbrev pub EachNamesUnexplained : AnyHistory → Report → Type 0
+EachNamesUnexplained history report = (criterion : Criterion) → NamesUnexplained history criterion (answer_for report criterion)
+
+-- each is left unknown only where values are not distinct
+abbrev pub EachIsKnownOnDistinctValues : AnyHistory → Report → Type 0
+EachIsKnownOnDistinctValues history report = (criterion : Criterion) → IsKnownOnDistinctValues history (answer_for report criterion)
 
 -- the criterion, a space, the answer, and a line feed; no report has an answer that is open
 abbrev pub line_for : Criterion → Answer → List ℕ

@@ -6,12 +6,11 @@ use Rattle.engine.specs.declared.failure.RunError.{RunError}
 use Rattle.engine.specs.declared.failure.RunError.TheVariants.{History, BadCertificate, ShapeMismatch, TooLong, Memory, ReadFault, WriteFault}
 use Rattle.operations.specs.declared.any_history.AnyHistory.{AnyHistory}
 use Rattle.operations.specs.AnyForm.{form_of, IsAnyHistory, IsJson, IsRefusedFor}
-use Rattle.cert_check.specs.declared.criterion.Criterion.{Criterion}
 use Rattle.engine.specs.declared.report.Report.{Report}
 use Rattle.engine.specs.declared.command_line.Order.TheVariants.{Judge, Check}
-use Rattle.engine.specs.Report.{IsTrueOf, NamesUnexplained, IsKnownOnDistinctValues, answer_for, text_for}
+use Rattle.engine.specs.Report.{EachIsTrueOf, EachNamesUnexplained, EachIsKnownOnDistinctValues, text_for}
 use Rattle.engine.specs.Checking.{IsCheckReport, IsPairError, HasOtherShape}
-use Rattle.engine.specs.declared.input.TheConstants.{MOST_INPUT_BYTES}
+use Rattle.engine.specs.declared.input.TheConstants.{MAX_INPUT_BYTES}
 
 -- the text is a report on the history in the input: its three lines, each of which is true of that history
 pub record IsReport (input text : List ℕ) : Type 0 where
@@ -19,9 +18,9 @@ pub record IsReport (input text : List ℕ) : Type 0 where
   pub report : Report
   pub is_history : IsAnyHistory history
   pub read : IsJson input (form_of history)
-  pub true_of : (criterion : Criterion) → IsTrueOf history criterion (answer_for report criterion)
-  pub unknown : (criterion : Criterion) → IsKnownOnDistinctValues history (answer_for report criterion)
-  pub unexplained : (criterion : Criterion) → NamesUnexplained history criterion (answer_for report criterion)
+  pub true_of : EachIsTrueOf history report
+  pub unknown : EachIsKnownOnDistinctValues history report
+  pub unexplained : EachNamesUnexplained history report
   pub lines : text ≡ text_for report
 
 -- the text answers the input as the order asks, whatever the number of its workers
@@ -44,18 +43,18 @@ pub record Answers (order : Order) (reader writer_before writer_after : Option (
   pub input : List ℕ
   pub text : List ℕ
   pub whole : IfSome reader (λ bytes. input ≡ bytes)
-  pub within : length input ≤ MOST_INPUT_BYTES
+  pub within : length input ≤ MAX_INPUT_BYTES
   pub answered : IsAnswer order input text
   pub written : Appends writer_before writer_after text
 
 -- it is so of the input, which is not too long: where the reader tells its bytes, of these bytes
 abbrev pub IsOfInput : Option (List ℕ) → (List ℕ → Type 0) → Type 0
-IsOfInput reader IsSo = (input : List ℕ) × IfSome reader (λ bytes. input ≡ bytes) × (length input ≤ MOST_INPUT_BYTES) × IsSo input
+IsOfInput reader IsSo = (input : List ℕ) × IfSome reader (λ bytes. input ≡ bytes) × (length input ≤ MAX_INPUT_BYTES) × IsSo input
 
 -- why a run failed: the input is too long, or it is refused; or its answer could not be written; or memory or the reader
 -- failed, which can be at any time
 abbrev pub Fails : Order → Option (List ℕ) → RunError → Type 0
-Fails order reader TooLong = IfSome reader (λ bytes. MOST_INPUT_BYTES < length bytes)
+Fails order reader TooLong = IfSome reader (λ bytes. MAX_INPUT_BYTES < length bytes)
 Fails order reader (History refusal) = IsOfInput reader (λ input. IsAnswerError order input (History refusal))
 Fails order reader BadCertificate = IsOfInput reader (λ input. IsAnswerError order input BadCertificate)
 Fails order reader ShapeMismatch = IsOfInput reader (λ input. IsAnswerError order input ShapeMismatch)

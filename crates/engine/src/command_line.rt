@@ -2,13 +2,15 @@
 ghost use Rattle.std.specs.Prelude.{◌≡◌, ◌≢◌, ℕ, [], false, IfErr, IfOk, IfSome, IsNone, MatchOption, MatchResult, map};
 ghost use Rattle.clap.specs.Words.{HasKind, app_of, fault_of, kind_of, rule_of};
 ghost use Rattle.clap.specs.declared.builder.Command.TheViews.{out-Command};
-ghost use Rattle.engine.specs.CommandLine.{AskFor, AskTogetherFor, AsksFor, GivesNoOrder, IsCommandLine, IsUsageFor, IsUsageOf, Writes, check, command_line, command_word, judge, workers, workers_of};
-ghost use Rattle.engine.specs.Workers.{IsNumberOfWorkers};
+ghost use Rattle.engine.specs.CommandLine.{AskFor, AskTogetherFor, AsksFor, GivesNoOrder, IsCommandLine, IsUsageFor};
+ghost use Rattle.engine.specs.CommandLine.{IsUsageOf, Writes, check, command_line, command_word, judge, workers, workers_of};
+ghost use Rattle.collector.specs.Judgements.{AreWorkers};
 
 use crate::workers::Workers;
 use clap::builder::ValueParser;
 use clap::error::ErrorKind;
 use clap::{Arg, ArgAction, ArgMatches, Command, Error};
+use collector::MAX_WORKERS;
 use std::alloc::{AllocError, Global};
 use std::convert::AsStr;
 
@@ -76,7 +78,7 @@ fn order_of_word(word: &str, workers: Workers) -> Option<Order>
 
 // How many workers the words behind a command's word ask for.
 fn workers_in<S: AsStr>(words: &[S]) -> Option<Workers>
-    ensures { MatchOption result ((n : ℕ) → IsNumberOfWorkers n → ¬ AskFor n (map S.text words.now))
+    ensures { MatchOption result ((n : ℕ) → AreWorkers n → ¬ AskFor n (map S.text words.now))
         (λ n. AskFor n (map S.text words.now)) }
 {
     match words {
@@ -89,7 +91,7 @@ fn workers_in<S: AsStr>(words: &[S]) -> Option<Workers>
 
 // How many workers one word asks for.
 fn workers_of_word(word: &str) -> Option<Workers>
-    ensures { MatchOption result ((n : ℕ) → IsNumberOfWorkers n → ¬ AsksFor n word.now) (λ n. AsksFor n word.now) }
+    ensures { MatchOption result ((n : ℕ) → AreWorkers n → ¬ AsksFor n word.now) (λ n. AsksFor n word.now) }
 {
     match word.strip_prefix("--workers=") {
         Some(number) => number_in(number),
@@ -99,7 +101,7 @@ fn workers_of_word(word: &str) -> Option<Workers>
 
 // How many workers two words ask for.
 fn workers_of_words(word: &str, number: &str) -> Option<Workers>
-    ensures { MatchOption result ((n : ℕ) → IsNumberOfWorkers n → ¬ AskTogetherFor n word.now number.now)
+    ensures { MatchOption result ((n : ℕ) → AreWorkers n → ¬ AskTogetherFor n word.now number.now)
         (λ n. AskTogetherFor n word.now number.now) }
 {
     if word == "--workers" {
@@ -111,7 +113,7 @@ fn workers_of_words(word: &str, number: &str) -> Option<Workers>
 
 // The number of workers that a text writes.
 fn number_in(text: &str) -> Option<Workers>
-    ensures { MatchOption result ((n : ℕ) → IsNumberOfWorkers n → ¬ Writes text.now n) (Writes text.now) }
+    ensures { MatchOption result ((n : ℕ) → AreWorkers n → ¬ Writes text.now n) (Writes text.now) }
 {
     match text.parse::<usize>() {
         Ok(count) => Workers::of(count),
@@ -189,7 +191,7 @@ fn workers_option<'a>(alloc: Global) -> Arg<'a>
         .long("workers")
         .value_name("N")
         .action(ArgAction::Set)
-        .value_parser(ValueParser::unsigned(1, 16))
+        .value_parser(ValueParser::unsigned(1, MAX_WORKERS as u64))
         .help(
             "How many threads check the pieces of a certificate, from 1 to 16; 2 where none is given",
         )

@@ -8,7 +8,7 @@ use std::alloc::{AllocError, AllocFailed, Global};
 use thiserror::Error;
 
 /// Why a run gave no answer.
-#[derive(Debug, Drop, Error)]
+#[derive(Clone, Copy, Debug, PartialEq, Eq, Error)]
 pub enum RunError {
     /// The history in the input is refused.
     #[error("the history is refused: {0}")]
@@ -20,10 +20,10 @@ pub enum RunError {
     #[error("the certificate does not have the shape of the history")]
     ShapeMismatch,
     /// The input has more bytes than are read.
-    #[error("the input has more than {most} bytes", most = crate::input::MOST_INPUT_BYTES)]
+    #[error("the input has more than {most} bytes", most = crate::input::MAX_INPUT_BYTES)]
     TooLong,
-    /// Memory ran out.
-    #[error("out of memory")]
+    /// An allocation was refused.
+    #[error("no memory")]
     Memory,
     /// The reader failed, or it did not come to its end in as many read calls as a run makes.
     #[error("the input could not be read")]

@@ -11,37 +11,37 @@ use std::alloc::Global;
 use std::io::ErrorKind;
 
 /// The most bytes of an input.
-pub const MOST_INPUT_BYTES: usize = 67_108_864;
+pub const MAX_INPUT_BYTES: usize = 67_108_864;
 
 /// The most read calls of one run: each call counts, an interrupted one and the one that finds the end too.
-pub const MOST_READ_CALLS: u32 = 1_048_576;
+pub const MAX_READ_CALLS: u32 = 1_048_576;
 
 // How many bytes a read call asks for.
 const CHUNK_BYTES: usize = 65_536;
 
 /// Reads all that the source has.
 ///
-/// Refused are more than [`MOST_INPUT_BYTES`], at the first read that passes them. An interrupted read is made again.
+/// Refused are more than [`MAX_INPUT_BYTES`], at the first read that passes them. An interrupted read is made again.
 /// Any other error of the source is a read fault, and so is a source that did not come to its end in
-/// [`MOST_READ_CALLS`] calls.
+/// [`MAX_READ_CALLS`] calls.
 pub fn read_input<R: Source>(alloc: Global, reader: &mut R) -> Result<Vec<u8>, RunError>
     ensures all { IfOk result (λ input. IfSome (R.remaining reader.old) (λ bytes. input.items ≡ bytes)) }
     ensures end { OnOk result (IsAtEnd (R.remaining reader.new)) }
-    ensures within { IfOk result (λ input. vec_len input ≤ MOST_INPUT_BYTES) }
+    ensures within { IfOk result (λ input. vec_len input ≤ MAX_INPUT_BYTES) }
 
     ensures too_long { result ≡ Err RunError.TooLong
-        → IfSome (R.remaining reader.old) (λ bytes. MOST_INPUT_BYTES < length bytes) }
+        → IfSome (R.remaining reader.old) (λ bytes. MAX_INPUT_BYTES < length bytes) }
     ensures errors { IfErr result IsInputError }
     ensures reader { Gives (R.remaining reader.old) (R.remaining reader.new) }
 
     // However often the source could be called, and whatever it tells of its calls.
-    ensures calls { CallsAtMost R.called MOST_READ_CALLS reader.old reader.new }
-    ensures end_found { OnOk result (EndsBy R.called MOST_READ_CALLS IsEnd reader.old reader.new) }
-    ensures fault { result ≡ Err RunError.ReadFault → FindsNoEnd R.called MOST_READ_CALLS reader.old reader.new }
+    ensures calls { CallsAtMost R.called MAX_READ_CALLS reader.old reader.new }
+    ensures end_found { OnOk result (EndsBy R.called MAX_READ_CALLS IsEnd reader.old reader.new) }
+    ensures fault { result ≡ Err RunError.ReadFault → FindsNoEnd R.called MAX_READ_CALLS reader.old reader.new }
 {
     let mut chunk = chunk_of_zeros(alloc)?;
     let mut input = Vec::new(alloc);
-    for _ in 0..MOST_READ_CALLS {
+    for _ in 0..MAX_READ_CALLS {
         if read_once(reader, chunk.as_mut_slice(), &mut input)? {
             return Ok(input);
         }
@@ -64,14 +64,14 @@ fn read_once<R: Source>(
     input: &mut Vec<u8>,
 ) -> Result<bool, RunError>
     requires room { 0 < length chunk.old }
-    requires within { vec_len input.old ≤ MOST_INPUT_BYTES }
+    requires within { vec_len input.old ≤ MAX_INPUT_BYTES }
     ensures moved { OnOk result
         (MovesTo (R.remaining reader.old) (R.remaining reader.new) input.old.items input.new.items) }
     ensures end { IfOk result (λ found. found ≡ true → IsAtEnd (R.remaining reader.new)) }
-    ensures within { OnOk result (vec_len input.new ≤ MOST_INPUT_BYTES) }
+    ensures within { OnOk result (vec_len input.new ≤ MAX_INPUT_BYTES) }
 
     ensures too_long { result ≡ Err RunError.TooLong
-        → GivesPast (R.remaining reader.old) (R.remaining reader.new) input.old.items MOST_INPUT_BYTES }
+        → GivesPast (R.remaining reader.old) (R.remaining reader.new) input.old.items MAX_INPUT_BYTES }
     ensures errors { IfErr result IsInputError }
     ensures reader { Gives (R.remaining reader.old) (R.remaining reader.new) }
     ensures call { (outcome : Outcome) × R.called reader.old outcome reader.new × CameTo outcome result }
@@ -89,13 +89,13 @@ fn read_once<R: Source>(
 
 // Appends what a read call gave, unless that would pass the limit.
 fn append(input: &mut Vec<u8>, bytes: &[u8]) -> Result<(), RunError>
-    requires { vec_len input.old ≤ MOST_INPUT_BYTES }
+    requires { vec_len input.old ≤ MAX_INPUT_BYTES }
     ensures ok { OnOk result (input.new.items ≡ input.old.items ++ bytes.now) }
-    ensures within { OnOk result (vec_len input.new ≤ MOST_INPUT_BYTES) }
-    ensures too_long { (result ≡ Err RunError.TooLong) ↔ (MOST_INPUT_BYTES < vec_len input.old + length bytes.now) }
+    ensures within { OnOk result (vec_len input.new ≤ MAX_INPUT_BYTES) }
+    ensures too_long { (result ≡ Err RunError.TooLong) ↔ (MAX_INPUT_BYTES < vec_len input.old + length bytes.now) }
     ensures errors { IfErr result (λ e. (e ≡ RunError.TooLong) ⊎ (e ≡ RunError.Memory)) }
 {
-    if bytes.len() > MOST_INPUT_BYTES - input.len() {
+    if bytes.len() > MAX_INPUT_BYTES - input.len() {
         return Err(RunError::TooLong);
     }
     input.extend_from_slice(bytes)?;

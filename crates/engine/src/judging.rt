@@ -4,10 +4,10 @@ ghost use Rattle.std.specs.Prelude.{◌≡◌, IfErr, IfOk, IfSome};
 ghost use Rattle.memory_order.specs.Memory.{memory_answer};
 ghost use Rattle.bad_patterns.specs.Patterns.{IsTrueNo};
 ghost use Rattle.cert_check.specs.Certificates.{HasShapeOf, criterion_of};
-ghost use Rattle.cert_check.specs.Criteria.{Meets};
 ghost use Rattle.decision.specs.Decisions.{IsDecided};
-ghost use Rattle.collector.specs.Judgements.{IsFounded, IsUnexplainedOf};
 ghost use Rattle.engine.specs.Report.{IsTrueOf, NamesUnexplained, IsKnownOnDistinctValues, answer_for};
+ghost use Rattle.engine.specs.Report.{EachIsTrueOf, EachNamesUnexplained, EachIsKnownOnDistinctValues};
+ghost use Rattle.engine.specs.Steps.FoundedAnswers.{IsFoundedOn};
 
 use crate::checking::answer_of_file;
 use crate::failure::RunError;
@@ -41,9 +41,9 @@ pub fn report_on<T: Threads + Wait + Sync>(
     history: AnyHistory,
     workers: Workers,
 ) -> Result<Report, RunError>
-    ensures truth { IfOk result (λ report. (criterion : Criterion) → IsTrueOf history criterion (answer_for report criterion)) }
-    ensures unknown { IfOk result (λ report. (criterion : Criterion) → IsKnownOnDistinctValues history (answer_for report criterion)) }
-    ensures unexplained { IfOk result (λ report. (criterion : Criterion) → NamesUnexplained history criterion (answer_for report criterion)) }
+    ensures truth { IfOk result (EachIsTrueOf history) }
+    ensures unknown { IfOk result (EachIsKnownOnDistinctValues history) }
+    ensures unexplained { IfOk result (EachNamesUnexplained history) }
     ensures error { IfErr result (λ e. e ≡ RunError.Memory) }
 {
     match history {
@@ -65,9 +65,9 @@ fn report_on_memory<T: Threads + Wait + Sync>(
     history: History<Memory>,
     workers: Workers,
 ) -> Result<Report, RunError>
-    ensures truth { IfOk result (λ report. (criterion : Criterion) → IsTrueOf (AnyHistory.Memory history) criterion (answer_for report criterion)) }
-    ensures unknown { IfOk result (λ report. (criterion : Criterion) → IsKnownOnDistinctValues (AnyHistory.Memory history) (answer_for report criterion)) }
-    ensures unexplained { IfOk result (λ report. (criterion : Criterion) → NamesUnexplained (AnyHistory.Memory history) criterion (answer_for report criterion)) }
+    ensures truth { IfOk result (EachIsTrueOf (AnyHistory.Memory history)) }
+    ensures unknown { IfOk result (EachIsKnownOnDistinctValues (AnyHistory.Memory history)) }
+    ensures unexplained { IfOk result (EachNamesUnexplained (AnyHistory.Memory history)) }
     ensures error { IfErr result (λ e. e ≡ RunError.Memory) }
 {
     let memory = IndexedMemory::of(alloc, &history)?;
@@ -86,7 +86,7 @@ fn report_on_object<O: Judged + Send + Sync, T: Threads + Wait + Sync>(
     workers: Workers,
 ) -> Result<Report, RunError>
     ensures founded { IfOk result (λ report. (criterion : Criterion)
-        → IsFounded (Meets O.answer history criterion) (O.excluded history criterion) (IsUnexplainedOf O.answer history criterion) (answer_for report criterion)) }
+        → IsFoundedOn O.answer O.excluded history criterion (answer_for report criterion)) }
     ensures error { IfErr result (λ e. e ≡ RunError.Memory) }
 {
     let cc = answer_of_object(rt, alloc, history.copy(alloc)?, Criterion::Cc, workers)?;
@@ -129,7 +129,7 @@ fn answer_by_certificate<T: Threads + Wait + Sync>(
     criterion: Criterion,
     workers: Workers,
 ) -> Result<Answer, RunError>
-    ensures founded { IfOk result (IsFounded (Meets memory_answer memory.now criterion) (IsTrueNo memory.now criterion) (IsUnexplainedOf memory_answer memory.now criterion)) }
+    ensures founded { IfOk result (IsFoundedOn memory_answer IsTrueNo memory.now criterion) }
     ensures error { IfErr result (λ e. e ≡ RunError.Memory) }
 {
     let history = memory.history().copy(alloc)?;
@@ -149,7 +149,7 @@ fn answer_by<T: Threads + Wait + Sync>(
 ) -> Result<Answer, RunError>
     requires criterion { IfSome made (λ c. criterion_of c ≡ criterion) }
     requires shape { IfSome made (HasShapeOf history) }
-    ensures founded { IfOk result (IsFounded (Meets memory_answer history criterion) (IsTrueNo history criterion) (IsUnexplainedOf memory_answer history criterion)) }
+    ensures founded { IfOk result (IsFoundedOn memory_answer IsTrueNo history criterion) }
     ensures error { IfErr result (λ e. e ≡ RunError.Memory) }
 {
     match CaseFile::new(history, criterion, made) {
@@ -167,7 +167,7 @@ fn answer_of_object<O: Judged + Send + Sync, T: Threads + Wait + Sync>(
     criterion: Criterion,
     workers: Workers,
 ) -> Result<Answer, RunError>
-    ensures founded { IfOk result (IsFounded (Meets O.answer history criterion) (O.excluded history criterion) (IsUnexplainedOf O.answer history criterion)) }
+    ensures founded { IfOk result (IsFoundedOn O.answer O.excluded history criterion) }
     ensures error { IfErr result (λ e. e ≡ RunError.Memory) }
 {
     match judge(rt, alloc, history, criterion, workers.count(), &OpenGate) {

@@ -11,7 +11,7 @@ ghost use Rattle.engine.specs.Running.{Answers, Fails, IsAnswer, IsAnswerError, 
 
 use crate::command_line::Order;
 use crate::failure::RunError;
-use crate::input::MOST_INPUT_BYTES;
+use crate::input::MAX_INPUT_BYTES;
 use crate::source::Source;
 use bad_patterns::Kind;
 use cert_check::Criterion;
@@ -49,9 +49,9 @@ pub fn input_is_refused_in_one_way()
 
 /// What is longer than may be is not answered, and refused for that alone.
 pub fn too_long_input_is_refused_as_such()
-    ensures answer { (order : Order) (bytes : List ℕ) (before after : Option (List ℕ)) → MOST_INPUT_BYTES < length bytes
+    ensures answer { (order : Order) (bytes : List ℕ) (before after : Option (List ℕ)) → MAX_INPUT_BYTES < length bytes
         → ¬ Answers order (Some bytes) before after }
-    ensures failure { (order : Order) (bytes : List ℕ) (error : RunError) → MOST_INPUT_BYTES < length bytes
+    ensures failure { (order : Order) (bytes : List ℕ) (error : RunError) → MAX_INPUT_BYTES < length bytes
         → Fails order (Some bytes) error → (error ≡ RunError.TooLong) ⊎ ((error ≡ RunError.Memory) ⊎ (error ≡ RunError.ReadFault)) }
 {}
 

@@ -19,7 +19,7 @@ pub use checking::answer_of_certificate;
 pub use collector::Answer;
 pub use command_line::{Order, Usage, command_of};
 pub use failure::{RunError, fault_line, status_of};
-pub use input::{MOST_INPUT_BYTES, MOST_READ_CALLS, read_input};
+pub use input::{MAX_INPUT_BYTES, MAX_READ_CALLS, read_input};
 pub use judging::report_on;
 pub use output::write_answer;
 pub use program::status_of_process;

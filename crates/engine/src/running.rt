@@ -7,7 +7,7 @@ ghost use Rattle.engine.specs.Running.{Answers, Fails, IsAnswer, IsAnswerError};
 use crate::checking::check;
 use crate::command_line::Order;
 use crate::failure::RunError;
-use crate::input::{MOST_READ_CALLS, read_input};
+use crate::input::{MAX_READ_CALLS, read_input};
 use crate::judging::report_on;
 use crate::output::write_answer;
 use crate::report::report_text;
@@ -38,8 +38,8 @@ pub fn run<P: Threads + Wait + Sync + AllocGlobal, R: Source, W: Write>(
     ensures failed { IfErr result (Fails order.now (R.remaining reader.old)) }
     ensures unwritten { IfErr result (λ e. e ≢ RunError.WriteFault → writer.new ≡ writer.old) }
 
-    ensures calls { CallsAtMost R.called MOST_READ_CALLS reader.old reader.new }
-    ensures fault { result ≡ Err RunError.ReadFault → FindsNoEnd R.called MOST_READ_CALLS reader.old reader.new }
+    ensures calls { CallsAtMost R.called MAX_READ_CALLS reader.old reader.new }
+    ensures fault { result ≡ Err RunError.ReadFault → FindsNoEnd R.called MAX_READ_CALLS reader.old reader.new }
 {
     let input = read_input(rt.alloc(), reader)?;
     let answer = answer_to(rt, rt.alloc(), input.as_slice(), order)?;

@@ -1,12 +1,11 @@
 //! How many workers there are.
 ghost use Rattle.std.specs.Prelude.{◌≡◌, ◌≤◌, MatchOption};
-ghost use Rattle.engine.specs.Workers.{IsNumberOfWorkers};
+ghost use Rattle.collector.specs.Judgements.{AreWorkers};
 
+use collector::MAX_WORKERS;
 use std::marker::Model;
 
-const MOST_WORKERS: usize = 16;
-
-/// A number of workers, from 1 to 16.
+/// A number of workers, from 1 to [`MAX_WORKERS`].
 #[derive(Clone, Copy, Debug, PartialEq, Eq)]
 pub struct Workers {
     count: usize,
@@ -14,7 +13,7 @@ pub struct Workers {
 
 impl Model for Workers {
     ghost use Rattle.std.specs.Prelude.{ℕ};
-    ghost use Rattle.engine.specs.Workers.{IsNumberOfWorkers};
+    ghost use Rattle.collector.specs.Judgements.{AreWorkers};
 
     ghost Value = { ℕ };
 
@@ -22,15 +21,15 @@ impl Model for Workers {
 
     ghost inverse = { λ n. record { count = n } };
 
-    ghost invariant = { λ w. IsNumberOfWorkers w.count };
+    ghost invariant = { λ w. AreWorkers w.count };
 }
 
 impl Workers {
-    /// So many workers; none where the number is not from 1 to 16.
+    /// So many workers; none where the number is not from 1 to [`MAX_WORKERS`].
     pub fn of(count: usize) -> Option<Workers>
-        ensures { MatchOption result (¬ IsNumberOfWorkers count) (λ workers. (workers ≡ count) × IsNumberOfWorkers count) }
+        ensures { MatchOption result (¬ AreWorkers count) (λ workers. (workers ≡ count) × AreWorkers count) }
     {
-        if count == 0 || count > MOST_WORKERS {
+        if count == 0 || count > MAX_WORKERS {
             return None;
         }
         Some(Workers { count })
@@ -46,7 +45,7 @@ impl Workers {
     /// How many workers there are.
     pub fn count(self) -> usize
         ensures count { result ≡ self }
-        ensures number { IsNumberOfWorkers result }
+        ensures number { AreWorkers result }
     {
         self.count
     }
