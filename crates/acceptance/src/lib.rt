@@ -1,5 +1,5 @@
 //! Tests that cross the crates: what the objects answer, whole runs over readers and writers in memory, patterns and
-//! certificates.
+//! certificates, recorders and their seals.
 //!
 //! Most cases are lines of text, `name | input | wanted answer`, which one test reads.
 #![tactic(auto)]
@@ -33,10 +33,20 @@ mod objects_alone;
 #[cfg(test)]
 mod patterns;
 #[cfg(test)]
+mod recorder_tests;
+#[cfg(test)]
+mod recordings;
+#[cfg(test)]
 mod refused;
 #[cfg(test)]
 mod running;
 #[cfg(test)]
 mod runs;
+#[cfg(test)]
+mod seal_cut;
+#[cfg(test)]
+mod seal_steps;
+#[cfg(test)]
+mod seals;
 #[cfg(test)]
 mod texts;

@@ -2,7 +2,7 @@
 
 use crate::devices::{Device, Failing, NEVER, Sink};
 use crate::running::said_over;
-use engine::{MOST_INPUT_BYTES, MOST_READ_CALLS, Order, RunError, Workers, read_input};
+use engine::{MAX_INPUT_BYTES, MAX_READ_CALLS, Order, RunError, Workers, read_input};
 use std::alloc::AllocError;
 use std::io::ErrorKind;
 use std::sync::Wait;
@@ -45,7 +45,7 @@ fn said_of_blanks<P: Threads + Wait + Sync + AllocGlobal>(
 
 #[test]
 fn as_many_read_calls_are_made_as_may_be(rt: HostRuntime) -> Result<(), Fail> {
-    let blanks = MOST_READ_CALLS as usize - 1 - HISTORY.len();
+    let blanks = MAX_READ_CALLS as usize - 1 - HISTORY.len();
     let answered = said_of_blanks(&rt, blanks)?;
     let wanted = "0 cc no ThinAirRead;cm no ThinAirRead;ccv no ThinAirRead; after 1048576 reads";
     assert_eq!(rt; answered.as_str(), wanted);
@@ -126,7 +126,7 @@ fn blanks_read<P: Threads + Wait + Sync + AllocGlobal>(
 
 #[test]
 fn an_input_is_as_long_as_may_be(rt: HostRuntime) -> Result<(), Fail> {
-    assert_eq!(rt; blanks_read(&rt, MOST_INPUT_BYTES)?, MOST_INPUT_BYTES);
+    assert_eq!(rt; blanks_read(&rt, MAX_INPUT_BYTES)?, MAX_INPUT_BYTES);
     Ok(())
 }
 
@@ -140,7 +140,7 @@ const FAILING_BEHIND_THE_LIMIT: Failing = Failing {
 fn what_is_behind_the_read_that_passes_the_limit_is_never_learned(
     rt: HostRuntime,
 ) -> Result<(), Fail> {
-    let blanks = MOST_INPUT_BYTES + 1;
+    let blanks = MAX_INPUT_BYTES + 1;
     let device = Device::new(b"", blanks, PIECE, FAILING_BEHIND_THE_LIMIT);
     assert_eq!(rt;
         said_of_reads(&rt, device)?.as_str(),

@@ -4,7 +4,7 @@ use Rattle.std.specs.Prelude.{Some, slice_get}
 use Rattle.recorder.specs.Lanes.{Cells}
 use Rattle.recorder.specs.Recorders.{IsRecorder}
 use Rattle.recorder.specs.Sessions.{LanesState, SessionState, fresh_session}
-use Rattle.recorder_acceptance.specs.Recordings.{IsSessionOf}
+use Rattle.acceptance.specs.Recordings.{IsSessionOf}
 
 lane_at : (cells : List Cells) → length cells ≡ 1 → (c : Cells) × (slice_get cells 0 ≡ Some c)
 lane_at [] e = absurd (let e' : 0 ≡ 1 = e in omega arith)

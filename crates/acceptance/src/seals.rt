@@ -4,7 +4,7 @@ ghost use Rattle.std.specs.Prelude.{◌≡◌, IfOk};
 ghost use Rattle.std.specs.Arc.{arc_value};
 ghost use Rattle.recorder.specs.Sessions.{receipt_of};
 ghost use Rattle.snapshot.specs.Seals.{AreReceiptsOf, IsReceiptOf, IsSealOf};
-ghost use Rattle.recorder_acceptance.specs.Recordings.{IsSessionOf};
+ghost use Rattle.acceptance.specs.Recordings.{IsSessionOf};
 
 use crate::recordings::{advice, begun, ended, operations_of};
 use objects::{Register, RegisterCall, RegisterRet};

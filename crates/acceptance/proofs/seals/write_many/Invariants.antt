@@ -1,5 +1,5 @@
 use Rattle.std.proofs.Common.{◌≡◌}
-use Rattle.recorder_acceptance.proofs.seals.write_many.Given as goal
+use Rattle.acceptance.proofs.seals.write_many.Given as goal
 
 abbrev pub invariant-loop-value : goal.invariant-loop-value
 invariant-loop-value l = record {
