@@ -2,10 +2,6 @@
 use Rattle.std.proofs.Common.{◌≡◌, ◌≢◌, ◌<◌, ◌^◌, ◌++◌, ℕ, Bool, true, List, [], ◌∷◌, map, Option, Some, None, ap, ◌∙◌}
 use Rattle.std.specs.Option.{option_or}
 use Rattle.serde_json.specs.Data.{Data}
-use Rattle.objects.specs.AddRemoveSet.{matches as set_matches}
-use Rattle.objects.specs.Counter.{matches as counter_matches}
-use Rattle.objects.specs.Queue.{matches as queue_matches}
-use Rattle.objects.specs.Register.{matches as register_matches}
 use Rattle.objects.specs.declared.keyed.KeyedCall.{KeyedCall}
 use Rattle.history.specs.History.{HistoryValue}
 use Rattle.operations.specs.declared.any_history.AnyHistory.{AnyHistory}
@@ -20,7 +16,7 @@ use Rattle.operations.specs.Form.{session_form}
 use Rattle.operations.specs.Json.{unknown}
 use Rattle.operations.specs.KeyedFormLaws.{keyed_again}
 use Rattle.operations.specs.ObjectNames.{text_of}
-use Rattle.operations.specs.PlainFormLaws.{plain_again}
+use Rattle.operations.specs.PlainFormLaws.{IsSpelling, plain_again}
 use Rattle.operations.specs.QueueForm as queue
 use Rattle.operations.specs.QueueFormLaws as queue_laws
 use Rattle.operations.specs.Reading.{named_refusal, parts_of, start_refusal}
@@ -39,17 +35,15 @@ parts_with_table : {S : Type 0} (name : List ℕ) (sessions : List Data) (start_
 parts_with_table name sessions start_form [] = parts_again name sessions
 parts_with_table name sessions start_form (e ∷ es) = parts_again_with_start name sessions (map (entry_form start_form) (e ∷ es))
 
-module _ {C R : Type 0} (word_of : C → List ℕ) (arguments : C → List Data) (ret_form : R → List Data)
-    (call_at : List ℕ → List Data → Option (C × List Data)) (ret_at : C → List Data → Option R) (fits : C → R → Bool)
-    (call_again : (c : C) (rest : List Data) → call_at (word_of c) (arguments c ++ rest) ≡ Some (c, rest))
-    (ret_again : (c : C) (r : R) → fits c r ≡ true → ret_at c (ret_form r) ≡ Some r)
-    (ret_is_known : (r : R) → ret_form r ≢ unknown ∷ []) where
+module _ {C R : Type 0} {word_of : C → List ℕ} {arguments : C → List Data} {ret_form : R → List Data}
+    {call_at : List ℕ → List Data → Option (C × List Data)} {ret_at : C → List Data → Option R} {fits : C → R → Bool}
+    (spelling : IsSpelling word_of arguments ret_form call_at ret_at fits) where
   plain_fine : {S : Type 0} (plain : S) (h : HistoryValue S C R) → IsPlainHistory plain fits h
       → named_refusal (plain_at call_at ret_at) (plain_start_at plain) (map (session_form (plain_form word_of arguments ret_form)) h.1) [] ≡ None
   plain_fine plain h is =
       let read =
       sessions_read (plain_at call_at ret_at) (plain_form word_of arguments ret_form) fits (λ _. Unit {0})
-      (plain_again word_of arguments ret_form call_at ret_at fits call_again ret_again ret_is_known) h.1 is.0.each (λ s i c r here. tt) in
+      (plain_again spelling) h.1 is.0.each (λ s i c r here. tt) in
       ap (λ (o : Option ReadError). option_or o (start_refusal (plain_start_at plain [])))
       (sessions_fine (plain_at call_at ret_at) fits (map (session_form (plain_form word_of arguments ret_form)) h.1) h.1 read is.0.each is.0.few)
 
@@ -61,7 +55,7 @@ module _ {C R : Type 0} (word_of : C → List ℕ) (arguments : C → List Data)
       let ss = map (session_form (keyed_form word_of arguments ret_form)) h.1 in
       let read =
       sessions_read (keyed_at call_at ret_at) (keyed_form word_of arguments ret_form) (λ (c : KeyedCall C). fits c.call) (λ (c : KeyedCall C). c.key < 2 ^ 32)
-      (keyed_again word_of arguments ret_form call_at ret_at fits call_again ret_again ret_is_known) h.1 is.0.each is.1 in
+      (keyed_again word_of arguments ret_form call_at ret_at fits spelling.call_again spelling.ret_again spelling.ret_is_known) h.1 is.0.each is.1 in
       ap (λ (o : Option ReadError). option_or o (start_refusal (table_at start_at (table_form start_form h.0))))
       (sessions_fine (keyed_at call_at ret_at) (λ (c : KeyedCall C). fits c.call) ss h.1 read is.0.each is.0.few)
       ∙ ap start_refusal (table_again plain (λ _. Unit {0}) start_form start_at start_again h.0 is.0.start tt)
@@ -69,33 +63,25 @@ module _ {C R : Type 0} (word_of : C → List ℕ) (arguments : C → List Data)
 pub form_is_fine : (h : AnyHistory) → IsAnyHistory h → first_refusal (form_of h) ≡ None
 form_is_fine (histories.Register h) is =
     ap parts_refusal (parts_again (text_of names.Register) (map (session_form (plain_form register.word_of register.arguments register.ret_form)) h.1))
-    ∙ plain_fine register.word_of register.arguments register.ret_form register.call_at register.ret_at register_matches
-    register_laws.call_again register_laws.ret_again register_laws.ret_is_known 0 h is
+    ∙ plain_fine register_laws.is_spelling 0 h is
 form_is_fine (histories.Counter h) is =
     ap parts_refusal (parts_again (text_of names.Counter) (map (session_form (plain_form counter.word_of counter.arguments counter.ret_form)) h.1))
-    ∙ plain_fine counter.word_of counter.arguments counter.ret_form counter.call_at counter.ret_at counter_matches
-    counter_laws.call_again counter_laws.ret_again counter_laws.ret_is_known tt h is
+    ∙ plain_fine counter_laws.is_spelling tt h is
 form_is_fine (histories.Set h) is =
     ap parts_refusal (parts_again (text_of names.Set) (map (session_form (plain_form set.word_of set.arguments set.ret_form)) h.1))
-    ∙ plain_fine set.word_of set.arguments set.ret_form set.call_at set.ret_at set_matches
-    set_laws.call_again set_laws.ret_again set_laws.ret_is_known tt h is
+    ∙ plain_fine set_laws.is_spelling tt h is
 form_is_fine (histories.Queue h) is =
     ap parts_refusal (parts_again (text_of names.Queue) (map (session_form (plain_form queue.word_of queue.arguments queue.ret_form)) h.1))
-    ∙ plain_fine queue.word_of queue.arguments queue.ret_form queue.call_at queue.ret_at queue_matches
-    queue_laws.call_again queue_laws.ret_again queue_laws.ret_is_known tt h is
+    ∙ plain_fine queue_laws.is_spelling tt h is
 form_is_fine (histories.Memory h) is =
     ap parts_refusal (parts_with_table (text_of names.Memory) (map (session_form (keyed_form register.word_of register.arguments register.ret_form)) h.1) register.start_form h.0)
-    ∙ keyed_fine register.word_of register.arguments register.ret_form register.call_at register.ret_at register_matches
-    register_laws.call_again register_laws.ret_again register_laws.ret_is_known 0 register.start_form register.start_at register_laws.start_again h is
+    ∙ keyed_fine register_laws.is_spelling 0 register.start_form register.start_at register_laws.start_again h is
 form_is_fine (histories.Counters h) is =
     ap parts_refusal (parts_with_table (text_of names.Counters) (map (session_form (keyed_form counter.word_of counter.arguments counter.ret_form)) h.1) no_start_form h.0)
-    ∙ keyed_fine counter.word_of counter.arguments counter.ret_form counter.call_at counter.ret_at counter_matches
-    counter_laws.call_again counter_laws.ret_again counter_laws.ret_is_known tt no_start_form no_start_at no_start_again h is
+    ∙ keyed_fine counter_laws.is_spelling tt no_start_form no_start_at no_start_again h is
 form_is_fine (histories.Sets h) is =
     ap parts_refusal (parts_with_table (text_of names.Sets) (map (session_form (keyed_form set.word_of set.arguments set.ret_form)) h.1) no_start_form h.0)
-    ∙ keyed_fine set.word_of set.arguments set.ret_form set.call_at set.ret_at set_matches
-    set_laws.call_again set_laws.ret_again set_laws.ret_is_known tt no_start_form no_start_at no_start_again h is
+    ∙ keyed_fine set_laws.is_spelling tt no_start_form no_start_at no_start_again h is
 form_is_fine (histories.Queues h) is =
     ap parts_refusal (parts_with_table (text_of names.Queues) (map (session_form (keyed_form queue.word_of queue.arguments queue.ret_form)) h.1) no_start_form h.0)
-    ∙ keyed_fine queue.word_of queue.arguments queue.ret_form queue.call_at queue.ret_at queue_matches
-    queue_laws.call_again queue_laws.ret_again queue_laws.ret_is_known tt no_start_form no_start_at no_start_again h is
+    ∙ keyed_fine queue_laws.is_spelling tt no_start_form no_start_at no_start_again h is
