@@ -7,16 +7,13 @@ use Rattle.operations.specs.Json.{list, elements, whole_number}
 use Rattle.operations.specs.JsonLaws.{whole_number-read}
 use Rattle.operations.specs.Reads.{number_form, worded}
 use Rattle.operations.proofs.ReadForms.{is_list, one_word, sized}
-use Rattle.bad_patterns.specs.declared.derivation.Line.{Line}
-use Rattle.bad_patterns.specs.declared.derivation.Line.TheVariants as line
 use Rattle.bad_patterns.specs.declared.kind.Kind.{Kind}
 use Rattle.bad_patterns.specs.declared.kind.Kind.TheVariants as kinds
-use Rattle.bad_patterns.specs.declared.link.Link.{Link}
-use Rattle.bad_patterns.specs.declared.link.Link.TheVariants.{Co, Cf}
 use Rattle.bad_patterns.specs.declared.pattern.Pattern.{Pattern}
 use Rattle.bad_patterns.specs.declared.pattern.Pattern.TheVariants.{CyclicCO, ThinAirRead, WriteCOInitRead, WriteCORead, WriteHBInitRead, CyclicHB, CyclicCF}
 use Rattle.bad_patterns.specs.KindNames.{kind_name}
-use Rattle.bad_patterns.specs.PatternForm.{op_form, path_form, link_form, links_form, line_form, lines_form, form_of}
+use Rattle.bad_patterns.specs.Steps.WordedPairs.{HasTwoParts}
+use Rattle.bad_patterns.specs.PatternForm.{op_form, path_form, links_form, lines_form, form_of}
 
 -- two whole numbers are an operation
 op-pair : {V : Type 0} (view : V → Data) (d : Data) (values : List V) (s i : V) (m n : ℕ) → d ≡ list (map view values)
@@ -43,25 +40,8 @@ pattern-parts (WriteHBInitRead o lines) = (kinds.WriteHBInitRead, op_form o ∷ 
 pattern-parts (CyclicHB o lines) = (kinds.CyclicHB, op_form o ∷ lines_form lines ∷ [], refl, λ one two. two refl)
 pattern-parts (CyclicCF links) = (kinds.CyclicCF, links_form links ∷ [], refl, λ one two. one refl)
 
--- every link is a list of a word and two things
-link-parts : (link : Link) → (word : List ℕ) × (ds : List Data) × (link_form link ≡ worded word ds) × (length ds ≡ 2)
-link-parts (Co a b) = (codes "co", op_form a ∷ op_form b ∷ [], refl, refl)
-link-parts (Cf path b) = (codes "cf", path_form path ∷ op_form b ∷ [], refl, refl)
-
--- every line is a list of a word and two things
-line-parts : (l : Line) → (word : List ℕ) × (ds : List Data) × (line_form l ≡ worded word ds) × (length ds ≡ 2)
-line-parts (line.Co first second) = (codes "co", path_form first ∷ path_form second ∷ [], refl, refl)
-line-parts (line.Tr i j) = (codes "tr", number_form i ∷ number_form j ∷ [], refl, refl)
-line-parts (line.Rf i r) = (codes "rf", number_form i ∷ op_form r ∷ [], refl, refl)
-
 pub no_pattern-unworded : (d : Data) → ((word : List ℕ) (ds : List Data) → d ≢ worded word ds) → (pattern : Pattern) → d ≢ form_of pattern
 no_pattern-unworded d none pattern same = let parts = pattern-parts pattern in none (kind_name parts.0) parts.1 (same ∙ parts.2)
-
-pub no_link-unworded : (d : Data) → ((word : List ℕ) (ds : List Data) → d ≢ worded word ds) → (link : Link) → d ≢ link_form link
-no_link-unworded d none link same = let parts = link-parts link in none parts.0 parts.1 (same ∙ parts.2)
-
-pub no_line-unworded : (d : Data) → ((word : List ℕ) (ds : List Data) → d ≢ worded word ds) → (l : Line) → d ≢ line_form l
-no_line-unworded d none l same = let parts = line-parts l in none parts.0 parts.1 (same ∙ parts.2)
 
 module _ {V : Type 0} (view : V → Data) (d : Data) (word : List ℕ) (values : List V) (is : d ≡ worded word (map view values)) where
   count : (ds : List Data) (other : List ℕ) → d ≡ worded other ds → length values ≡ length ds
@@ -76,14 +56,15 @@ module _ {V : Type 0} (view : V → Data) (d : Data) (word : List ℕ) (values :
       let same_count = count parts.1 (kind_name parts.0) (same ∙ parts.2) in
       parts.3 (λ e. one (same_count ∙ e)) (λ e. two (same_count ∙ e))
 
-  pub no_link-sized : length values ≢ 2 → (link : Link) → d ≢ link_form link
-  no_link-sized two link same =
-      let parts = link-parts link in two (count parts.1 parts.0 (same ∙ parts.2) ∙ parts.3)
-
-  pub no_line-sized : length values ≢ 2 → (l : Line) → d ≢ line_form l
-  no_line-sized two l same =
-      let parts = line-parts l in two (count parts.1 parts.0 (same ∙ parts.2) ∙ parts.3)
-
 pub no_pattern-unnamed : (d : Data) (word : List ℕ) (ds : List Data) → d ≡ worded word ds → ((kind : Kind) → word ≢ kind_name kind) → (pattern : Pattern) → d ≢ form_of pattern
 no_pattern-unnamed d word ds is none pattern same =
     let parts = pattern-parts pattern in none parts.0 ((one_word word (kind_name parts.0) ds parts.1 (sym is ∙ same ∙ parts.2)).0)
+
+-- what is written as a list of a word and two things has no other form
+module _ {A : Type 0} (form : A → Data) (parts : HasTwoParts form) where
+  pub no_pair-unworded : (d : Data) → ((word : List ℕ) (ds : List Data) → d ≢ worded word ds) → (x : A) → d ≢ form x
+  no_pair-unworded d none x same = let of = parts x in none of.0 of.1 (same ∙ of.2)
+
+  pub no_pair-sized : {V : Type 0} (view : V → Data) (d : Data) (word : List ℕ) (values : List V) → d ≡ worded word (map view values)
+      → length values ≢ 2 → (x : A) → d ≢ form x
+  no_pair-sized view d word values is two x same = let of = parts x in two (count view d word values is of.1 of.0 (same ∙ of.2) ∙ of.3)

@@ -4,3 +4,4 @@ pub mod Paths
 pub mod Derivations
 pub mod Patterns
 pub mod PatternForm
+pub mod Steps

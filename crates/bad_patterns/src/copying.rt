@@ -8,6 +8,24 @@ use crate::path::Path;
 use crate::pattern::Pattern;
 use std::alloc::{AllocError, Global};
 
+/// What is copied one by one, in a list of such.
+trait Copied: Drop + Sized {
+    /// An equal one.
+    fn copy(&self, alloc: Global) -> Result<Self, AllocError>
+        ensures { IfOk result (λ copy. copy ≡ self.now) };
+}
+
+/// An equal list.
+fn copy_list<T: Copied>(alloc: Global, items: &[T]) -> Result<Vec<T>, AllocError>
+    ensures { IfOk result (λ copies. copies.items ≡ items.now) }
+{
+    let mut copies = Vec::new(alloc);
+    for item in items {
+        copies.push(item.copy(alloc)?)?;
+    }
+    Ok(copies)
+}
+
 impl Path {
     /// An equal path.
     pub fn copy(&self, alloc: Global) -> Result<Path, AllocError>
@@ -17,11 +35,8 @@ impl Path {
     }
 }
 
-impl Line {
-    /// An equal line.
-    pub fn copy(&self, alloc: Global) -> Result<Line, AllocError>
-        ensures { IfOk result (λ copy. copy ≡ self.now) }
-    {
+impl Copied for Line {
+    fn copy(&self, alloc: Global) -> Result<Line, AllocError> {
         match self {
             Line::Co(first, second) => Ok(Line::Co(first.copy(alloc)?, second.copy(alloc)?)),
             Line::Tr(first, second) => Ok(Line::Tr(*first, *second)),
@@ -35,19 +50,12 @@ impl Derivation {
     pub fn copy(&self, alloc: Global) -> Result<Derivation, AllocError>
         ensures { IfOk result (λ copy. copy ≡ self.now) }
     {
-        let mut lines = Vec::new(alloc);
-        for line in self.lines() {
-            lines.push(line.copy(alloc)?)?;
-        }
-        Ok(Derivation::of(lines))
+        Ok(Derivation::of(copy_list(alloc, self.lines())?))
     }
 }
 
-impl Link {
-    /// An equal link.
-    pub fn copy(&self, alloc: Global) -> Result<Link, AllocError>
-        ensures { IfOk result (λ copy. copy ≡ self.now) }
-    {
+impl Copied for Link {
+    fn copy(&self, alloc: Global) -> Result<Link, AllocError> {
         match self {
             Link::Co(first, second) => Ok(Link::Co(*first, *second)),
             Link::Cf(path, write) => Ok(Link::Cf(path.copy(alloc)?, *write)),
@@ -60,11 +68,7 @@ impl Links {
     pub fn copy(&self, alloc: Global) -> Result<Links, AllocError>
         ensures { IfOk result (λ copy. copy ≡ self.now) }
     {
-        let mut links = Vec::new(alloc);
-        for link in self.links() {
-            links.push(link.copy(alloc)?)?;
-        }
-        Ok(Links::of(links))
+        Ok(Links::of(copy_list(alloc, self.links())?))
     }
 }
 

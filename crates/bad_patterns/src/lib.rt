@@ -7,6 +7,7 @@ mod cycle;
 mod derivation;
 mod derived_pairs;
 mod edges;
+mod formed;
 mod happened_before;
 mod kind;
 pub mod laws;

@@ -5,8 +5,9 @@ ghost use Rattle.serde_json.specs.View.{view};
 ghost use Rattle.operations.specs.Reads.{worded, IsRead};
 ghost use Rattle.bad_patterns.specs.declared.kind.Kind.TheVariants.{WriteCORead};
 ghost use Rattle.bad_patterns.specs.KindNames.{kind_name};
-ghost use Rattle.bad_patterns.specs.PatternForm.{form_of, link_form, links_form, op_form, path_form};
+ghost use Rattle.bad_patterns.specs.PatternForm.{form_of, links_form, op_form, path_form};
 
+use crate::formed::{Formed, WordedPair, read_list, read_worded_pair};
 use crate::kind::Kind;
 use crate::link::{Link, Links};
 use crate::path::Path;
@@ -111,50 +112,47 @@ fn read_derived(
 fn read_links(alloc: Global, value: &Value) -> Result<Option<Links>, AllocError>
     ensures { IfOk result (IsRead links_form (view value.now)) }
 {
-    let Some(values) = elements_of(value) else {
-        return Ok(None);
-    };
-    let mut links = Vec::new(alloc);
-    for value in values {
-        let Some(link) = read_link(alloc, value)? else {
+    Ok(read_list(alloc, value)?.map(Links::of))
+}
+
+impl Formed for Link {
+    ghost use Rattle.bad_patterns.specs.PatternForm.{link_form};
+
+    ghost form = { link_form };
+
+    fn read(alloc: Global, value: &Value) -> Result<Option<Link>, AllocError> {
+        read_worded_pair(alloc, value)
+    }
+}
+
+impl WordedPair for Link {
+    ghost use Rattle.std.specs.Prelude.{◌∷◌, [], codes, refl};
+    ghost use Rattle.bad_patterns.specs.declared.link.Link.TheVariants.{Co, Cf};
+    ghost use Rattle.bad_patterns.specs.PatternForm.{link_form, op_form, path_form};
+
+    ghost worded_form = { link_form };
+
+    ghost parts = { elim [
+      | Co a b ↦ (codes "co", op_form a ∷ op_form b ∷ [], refl, refl)
+      | Cf path b ↦ (codes "cf", path_form path ∷ op_form b ∷ [], refl, refl)
+    ] };
+
+    fn read_worded(
+        alloc: Global,
+        word: &str,
+        first: &Value,
+        second: &Value,
+    ) -> Result<Option<Link>, AllocError> {
+        let Some(end) = read_op(second) else {
             return Ok(None);
         };
-        links.push(link)?;
-    }
-    Ok(Some(Links::of(links)))
-}
-
-/// The link that a value is the form of.
-fn read_link(alloc: Global, value: &Value) -> Result<Option<Link>, AllocError>
-    ensures { IfOk result (IsRead link_form (view value.now)) }
-{
-    let Some((word, rest)) = word_and_rest(value) else {
-        return Ok(None);
-    };
-    match rest {
-        [first, second] => read_worded_link(alloc, word, first, second),
-        _ => Ok(None),
-    }
-}
-
-/// The link of this word and of what shows it.
-fn read_worded_link(
-    alloc: Global,
-    word: &str,
-    first: &Value,
-    second: &Value,
-) -> Result<Option<Link>, AllocError>
-    ensures { IfOk result (IsRead link_form (worded word.now (view first.now ∷ view second.now ∷ []))) }
-{
-    let Some(end) = read_op(second) else {
-        return Ok(None);
-    };
-    if word == "co" {
-        Ok(read_op(first).map(|begin| Link::Co(begin, end)))
-    } else if word == "cf" {
-        Ok(read_path(alloc, first)?.map(|path| Link::Cf(path, end)))
-    } else {
-        Ok(None)
+        if word == "co" {
+            Ok(read_op(first).map(|begin| Link::Co(begin, end)))
+        } else if word == "cf" {
+            Ok(read_path(alloc, first)?.map(|path| Link::Cf(path, end)))
+        } else {
+            Ok(None)
+        }
     }
 }
 
@@ -162,17 +160,17 @@ fn read_worded_link(
 pub fn read_path(alloc: Global, value: &Value) -> Result<Option<Path>, AllocError>
     ensures { IfOk result (IsRead path_form (view value.now)) }
 {
-    let Some(values) = elements_of(value) else {
-        return Ok(None);
-    };
-    let mut ops = Vec::new(alloc);
-    for value in values {
-        let Some(op) = read_op(value) else {
-            return Ok(None);
-        };
-        ops.push(op)?;
+    Ok(read_list(alloc, value)?.map(Path::of))
+}
+
+impl Formed for OpId {
+    ghost use Rattle.bad_patterns.specs.PatternForm.{op_form};
+
+    ghost form = { op_form };
+
+    fn read(_alloc: Global, value: &Value) -> Result<Option<OpId>, AllocError> {
+        Ok(read_op(value))
     }
-    Ok(Some(Path::of(ops)))
 }
 
 /// The operation that a value is the form of.

@@ -6,8 +6,8 @@ ghost use Rattle.operations.specs.Reads.{number_form, worded, IsRead};
 ghost use Rattle.bad_patterns.specs.PatternForm.{line_form, lines_form};
 
 use crate::derivation::{Derivation, Line};
+use crate::formed::{Formed, WordedPair, read_list, read_worded_pair};
 use crate::reading::{read_op, read_path};
-use operations::{elements_of, word_and_rest};
 use serde_json::Value;
 use std::alloc::{AllocError, Global};
 
@@ -17,49 +17,48 @@ use std::alloc::{AllocError, Global};
 pub fn read_lines(alloc: Global, value: &Value) -> Result<Option<Derivation>, AllocError>
     ensures { IfOk result (IsRead lines_form (view value.now)) }
 {
-    let Some(values) = elements_of(value) else {
-        return Ok(None);
-    };
-    let mut lines = Vec::new(alloc);
-    for value in values {
-        let Some(line) = read_line(alloc, value)? else {
-            return Ok(None);
-        };
-        lines.push(line)?;
-    }
-    Ok(Some(Derivation::of(lines)))
+    Ok(read_list(alloc, value)?.map(Derivation::of))
 }
 
-/// The line that a value is the form of.
-fn read_line(alloc: Global, value: &Value) -> Result<Option<Line>, AllocError>
-    ensures { IfOk result (IsRead line_form (view value.now)) }
-{
-    let Some((word, rest)) = word_and_rest(value) else {
-        return Ok(None);
-    };
-    match rest {
-        [first, second] => read_worded_line(alloc, word, first, second),
-        _ => Ok(None),
+impl Formed for Line {
+    ghost use Rattle.bad_patterns.specs.PatternForm.{line_form};
+
+    ghost form = { line_form };
+
+    fn read(alloc: Global, value: &Value) -> Result<Option<Line>, AllocError> {
+        read_worded_pair(alloc, value)
     }
 }
 
-/// The line of this word and of what stands behind it.
-fn read_worded_line(
-    alloc: Global,
-    word: &str,
-    first: &Value,
-    second: &Value,
-) -> Result<Option<Line>, AllocError>
-    ensures { IfOk result (IsRead line_form (worded word.now (view first.now ∷ view second.now ∷ []))) }
-{
-    if word == "co" {
-        read_causal_line(alloc, first, second)
-    } else if word == "tr" {
-        Ok(read_joining_line(first, second))
-    } else if word == "rf" {
-        Ok(read_rival_line(first, second))
-    } else {
-        Ok(None)
+impl WordedPair for Line {
+    ghost use Rattle.std.specs.Prelude.{◌∷◌, [], codes, refl};
+    ghost use Rattle.operations.specs.Reads.{number_form};
+    ghost use Rattle.bad_patterns.specs.declared.derivation.Line.TheVariants.{Co, Tr, Rf};
+    ghost use Rattle.bad_patterns.specs.PatternForm.{line_form, op_form, path_form};
+
+    ghost worded_form = { line_form };
+
+    ghost parts = { elim [
+      | Co first second ↦ (codes "co", path_form first ∷ path_form second ∷ [], refl, refl)
+      | Tr i j ↦ (codes "tr", number_form i ∷ number_form j ∷ [], refl, refl)
+      | Rf i r ↦ (codes "rf", number_form i ∷ op_form r ∷ [], refl, refl)
+    ] };
+
+    fn read_worded(
+        alloc: Global,
+        word: &str,
+        first: &Value,
+        second: &Value,
+    ) -> Result<Option<Line>, AllocError> {
+        if word == "co" {
+            read_causal_line(alloc, first, second)
+        } else if word == "tr" {
+            Ok(read_joining_line(first, second))
+        } else if word == "rf" {
+            Ok(read_rival_line(first, second))
+        } else {
+            Ok(None)
+        }
     }
 }
 

@@ -1,7 +1,6 @@
 ghost use Rattle.std.specs.Prelude.{◌≡◌};
 ghost use Rattle.board.specs.BoardErrors.{number_of};
 
-use cert_check::DeskError;
 use thiserror::Error;
 
 /// Why an event of a board was refused.
@@ -22,23 +21,6 @@ pub enum BoardError {
     /// There is no such case or no such row.
     #[error("no such case or piece")]
     NoSuch,
-}
-
-impl From<BoardError> for DeskError {
-    ghost use Rattle.std.specs.Prelude.{◌≡◌};
-    ghost use Rattle.board.specs.BoardErrors.{desk_error};
-
-    ghost from_gives = { λ refusal e. e ≡ desk_error refusal };
-
-    fn from(refusal: BoardError) -> DeskError {
-        match refusal {
-            BoardError::Full => DeskError::Full,
-            BoardError::NotThatPattern => DeskError::NotThatPattern,
-            BoardError::Doubled => DeskError::Doubled,
-            BoardError::Stranger => DeskError::Stranger,
-            BoardError::NoSuch => DeskError::NoSuch,
-        }
-    }
 }
 
 impl BoardError {

@@ -30,10 +30,7 @@ fn limit_of(waits: &Vectors, session: usize) -> u16
 {
     let len = waits.operations(session);
     for index in 0..len {
-        let op = OpId {
-            session: session as u64,
-            index: index as u64,
-        };
+        let op = OpId::at(session, index);
         if index + 1 < waits.get(op)[session] as usize {
             return index as u16;
         }

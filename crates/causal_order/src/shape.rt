@@ -47,10 +47,7 @@ fn have_length(v: &Vectors, session: usize, len: usize) -> bool
     ensures { IsTrue result ↔ ((i : ℕ) → i < length (slice_index_or v.now session []) → length (list_of v.now (op session i)) ≡ len) }
 {
     for index in 0..v.operations(session) {
-        let op = OpId {
-            session: session as u64,
-            index: index as u64,
-        };
+        let op = OpId::at(session, index);
         if v.get(op).len() != len {
             return false;
         }

@@ -138,10 +138,7 @@ impl Walk {
         if index >= limits[session] as u32 || index as usize >= vectors.operations(session) {
             return false;
         }
-        let op = OpId {
-            session: session as u64,
-            index: index as u64,
-        };
+        let op = OpId::at(session, index as usize);
         let counts = vectors.get(op);
         let missing = self.first_missing(counts, session, seen[session]);
         seen[session] = missing;

@@ -37,10 +37,7 @@ fn next_operation(walk: &Walk, session: usize) -> OpId
     requires { session < MAX_SESSIONS }
     ensures { result ≡ next_of walk.now session }
 {
-    OpId {
-        session: session as u64,
-        index: walk.placed(session) as u64,
-    }
+    OpId::at(session, walk.placed(session))
 }
 
 /// What the next operation of a session waits for: the last such operation of the first other session of which one is not
@@ -59,10 +56,7 @@ fn awaited(waits: &Vectors, walk: &Walk, session: usize) -> OpId
     } else {
         session
     };
-    OpId {
-        session: from as u64,
-        index: u64::from(counts[from]) - 1,
-    }
+    OpId::at(from, usize::from(counts[from]) - 1)
 }
 
 /// Operations that are not placed, each of them awaited by the next operation of the session of the one before it: one more

@@ -14,7 +14,8 @@ use Rattle.causal_order.proofs.OrdersLaws.{same_op}
 use Rattle.memory_order.specs.Relations.{ReadsFrom, IsEdge, CO}
 use Rattle.causal_order.proofs.PathsLaws.{leads-wider}
 use Rattle.memory_order.proofs.RelationsLaws.{CO-of_history}
-use Rattle.memory_order.specs.SourceOrder.{LacksSource, CountsCO, CountsSourceOrder, IsSource, IsSourceEdge, SourceOrder, IsSourceOf, ListsSources}
+use Rattle.memory_order.specs.SourceOrder.{LacksSource, CountsCO, CountsSourceOrder, IsSource, IsSourceEdge, SourceOrder, IsSourceOf}
+use Rattle.memory_order.proofs.ListedSources.{ListsSources}
 use Rattle.memory_order.specs.Sources.{Sources, HasSource, AreListed, IsStep, Comes, IsUnfinished, AreVectorsSoFar}
 use Rattle.causal_order.specs.Vectors.{IsListed, Counts, IsCounted}
 use Rattle.memory_order.specs.Steps.Written.{ListsWrites, IsLeastWrite}

@@ -11,7 +11,8 @@ use Rattle.memory_order.specs.declared.writes.Write.{Write}
 use Rattle.memory_order.specs.Memory.{MemoryHistory, initial, Writes, Reads}
 use Rattle.causal_order.specs.Orders.{op}
 use Rattle.memory_order.specs.Relations.{ReadsFrom}
-use Rattle.memory_order.specs.SourceOrder.{LacksSource, IsSourceOf, ListsSources, ListsSourcesBelow}
+use Rattle.memory_order.specs.SourceOrder.{LacksSource, IsSourceOf, ListsSourcesBelow}
+use Rattle.memory_order.proofs.ListedSources.{ListsSources}
 use Rattle.memory_order.specs.Sources.{Sources}
 use Rattle.memory_order.specs.Steps.Indexed.{IsSourceIfAny, ListsIfAnyBelow, ListsIfAnySoFar, ListsSourcesIfAny, IsKnownRead, LacksItsSource, ListsReadsBefore, ListsReads, end_of, listed_source, HasNoWriteBefore, IsLastWriteBefore}
 use Rattle.memory_order.specs.Steps.Written.{IsBelowWrite, IsLeastWrite, ListsWrites}

@@ -45,6 +45,7 @@ pub mod FollowedReads
 pub mod StrictLaws
 pub mod RelationsMade
 pub mod Saturating
+pub mod ListedSources
 pub mod SourceWaits
 pub mod Conflicting
 pub mod HeldItems

@@ -8,7 +8,7 @@ use Rattle.history.specs.declared.op_id.OpId.{OpId}
 use Rattle.history.specs.History.{Precedes}
 use Rattle.memory_order.specs.Memory.{MemoryHistory}
 use Rattle.causal_order.specs.Orders.{op, IsEarlier}
-use Rattle.memory_order.specs.SourceOrder.{ListsSources}
+use Rattle.memory_order.proofs.ListedSources.{ListsSources}
 use Rattle.memory_order.specs.Sources.{Sources, HasSource, Comes, IsStep, IsReady, IsUnfinished}
 use Rattle.causal_order.specs.Vectors.{IsListed, Counts, count}
 use Rattle.causal_order.specs.Steps.Waiting.{AddsWait}

@@ -13,7 +13,8 @@ use Rattle.history.specs.History.{IsOp, entry, session}
 use Rattle.memory_order.specs.Memory.{MemoryCall, MemoryHistory, initial, Reads}
 use Rattle.memory_order.specs.MemoryHistories.{IsMemoryHistory}
 use Rattle.causal_order.specs.Orders.{op}
-use Rattle.memory_order.specs.SourceOrder.{CountsSourceOrder, IsCyclic, IsSourceOf, LacksSource, ListsSources, SourceOrder}
+use Rattle.memory_order.specs.SourceOrder.{CountsSourceOrder, IsCyclic, IsSourceOf, LacksSource, SourceOrder}
+use Rattle.memory_order.proofs.ListedSources.{ListsSources}
 use Rattle.memory_order.specs.Sources.{Sources, Comes, IsUnfinished, AreVectorsSoFar}
 use Rattle.causal_order.specs.Vectors.{Counts}
 use Rattle.causal_order.proofs.EachOperation.{by_operation, by_operation-sessions, by_operation-length, by_operation-entry}

@@ -1,12 +1,11 @@
 -- The order that a memory history has by the first write of each value that was read, and when it has none.
-use Rattle.std.specs.Prelude.{◌≡◌, ◌≢◌, ◌⊎◌, ◌↔◌, ℕ, ◌≤◌, ◌<◌, List, [], length, Option, MatchOption, Some, slice_get, slice_index_or}
+use Rattle.std.specs.Prelude.{◌≡◌, ◌≢◌, ◌⊎◌, ◌↔◌, ℕ, ◌≤◌, List, length, Option, MatchOption, Some, slice_get}
 use Rattle.history.specs.declared.limits.TheConstants.{MAX_OPERATIONS}
 use Rattle.history.specs.declared.op_id.OpId.{OpId}
-use Rattle.history.specs.History.{IsOp, Precedes, session}
+use Rattle.history.specs.History.{IsOp, Precedes}
 use Rattle.memory_order.specs.Memory.{MemoryHistory, initial, Writes, Reads}
 use Rattle.causal_order.specs.Orders.{op, IsEarlier, Leads}
 use Rattle.memory_order.specs.Relations.{ReadsFrom, CO, IsPast}
-use Rattle.memory_order.specs.Sources.{Sources}
 use Rattle.causal_order.specs.Vectors.{Counts, AreVectorsOf, IsCounted}
 
 module _ (h : MemoryHistory) where
@@ -39,15 +38,6 @@ module _ (h : MemoryHistory) where
     pub count : length es ≡ n
     pub short : n ≤ MAX_OPERATIONS
     pub each : (i : ℕ) (e : Option OpId) → slice_get es i ≡ Some e → IsSourceOf (op s i) e
-
-  -- the sources of all operations of the first n sessions
-  pub record ListsSourcesSoFar (n : ℕ) (sources : Sources) : Type 0 where
-    pub sessions : length sources ≡ n
-    pub each : (s : ℕ) → s < n → ListsSourcesBelow s (length (session h s)) (slice_index_or sources s [])
-
-  -- the sources of all operations
-  abbrev pub ListsSources : Sources → Type 0
-  ListsSources sources = ListsSourcesSoFar (length h.1) sources
 
   -- vectors count, for each operation, its past in CO
   abbrev pub CountsCO : Counts → Type 0

@@ -62,10 +62,7 @@ fn add_conflicts_of(
     ensures so_far { AreWaitsFor (IsDueBefore h.now vectors.now (operation (session + 1) 0)) waits.new }
 {
     for index in 0..h.len(session as u64) {
-        let read = OpId {
-            session: session as u64,
-            index: index as u64,
-        };
+        let read = OpId::at(session, index);
         if let Some(source) = found_source(h, by_value, read) {
             waits.add(read, source);
             add_writes(
@@ -89,10 +86,7 @@ fn add_writes(waits: &mut Waits, op: OpId, writes: &[Write], key: u32, counts: &
     for session in 0..counts.len() {
         let end = end_of_writes(writes, key, session as u64, counts[session]);
         if end > 0 {
-            let write = OpId {
-                session: session as u64,
-                index: u64::from(end) - 1,
-            };
+            let write = OpId::at(session, usize::from(end) - 1);
             waits.add(op, write);
         }
     }

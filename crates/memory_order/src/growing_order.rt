@@ -186,10 +186,7 @@ impl GrowingOrder {
         ensures more { OnOk result (slice_index self.old.past.items session < slice_index self.new.past.items session) }
     {
         while let Some(index) = self.ready_index(h, sources, op, session) {
-            let next = OpId {
-                session: session as u64,
-                index: index as u64,
-            };
+            let next = OpId::at(session, usize::from(index));
             self.take_in(h, sources, next)?;
         }
         Ok(())
@@ -274,10 +271,7 @@ impl GrowingOrder {
         if self.count(h, op, session) <= index {
             return false;
         }
-        let next = OpId {
-            session: session as u64,
-            index: index as u64,
-        };
+        let next = OpId::at(session, usize::from(index));
         self.has_source_in(h, sources, next)
     }
 
@@ -452,10 +446,7 @@ impl GrowingOrder {
         if count == 0 {
             return Ok(());
         }
-        let last = OpId {
-            session: session as u64,
-            index: count as u64 - 1,
-        };
+        let last = OpId::at(session, count as usize - 1);
         self.add_past(h, op, last)
     }
 
@@ -535,10 +526,7 @@ impl GrowingOrder {
         let mut high = range.1;
         while low < high {
             let middle = low + (high - low) / 2;
-            let other = OpId {
-                session: session as u64,
-                index: middle as u64,
-            };
+            let other = OpId::at(session, middle);
             if op.index < self.count(h, other, op.session as usize) as u64 {
                 high = middle;
             } else {
@@ -577,10 +565,7 @@ impl GrowingOrder {
         requires inside { index < length (operations_of h.now session) }
         ensures { IsTrue result ↔ IsCounted self.now.counts (record { session = session; index = index }) op }
     {
-        let other = OpId {
-            session: session as u64,
-            index: index as u64,
-        };
+        let other = OpId::at(session, index);
         op.index < self.count(h, other, op.session as usize) as u64
     }
 
@@ -612,10 +597,7 @@ impl GrowingOrder {
         if end == index {
             return Ok(());
         }
-        let op = OpId {
-            session: session as u64,
-            index: index as u64,
-        };
+        let op = OpId::at(session, index);
         self.pending.push(Raised {
             op,
             end,
@@ -647,16 +629,10 @@ impl GrowingOrder {
         ensures stopped { IfOk result
             (λ end. end < slice_index self.old.past.items session → number ≤ count self.old.counts (op session end) other) }
     {
-        let first = OpId {
-            session: session as u64,
-            index: index as u64,
-        };
+        let first = OpId::at(session, index);
         let mut end = index;
         while end < self.past[session] as usize {
-            let op = OpId {
-                session: session as u64,
-                index: end as u64,
-            };
+            let op = OpId::at(session, end);
             let cause = if end == index {
                 cause
             } else {

@@ -191,10 +191,7 @@ impl HappenedBefore {
         requires next { taken_of self.old < length (operations_of h.now (session_of self.old)) }
         ensures { OnOk result (TakesIn h.now self.old self.new) }
     {
-        let op = OpId {
-            session: self.session as u64,
-            index: self.taken as u64,
-        };
+        let op = OpId::at(self.session, self.taken);
         self.order.take_past(h, sources, op)?;
         self.taken += 1;
         Ok(())
@@ -311,9 +308,6 @@ impl HappenedBefore {
         if end == 0 {
             return None;
         }
-        Some(OpId {
-            session: session as u64,
-            index: end as u64 - 1,
-        })
+        Some(OpId::at(session, end as usize - 1))
     }
 }

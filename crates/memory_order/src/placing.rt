@@ -82,10 +82,7 @@ fn place(
     ensures placed { OnOk result ((row : List ℕ) × (vectors.new ≡ with_list vectors.old session row)) }
 {
     let index = vectors.operations(session);
-    let op = OpId {
-        session: session as u64,
-        index: index as u64,
-    };
+    let op = OpId::at(session, index);
     let row = vector_of(alloc, vectors, op, sources.get(session)[index])?;
     vectors.push(session, &row)
 }

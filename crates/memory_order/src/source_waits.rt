@@ -45,10 +45,7 @@ fn add_sources(sources: &Sources, session: usize, waits: &mut Waits)
     let of_session = sources.get(session);
     for index in 0..of_session.len() {
         if let Some(source) = of_session[index] {
-            let op = OpId {
-                session: session as u64,
-                index: index as u64,
-            };
+            let op = OpId::at(session, index);
             waits.add(op, source);
         }
     }

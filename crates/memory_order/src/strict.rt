@@ -42,10 +42,7 @@ fn leave_out_own(h: &History<Memory>, session: usize, strict: &mut Vectors)
     ensures short { length (operations_of h.now session) ≤ MAX_OPERATIONS }
 {
     for index in 0..h.len(session as u64) {
-        let op = OpId {
-            session: session as u64,
-            index: index as u64,
-        };
+        let op = OpId::at(session, index);
         strict.set(op, session, index as u16);
     }
 }

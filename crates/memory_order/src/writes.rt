@@ -43,10 +43,7 @@ fn push_writes(
 {
     for (index, (call, _)) in h.session(session).iter().enumerate() {
         if let RegisterCall::Write(value) = call.call {
-            let op = OpId {
-                session: session as u64,
-                index: index as u64,
-            };
+            let op = OpId::at(session, index);
             writes.push(Write {
                 op,
                 key: call.key,

@@ -102,34 +102,26 @@ impl<'a, O: Recorded> LaneLooker<'a, O> {
         ensures looked { IfOk result (λ full. Looked self.old (Cell.Return op) full self.new) }
         ensures refused { OnErr result (NotLooked self.old self.new) }
     {
-        match self.find_return_of(op) {
-            Some(found) => {
-                self.looks.push((Cell::Return(op), true))?;
-                self.tables[op.session as usize].keep_return(op.index as usize, found);
-                Ok(true)
-            }
-            None => {
-                self.looks.push((Cell::Return(op), false))?;
-                Ok(false)
-            }
-        }
+        let found = self.find_return_of(op);
+        self.looks.push((Cell::Return(op), found.is_some()))?;
+        let Some(found) = found else {
+            return Ok(false);
+        };
+        self.tables[op.session as usize].keep_return(op.index as usize, found);
+        Ok(true)
     }
 
     fn look_at_call(&mut self, op: OpId) -> Result<bool, AllocError>
         ensures looked { IfOk result (λ full. Looked self.old (Cell.Call op) full self.new) }
         ensures refused { OnErr result (NotLooked self.old self.new) }
     {
-        match self.find_call_of(op) {
-            Some(found) => {
-                self.looks.push((Cell::Call(op), true))?;
-                self.tables[op.session as usize].keep_call(op.index as usize, found);
-                Ok(true)
-            }
-            None => {
-                self.looks.push((Cell::Call(op), false))?;
-                Ok(false)
-            }
-        }
+        let found = self.find_call_of(op);
+        self.looks.push((Cell::Call(op), found.is_some()))?;
+        let Some(found) = found else {
+            return Ok(false);
+        };
+        self.tables[op.session as usize].keep_call(op.index as usize, found);
+        Ok(true)
     }
 
     fn find_return_of(&self, op: OpId) -> Option<Found<ReturnRecord<O>>>

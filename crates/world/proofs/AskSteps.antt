@@ -1,5 +1,5 @@
 -- How a case stands is asked.
-use Rattle.std.proofs.Common.{◌≡◌, ◌⊎◌, ℕ, ◌==◌, ◌+◌, ◌<◌, ◌≤◌, inl, inr, List, [], ◌∷◌, ◌++◌, length, get_or, refl, sym, ◌∙◌, ap, subst, arith, eq-eqb}
+use Rattle.std.proofs.Common.{◌≡◌, ℕ, ◌==◌, ◌+◌, List, [], refl, sym, ◌∙◌, ap, subst, arith, eq-eqb}
 use Rattle.std.specs.Prelude.{Bool, true, false, Option, Some, None, is_some, if◌then◌else◌, option_map, slice_get}
 use Rattle.std.proofs.lemmas.Option.{same_Some, slice_get-get_or, get_or_from_slice_get, slice_get_within}
 use Rattle.history.specs.declared.op_id.OpId.{OpId}
@@ -24,7 +24,7 @@ use Rattle.world.specs.declared.reply.ReplyOf.{ReplyOf}
 use Rattle.world.specs.declared.reply.ReplyOf.TheVariants.{Answer, Refused}
 use Rattle.world.specs.declared.refusal.Refusal.TheVariants.{NoSuch}
 use Rattle.world.specs.Cases.{patterns, case_file, HasVerdict}
-use Rattle.world.specs.BoardReplies.{HasPiece, AreOpen, IsAnswer, IsAskReply}
+use Rattle.world.specs.BoardReplies.{AreOpen, IsAnswer, IsAskReply}
 use Rattle.world.specs.Steps.KeptCases.{log_of, CasesState, IsCase, ShowsCases, TakesOn, place_of}
 use Rattle.world.proofs.CaseRows.{row_there}
 use Rattle.world.proofs.CasePieces.{piece_row, row_piece}

@@ -5,7 +5,7 @@ use Rattle.history.specs.declared.op_id.OpId.{OpId}
 use Rattle.history.specs.History.{HistoryValue, session}
 use Rattle.cert_check.specs.declared.certificate.Certificate.{Certificate}
 use Rattle.cert_check.specs.Certificates.{CaseRecord}
-use Rattle.board.specs.Boards.{CaseState, session_of}
+use Rattle.board.specs.Boards.{CaseState}
 use Rattle.board.specs.Events.{IsRow}
 use Rattle.world.specs.declared.place.Place.{Place}
 use Rattle.world.specs.BoardReplies.{HasPiece}

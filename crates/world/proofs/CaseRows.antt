@@ -1,15 +1,15 @@
 -- The rows of a case after a verdict came or a piece was taken, and of a case that was just filed.
-use Rattle.std.proofs.Common.{◌≡◌, ◌≢◌, ◌⊎◌, ℕ, ◌+◌, ◌<◌, ◌≤◌, List, [], length, set, get_or, inl, inr, arith, sym, ap, subst, refl, ◌∙◌}
+use Rattle.std.proofs.Common.{◌≡◌, ◌≢◌, ◌⊎◌, ℕ, ◌+◌, ◌<◌, List, [], length, get_or, inl, inr, arith, sym, ap, subst, refl, ◌∙◌}
 use Rattle.std.specs.Prelude.{Bool, true, false, Option, Some, None, is_some, slice_get, replicate}
 use Rattle.std.proofs.lemmas.Bool.{cases_eq, cases_lt}
 use Rattle.std.proofs.lemmas.List.{get_or-set_same, get_or-set_other, length-set, get_or_past, length-replicate, get_or-replicate}
-use Rattle.std.proofs.lemmas.Option.{slice_get_within, slice_get-get_or, get_or_from_slice_get, slice_get_past}
+use Rattle.std.proofs.lemmas.Option.{slice_get_within, slice_get-get_or, get_or_from_slice_get}
 use Rattle.history.specs.declared.op_id.OpId.{OpId}
 use Rattle.history.specs.History.{HistoryValue, session}
 use Rattle.causal_order.proofs.OrdersLaws.{same_op}
 use Rattle.cert_check.specs.declared.certificate.Certificate.{Certificate}
 use Rattle.cert_check.specs.declared.checking.Outcome.{Outcome}
-use Rattle.board.specs.Boards.{CaseState, SessionRows, Row, no_rows, fresh_rows, fresh_case, session_of, row_of, with_session, with_verdict, handed_out, filled, after_row, AreRowsOf}
+use Rattle.board.specs.Boards.{CaseState, SessionRows, Row, no_rows, fresh_rows, session_of, row_of, with_session, with_verdict, handed_out, filled, after_row, AreRowsOf}
 use Rattle.board.specs.Events.{IsRow}
 use Rattle.board.proofs.Due.{is_inside}
 use Rattle.world.specs.Steps.KeptCases.{rows_for}

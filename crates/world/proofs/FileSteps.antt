@@ -1,5 +1,5 @@
 -- A case is filed.
-use Rattle.std.proofs.Common.{◌≡◌, ◌⊎◌, ℕ, zero, suc, ◌+◌, ◌<◌, ◌≤◌, inl, inr, List, [], ◌∷◌, ◌++◌, length, length-append, refl, sym, ◌∙◌, ap, subst, arith}
+use Rattle.std.proofs.Common.{◌≡◌, ℕ, zero, suc, ◌+◌, ◌<◌, ◌≤◌, inl, inr, List, [], ◌∷◌, ◌++◌, length, length-append, refl, sym, ◌∙◌, ap, subst, arith}
 use Rattle.std.specs.Prelude.{◌↔◌, Bool, true, false, Option, Some, None, if◌then◌else◌, slice_get, nat_lt, Result, Ok, Err, IfErr, OnOk}
 use Rattle.std.proofs.lemmas.Bool.{cases_lt, lt-ltb, ltb-true}
 use Rattle.std.proofs.lemmas.Option.{slice_get_within}
@@ -18,11 +18,9 @@ use Rattle.world.specs.declared.step.StepOf.TheVariants.{File}
 use Rattle.world.specs.declared.reply.ReplyOf.{ReplyOf}
 use Rattle.world.specs.declared.reply.ReplyOf.TheVariants.{Case, Refused}
 use Rattle.world.specs.declared.refusal.Refusal.TheVariants.{ShapeMismatch, Full}
-use Rattle.world.specs.Happened.{events}
-use Rattle.world.specs.LaneReplies.{seal}
-use Rattle.world.specs.Cases.{Filing, filings, case_file}
+use Rattle.world.specs.Cases.{filings, case_file}
 use Rattle.world.specs.BoardReplies.{IsFileReply, next_case}
-use Rattle.world.specs.Steps.KeptCases.{Log, log_of, CasesState, IsCase, IsVerdict, AreCases, AreFiles, ShowsCases, Files, IsKnown, AreRowsFor, IsAdded, with_board, with_file, with_one_file}
+use Rattle.world.specs.Steps.KeptCases.{Log, log_of, CasesState, IsCase, IsVerdict, AreCases, ShowsCases, Files, AreRowsFor, IsAdded, with_board, with_file, with_one_file}
 use Rattle.world.proofs.Logs.{log_more, filed_known}
 use Rattle.world.proofs.CaseRows.{AreFresh, fresh_none, fresh_some}
 use Rattle.world.proofs.KeptCase.{case_new}

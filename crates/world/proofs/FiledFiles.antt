@@ -3,10 +3,8 @@ use Rattle.std.proofs.Common.{◌≡◌, ◌⊎◌, ℕ, ◌<◌, ◌≤◌, ◌
 use Rattle.std.specs.Prelude.{Option, Some, None, slice_get}
 use Rattle.std.proofs.lemmas.Bool.{cases_eq, cases_lt}
 use Rattle.std.proofs.lemmas.List.{append-nil}
-use Rattle.std.proofs.lemmas.Option.{slice_get_within, slice_get_past}
+use Rattle.std.proofs.lemmas.Option.{slice_get_past}
 use Rattle.history.specs.History.{HistoryValue}
-use Rattle.cert_check.specs.declared.criterion.Criterion.{Criterion}
-use Rattle.cert_check.specs.declared.certificate.Certificate.{Certificate}
 use Rattle.cert_check.specs.Certificates.{CaseRecord}
 use Rattle.recorder.proofs.Telling.{get_pushed}
 use Rattle.snapshot.specs.Runs.{Event}

@@ -1,22 +1,20 @@
 -- What is known of one case, after a step.
-use Rattle.std.proofs.Common.{◌≡◌, ◌≢◌, ◌⊎◌, ℕ, ◌+◌, ◌<◌, ◌≤◌, List, [], ◌∷◌, ◌++◌, length, inl, inr, arith, sym, ap, subst, refl, ◌∙◌}
+use Rattle.std.proofs.Common.{◌≡◌, ◌⊎◌, ℕ, ◌+◌, ◌<◌, ◌≤◌, List, [], ◌∷◌, ◌++◌, inl, inr, arith, sym, ap, subst, refl, ◌∙◌}
 use Rattle.std.specs.Prelude.{Bool, Option, Some, None, slice_get}
 use Rattle.std.proofs.lemmas.Bool.{cases_eq, cases_lt}
 use Rattle.std.proofs.lemmas.Option.{same_Some}
 use Rattle.history.specs.declared.op_id.OpId.{OpId}
-use Rattle.history.specs.History.{HistoryValue}
-use Rattle.causal_order.specs.Orders.{IsEarlier}
 use Rattle.causal_order.proofs.OrdersLaws.{same_op}
 use Rattle.cert_check.specs.declared.checking.Outcome.{Outcome}
 use Rattle.cert_check.specs.Certificates.{CaseRecord}
 use Rattle.bad_patterns.specs.declared.pattern.Pattern.{Pattern}
 use Rattle.board.specs.declared.piece.Piece.{Piece}
 use Rattle.board.specs.Boards.{CaseState, SessionRows, Row, session_of, row_of, with_verdict, handed_out, refuted, fresh_case, first_pattern}
-use Rattle.board.specs.Events.{IsRow, IsFree, IsDue}
+use Rattle.board.specs.Events.{IsRow, IsDue}
 use Rattle.board.proofs.BoardsLaws.{verdict_row, verdict_others, taking_rows}
 use Rattle.board.proofs.Due.{waiting_row}
 use Rattle.world.specs.declared.place.Place.{Place}
-use Rattle.world.specs.Steps.KeptCases.{Log, with_put, with_taken, with_pattern, WasTakenIn, HasVerdictIn, IsKnown, IsOutcome, IsCase, rows_for}
+use Rattle.world.specs.Steps.KeptCases.{Log, with_put, with_taken, with_pattern, WasTakenIn, HasVerdictIn, IsKnown, IsOutcome, IsCase}
 use Rattle.world.proofs.Logs.{IsSameOf, put_here, put_from, put_to, taken_to, taken_here, taken_from, pattern_here}
 use Rattle.world.proofs.CaseRows.{AreFresh, op_cases, verdict_sizes, verdict_next, taken_sizes, taken_next, taken_next_elsewhere, row_there}
 

@@ -1,15 +1,14 @@
 -- What steps say of cases and verdicts, with one step more.
-use Rattle.std.proofs.Common.{◌≡◌, ℕ, zero, suc, ◌+◌, ◌<◌, ◌≤◌, ◌==◌, ◌⊎◌, inl, inr, List, [], ◌∷◌, ◌++◌, length, length-append, refl, sym, ◌∙◌, ap, subst, arith}
-use Rattle.std.specs.Prelude.{Bool, Option, Some, None, if◌then◌else◌, slice_get}
+use Rattle.std.proofs.Common.{◌≡◌, ℕ, zero, suc, ◌+◌, ◌<◌, ◌≤◌, ◌⊎◌, inl, inr, List, [], ◌∷◌, ◌++◌, length, length-append, refl, sym, ◌∙◌, ap, subst, arith}
+use Rattle.std.specs.Prelude.{Option, Some, None, slice_get}
 use Rattle.std.specs.List.{filter_map}
-use Rattle.std.proofs.lemmas.Option.{slice_get_within, slice_get_past}
 use Rattle.history.specs.declared.op_id.OpId.{OpId}
 use Rattle.bad_patterns.specs.declared.pattern.Pattern.{Pattern}
 use Rattle.board.specs.declared.piece.Piece.{Piece}
 use Rattle.recorder.proofs.Telling.{get_pushed, get_push_cases, get_push_before}
 use Rattle.world.specs.declared.step.StepOf.{StepOf}
 use Rattle.world.specs.declared.reply.ReplyOf.{ReplyOf}
-use Rattle.world.specs.Cases.{Filing, filed, given, put, refuted, took, filings}
+use Rattle.world.specs.Cases.{filed, given, put, refuted, took, filings}
 use Rattle.world.specs.Steps.Recordings.{after}
 use Rattle.world.specs.Steps.KeptCases.{Log, log_of, with_given, with_put, with_taken, with_pattern, WasTakenIn, HasVerdictIn, IsKnown}
 use Rattle.world.proofs.Picked.{picked_not, picked_too, if_same, if_other}

@@ -1,20 +1,18 @@
 -- A verdict is put to a case.
-use Rattle.std.proofs.Common.{◌≡◌, ◌≢◌, ◌⊎◌, ℕ, ◌==◌, ◌<◌, ◌≤◌, inl, inr, List, [], ◌∷◌, ◌++◌, length, refl, sym, ◌∙◌, ap, subst, arith, eqb-true, eq-eqb}
-use Rattle.std.specs.Prelude.{Bool, true, false, Option, Some, None, if◌then◌else◌, map, option_map, slice_get, slice_set}
-use Rattle.std.proofs.lemmas.Bool.{cases_eq, cases_lt}
+use Rattle.std.proofs.Common.{◌≡◌, ◌⊎◌, ℕ, ◌==◌, ◌≤◌, inl, inr, List, [], ◌∷◌, ◌++◌, length, refl, sym, ◌∙◌, ap, subst, arith, eqb-true, eq-eqb}
+use Rattle.std.specs.Prelude.{Bool, true, false, Option, Some, None, if◌then◌else◌, option_map, slice_get}
 use Rattle.std.proofs.lemmas.Option.{same_Some, slice_get-map, slice_get_within}
 use Rattle.snapshot.proofs.TableLemmas.{none_past}
 use Rattle.history.specs.History.{HistoryValue}
 use Rattle.history.specs.declared.op_id.OpId.{OpId}
 use Rattle.cert_check.specs.declared.criterion.Criterion.{Criterion}
-use Rattle.cert_check.specs.declared.checking.Outcome.{Outcome}
 use Rattle.cert_check.specs.Certificates.{CaseRecord}
 use Rattle.bad_patterns.specs.declared.pattern.Pattern.{Pattern}
 use Rattle.board.specs.declared.piece.Piece.{Piece}
 use Rattle.board.specs.declared.board_error.BoardError.{BoardError}
 use Rattle.board.specs.declared.board_error.BoardError.TheVariants as boards
-use Rattle.board.specs.Boards.{CaseState, Row, row_of, session_of, with_verdict}
-use Rattle.board.specs.Events.{IsRow, put_refusal, put_refusal_of, row_refusal}
+use Rattle.board.specs.Boards.{CaseState, Row, row_of, with_verdict}
+use Rattle.board.specs.Events.{put_refusal, row_refusal}
 use Rattle.world.specs.declared.place.Place.{Place}
 use Rattle.world.specs.declared.given_verdict.GivenVerdict.{GivenVerdict}
 use Rattle.world.specs.declared.step.StepOf.{StepOf}
@@ -26,7 +24,7 @@ use Rattle.world.specs.declared.refusal.Refusal.TheVariants.{Doubled, NoSuch}
 use Rattle.world.specs.Refusals.{refusal_of}
 use Rattle.world.specs.Cases.{Filing, filings, verdicts, HasVerdict}
 use Rattle.world.specs.BoardReplies.{HasPiece, IsPutTo, IsPutReply}
-use Rattle.world.specs.Steps.KeptCases.{Log, log_of, CasesState, IsCase, IsVerdict, IsOutcome, AreCases, ShowsCases, TakesOn, place_of, accepted_unless, with_case, with_put}
+use Rattle.world.specs.Steps.KeptCases.{log_of, CasesState, IsCase, IsOutcome, AreCases, ShowsCases, TakesOn, place_of, accepted_unless, with_case, with_put}
 use Rattle.world.proofs.Logs.{put_same, put_known}
 use Rattle.world.proofs.CaseRows.{row_there}
 use Rattle.world.proofs.CasePieces.{piece_row}

@@ -1,5 +1,5 @@
 -- A pattern is put against a case.
-use Rattle.std.proofs.Common.{◌≡◌, ◌⊎◌, ℕ, ◌==◌, ◌<◌, inl, inr, List, [], ◌∷◌, ◌++◌, length, refl, sym, ◌∙◌, ap, subst, eq-eqb}
+use Rattle.std.proofs.Common.{◌≡◌, ℕ, ◌==◌, inl, inr, List, [], ◌∷◌, ◌++◌, length, refl, sym, ◌∙◌, ap, subst, eq-eqb}
 use Rattle.std.specs.Prelude.{◌↔◌, Bool, true, false, Option, Some, None, if◌then◌else◌, slice_get, Result, Ok, Err, IfErr, OnOk}
 use Rattle.std.proofs.lemmas.Option.{same_Some, slice_get_within}
 use Rattle.history.specs.History.{HistoryValue}
@@ -9,7 +9,7 @@ use Rattle.bad_patterns.specs.declared.pattern.Pattern.{Pattern}
 use Rattle.board.specs.declared.board_error.BoardError.{BoardError}
 use Rattle.board.specs.declared.board_error.BoardError.TheVariants as boards
 use Rattle.board.specs.Boards.{CaseState, refuted}
-use Rattle.board.specs.Events.{IsChanged, refute_refusal}
+use Rattle.board.specs.Events.{refute_refusal}
 use Rattle.world.specs.declared.place.Place.{Place}
 use Rattle.world.specs.declared.step.StepOf.{StepOf}
 use Rattle.world.specs.declared.step.StepOf.TheVariants.{Refute}
@@ -19,7 +19,7 @@ use Rattle.world.specs.declared.refusal.Refusal.{Refusal}
 use Rattle.world.specs.declared.refusal.Refusal.TheVariants.{NotThatPattern, NoSuch}
 use Rattle.world.specs.Cases.{case_file}
 use Rattle.world.specs.BoardReplies.{IsRefuteReply}
-use Rattle.world.specs.Steps.KeptCases.{log_of, CasesState, AreCases, ShowsCases, TakesOn, IsRefusal, place_of, with_board, with_case, with_pattern}
+use Rattle.world.specs.Steps.KeptCases.{log_of, CasesState, AreCases, ShowsCases, TakesOn, IsRefusal, place_of, with_case, with_pattern}
 use Rattle.world.proofs.Logs.{pattern_same, pattern_known}
 use Rattle.world.proofs.KeptCase.{case_refuted}
 use Rattle.world.proofs.BoardChanges.{case_of_file, changed, shows_more, shows_refused}

@@ -1,5 +1,5 @@
 -- A world runs step by step.
-use Rattle.std.proofs.Common.{◌≡◌, ℕ, zero, suc, ◌+◌, ◌<◌, ◌≤◌, List, [], ◌∷◌, ◌++◌, length, length-append, length-take-le, take, take_all, get_or, refl, sym, ◌∙◌, ap, subst, arith}
+use Rattle.std.proofs.Common.{◌≡◌, ℕ, suc, ◌+◌, ◌<◌, ◌≤◌, List, [], ◌∷◌, ◌++◌, length, length-append, take, take_all, get_or, refl, sym, ◌∙◌, ap, subst, arith}
 use Rattle.std.specs.Prelude.{Bool, Some, slice_get}
 use Rattle.std.specs.List.{zip}
 use Rattle.std.proofs.lemmas.Option.{slice_get-get_or}
@@ -9,8 +9,8 @@ use Rattle.bad_patterns.specs.declared.pattern.Pattern.{Pattern}
 use Rattle.world.specs.declared.step.StepOf.{StepOf}
 use Rattle.world.specs.declared.reply.ReplyOf.{ReplyOf}
 use Rattle.world.specs.Runs.{Replied, IsRun}
-use Rattle.world.specs.Steps.Recordings.{State, Shows}
-use Rattle.world.specs.Steps.KeptCases.{CasesState, ShowsCases}
+use Rattle.world.specs.Steps.Recordings.{State}
+use Rattle.world.specs.Steps.KeptCases.{CasesState}
 use Rattle.world.specs.Steps.Worlds.{ShowsWorld, StepsTo}
 use Rattle.world.proofs.RunsRecorded.{take_next}
 use Rattle.world.proofs.RunSteps.{run_none, run_more}

@@ -1,13 +1,11 @@
 -- A worker takes the next piece.
-use Rattle.std.proofs.Common.{◌≡◌, ◌≢◌, ◌⊎◌, ℕ, ◌<◌, ◌≤◌, inl, inr, List, [], ◌∷◌, ◌++◌, length, refl, sym, ◌∙◌, ap, subst, arith}
+use Rattle.std.proofs.Common.{◌≡◌, ℕ, ◌<◌, ◌≤◌, inl, inr, List, [], ◌∷◌, ◌++◌, length, refl, sym, ◌∙◌, ap, subst, arith}
 use Rattle.std.specs.Prelude.{Option, Some, None, slice_get, IsNone, IfSome}
 use Rattle.std.proofs.lemmas.Bool.{cases_lt}
 use Rattle.std.proofs.lemmas.Option.{same_Some, slice_get_within}
 use Rattle.history.specs.declared.op_id.OpId.{OpId}
 use Rattle.history.specs.History.{HistoryValue}
-use Rattle.causal_order.specs.Orders.{IsEarlier}
 use Rattle.cert_check.specs.declared.criterion.Criterion.{Criterion}
-use Rattle.cert_check.specs.Certificates.{CaseRecord}
 use Rattle.bad_patterns.specs.declared.pattern.Pattern.{Pattern}
 use Rattle.board.specs.declared.piece.Piece.{Piece}
 use Rattle.board.specs.Boards.{CaseState, Row, row_of, session_of, handed_out}
@@ -19,11 +17,10 @@ use Rattle.world.specs.declared.step.StepOf.{StepOf}
 use Rattle.world.specs.declared.step.StepOf.TheVariants.{Take}
 use Rattle.world.specs.declared.reply.ReplyOf.{ReplyOf}
 use Rattle.world.specs.declared.reply.ReplyOf.TheVariants.{Taken}
-use Rattle.world.specs.Cases.{patterns, case_file}
-use Rattle.world.specs.BoardReplies.{HasPiece, IsFree, IsFirstFree, IsTake, IsTakeReply}
-use Rattle.world.specs.Steps.Recordings.{after}
-use Rattle.world.specs.Steps.KeptCases.{Log, log_of, CasesState, IsCase, AreCases, ShowsCases, TakesOn, with_board, with_case, with_taken, WasTakenIn, HasVerdictIn}
-use Rattle.world.proofs.Logs.{log_after, taken_same, taken_known, there}
+use Rattle.world.specs.Cases.{patterns}
+use Rattle.world.specs.BoardReplies.{IsFree, IsFirstFree}
+use Rattle.world.specs.Steps.KeptCases.{log_of, CasesState, IsCase, AreCases, ShowsCases, TakesOn, with_case, with_taken}
+use Rattle.world.proofs.Logs.{taken_same, taken_known, there}
 use Rattle.world.proofs.CaseRows.{row_there}
 use Rattle.world.proofs.CasePieces.{piece_row, row_piece}
 use Rattle.world.proofs.KeptCase.{case_taken}

@@ -1,6 +1,6 @@
 -- A piece is checked.
-use Rattle.std.proofs.Common.{◌≡◌, ◌⊎◌, ℕ, ◌<◌, inl, inr, List, [], ◌∷◌, ◌++◌, length, refl, sym, ◌∙◌, ap, subst}
-use Rattle.std.specs.Prelude.{Option, Some, None, map, slice_get}
+use Rattle.std.proofs.Common.{◌≡◌, ℕ, inl, inr, List, [], ◌∷◌, ◌++◌, length, refl, sym, ◌∙◌, ap, subst}
+use Rattle.std.specs.Prelude.{Option, Some, None, slice_get}
 use Rattle.std.proofs.lemmas.List.{length-map, map-append}
 use Rattle.std.proofs.lemmas.Option.{same_Some}
 use Rattle.recorder.proofs.Telling.{get_push_cases}
@@ -11,8 +11,6 @@ use Rattle.cert_check.specs.declared.checking.Outcome.{Outcome}
 use Rattle.cert_check.specs.Certificates.{CaseRecord}
 use Rattle.bad_patterns.specs.declared.pattern.Pattern.{Pattern}
 use Rattle.board.specs.declared.piece.Piece.{Piece}
-use Rattle.board.specs.Boards.{CaseState}
-use Rattle.world.specs.declared.place.Place.{Place}
 use Rattle.world.specs.declared.given_verdict.GivenVerdict.{GivenVerdict}
 use Rattle.world.specs.declared.step.StepOf.{StepOf}
 use Rattle.world.specs.declared.step.StepOf.TheVariants.{Work}
@@ -21,7 +19,7 @@ use Rattle.world.specs.declared.reply.ReplyOf.TheVariants.{Verdict, Refused}
 use Rattle.world.specs.declared.refusal.Refusal.TheVariants.{NoSuch}
 use Rattle.world.specs.Cases.{verdicts, case_file}
 use Rattle.world.specs.BoardReplies.{HasPiece, IsWorkReply}
-use Rattle.world.specs.Steps.KeptCases.{Log, log_of, CasesState, HasPieceAt, IsCase, IsVerdict, IsOutcome, AreCases, ShowsCases, TakesOn, with_given, with_verdict_given}
+use Rattle.world.specs.Steps.KeptCases.{Log, log_of, CasesState, HasPieceAt, IsVerdict, IsOutcome, AreCases, ShowsCases, TakesOn, with_given, with_verdict_given}
 use Rattle.world.proofs.Logs.{given_same, given_known}
 use Rattle.world.proofs.KeptCase.{case_same}
 use Rattle.world.proofs.BoardChanges.{shows_more, shows_refused}

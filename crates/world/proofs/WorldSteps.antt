@@ -7,18 +7,17 @@ use Rattle.cert_check.specs.declared.certificate.Certificate.{Certificate}
 use Rattle.bad_patterns.specs.declared.pattern.Pattern.{Pattern}
 use Rattle.snapshot.specs.Runs.{Event}
 use Rattle.world.specs.declared.step.StepOf.{StepOf}
-use Rattle.world.specs.declared.step.StepOf.TheVariants.{Begin, End, Start, Look, Show, File, Take, Work, Put, Refute, Ask}
+use Rattle.world.specs.declared.step.StepOf.TheVariants.{Begin, End, Start, Look, Show, File}
 use Rattle.world.specs.declared.reply.ReplyOf.{ReplyOf}
 use Rattle.world.specs.declared.reply.ReplyOf.TheVariants.{Refused}
 use Rattle.world.specs.declared.refusal.Refusal.TheVariants.{NoSuch}
 use Rattle.world.specs.Happened.{event, events}
-use Rattle.world.specs.LaneReplies.{seal, IsLaneReply}
+use Rattle.world.specs.LaneReplies.{IsLaneReply}
 use Rattle.world.specs.Cases.{filed}
 use Rattle.world.specs.BoardReplies.{IsFileReply, IsBoardReply}
-use Rattle.world.specs.Runs.{IsReply}
-use Rattle.world.specs.Steps.Recordings.{State, Shows, Takes, IsRecorded, after}
-use Rattle.world.specs.Steps.KeptCases.{Log, log_of, CasesState, AreCases, ShowsCases, TakesOn, Files}
-use Rattle.world.specs.Steps.Worlds.{ShowsWorld, StepsTo, IsSealIn}
+use Rattle.world.specs.Steps.Recordings.{State, Shows, Takes, after}
+use Rattle.world.specs.Steps.KeptCases.{Log, log_of, CasesState, AreCases, TakesOn, Files}
+use Rattle.world.specs.Steps.Worlds.{StepsTo, IsSealIn}
 use Rattle.world.proofs.RunsRecorded.{events_more}
 use Rattle.world.proofs.Logs.{log_after, log_more}
 use Rattle.world.proofs.FiledFiles.{files_stay}

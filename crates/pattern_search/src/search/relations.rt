@@ -59,10 +59,7 @@ impl Relation {
         if operations == 0 {
             return Ok(None);
         }
-        let op = OpId {
-            session: session as u64,
-            index: operations as u64 - 1,
-        };
+        let op = OpId::at(session, operations - 1);
         Ok(Some(Relation { op, happened }))
     }
 

@@ -23,7 +23,7 @@ use Rattle.world.specs.declared.refusal.Refusal.TheVariants.{NotThatPattern, NoS
 use Rattle.world.specs.Refusals.{refusal_of}
 use Rattle.world.specs.Happened.{events}
 use Rattle.world.specs.LaneReplies.{seal}
-use Rattle.world.specs.Cases.{given, put, refuted, took, filings, verdicts, puts, patterns, taken, case_file}
+use Rattle.world.specs.Cases.{filings, verdicts, puts, patterns, taken, case_file}
 use Rattle.world.specs.BoardReplies.{HasPiece, IsBoardReply}
 use Rattle.world.specs.Steps.Recordings.{after}
 

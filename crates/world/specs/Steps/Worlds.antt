@@ -1,5 +1,5 @@
 -- A running world: its sessions and sealers, and its cases.
-use Rattle.std.specs.Prelude.{◌≡◌, ℕ, Bool, List, [], ◌∷◌, ◌++◌, Option, Some, None}
+use Rattle.std.specs.Prelude.{◌≡◌, ℕ, Bool, List, [], ◌∷◌, ◌++◌, Option}
 use Rattle.history.specs.History.{HistoryValue}
 use Rattle.cert_check.specs.declared.criterion.Criterion.{Criterion}
 use Rattle.bad_patterns.specs.declared.pattern.Pattern.{Pattern}

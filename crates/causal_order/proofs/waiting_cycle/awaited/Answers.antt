@@ -1,7 +1,9 @@
-use Rattle.std.proofs.Common.{◌≡◌, get_or, ap, ◌∙◌}
+use Rattle.std.proofs.Common.{◌≡◌, get_or, ap, ◌∙◌, subst, sym}
 use Rattle.history.specs.declared.op_id.OpId.{OpId}
 use Rattle.causal_order.specs.Topological.{next_of}
 use Rattle.causal_order.specs.Vectors.{list_of}
+use Rattle.causal_order.specs.Steps.Waiting.{IsUnplaced}
+use Rattle.causal_order.specs.Waits.{IsAwaited}
 use Rattle.causal_order.proofs.WaitRoutes.{right-other, right-own}
 use Rattle.causal_order.proofs.waiting_cycle.awaited.Goals as goal
 use Rattle.causal_order.proofs.waiting_cycle.awaited.Goals.{then-missing-counts, else-missing-counts}
@@ -15,14 +17,14 @@ returns-clause-awaited c =
     let read : counts ≡ list_of v (next_of schedule s) = c.get-counts.ensures ∙ ap (λ (o : OpId). list_of v o) c.next_operation.ensures in
     let found = c.first_missing-missing.ensures in
     let is : c.from.result ≡ get_or counts c.if-missing-counts.from 0 = c.from.ensures in
-    elim c.if-missing-counts.branch [
+    subst (λ (o : OpId). IsAwaited v (next_of schedule s) o) (sym c.at.ensures) (elim c.if-missing-counts.branch [
       | then-missing-counts w ↦
           (right-other v schedule c.requires.waits s c.requires.is_open counts read c.if-missing-counts.from c.from.result is
           c.first_missing-missing.result w.from-is (found.missing w.if-missing-counts.true) (found.not_placed w.if-missing-counts.true)).0
       | else-missing-counts w ↦
           (right-own v schedule c.requires.waits s c.requires.is_open counts read c.if-missing-counts.from c.from.result is
           c.requires.stuck w.from-is c.first_missing-missing.result w.if-missing-counts.false found.seen).0
-    ]
+    ])
 
 pub returns-clause-unplaced : goal.returns-clause-unplaced
 returns-clause-unplaced c =
@@ -33,11 +35,11 @@ returns-clause-unplaced c =
     let read : counts ≡ list_of v (next_of schedule s) = c.get-counts.ensures ∙ ap (λ (o : OpId). list_of v o) c.next_operation.ensures in
     let found = c.first_missing-missing.ensures in
     let is : c.from.result ≡ get_or counts c.if-missing-counts.from 0 = c.from.ensures in
-    elim c.if-missing-counts.branch [
+    subst (λ (o : OpId). IsUnplaced v schedule o) (sym c.at.ensures) (elim c.if-missing-counts.branch [
       | then-missing-counts w ↦
           (right-other v schedule c.requires.waits s c.requires.is_open counts read c.if-missing-counts.from c.from.result is
           c.first_missing-missing.result w.from-is (found.missing w.if-missing-counts.true) (found.not_placed w.if-missing-counts.true)).1
       | else-missing-counts w ↦
           (right-own v schedule c.requires.waits s c.requires.is_open counts read c.if-missing-counts.from c.from.result is
           c.requires.stuck w.from-is c.first_missing-missing.result w.if-missing-counts.false found.seen).1
-    ]
+    ])

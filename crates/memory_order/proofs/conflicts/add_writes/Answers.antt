@@ -1,4 +1,5 @@
-use Rattle.std.proofs.Common.{◌-◌, ℕ, arith, subst}
+use Rattle.std.proofs.Common.{◌-◌, ℕ, [], length, get_or, ap, arith, subst}
+use Rattle.history.specs.declared.op_id.OpId.{OpId}
 use Rattle.causal_order.specs.Orders.{op}
 use Rattle.causal_order.specs.Steps.Waiting.{AddsWait}
 use Rattle.memory_order.proofs.Conflicting.{raised-all, raised-other, raised-write}
@@ -14,6 +15,8 @@ add-requires-clause-other c =
     let held = c.requires.held c.loop-session.session in
     let same = c.loop-session.invariant.alike.operations c.loop-session.session in
     let value = c.from.ensures in
+    let index = ap (λ (o : OpId). o.index) c.at-write.ensures in
+    let held_at = ap (λ (o : OpId). length (get_or c.loop-session.waits o.session [])) c.at-write.ensures in
     omega arith
 
 pub loop-session-preserved : goal.loop-session-preserved
@@ -28,7 +31,7 @@ loop-session-preserved c =
     elim c.if-end-gt0.branch [
       | then-end-gt0 w ↦ rw w.waits-is
           (raised-write writes c.args.key counts o c.args.waits.now t before inv n c.end_of_writes-end.ensures w.if-end-gt0.true w.add.new.self
-          (subst (λ (m : ℕ). AddsWait o (op t (m - 1)) before w.add.new.self) w.from.ensures w.add.ensures))
+          (subst (λ (m : ℕ). AddsWait o (op t (m - 1)) before w.add.new.self) w.from.ensures (rw w.at-write.ensures at w.add.ensures)))
       | else-end-gt0 w ↦ rw w.waits-is
           (raised-other writes c.args.key counts o c.args.waits.now t before inv n c.end_of_writes-end.ensures w.if-end-gt0.false)
     ]

@@ -6,5 +6,6 @@ pub returns-clause-so_far : goal.returns-clause-so_far
 returns-clause-so_far c = on_ok_weaker c.push.result
     (placed-so_far c.args.sources.now c.args.vectors.now c.requires.so_far c.args.session c.requires.ready
     c.operations-index.result c.operations-index.ensures c.get.result.now c.get.ensures c.in_ok-row.row.items c.deref.result.now c.push.new.self
-    c.in_ok-row.ensures.counts c.in_ok-row.ensures.own c.in_ok-row.ensures.others c.deref.ensures.value)
+    c.in_ok-row.ensures.counts (rw c.at-op.ensures at c.in_ok-row.ensures.own) (rw c.at-op.ensures at c.in_ok-row.ensures.others)
+    c.deref.ensures.value)
     c.push.ensures.ok

@@ -32,7 +32,7 @@ loop-index-preserved c =
       | in-Some w ↦ rw w.waits-is (record {
         alike = alike-trans w.add.new.self c.loop-index.waits sources w.add.ensures.alike inv.alike;
         so_far = sources-more sources s i c.loop-index.waits inv.so_far w.in-Some.source w.add.new.self
-            (at ∙ ap (λ (e : Option OpId). Some e) w.in-Some.is) w.add.ensures;
+            (at ∙ ap (λ (e : Option OpId). Some e) w.in-Some.is) (rw w.at-op.ensures at w.add.ensures);
       })
       | in_default w ↦ rw w.waits-is (record {
         alike = inv.alike;

@@ -1,6 +1,8 @@
-use Rattle.std.proofs.Common.{arith}
+use Rattle.std.proofs.Common.{ap, arith, length}
+use Rattle.history.specs.declared.op_id.OpId.{OpId}
 use Rattle.history.specs.History.{IsOp}
 use Rattle.causal_order.specs.Orders.{op}
+use Rattle.causal_order.specs.Vectors.{list_of}
 use Rattle.memory_order.proofs.HeldItems.{held-item, listed-held}
 use Rattle.memory_order.proofs.StrictVectors.{strict-next, strict-session}
 use Rattle.memory_order.proofs.strict.leave_out_own.Goals as goal
@@ -8,13 +10,14 @@ use Rattle.memory_order.proofs.strict.leave_out_own.Goals as goal
 pub set-requires-clause-listed : goal.set-requires-clause-listed
 set-requires-clause-listed c =
     let is_op : IsOp c.args.h.now (op c.args.session c.loop-index.index) = omega arith in
-    listed-held c.args.h.now c.loop-index.strict c.loop-index.invariant.held (op c.args.session c.loop-index.index) is_op c.args.session c.loop-index.index c.requires.exists
+    rw c.at-op.ensures (listed-held c.args.h.now c.loop-index.strict c.loop-index.invariant.held (op c.args.session c.loop-index.index) is_op c.args.session c.loop-index.index c.requires.exists)
 
 pub set-requires-clause-inside : goal.set-requires-clause-inside
 set-requires-clause-inside c =
     let is_op : IsOp c.args.h.now (op c.args.session c.loop-index.index) = omega arith in
     let size = c.loop-index.invariant.held.vectors.counts (op c.args.session c.loop-index.index) is_op in
     let exists = c.requires.exists in
+    let at = ap (λ (o : OpId). length (list_of c.loop-index.strict o)) c.at-op.ensures in
     omega arith
 
 pub loop-index-preserved : goal.loop-index-preserved
@@ -24,7 +27,7 @@ loop-index-preserved c =
     let i = c.loop-index.index in
     let before = c.loop-index.invariant in
     let is_op : IsOp h (op s i) = omega arith in
-    rw c.set.ensures (record {
+    rw (c.set.ensures, c.at-op.ensures) (record {
       held = held-item h c.loop-index.strict before.held (op s i) is_op s i c.requires.exists (omega arith);
       strict = λ v begun. strict-next h v c.loop-index.strict s i before.held is_op c.requires.exists (before.strict v begun);
     })

@@ -5,7 +5,7 @@ use Rattle.memory_order.proofs.writes.push_writes.Goals.{in-Write+in_ok-push, in
 
 pub loop-index-preserved : goal.loop-index-preserved
 loop-index-preserved c = elim c.match-call.branch [
-  | in-Write+in_ok-push w ↦ rw (w.writes-is, w.in_ok-push.ensures.items)
+  | in-Write+in_ok-push w ↦ rw (w.writes-is, w.in_ok-push.ensures.items, w.at-op.ensures)
       (ListsWritesBefore-write c.args.h.now _ _ _ _ _
       (Writes-read c.args.h.now _ c.args.session _ _ c.session-call-items.ensures.operations c.loop-index-test.true _ w.in-Write.is)
       c.loop-index.invariant)

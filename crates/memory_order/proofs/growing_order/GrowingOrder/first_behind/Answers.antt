@@ -1,5 +1,7 @@
-use Rattle.std.proofs.Common.{◌-◌, ◌/◌, ◌+◌, arith, ℕ}
+use Rattle.std.proofs.Common.{◌-◌, ◌/◌, ◌+◌, ap, arith, ℕ}
 use Rattle.std.specs.Prelude.{slice_index}
+use Rattle.history.specs.declared.op_id.OpId.{OpId}
+use Rattle.causal_order.specs.Vectors.{count}
 use Rattle.memory_order.proofs.GrowingSteps.{monotone-to}
 use Rattle.memory_order.proofs.growing_order.GrowingOrder.first_behind.Goals as goal
 
@@ -12,6 +14,7 @@ loop-low-preserved-then-op-count c =
     let less = c.loop-low-test.true in
     let counts = c.if-op-count.true in
     let value = c.count.ensures in
+    let at = ap (λ (o : OpId). count order.counts o c.args.op.session) c.at-other.ensures in
     record {
       ordered = omega arith;
       inside = omega arith;
@@ -30,6 +33,7 @@ loop-low-preserved c =
     let less = c.loop-low-test.true in
     let counts = c.if-op-count.false in
     let value = c.count.ensures in
+    let at = ap (λ (o : OpId). count order.counts o c.args.op.session) c.at-other.ensures in
     record {
       ordered = omega arith;
       inside = inside;

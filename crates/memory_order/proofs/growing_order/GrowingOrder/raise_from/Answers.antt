@@ -34,9 +34,9 @@ returns-then-session-other-clause-within c = λ reads cause.
     record {
       grows = grows-step h ⊥ reads a _
           (growing-pushed h a b _ c.args.session c.args.index c.in_ok-end.end c.args.other c.args.number c.args.cause raised some is_op c.requires.other
-          refl refl c.in_ok-push.ensures.items refl)
+          refl refl (rw c.at-op.ensures at c.in_ok-push.ensures.items) refl)
           (inl (raise-made h a b c.args.session c.args.index c.in_ok-end.end c.args.other c.args.number c.args.cause raised c.in_ok-end.ensures.stopped reads _ some is_op
-          (cause (omega arith)) refl refl c.in_ok-push.ensures.items refl refl refl (inr (refl, c.if-session-other.true))));
+          (cause (omega arith)) refl refl (rw c.at-op.ensures at c.in_ok-push.ensures.items) refl refl refl (inr (refl, c.if-session-other.true))));
       past = raised.past;
     }
 
@@ -55,8 +55,8 @@ returns-else-session-other-clause-within c = λ reads cause.
     record {
       grows = grows-step h ⊥ reads a _
           (growing-pushed h a b _ c.args.session c.args.index c.in_ok-end.end c.args.other c.args.number c.args.cause raised some is_op c.requires.other
-          refl refl c.in_ok-push.ensures.items refl)
+          refl refl (rw c.at-op.ensures at c.in_ok-push.ensures.items) refl)
           (inl (raise-made h a b c.args.session c.args.index c.in_ok-end.end c.args.other c.args.number c.args.cause raised c.in_ok-end.ensures.stopped reads _ some is_op
-          (cause (omega arith)) refl refl c.in_ok-push.ensures.items refl refl refl (inl (refl, c.if-session-other.false))));
+          (cause (omega arith)) refl refl (rw c.at-op.ensures at c.in_ok-push.ensures.items) refl refl refl (inl (refl, c.if-session-other.false))));
       past = raised.past;
     }

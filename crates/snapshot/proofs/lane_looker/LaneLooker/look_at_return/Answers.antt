@@ -1,18 +1,34 @@
-use Rattle.std.proofs.Common.{◌≡◌, subst, sym}
+use Rattle.std.proofs.Common.{◌≡◌, arith, subst, sym}
 use Rattle.std.specs.Prelude.{Some, slice_get}
 use Rattle.snapshot.specs.declared.cell.Cell.TheVariants.{Return}
-use Rattle.snapshot.proofs.TableLemmas.{return_place, keeps_return, keeps_empty}
+use Rattle.snapshot.proofs.TableLemmas.{return_place, keeps_return, keeps_empty, lanes_many}
 use Rattle.snapshot.proofs.lane_looker.LaneLooker.look_at_return.Goals as goal
+
+pub index_mut-requires : goal.index_mut-requires
+index_mut-requires g c =
+    let f = rw c.in-Some.is at c.find_return_of-found.ensures in
+    let at = subst (λ l. slice_get l.lanes.cells c.args.op.session ≡ Some f.0) (sym c.self.view_is) f.1 in
+    let inside = lanes_many c.self.inside.lanes.now.cells c.self.inside.tables.items c.args.op.session f.0 c.self.invariant.tables at in
+    omega arith
 
 pub keep_return-requires : goal.keep_return-requires
 keep_return-requires g c =
-    let f = c.in-Some.ensures in
-    return_place c.self.inside.lanes.now c.self.inside.receipts.now c.self.inside.told.items c.self.inside.cap c.self.inside.looks.items c.push.new.self.items c.self.inside.tables.items c.self.invariant c.args.op.session f.0 (subst (λ l. slice_get l.lanes.cells c.args.op.session ≡ Some f.0) (sym c.self.view_is) f.1) c.index_mut.result.now c.index_mut.result.now c.index_mut.ensures.value c.args.op.index c.in-Some.found f.2
+    let f = rw c.in-Some.is at c.find_return_of-found.ensures in
+    let at = subst (λ l. slice_get l.lanes.cells c.args.op.session ≡ Some f.0) (sym c.self.view_is) f.1 in
+    return_place c.self.inside.lanes.now c.self.inside.receipts.now c.self.inside.told.items c.self.inside.cap c.self.inside.looks.items c.push.new.self.items c.self.inside.tables.items
+    c.self.invariant c.args.op.session f.0 at c.index_mut.result.now c.index_mut.result.now c.index_mut.ensures.value c.args.op.index c.in-Some.found f.2
 
-pub invariant_of-self-in-Some : goal.invariant_of-self-in-Some
-invariant_of-self-in-Some g c =
-    let f = c.in-Some.ensures in
-    keeps_return c.self.inside.lanes.now c.self.inside.receipts.now c.self.inside.told.items c.self.inside.cap c.self.inside.looks.items c.push.new.self.items c.self.inside.tables.items c.self.invariant c.args.op.session f.0 (subst (λ l. slice_get l.lanes.cells c.args.op.session ≡ Some f.0) (sym c.self.view_is) f.1) c.index_mut.result.now c.keep_return.new.self c.index_mut.ensures.value c.args.op.index c.in-Some.found f.2 c.keep_return.ensures.returns c.keep_return.ensures.calls c.in_ok-push-in-Some.ensures.items
+pub invariant_of-self-2 : goal.invariant_of-self-2
+invariant_of-self-2 g c =
+    let f = rw c.in-Some.is at c.find_return_of-found.ensures in
+    let at = subst (λ l. slice_get l.lanes.cells c.args.op.session ≡ Some f.0) (sym c.self.view_is) f.1 in
+    let full = rw c.in-Some.is at c.is_some.ensures in
+    keeps_return c.self.inside.lanes.now c.self.inside.receipts.now c.self.inside.told.items c.self.inside.cap c.self.inside.looks.items c.push.new.self.items c.self.inside.tables.items
+    c.self.invariant c.args.op.session f.0 at c.index_mut.result.now c.keep_return.new.self c.index_mut.ensures.value c.args.op.index c.in-Some.found f.2
+    c.keep_return.ensures.returns c.keep_return.ensures.calls (rw full at c.in_ok-push.ensures.items)
 
-pub invariant_of-self-in-None : goal.invariant_of-self-in-None
-invariant_of-self-in-None g c = keeps_empty c.self.inside.lanes.now c.self.inside.receipts.now c.self.inside.told.items c.self.inside.cap c.self.inside.looks.items c.push-in-None.new.self.items c.self.inside.tables.items (Return c.args.op) c.self.invariant c.in_ok-push-in-None.ensures.items
+pub invariant_of-self-in_default : goal.invariant_of-self-in_default
+invariant_of-self-in_default g c =
+    let empty = rw c.in_default.is at c.is_some.ensures in
+    keeps_empty c.self.inside.lanes.now c.self.inside.receipts.now c.self.inside.told.items c.self.inside.cap c.self.inside.looks.items c.push.new.self.items c.self.inside.tables.items
+    (Return c.args.op) c.self.invariant (rw empty at c.in_ok-push.ensures.items)

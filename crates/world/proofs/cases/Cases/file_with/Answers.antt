@@ -1,5 +1,4 @@
-use Rattle.std.proofs.Common.{sym}
-use Rattle.world.proofs.WorkSteps.{no_file, no_piece_of}
+use Rattle.world.proofs.WorkSteps.{no_file}
 use Rattle.world.proofs.cases.Cases.file_with.Goals as goal
 
 pub returns-in-None : goal.returns-in-None

@@ -84,7 +84,7 @@ returns c =
     let same : session_of happened ≡ s = before.session in
     let is_here : IsOp h (op (session_of happened) last) = subst (λ (t : ℕ). IsOp h (op t last)) (sym same) is_op in
     let taken : taken_of happened ≤ last + 1 = (let is = before.taken in omega arith) in
-    record {
+    rw c.at-op.ensures (record {
       made = record {
         relation_of = record {
           is_op = is_op;
@@ -101,4 +101,4 @@ returns c =
         last = omega arith;
       };
       few = before.few last (omega arith);
-    }
+    })

@@ -1,8 +1,0 @@
-use Rattle.std.proofs.Common.{◌≡◌, map, take}
-use Rattle.serde_json.specs.View.{view}
-use Rattle.bad_patterns.specs.PatternForm.{op_form}
-use Rattle.bad_patterns.proofs.reading.read_path.Given as goal
-
--- the values so far are the forms of the operations
-abbrev pub invariant-loop-value : goal.invariant-loop-value
-invariant-loop-value l = map view (take l.value-index l.values) ≡ map op_form l.ops.items
