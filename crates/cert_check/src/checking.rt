@@ -110,10 +110,7 @@ fn first_of_session<O: SeqObject>(
         × ((i : ℕ) → i < o.index → IsExplainedPiece O.answer h.now certificate.now (op session i)))) }
 {
     for index in 0..h.len(session as u64) {
-        let op = OpId {
-            session: session as u64,
-            index: index as u64,
-        };
+        let op = OpId::at(session, index);
         if !is_explained(alloc, h, certificate, op)? {
             return Ok(Some(op));
         }

@@ -26,5 +26,7 @@ pub use certificate::{Certificate, Schedules};
 pub use checking::{Outcome, check_piece, first_unexplained};
 pub use criterion::Criterion;
 pub use desk_error::DeskError;
+pub use kept::Kept;
 pub use reading::read_certificate;
+pub use scheduled::is_scheduled_piece;
 pub use shape::{names_all, shape_ok};

@@ -52,10 +52,7 @@ impl<O: SeqObject> Replay<O> {
             return None;
         }
         self.counts[place] = index + 1;
-        Some(OpId {
-            session: u64::from(session),
-            index: u64::from(index),
-        })
+        Some(OpId::at(place, usize::from(index)))
     }
 
     /// Takes in the call of an operation. Whether its return, where it is known, is the answer.

@@ -1,2 +1,3 @@
 pub mod Completeness
 pub mod Decided
+pub mod SessionOrders

@@ -1,18 +1,24 @@
 //! The decision whether a memory history meets a criterion.
 
-ghost use Rattle.std.specs.Prelude.{◌≢◌, IfOk};
+ghost use Rattle.std.specs.Prelude.{◌≢◌, IfOk, IsTrue};
 ghost use Rattle.bad_patterns.specs.Kinds.{IsFreeOf};
 ghost use Rattle.cert_check.specs.declared.criterion.Criterion.{Criterion as AnyCriterion};
 ghost use Rattle.cert_check.specs.declared.criterion.Criterion.TheVariants.{Cc, Ccv, Cm};
 ghost use Rattle.decision.specs.Decisions.{IsDecided, decision_for};
-ghost use Rattle.memory_order.specs.Memory.{IsDifferentiated};
+ghost use Rattle.cert_check.specs.Criteria.{Meets};
+ghost use Rattle.memory_order.specs.Memory.{IsDifferentiated, memory_answer};
 
+use crate::session_orders::is_shown_by_orders;
 use bad_patterns::laws::present_kinds_exclude_criteria;
 use bad_patterns::{Kind, Pattern};
 use cert_check::Criterion;
-use memory_order::IndexedMemory;
+use memory_order::{CausalOrder, IndexedMemory};
 use pattern_search::{Searched, find_conflicts, find_in, search_happened_before};
 use std::alloc::{AllocError, Global};
+
+/// How many pairs that the causal order doesn't have make the happened-before relations of a history dearer than orders of its
+/// sessions.
+const FEW_PAIRS: u32 = 64;
 
 /// What is decided of a memory history and a criterion.
 #[derive(Debug, Drop)]
@@ -31,12 +37,13 @@ pub enum Decision {
 /// Whether a memory history of distinct values meets a criterion.
 ///
 /// It does exactly where no kind of bad pattern against the criterion is present (Bouajjani, Enea, Guerraoui and Hamza, "On
-/// Verifying Causal Consistency", POPL 2017), so kinds are looked for, and no certificate is made. Happened-before relations
-/// are made without a limit on their pairs. `Open` exactly where values are not distinct.
+/// Verifying Causal Consistency", POPL 2017), so kinds are looked for, and no certificate is made. For causal memory orders of
+/// the sessions' pasts are tried before happened-before relations are made, which have no limit on their pairs. `Open` exactly
+/// where values are not distinct.
 ///
-/// Fails for want of memory alone. O(n k (k + log n)) for n operations of k sessions, and for causal memory besides, for each
-/// session, O(n (log n + k^2) + m k log n) for m pairs that the happened-before relation of its last operation has more than
-/// the causal order.
+/// Fails for want of memory alone. O(n k (k + log n)) for n operations of k sessions, and for causal memory besides, where no
+/// such orders are found, for each session O(n (log n + k^2) + m k log n) for m pairs that the happened-before relation of
+/// its last operation has more than the causal order.
 pub fn decide(
     alloc: Global,
     memory: &IndexedMemory,
@@ -142,12 +149,32 @@ fn decide_consistent(alloc: Global, memory: &IndexedMemory) -> Result<Decision, 
         unreachable!();
     };
     memory.history().value_is_history();
+    if is_clear_by_few(alloc, &order)? {
+        return Ok(Decision::Meets);
+    }
+    if is_shown_by_orders(alloc, &order)? {
+        return Ok(Decision::Meets);
+    }
     present_kinds_exclude_criteria();
     match search_happened_before(alloc, &order, None)? {
         Searched::Pattern(pattern) => Ok(Decision::Excluded(pattern)),
         Searched::Present(kind) => Ok(Decision::ExcludedBy(kind)),
         Searched::Open => unreachable!(),
         Searched::Nothing => Ok(Decision::Meets),
+    }
+}
+
+/// Whether the happened-before relations of a history have few pairs that the causal order doesn't have, and show no kind
+/// against causal memory: then it meets causal memory.
+fn is_clear_by_few(alloc: Global, order: &CausalOrder) -> Result<bool, AllocError>
+    requires distinct { IsDifferentiated order.now }
+    requires free { IsFreeOf order.now Cc }
+    ensures { IfOk result (λ yes. IsTrue yes → Meets memory_answer order.now Cm) }
+{
+    order.history().value_is_history();
+    match search_happened_before(alloc, order, Some(FEW_PAIRS))? {
+        Searched::Nothing => Ok(true),
+        Searched::Pattern(_) | Searched::Present(_) | Searched::Open => Ok(false),
     }
 }
 
