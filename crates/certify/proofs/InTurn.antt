@@ -9,7 +9,7 @@ use Rattle.history.specs.History.{HistoryValue, session}
 use Rattle.cert_check.specs.Schedules.{times}
 use Rattle.certify.specs.ByProgramOrder.{in_turn}
 
-times-same : (n s : ℕ) → times s (replicate n s) ≡ n
+pub times-same : (n s : ℕ) → times s (replicate n s) ≡ n
 times-same n s =
     let each = sum_by-replicate (λ t. cond (t == s) 1 0) n s in
     let one : n * cond (s == s) 1 0 ≡ n * 1 = ap (λ b. n * cond b 1 0) (eq-eqb s s refl) in

@@ -1,7 +1,15 @@
 //! What the makers of certificates share. Nobody trusts them: a certificate is believed for its pieces alone.
 #![tactic(auto)]
 
+mod advice;
+mod by_advice;
+mod by_order;
 mod by_program_order;
+mod by_stamp;
+mod heard;
 mod program_schedules;
+mod schedule;
 
+pub use advice::{advice_decides, is_advised};
+pub use by_advice::{make_as_advised, make_by_advice};
 pub use by_program_order::make_by_program_order;

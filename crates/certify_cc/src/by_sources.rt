@@ -28,7 +28,10 @@ use std::alloc::{AllocError, Global};
 /// overwritten value; else that is for the checker of certificates to say. So on distinct values, where no bad pattern
 /// against causal consistency is present, there is one and it shows the criterion. Fails for want of memory alone.
 /// O(n p k) for n operations of k sessions and pasts of at most p operations.
-pub fn make_memory(alloc: Global, h: &History<Memory>) -> Result<Option<Certificate>, AllocError>
+pub fn make_by_sources(
+    alloc: Global,
+    h: &History<Memory>,
+) -> Result<Option<Certificate>, AllocError>
     ensures criterion { IfOk result (λ made. IfSome made (λ c. criterion_of c ≡ Criterion.Cc)) }
     ensures shape { IfOk result (λ made. IfSome made (HasShapeOf h.now)) }
     ensures exact { IfOk result (λ made. IfSome made (IsBySources h.now)) }
@@ -44,7 +47,7 @@ pub fn make_memory(alloc: Global, h: &History<Memory>) -> Result<Option<Certific
     Ok(Some(make_by_order(alloc, &order)?))
 }
 
-/// The certificate that `make_memory` makes, for a caller that has the causal order already.
+/// The certificate that [`make_by_sources`] makes, for a caller that has the causal order already.
 ///
 /// Fails for want of memory alone. O(n p k) for n operations of k sessions and pasts of at most p operations.
 pub fn make_by_order(alloc: Global, order: &CausalOrder) -> Result<Certificate, AllocError>

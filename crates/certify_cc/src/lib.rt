@@ -1,10 +1,10 @@
 //! Certificates of causal consistency.
 #![tactic(auto)]
 
-mod by_program_order;
+mod as_advised;
 mod by_sources;
 pub mod laws;
 mod schedule;
 
-pub use by_program_order::make;
-pub use by_sources::{make_by_order, make_memory};
+pub use as_advised::{make, make_memory};
+pub use by_sources::{make_by_order, make_by_sources};

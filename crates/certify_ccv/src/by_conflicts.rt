@@ -29,7 +29,10 @@ use std::alloc::{AllocError, Global};
 /// where none of them is an overwritten initial value; else that is for the checker of certificates to say. So on distinct
 /// values, where no bad pattern against causal convergence is present, there is one and it shows the criterion. Fails for
 /// want of memory alone. O(n k log n) for n operations of k sessions.
-pub fn make_memory(alloc: Global, h: &History<Memory>) -> Result<Option<Certificate>, AllocError>
+pub fn make_by_sources(
+    alloc: Global,
+    h: &History<Memory>,
+) -> Result<Option<Certificate>, AllocError>
     ensures criterion { IfOk result (λ made. IfSome made (λ c. criterion_of c ≡ Criterion.Ccv)) }
     ensures shape { IfOk result (λ made. IfSome made (HasShapeOf h.now)) }
     ensures exact { IfOk result (λ made. IfSome made (IsByConflicts h.now)) }
@@ -46,7 +49,7 @@ pub fn make_memory(alloc: Global, h: &History<Memory>) -> Result<Option<Certific
     make_by_order(alloc, &order)
 }
 
-/// The certificate that `make_memory` makes, for a caller that has the causal order already.
+/// The certificate that [`make_by_sources`] makes, for a caller that has the causal order already.
 ///
 /// `None` where the order and the conflicts are cyclic. Fails for want of memory alone. O(n k log n) for n operations of k
 /// sessions.

@@ -1,9 +1,9 @@
 //! Certificates of causal convergence.
 #![tactic(auto)]
 
+mod as_advised;
 mod by_conflicts;
-mod by_program_order;
 pub mod laws;
 
-pub use by_conflicts::{make_by_order, make_memory};
-pub use by_program_order::make;
+pub use as_advised::{make, make_memory};
+pub use by_conflicts::{make_by_order, make_by_sources};

@@ -34,7 +34,10 @@ use std::alloc::{AllocError, Global};
 /// Where values are not distinct, whether it explains is for the checker of certificates to say. Fails for want of memory
 /// alone. O(n p k + n k (k^2 + log n) + m k^2 log p) for n operations of k sessions, pasts of at most p operations and m
 /// pairs more in each relation.
-pub fn make_memory(alloc: Global, h: &History<Memory>) -> Result<Option<Certificate>, AllocError>
+pub fn make_by_sources(
+    alloc: Global,
+    h: &History<Memory>,
+) -> Result<Option<Certificate>, AllocError>
     ensures criterion { IfOk result (λ made. IfSome made (λ c. criterion_of c ≡ Criterion.Cm)) }
     ensures shape { IfOk result (λ made. IfSome made (HasShapeOf h.now)) }
     ensures vectors { IfOk result (λ made. IfSome made (λ c. CountsSourceOrder h.now (vectors_of c))) }
@@ -51,7 +54,7 @@ pub fn make_memory(alloc: Global, h: &History<Memory>) -> Result<Option<Certific
     make_by_order(alloc, &order)
 }
 
-/// The certificate that `make_memory` makes, for a caller that has the causal order already.
+/// The certificate that [`make_by_sources`] makes, for a caller that has the causal order already.
 ///
 /// `None` where the happened-before relation of some operation is cyclic or has more than 100,000 pairs that the order
 /// doesn't have. Fails for want of memory alone. O(n p k + n k (k^2 + log n) + m k^2 log p) for n operations of k sessions,

@@ -1,10 +1,10 @@
 //! Certificates of causal memory.
 #![tactic(auto)]
 
+mod as_advised;
 mod by_happened_before;
-mod by_program_order;
 pub mod laws;
 mod schedule;
 
-pub use by_happened_before::{make_by_order, make_memory};
-pub use by_program_order::make;
+pub use as_advised::{make, make_memory};
+pub use by_happened_before::{make_by_order, make_by_sources};

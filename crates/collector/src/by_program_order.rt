@@ -54,9 +54,9 @@ fn certificate_for<O: SeqObject>(
     ensures shape { IfOk result (λ made. IfSome made (HasShapeOf h.now)) }
 {
     match criterion {
-        Criterion::Cc => certify_cc::make(alloc, h),
-        Criterion::Cm => certify_cm::make(alloc, h),
-        Criterion::Ccv => certify_ccv::make(alloc, h),
+        Criterion::Cc => certify_cc::make(alloc, h, &[]),
+        Criterion::Cm => certify_cm::make(alloc, h, &[]),
+        Criterion::Ccv => certify_ccv::make(alloc, h, &[]),
     }
 }
 

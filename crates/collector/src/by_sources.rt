@@ -65,7 +65,7 @@ fn make_for_consistency(
         → IfOk result (λ made. IsSomeAnd made (IsExplainedThroughout memory_answer h.now)) }
 {
     present_kinds_exclude_criteria();
-    certify_cc::make_memory(alloc, h)
+    certify_cc::make_memory(alloc, h, &[])
 }
 
 /// A certificate of causal memory of a memory history.
@@ -79,7 +79,7 @@ fn make_for_causal_memory(
         → IfOk result (λ made. IsSomeAnd made (IsExplainedThroughout memory_answer h.now)) }
 {
     present_kinds_exclude_criteria();
-    certify_cm::make_memory(alloc, h)
+    certify_cm::make_memory(alloc, h, &[])
 }
 
 /// A certificate of causal convergence of a memory history.
@@ -93,5 +93,5 @@ fn make_for_convergence(
         → IfOk result (λ made. IsSomeAnd made (IsExplainedThroughout memory_answer h.now)) }
 {
     present_kinds_exclude_criteria();
-    certify_ccv::make_memory(alloc, h)
+    certify_ccv::make_memory(alloc, h, &[])
 }

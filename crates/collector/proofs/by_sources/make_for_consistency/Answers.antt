@@ -12,4 +12,4 @@ returns-clause-decided c = λ distinct met.
     let free : IsFreeOf h Cc = λ kind against present. c.present_kinds_exclude_criteria.ensures h Cc kind against present met in
     some-and (IsExplainedThroughout memory_answer h) c.make_memory.result
     (c.make_memory.ensures.made (free-acyclic h distinct Cc free refl) (free-sourced h distinct Cc free refl))
-    (c.make_memory.ensures.explained (free-start h distinct Cc free refl) (free-read h distinct Cc free refl))
+    (c.make_memory.ensures.explained (λ decides. decides.repeated distinct) (free-start h distinct Cc free refl) (free-read h distinct Cc free refl))

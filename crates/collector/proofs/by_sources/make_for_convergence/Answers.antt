@@ -12,4 +12,4 @@ returns-clause-decided c = λ distinct met.
     let free : IsFreeOf h Ccv = λ kind against present. c.present_kinds_exclude_criteria.ensures h Ccv kind against present met in
     some-and (IsExplainedThroughout memory_answer h) c.make_memory.result
     (c.make_memory.ensures.made (free-sourced h distinct Ccv free refl) (free-conflicts h distinct Ccv free refl))
-    (c.make_memory.ensures.explained (free-start h distinct Ccv free refl))
+    (c.make_memory.ensures.explained (λ decides. decides.repeated distinct) (free-start h distinct Ccv free refl))

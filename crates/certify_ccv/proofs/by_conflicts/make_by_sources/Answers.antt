@@ -15,7 +15,7 @@ use Rattle.certify_ccv.specs.ByConflicts.{ComesFirst, IsByConflicts}
 use Rattle.certify_ccv.proofs.ConflictCertificates.{first-conflict, some-unless}
 use Rattle.certify_ccv.proofs.Cyclic.{order-cycle}
 use Rattle.certify_ccv.proofs.Explained.{conflicts-explain}
-use Rattle.certify_ccv.proofs.by_conflicts.make_memory.Goals as goal
+use Rattle.certify_ccv.proofs.by_conflicts.make_by_sources.Goals as goal
 
 pub returns-in_default-clause-none : goal.returns-in_default-clause-none
 returns-in_default-clause-none c =

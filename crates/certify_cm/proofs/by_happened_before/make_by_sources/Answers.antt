@@ -9,7 +9,7 @@ use Rattle.memory_order.proofs.FirstWrites.{CO-from_sources}
 use Rattle.memory_order.proofs.Outcomes.{none-weaker}
 use Rattle.cert_check.specs.Certificates.{IsExplainedThroughout}
 use Rattle.certify_cm.specs.ByTurns.{HasNoTurns}
-use Rattle.certify_cm.proofs.by_happened_before.make_memory.Goals as goal
+use Rattle.certify_cm.proofs.by_happened_before.make_by_sources.Goals as goal
 
 pub returns-in_default-clause-none : goal.returns-in_default-clause-none
 returns-in_default-clause-none c = λ distinct.

@@ -6,7 +6,7 @@ use Rattle.memory_order.specs.OverwrittenReads.{HasOverwrittenRead, HasOverwritt
 use Rattle.memory_order.specs.Steps.Indexed.{IsUnordered}
 use Rattle.memory_order.proofs.FirstWrites.{CO-from_sources}
 use Rattle.cert_check.specs.Certificates.{IsExplainedThroughout}
-use Rattle.certify_cc.proofs.by_sources.make_memory.Goals as goal
+use Rattle.certify_cc.proofs.by_sources.make_by_sources.Goals as goal
 
 pub returns-in_default-clause-none : goal.returns-in_default-clause-none
 returns-in_default-clause-none c = subst (λ (m : MemoryHistory). IsUnordered m) c.in_ok-memory.ensures (rw c.in_default.is at c.order.ensures.order)

@@ -1,0 +1,20 @@
+use Rattle.std.proofs.Common.{◌≡◌, ◌+◌, ℕ, List, get_or, suc, ap, subst, arith, ◌∙◌}
+use Rattle.certify.specs.ByOrder.{AreTurns, IsNamed}
+use Rattle.certify.proofs.by_order.schedule_by_order.Goals as goal
+
+pub loop-done-preserved : goal.loop-done-preserved
+loop-done-preserved g c =
+    let query = g.O.SeqObject.query in
+    let n = c.loop-done.done in
+    let next : suc n ≡ n + 1 = omega arith in
+    let turn : AreTurns query c.args.h.now c.args.told.now c.args.op (suc n) c.name.new.schedule = (
+      c.loop-done.schedule,
+      c.loop-done.invariant,
+      record {
+        asked = c.ask.new.schedule;
+        queries = c.in_ok-ask.ensures;
+        named = subst (λ (s : ℕ). IsNamed query c.args.h.now s c.ask.new.schedule c.name.new.schedule)
+            (c.from.ensures ∙ ap (λ (xs : List ℕ). get_or xs n 0) c.order_at-order.ensures) c.in_ok-name.ensures;
+      },
+    ) in
+    subst (λ (m : ℕ). AreTurns query c.args.h.now c.args.told.now c.args.op m c.name.new.schedule) next turn

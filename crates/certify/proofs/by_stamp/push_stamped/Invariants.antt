@@ -1,0 +1,11 @@
+use Rattle.std.specs.Prelude.{◌≡◌, ◌++◌}
+use Rattle.certify.specs.Advice.{heard_before}
+use Rattle.certify.specs.ByStamp.{stamped_in}
+use Rattle.certify.proofs.by_stamp.push_stamped.Given as goal
+
+-- the operations so far are listed
+abbrev pub invariant-loop-index : goal.invariant-loop-index
+invariant-loop-index g l = record {
+  known : l.heard ≡ heard_before l.told l.session l.index;
+  listed : l.ops.items ≡ l.fn.ops.items ++ stamped_in l.told l.session l.index;
+}

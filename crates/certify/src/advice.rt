@@ -1,0 +1,70 @@
+//! What a store told of the operations of a history.
+
+ghost use Rattle.std.specs.Prelude.{◌≡◌, ◌*◌, ◌<◌, ◌≤◌, ◌↔◌, length, IfOk, IsTrue};
+ghost use Rattle.history.specs.History.{session as operations_of};
+ghost use Rattle.certify.specs.Advice.{IsAdvised, advice_in, many_before};
+ghost use Rattle.certify.specs.MemoryAdvice.{AdviceDecides};
+
+use history::{Advice, History, MAX_OPERATIONS, MAX_SESSIONS};
+use memory_order::is_differentiated;
+use object_trait::SeqObject;
+use objects::Memory;
+use std::alloc::{AllocError, Global};
+
+/// Whether there is advice: one entry for each operation of a history, which has some, also where all entries are empty.
+///
+/// Takes no memory. O(k) for k sessions.
+pub fn is_advised<O: SeqObject>(h: &History<O>, advice: &[Option<Advice>]) -> bool
+    ensures { IsTrue result ↔ IsAdvised h.now advice.now }
+{
+    !advice.is_empty() && advice.len() == many_before(h, h.sessions())
+}
+
+/// Whether advice decides of a memory history: there is any, and values are not distinct.
+///
+/// Fails for want of memory alone. O(n log n) for n operations where there is advice.
+pub fn advice_decides(
+    alloc: Global,
+    h: &History<Memory>,
+    advice: &[Option<Advice>],
+) -> Result<bool, AllocError>
+    ensures { IfOk result (λ decides. IsTrue decides ↔ AdviceDecides h.now advice.now) }
+{
+    if is_advised(h, advice) {
+        Ok(!is_differentiated(alloc, h)?)
+    } else {
+        Ok(false)
+    }
+}
+
+/// The entries of a session.
+#[tactic(auto, using(crate::proofs::Advices::many_within, crate::proofs::Advices::advice_size))]
+pub(crate) fn advice_in<'a, O: SeqObject>(
+    h: &History<O>,
+    advice: &'a [Option<Advice>],
+    session: usize,
+) -> &'a [Option<Advice>]
+    requires advised { IsAdvised h.now advice.now }
+    requires few { session < MAX_SESSIONS }
+    requires exists { session < length h.now.1 }
+    ensures entries { result.now ≡ advice_in h.now advice.now session }
+    ensures size { length result.now ≡ length (operations_of h.now session) }
+{
+    let start = many_before(h, session);
+    &advice[start..start + h.len(session as u64)]
+}
+
+/// How many operations the first sessions have.
+#[tactic(auto, using(crate::proofs::Advices::many_next))]
+fn many_before<O: SeqObject>(h: &History<O>, sessions: usize) -> usize
+    requires there { sessions ≤ length h.now.1 }
+    requires few { sessions ≤ MAX_SESSIONS }
+    ensures many { result ≡ many_before h.now sessions }
+    ensures few { result ≤ MAX_OPERATIONS * sessions }
+{
+    let mut many = 0;
+    for session in 0..sessions {
+        many += h.len(session as u64);
+    }
+    many
+}

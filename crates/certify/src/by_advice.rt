@@ -1,0 +1,145 @@
+//! Certificates from what a store told of each operation.
+
+ghost use Rattle.std.specs.Prelude.{◌≡◌, ◌+◌, ◌<◌, ◌≤◌, length, IfOk, OnOk};
+ghost use Rattle.history.specs.History.{IsOp};
+ghost use Rattle.history.specs.declared.op_id.OpId.{OpId as Operation};
+ghost use Rattle.causal_order.specs.Steps.Gathered.{AreGatheredBefore};
+ghost use Rattle.causal_order.specs.Vectors.{HasOneEach, list_of};
+ghost use Rattle.cert_check.specs.Certificates.{criterion_of, HasShapeOf};
+ghost use Rattle.certify.specs.Advice.{IsAdvised};
+ghost use Rattle.certify.specs.ByAdvice.{IsAsAdvised, IsByAdvice, IsToldSchedule};
+
+use crate::advice::{advice_in, is_advised};
+use crate::by_order::{order_at, schedule_by_order};
+use crate::by_program_order::make_by_program_order;
+use crate::by_stamp::{Stamped, counted_sessions, operations_by_stamp, sessions_of};
+use crate::heard::told_vectors;
+use causal_order::Vectors;
+use cert_check::{Arbitration, Certificate, Criterion, Schedules};
+use history::{Advice, History, MAX_OPERATIONS, MAX_SESSIONS, OpId};
+use object_trait::SeqObject;
+use std::alloc::{AllocError, Global};
+
+/// The certificate of a criterion from advice where there is any, and by program order alone where there is none.
+///
+/// There always is one. Whether it explains the known returns is for the checker of certificates to say. Fails for want of
+/// memory alone. O(n (n + k)) for n operations of k sessions and orders of at most n entries.
+pub fn make_as_advised<O: SeqObject>(
+    alloc: Global,
+    h: &History<O>,
+    advice: &[Option<Advice>],
+    criterion: Criterion,
+) -> Result<Certificate, AllocError>
+    ensures criterion { IfOk result (λ c. criterion_of c ≡ criterion) }
+    ensures shape { IfOk result (HasShapeOf h.now) }
+    ensures exact { IfOk result (IsAsAdvised O.query h.now advice.now) }
+{
+    if is_advised(h, advice) {
+        make_by_advice(alloc, h, advice, criterion)
+    } else {
+        make_by_program_order(alloc, h, criterion)
+    }
+}
+
+/// The certificate of a criterion from advice, which nobody has to trust: the past of an operation is what the store had
+/// taken in, its schedule has the updates in the store's order, and the one list of causal convergence goes by stamps.
+///
+/// There always is one, whatever the advice. Whether it explains the known returns is for the checker of certificates to
+/// say. Fails for want of memory alone. O(n (n + k)) for n operations of k sessions and orders of at most n entries.
+pub fn make_by_advice<O: SeqObject>(
+    alloc: Global,
+    h: &History<O>,
+    advice: &[Option<Advice>],
+    criterion: Criterion,
+) -> Result<Certificate, AllocError>
+    requires { IsAdvised h.now advice.now }
+    ensures criterion { IfOk result (λ c. criterion_of c ≡ criterion) }
+    ensures shape { IfOk result (HasShapeOf h.now) }
+    ensures exact { IfOk result (IsByAdvice O.query h.now advice.now) }
+{
+    let vectors = told_vectors(alloc, h, advice)?;
+    let ops = operations_by_stamp(alloc, h, advice)?;
+    match criterion {
+        Criterion::Cc => {
+            let schedules = told_schedules(alloc, h, advice, &vectors, &ops)?;
+            Ok(Certificate::Cc(vectors, schedules))
+        }
+        Criterion::Cm => {
+            let schedules = told_schedules(alloc, h, advice, &vectors, &ops)?;
+            Ok(Certificate::Cm(vectors, schedules))
+        }
+        Criterion::Ccv => {
+            let list = sessions_of(alloc, &ops)?;
+            Ok(Certificate::Ccv(vectors, Arbitration::of(list)))
+        }
+    }
+}
+
+/// For each operation, its schedule by the order that is told of it, or by stamps where none is.
+fn told_schedules<O: SeqObject>(
+    alloc: Global,
+    h: &History<O>,
+    advice: &[Option<Advice>],
+    vectors: &Vectors,
+    ops: &[Stamped],
+) -> Result<Schedules, AllocError>
+    requires { IsAdvised h.now advice.now }
+    ensures shape { IfOk result (HasOneEach h.now) }
+    ensures exact { IfOk result (λ schedules. (o : Operation) → IsOp h.now o
+        → IsToldSchedule O.query h.now advice.now vectors.now ops.now o (list_of schedules o)) }
+{
+    let mut schedules = Schedules::new(alloc);
+    for session in 0..h.sessions() {
+        push_told_schedules(alloc, h, advice, vectors, ops, session, &mut schedules)?;
+    }
+    Ok(schedules)
+}
+
+/// Puts the schedules of a session behind those of the sessions before it.
+fn push_told_schedules<O: SeqObject>(
+    alloc: Global,
+    h: &History<O>,
+    advice: &[Option<Advice>],
+    vectors: &Vectors,
+    ops: &[Stamped],
+    session: usize,
+    schedules: &mut Schedules,
+) -> Result<(), AllocError>
+    requires advised { IsAdvised h.now advice.now }
+    requires few { length h.now.1 ≤ MAX_SESSIONS }
+    requires exists { session < length h.now.1 }
+    requires so_far { AreGatheredBefore h.now (IsToldSchedule O.query h.now advice.now vectors.now ops.now) session schedules.old }
+    ensures { OnOk result
+        (AreGatheredBefore h.now (IsToldSchedule O.query h.now advice.now vectors.now ops.now) (session + 1) schedules.new) }
+{
+    schedules.push_session()?;
+    for index in 0..h.len(session as u64) {
+        let schedule = told_schedule(alloc, h, advice, vectors, ops, OpId::at(session, index))?;
+        schedules.push(session, &schedule)?;
+    }
+    Ok(())
+}
+
+/// The schedule of an operation.
+fn told_schedule<O: SeqObject>(
+    alloc: Global,
+    h: &History<O>,
+    advice: &[Option<Advice>],
+    vectors: &Vectors,
+    ops: &[Stamped],
+    op: OpId,
+) -> Result<Vec<u8>, AllocError>
+    requires advised { IsAdvised h.now advice.now }
+    requires few { length h.now.1 ≤ MAX_SESSIONS }
+    requires session { op.session < length h.now.1 }
+    requires is_op { IsOp h.now op }
+    requires short { op.index < MAX_OPERATIONS }
+    ensures { IfOk result (λ schedule. IsToldSchedule O.query h.now advice.now vectors.now ops.now op schedule.items) }
+{
+    let told = advice_in(h, advice, op.session as usize);
+    if order_at(told, op.index as usize).is_empty() {
+        counted_sessions(alloc, ops, vectors, op)
+    } else {
+        schedule_by_order(alloc, h, told, op)
+    }
+}

@@ -1,0 +1,158 @@
+//! Schedules in the order in which a store had taken updates in.
+
+ghost use Rattle.std.specs.Prelude.{◌≡◌, ◌<◌, ◌≤◌, ◌↔◌, ℕ, IsTrue, not, length, IfOk, IfSome, MatchOption, OnOk};
+ghost use Rattle.history.specs.History.{IsOp, session as operations_of};
+ghost use Rattle.certify.specs.ByOrder.{AreAsked, GoesByOrder, HasNoUpdate, IsNamed, IsNextUpdate, MayCome};
+ghost use Rattle.certify.specs.ByOrder.{is_query, is_update, many_first, order_at};
+
+use crate::schedule::Schedule;
+use history::{Advice, History, MAX_OPERATIONS, MAX_SESSIONS, OpId};
+use object_trait::SeqObject;
+use std::alloc::{AllocError, Global};
+
+/// The order that is told of the operation at an index of a session.
+pub(crate) fn order_at(told: &[Option<Advice>], index: usize) -> &[u8]
+    requires { index < length told.now }
+    ensures { result.now ≡ order_at told.now index }
+{
+    match &told[index] {
+        Some(advice) => advice.order.sessions(),
+        None => &[],
+    }
+}
+
+/// The schedule of an operation by the order that is told of it: what each entry but the last names, the own queries once
+/// they are due, and the operation itself.
+///
+/// Fails for want of memory alone. O(m + p) for an order of m entries and p operations that are placed.
+pub(crate) fn schedule_by_order<O: SeqObject>(
+    alloc: Global,
+    h: &History<O>,
+    told: &[Option<Advice>],
+    op: OpId,
+) -> Result<Vec<u8>, AllocError>
+    requires few { length h.now.1 ≤ MAX_SESSIONS }
+    requires is_op { IsOp h.now op }
+    requires short { op.index < MAX_OPERATIONS }
+    requires told { length told.now ≡ length (operations_of h.now op.session) }
+    ensures { IfOk result (λ schedule. GoesByOrder O.query h.now told.now op schedule.items) }
+{
+    let order = order_at(told, op.index as usize);
+    let mut schedule = Schedule::new(alloc);
+    for done in 0..many_first(told, op.index as usize) {
+        ask(h, told, op, Some(done), &mut schedule)?;
+        name(h, usize::from(order[done]), &mut schedule)?;
+    }
+    ask(h, told, op, None, &mut schedule)?;
+    schedule.end_with(op.session as u8)
+}
+
+/// How many entries of the order of an operation come before that of the operation itself.
+fn many_first(told: &[Option<Advice>], index: usize) -> usize
+    requires { index < length told.now }
+    ensures { result ≡ many_first told.now index }
+{
+    order_at(told, index).len().saturating_sub(1)
+}
+
+/// Places the next own queries of an operation, as far as they may come.
+#[tactic(auto, using(crate::proofs::Placing::session_there))]
+fn ask<O: SeqObject>(
+    h: &History<O>,
+    told: &[Option<Advice>],
+    op: OpId,
+    done: Option<usize>,
+    schedule: &mut Schedule,
+) -> Result<(), AllocError>
+    requires few { length h.now.1 ≤ MAX_SESSIONS }
+    requires is_op { IsOp h.now op }
+    requires short { op.index < MAX_OPERATIONS }
+    requires told { length told.now ≡ length (operations_of h.now op.session) }
+    ensures { OnOk result (AreAsked O.query h.now told.now op done schedule.old schedule.new) }
+{
+    let session = op.session as usize;
+    let end = end_of_asked(h, told, op, done, schedule.placed(session));
+    schedule.place_before(session, end)
+}
+
+/// Up to which index the own queries of an operation may come, from one on.
+fn end_of_asked<O: SeqObject>(
+    h: &History<O>,
+    told: &[Option<Advice>],
+    op: OpId,
+    done: Option<usize>,
+    from: usize,
+) -> usize
+    requires is_op { IsOp h.now op }
+    requires told { length told.now ≡ length (operations_of h.now op.session) }
+    ensures behind { from ≤ result }
+    ensures short { from < result → result ≤ op.index }
+    ensures each { (i : ℕ) → from ≤ i → i < result → MayCome O.query h.now told.now op done i }
+    ensures last { ¬ MayCome O.query h.now told.now op done result }
+{
+    let mut end = from;
+    while may_come(h, told, op, done, end) {
+        end += 1;
+    }
+    end
+}
+
+/// Whether an own query before an operation may come.
+fn may_come<O: SeqObject>(
+    h: &History<O>,
+    told: &[Option<Advice>],
+    op: OpId,
+    done: Option<usize>,
+    index: usize,
+) -> bool
+    requires is_op { IsOp h.now op }
+    requires told { length told.now ≡ length (operations_of h.now op.session) }
+    ensures { IsTrue result ↔ MayCome O.query h.now told.now op done index }
+{
+    if index as u64 >= op.index || !is_query(h, OpId::at(op.session as usize, index)) {
+        return false;
+    }
+    match done {
+        Some(done) => many_first(told, index) <= done,
+        None => true,
+    }
+}
+
+/// Places the next update of a session, and the queries before it just before it; nothing where there is none.
+fn name<O: SeqObject>(
+    h: &History<O>,
+    session: usize,
+    schedule: &mut Schedule,
+) -> Result<(), AllocError>
+    requires few { length h.now.1 ≤ MAX_SESSIONS }
+    ensures { OnOk result (IsNamed O.query h.now session schedule.old schedule.new) }
+{
+    match next_update(h, session, schedule.placed(session)) {
+        Some(index) => schedule.place_before(session, index + 1),
+        None => Ok(()),
+    }
+}
+
+/// The first update of a session from an index on.
+#[tactic(auto, using(crate::proofs::Placing::past_update, crate::proofs::Placing::session_there))]
+fn next_update<O: SeqObject>(h: &History<O>, session: usize, from: usize) -> Option<usize>
+    ensures next { MatchOption result (HasNoUpdate O.query h.now session from) (IsNextUpdate O.query h.now session from) }
+    ensures short { IfSome result (λ i. i < MAX_OPERATIONS) }
+    ensures there { IfSome result (λ _. session < length h.now.1) }
+{
+    for index in from..h.len(session as u64) {
+        if !is_query(h, OpId::at(session, index)) {
+            return Some(index);
+        }
+    }
+    None
+}
+
+/// Whether an operation is a query.
+fn is_query<O: SeqObject>(h: &History<O>, op: OpId) -> bool
+    requires { IsOp h.now op }
+    ensures query { result ≡ is_query O.query h.now op }
+    ensures update { is_update O.query h.now op ≡ not result }
+{
+    O::is_query(&h.call(op))
+}

@@ -1,0 +1,64 @@
+//! Certificates from what a store told, or as they are made without it.
+
+ghost use Rattle.std.specs.Prelude.{◌≡◌, ◌⊎◌, IfNone, IfOk, IfSome, IsSome, IsSomeAnd};
+ghost use Rattle.history.specs.declared.op_id.OpId.{OpId as Operation};
+ghost use Rattle.memory_order.specs.Memory.{memory_answer};
+ghost use Rattle.memory_order.specs.OverwrittenReads.{HasOverwrittenRead, HasOverwrittenStart};
+ghost use Rattle.memory_order.specs.SourceOrder.{IsCyclic, LacksSource, SourceOrder};
+ghost use Rattle.cert_check.specs.Certificates.{criterion_of, HasShapeOf, IsExplainedThroughout};
+ghost use Rattle.certify.specs.ByAdvice.{IsAsAdvised};
+ghost use Rattle.certify.specs.MemoryAdvice.{AdviceDecides, IsMemoryByAdvice};
+ghost use Rattle.certify_cc.specs.BySources.{IsBySources};
+
+use crate::by_sources::make_by_sources;
+use cert_check::{Certificate, Criterion};
+use certify::{advice_decides, make_as_advised, make_by_advice};
+use history::{Advice, History};
+use object_trait::SeqObject;
+use objects::Memory;
+use std::alloc::{AllocError, Global};
+
+/// The certificate of causal consistency from what a store told of each operation, or by program order alone where the advice is
+/// empty or of another length than the history.
+///
+/// There always is one, of the shape of the history. Whether it explains the known returns is for the checker of
+/// certificates to say: nobody trusts advice. Fails for want of memory alone. O(n (n + k)) for n operations of k sessions
+/// and orders of at most n entries; O(n (p + k)) without advice, for sessions of at most p operations.
+pub fn make<O: SeqObject>(
+    alloc: Global,
+    h: &History<O>,
+    advice: &[Option<Advice>],
+) -> Result<Option<Certificate>, AllocError>
+    ensures made { IfOk result (λ made. IsSome made) }
+    ensures criterion { IfOk result (λ made. IfSome made (λ c. criterion_of c ≡ Criterion.Cc)) }
+    ensures shape { IfOk result (λ made. IfSome made (HasShapeOf h.now)) }
+    ensures exact { IfOk result (λ made. IfSome made (IsAsAdvised O.query h.now advice.now)) }
+{
+    Ok(Some(make_as_advised(alloc, h, advice, Criterion::Cc)?))
+}
+
+/// The certificate of causal consistency of a memory history: from advice where there is any and values are not distinct, else
+/// by the sources of its reads, as [`make_by_sources`] makes it.
+///
+/// Where values are distinct the sources decide, whatever the advice. `None` where they leave no certificate. Fails for
+/// want of memory alone. O(n (n + k)) for n operations of k sessions and orders of at most n entries where advice decides.
+pub fn make_memory(
+    alloc: Global,
+    h: &History<Memory>,
+    advice: &[Option<Advice>],
+) -> Result<Option<Certificate>, AllocError>
+    ensures criterion { IfOk result (λ made. IfSome made (λ c. criterion_of c ≡ Criterion.Cc)) }
+    ensures shape { IfOk result (λ made. IfSome made (HasShapeOf h.now)) }
+    ensures advised { AdviceDecides h.now advice.now → IfOk result (λ made. IsSomeAnd made (IsMemoryByAdvice h.now advice.now)) }
+    ensures exact { ¬ AdviceDecides h.now advice.now → IfOk result (λ made. IfSome made (IsBySources h.now)) }
+    ensures none { IfOk result (λ made. IfNone made (((a : Operation) × SourceOrder h.now a a) ⊎ LacksSource h.now)) }
+    ensures made { ¬ IsCyclic h.now → ¬ LacksSource h.now → IfOk result (λ made. IsSome made) }
+    ensures explained { ¬ AdviceDecides h.now advice.now → ¬ HasOverwrittenStart h.now → ¬ HasOverwrittenRead h.now
+        → IfOk result (λ made. IfSome made (IsExplainedThroughout memory_answer h.now)) }
+{
+    if advice_decides(alloc, h, advice)? {
+        Ok(Some(make_by_advice(alloc, h, advice, Criterion::Cc)?))
+    } else {
+        make_by_sources(alloc, h)
+    }
+}
