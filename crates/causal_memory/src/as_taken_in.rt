@@ -1,4 +1,5 @@
 ghost use Rattle.std.specs.Prelude.{length, true};
+ghost use Rattle.causal_memory.specs.OrderLaws.{length_within};
 
 use replica::{UpdateOf, UpdateOrder};
 
@@ -9,7 +10,17 @@ pub struct AsTakenIn;
 impl UpdateOrder for AsTakenIn {
     ghost place = { λ taken _. length taken };
 
+    ghost in_order = { λ _. Unit {0} };
+
     ghost told = { true };
+
+    ghost within = { length_within };
+
+    ghost none_in_order = { tt };
+
+    ghost taken_in_order = { λ _ _ _ _. tt };
+
+    ghost latest_in_order = { λ _ _ _ _. tt };
 
     fn place_of<C: Copy>(taken: &[UpdateOf<C>], _update: &UpdateOf<C>) -> usize {
         taken.len()

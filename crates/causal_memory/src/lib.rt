@@ -1,10 +1,12 @@
 //! The causal store (Ahamad, Neiger, Burns, Kohli and Hutto, "Causal memory", 1995): answers follow the order in which updates
-//! were taken in.
+//! were taken in, and with causal delivery this order respects causality.
 #![tactic(auto)]
 
 mod as_taken_in;
+mod order;
 
 pub use as_taken_in::AsTakenIn;
+pub use order::taken_in;
 pub use replica::{Acted, ActedOf, Delivery, Replica, ReplicaError, Update, UpdateOf};
 
 /// A replica of the causal store.

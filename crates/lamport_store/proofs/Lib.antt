@@ -1,1 +1,1 @@
-pub mod KeyCounts
+pub mod Partition

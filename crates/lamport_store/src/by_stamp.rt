@@ -1,5 +1,6 @@
-ghost use Rattle.std.specs.Prelude.{◌≡◌, count_by, false};
-ghost use Rattle.lamport_store.specs.Stamps.{goes_before, place_by_stamp};
+ghost use Rattle.std.specs.Prelude.{◌≡◌, false, map};
+ghost use Rattle.lamport_store.specs.Stamps.{IsRising, goes_before, place_by_stamp};
+ghost use Rattle.lamport_store.specs.StampLaws.{place_within, rising_latest, rising_none, rising_taken};
 ghost use Rattle.replica.specs.Updates.{key};
 
 use replica::{UpdateOf, UpdateOrder};
@@ -11,25 +12,25 @@ pub struct ByStamp;
 impl UpdateOrder for ByStamp {
     ghost place = { place_by_stamp };
 
+    ghost in_order = { IsRising };
+
     ghost told = { false };
 
+    ghost within = { place_within };
+
+    ghost none_in_order = { rising_none };
+
+    ghost taken_in_order = { rising_taken };
+
+    ghost latest_in_order = { rising_latest };
+
     fn place_of<C: Copy>(taken: &[UpdateOf<C>], update: &UpdateOf<C>) -> usize {
-        count_before(taken, update)
+        taken.partition_point(|other| goes_before(other, update))
     }
 
     fn is_told() -> bool {
         false
     }
-}
-
-/// How many of the updates stand before one.
-fn count_before<C: Copy>(taken: &[UpdateOf<C>], update: &UpdateOf<C>) -> usize
-    ensures { result ≡ count_by (λ b. goes_before (key b) (key update.now)) taken.now }
-{
-    taken
-        .iter()
-        .filter(|other| goes_before(other, update))
-        .count()
 }
 
 /// Whether one update stands before another.

@@ -3,8 +3,10 @@
 #![tactic(auto)]
 
 mod by_stamp;
+mod order;
 
 pub use by_stamp::ByStamp;
+pub use order::taken_in;
 pub use replica::{Acted, ActedOf, Delivery, Replica, ReplicaError, Update, UpdateOf};
 
 /// A replica of the store of Lamport's clocks.

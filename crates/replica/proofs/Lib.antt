@@ -1,3 +1,5 @@
 pub mod Tallies
 pub mod Following
 pub mod Settling
+pub mod Placing
+pub mod Keeping

@@ -4,7 +4,8 @@ use Rattle.std.specs.Prelude.{Some, slice_get, remove}
 use Rattle.std.proofs.lemmas.List.Edits.{length-remove}
 use Rattle.std.proofs.lemmas.Option.{slice_get_read, slice_get_within}
 use Rattle.replica.specs.declared.update.UpdateOf.{UpdateOf}
-use Rattle.replica.specs.Replicas.{ReplicaState, Place, IsReady, IsFirstReady, IsSettled, TakesIn, Settles, release}
+use Rattle.replica.specs.Orders.{Place}
+use Rattle.replica.specs.Replicas.{ReplicaState, IsReady, IsFirstReady, IsSettled, TakesIn, Settles, release}
 use Rattle.replica.specs.Steps.Logs.{NoneReady}
 
 module _ {S C : Type 0} where

@@ -1,3 +1,5 @@
+pub mod Causality
+pub mod Orders
 pub mod Replaying
 pub mod ReplicaErrors
 pub mod Replicas

@@ -1,14 +1,14 @@
 -- The replica of a session: what it has taken in and what it holds back, and what its operations and updates do.
 -- (Ahamad, Neiger, Burns, Kohli and Hutto, "Causal memory", 1995; the clock: Lamport, "Time, clocks and the ordering of events in a distributed system", 1978.)
 use Rattle.std.specs.Prelude.{◌≡◌, ◌≢◌, ℕ, ◌+◌, ◌^◌, ◌<◌, ◌≤◌, ◌==◌, ◌||◌, nat_le, if◌then◌else◌, max, Bool, true, false, List, [], ◌∷◌, ◌++◌, length, map, insert, remove, Option, Some, None, slice_get, slice_index}
-use Rattle.std.specs.List.{list_any}
 use Rattle.history.specs.declared.limits.TheConstants.{MAX_OPERATIONS, MAX_SESSIONS}
 use Rattle.history.specs.declared.advice.Advice.{Advice}
 use Rattle.replica.specs.declared.delivery.Delivery.{Delivery}
 use Rattle.replica.specs.declared.replica_error.ReplicaError.{ReplicaError}
 use Rattle.replica.specs.declared.replica_error.ReplicaError.TheVariants.{Memory, LaneFull, ClockFull}
 use Rattle.replica.specs.declared.update.UpdateOf.{UpdateOf}
-use Rattle.replica.specs.Updates.{key, many, reach, same_name, writers}
+use Rattle.replica.specs.Orders.{Place}
+use Rattle.replica.specs.Updates.{is_named, key, many, reach, writers}
 
 -- a replica: its session, how many sessions there are, when it takes updates in, the start of its object, how many operations
 -- its session has had, its clock, the updates that it has taken in and its own ones, in the order that answers follow, and the
@@ -23,10 +23,6 @@ pub record ReplicaState (S C : Type 0) : Type 0 where
   pub taken : List (UpdateOf C)
   pub held : List (UpdateOf C)
 
--- where an update goes among those taken in before it
-abbrev pub Place : Type 0
-Place = List (ℕ × ℕ × ℕ) → ℕ × ℕ × ℕ → ℕ
-
 module _ {S C : Type 0} where
   -- a replica that has done nothing
   abbrev pub fresh_replica : ℕ → ℕ → Delivery → S → ReplicaState S C
@@ -34,7 +30,7 @@ module _ {S C : Type 0} where
 
   -- an update of the replica's own session, of a session that there is not, or one that was taken in or is held already
   abbrev pub ignores : ReplicaState S C → UpdateOf C → Bool
-  ignores r u = (u.session == r.session) || (nat_le r.sessions u.session || (list_any (same_name u) r.taken || list_any (same_name u) r.held))
+  ignores r u = (u.session == r.session) || (nat_le r.sessions u.session || (is_named r.taken u.session u.number || is_named r.held u.session u.number))
 
   -- it is the next of its session, which is one of the sessions, and all that its writer had taken in of sessions other than its own and the replica's was taken in
   pub record IsReady (r : ReplicaState S C) (u : UpdateOf C) : Type 0 where

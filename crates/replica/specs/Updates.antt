@@ -1,15 +1,17 @@
 -- What a replica knows from the updates that it has taken in. (Ahamad, Neiger, Burns, Kohli and Hutto, "Causal memory", 1995; the clock: Lamport, 1978.)
 use Rattle.std.specs.Prelude.{ℕ, ◌+◌, ◌==◌, ◌&&◌, Bool, if◌then◌else◌, max, List, [], ◌∷◌, map, count_by}
+use Rattle.std.specs.List.{list_any}
 use Rattle.replica.specs.declared.update.UpdateOf.{UpdateOf}
+use Rattle.replica.specs.Orders.{Key}
 
 module _ {C : Type 0} where
   -- what orders an update: its stamp, its session, and its number among that session's updates
-  abbrev pub key : UpdateOf C → ℕ × ℕ × ℕ
+  abbrev pub key : UpdateOf C → Key
   key u = (u.stamp, u.session, u.number)
 
-  -- two updates of one session and one number
-  abbrev pub same_name : UpdateOf C → UpdateOf C → Bool
-  same_name u v = (u.session == v.session) && (u.number == v.number)
+  -- one of them has this session and this number
+  abbrev pub is_named : List (UpdateOf C) → ℕ → ℕ → Bool
+  is_named us s n = list_any (λ (u : UpdateOf C). (s == u.session) && (n == u.number)) us
 
   -- the calls of updates
   abbrev pub calls : List (UpdateOf C) → List C

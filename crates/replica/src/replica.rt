@@ -1,7 +1,8 @@
 ghost use Rattle.std.specs.Prelude.{◌≡◌, ◌≢◌, ◌∷◌, ◌++◌, ◌<◌, ◌≤◌, ◌↔◌, ℕ, [], true, false, length};
-ghost use Rattle.std.specs.Prelude.{IfErr, IfOk, IsTrue, MatchOption, None, OnErr, OnOk, Some, if◌then◌else◌, slice_index};
-ghost use Rattle.std.specs.List.{list_any};
-ghost use Rattle.replica.specs.Updates.{calls, many, same_name, writers};
+ghost use Rattle.std.specs.Prelude.{IfErr, IfOk, IsTrue, MatchOption, None, OnErr, OnOk, Some, if◌then◌else◌, map, slice_index};
+ghost use Rattle.replica.specs.Causality.{IsCausal};
+ghost use Rattle.replica.specs.Orders.{IsBehind};
+ghost use Rattle.replica.specs.Updates.{calls, is_named, key, many, writers};
 ghost use Rattle.replica.specs.Replaying.{IsAnswer};
 ghost use Rattle.replica.specs.Replicas.{CanAct, IsAdvice, IsFirstReady, IsOwnUpdate, IsReady, IsSettled};
 ghost use Rattle.replica.specs.Replicas.{RefusesOperation, Settles};
@@ -35,7 +36,7 @@ pub struct Replica<O: SeqObject, P: UpdateOrder> {
 impl<O: SeqObject, P: UpdateOrder> Model for Replica<O, P> {
     ghost use Rattle.std.specs.Prelude.{◌<◌, ◌≤◌, length};
     ghost use Rattle.replica.specs.Replicas.{ReplicaState};
-    ghost use Rattle.replica.specs.Steps.Logs.{IsReplica};
+    ghost use Rattle.replica.specs.Steps.Logs.{IsKept, IsReplica};
 
     ghost Value = { ReplicaState O.Start O.Call };
 
@@ -50,7 +51,8 @@ impl<O: SeqObject, P: UpdateOrder> Model for Replica<O, P> {
       held = r.held.items;
     } };
 
-    ghost invariant = { λ r. IsReplica r.session r.sessions r.operations r.log.room (length r.held.items) };
+    ghost invariant = { λ r. IsReplica r.session r.sessions r.operations r.log.room (length r.held.items)
+        × IsKept P.place P.in_order r.session r.delivery r.clock r.log.updates };
 }
 
 impl<O: SeqObject, P: UpdateOrder> Replica<O, P> {
@@ -82,14 +84,38 @@ impl<O: SeqObject, P: UpdateOrder> Replica<O, P> {
         })
     }
 
+    /// The updates that were taken in and the own ones, in the order that answers follow.
+    ///
+    /// They are in the order that the store states. Where that is the order in which they were taken in, then with causal
+    /// delivery each stands behind the earlier ones of its session, and behind all that its writer had taken in of sessions
+    /// other than its own and this one. O(1).
+    pub fn taken_in(&self) -> &[UpdateOf<O::Call>]
+        ensures updates { result.now ≡ self.now.taken }
+        ensures in_order { P.in_order (map key result.now) }
+        ensures causal { IsBehind P.place → self.now.delivery ≡ Delivery.Causal → IsCausal self.now.session result.now }
+    {
+        self.log.updates()
+    }
+
     /// Whether an update changes nothing.
     fn ignores(&self, update: &UpdateOf<O::Call>) -> bool
         ensures { result ≡ ignores self.now update.now }
     {
         update.session == self.session
             || update.session >= self.sessions
-            || is_named(self.log.updates(), update)
+            || self.has_taken(update)
             || is_named(&self.held, update)
+    }
+
+    /// Whether an update of this session and this number was taken in. With causal delivery the counts tell it.
+    fn has_taken(&self, update: &UpdateOf<O::Call>) -> bool
+        requires { update.now.session < MAX_SESSIONS }
+        ensures { result ≡ is_named self.now.taken update.now.session update.now.number }
+    {
+        match self.delivery {
+            Delivery::Causal => update.number < self.counts()[usize::from(update.session)],
+            Delivery::Eager => is_named(self.log.updates(), update),
+        }
     }
 
     /// Whether an update may be taken in.
@@ -137,7 +163,9 @@ impl<O: SeqObject, P: UpdateOrder> Replica<O, P> {
 
     /// Takes in the update that is held at a place.
     fn release(&mut self, at: usize, update: UpdateOf<O::Call>)
-        requires { at < length self.old.held }
+        requires held { at < length self.old.held }
+        requires causal { self.old.delivery ≡ Delivery.Causal }
+        requires ready { IsReady self.old update }
         ensures { self.new ≡ release P.place self.old at update }
     {
         let _ = self.held.remove(at);
@@ -148,6 +176,7 @@ impl<O: SeqObject, P: UpdateOrder> Replica<O, P> {
     /// Takes held updates in until none may be.
     #[tactic(auto, using(crate::proofs::Settling::settles_here))]
     fn settle(&mut self)
+        requires { self.old.delivery ≡ Delivery.Causal }
         ensures { Settles P.place self.old self.new }
     {
         while let Some((at, update)) = self.first_ready() {
@@ -167,6 +196,8 @@ impl<O: SeqObject, P: UpdateOrder> Replica<O, P> {
 
     /// Takes an update in at once.
     fn take_now(&mut self, update: UpdateOf<O::Call>) -> Result<(), AllocError>
+        requires eager { self.old.delivery ≡ Delivery.Eager }
+        requires unknown { ignores self.old update ≡ false }
         ensures taken { OnOk result (self.new ≡ take_in P.place self.old update) }
         ensures unchanged { OnErr result (self.new ≡ self.old) }
     {
@@ -238,7 +269,8 @@ impl<O: SeqObject, P: UpdateOrder> Replica<O, P> {
 
     /// The next operation, which has this update.
     fn enter(&mut self, update: UpdateOf<O::Call>) -> Result<O::Ret, AllocError>
-        requires { CanAct self.old }
+        requires can { CanAct self.old }
+        requires own { IsOwnUpdate self.old update.call update }
         ensures reply { IfOk result (λ r. IsAnswer O.query O.answer self.old.start (calls self.old.taken) update.call r) }
         ensures state { OnOk result (self.new ≡ after_operation self.old (Some update)) }
         ensures unchanged { OnErr result (self.new ≡ self.old) }
@@ -284,8 +316,11 @@ impl<O: SeqObject, P: UpdateOrder> Replica<O, P> {
     /// queries put between them. A query has no update. The clock rises by one.
     ///
     /// Refused in this order: `LaneFull` after 256 operations, `ClockFull` where the clock stands at the greatest `u64`,
-    /// `Memory`. The replica is then as before. O(n + k) for n updates taken in, beside what the object takes for each update
-    /// that came since the last operation; or for all of them, where one of these came in before another that the object has.
+    /// `Memory`. The replica is then as before.
+    ///
+    /// O(k), and O(n) for n updates taken in where the store tells their order, beside what the object takes for each update
+    /// that came since the last operation. Where one of these stands before another that the object has taken in, the object
+    /// is made anew and takes all of them: it can't go back, and there is no copy of what it was.
     pub fn act(&mut self, call: O::Call) -> Result<ActedOf<O::Call, O::Ret>, ReplicaError>
         ensures reply { IfOk result (λ a. IsAnswer O.query O.answer self.old.start (calls self.old.taken) call a.ret) }
         ensures update { IfOk result (λ a. MatchOption a.update (O.query call ≡ true)
@@ -311,8 +346,11 @@ impl<O: SeqObject, P: UpdateOrder> Replica<O, P> {
     /// it is the next of its session and all that its writer had taken in of third sessions was taken in here; where several
     /// held updates may be taken in, the one that was received first goes first.
     ///
-    /// Fails with `Memory` alone, and the replica is then as before. O(n + h) for n updates taken in and h held, and O(h k) for
-    /// each held update that is taken in.
+    /// Fails with `Memory` alone, and the replica is then as before.
+    ///
+    /// With causal delivery O(h + k²) for h updates held, and as much again for each that is taken in: the counts tell what was
+    /// taken in. With eager delivery O(n + h) for n updates taken in: any of a session's updates may be missing. An update that
+    /// is taken in takes its place in O(log n + m) where m updates stand behind it.
     pub fn receive(&mut self, update: UpdateOf<O::Call>) -> Result<(), ReplicaError>
         ensures ignored { OnOk result (ignores self.old update ≡ true → self.new ≡ self.old) }
         ensures eager { OnOk result (ignores self.old update ≡ false → self.old.delivery ≡ Delivery.Eager
@@ -341,7 +379,7 @@ impl<O: SeqObject, P: UpdateOrder> Replica<O, P> {
 
 /// Whether one of the updates has the session and the number of this one.
 fn is_named<C: Copy>(updates: &[UpdateOf<C>], update: &UpdateOf<C>) -> bool
-    ensures { result ≡ list_any (same_name update.now) updates.now }
+    ensures { result ≡ is_named updates.now update.now.session update.now.number }
 {
     updates.iter().any(|other| update.session == other.session && update.number == other.number)
 }

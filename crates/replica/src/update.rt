@@ -27,7 +27,7 @@ pub struct UpdateOf<C> {
 pub type Update<O> = UpdateOf<<O as SeqObject>::Call>;
 
 impl<C: Copy> UpdateOf<C> {
-    /// The update with these parts. A session has at most 256 operations.
+    /// The update with these parts. A session has at most `MAX_OPERATIONS` operations.
     pub fn of(
         session: u8,
         index: u64,
@@ -36,7 +36,7 @@ impl<C: Copy> UpdateOf<C> {
         call: C,
         seen: [u64; MAX_SESSIONS],
     ) -> UpdateOf<C>
-        requires { index < 256 }
+        requires { index < MAX_OPERATIONS }
         ensures { result ≡ record { session = session; index = index; number = number; stamp = stamp; call = call; seen = seen } }
     {
         UpdateOf {

@@ -78,7 +78,8 @@ impl<O: SeqObject, P: UpdateOrder> UpdateLog<O, P> {
 
     /// Takes an update in, at its place.
     pub(crate) fn take_in(&mut self, update: UpdateOf<O::Call>)
-        requires { 0 < self.old.room }
+        requires room { 0 < self.old.room }
+        requires in_order { P.in_order (map key self.old.updates) }
         ensures start { self.new.start ≡ self.old.start }
         ensures updates { self.new.updates ≡ insert self.old.updates (P.place (map key self.old.updates) (key update)) update }
         ensures room { self.new.room + 1 ≡ self.old.room }

@@ -1,22 +1,37 @@
-ghost use Rattle.std.specs.Prelude.{◌≡◌, ◌≤◌, ℕ, List, Bool, length, map};
+ghost use Rattle.std.specs.Prelude.{◌≡◌, ◌∷◌, ◌++◌, ◌≤◌, ℕ, [], List, Bool, insert, length, map};
+ghost use Rattle.replica.specs.Orders.{IsLatest, IsNew, Key};
 ghost use Rattle.replica.specs.Updates.{key};
 
 use crate::update::UpdateOf;
 
 /// The order of updates that the answers of a store follow.
+///
+/// The laws below the functions say that updates are in order, however they come.
 pub trait UpdateOrder {
     /// The place of an update among those taken in before it, of which each has its stamp, session and number.
-    ghost place: { List (ℕ × ℕ × ℕ) → ℕ × ℕ × ℕ → ℕ };
+    ghost place: { List Key → Key → ℕ };
+
+    /// What is true of updates that stand in this order.
+    ghost in_order: { List Key → Type 0 };
 
     /// Advice tells the sessions of the updates, in this order.
     ghost told: { Bool };
 
-    /// Where an update goes among those taken in before it.
+    /// Where an update goes among those taken in before it, which are in order.
     fn place_of<C: Copy>(taken: &[UpdateOf<C>], update: &UpdateOf<C>) -> usize
+        requires { in_order (map key taken.now) }
         ensures place { result ≡ place (map key taken.now) (key update.now) }
         ensures within { result ≤ length taken.now };
 
     /// Whether advice tells the order.
     fn is_told() -> bool
         ensures { result ≡ told };
+
+    ghost within: { (ks : List Key) (k : Key) → place ks k ≤ length ks };
+
+    ghost none_in_order: { in_order [] };
+
+    ghost taken_in_order: { (ks : List Key) (k : Key) → in_order ks → IsNew ks k → in_order (insert ks (place ks k) k) };
+
+    ghost latest_in_order: { (ks : List Key) (k : Key) → in_order ks → IsLatest ks k → in_order (ks ++ k ∷ []) };
 }

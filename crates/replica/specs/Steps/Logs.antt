@@ -1,8 +1,11 @@
 -- What the parts of a replica say to one another.
-use Rattle.std.specs.Prelude.{◌≡◌, ℕ, ◌<◌, ◌≤◌, Bool, List, length, take, Option, Some, slice_get, slice_index}
+use Rattle.std.specs.Prelude.{◌≡◌, ℕ, ◌<◌, ◌≤◌, Bool, List, length, map, take, Option, Some, slice_get, slice_index}
 use Rattle.history.specs.declared.limits.TheConstants.{MAX_OPERATIONS, MAX_SESSIONS}
 use Rattle.replica.specs.declared.update.UpdateOf.{UpdateOf}
-use Rattle.replica.specs.Updates.{calls, many, reach}
+use Rattle.replica.specs.declared.delivery.Delivery.{Delivery}
+use Rattle.replica.specs.Causality.{AreFirst, IsCausal}
+use Rattle.replica.specs.Orders.{IsBehind, Key, Place}
+use Rattle.replica.specs.Updates.{calls, key, many, reach}
 use Rattle.replica.specs.Replaying.{SameUpdates}
 use Rattle.replica.specs.Replicas.{ReplicaState, IsReady}
 
@@ -37,6 +40,14 @@ pub record IsReplica (session sessions operations room held : ℕ) : Type 0 wher
   pub few : sessions ≤ MAX_SESSIONS
   pub short : operations ≤ MAX_OPERATIONS
   pub spare : held ≤ room
+
+-- what is kept of the updates that the replica of a session has taken in: the clock has come to their stamps, they are in the
+-- order of the store, and with causal delivery each came behind all that it depends on
+pub record IsKept {C : Type 0} (place : Place) (in_order : List Key → Type 0) (session : ℕ) (delivery : Delivery) (clock : ℕ) (taken : List (UpdateOf C)) : Type 0 where
+  pub stamped : (i : ℕ) (u : UpdateOf C) → slice_get taken i ≡ Some u → u.stamp ≤ clock
+  pub ordered : in_order (map key taken)
+  pub first : delivery ≡ Delivery.Causal → AreFirst taken
+  pub causal : IsBehind place → delivery ≡ Delivery.Causal → IsCausal session taken
 
 -- none of the first so many updates is ready
 abbrev pub NoneReady : {S C : Type 0} → ReplicaState S C → List (UpdateOf C) → ℕ → Type 0

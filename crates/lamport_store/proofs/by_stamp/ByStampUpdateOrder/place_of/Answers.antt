@@ -1,11 +1,10 @@
-use Rattle.std.proofs.Common.{sym, ◌∙◌}
-use Rattle.replica.specs.Updates.{key}
-use Rattle.lamport_store.specs.Stamps.{goes_before}
-use Rattle.lamport_store.proofs.KeyCounts.{count_keys, count_within}
+use Rattle.std.proofs.Common.{rules}
+use Rattle.std.proofs.lemmas.List.Sorted.{IsPartitionPoint-from_clause}
+use Rattle.lamport_store.proofs.Partition.{partitioned, split-place, stands_before}
 use Rattle.lamport_store.proofs.by_stamp.ByStampUpdateOrder.place_of.Goals as goal
 
 pub returns-clause-place : goal.returns-clause-place
-returns-clause-place g c = c.count_before.ensures ∙ sym (count_keys (λ b. goes_before b (key c.args.update.now)) c.args.taken.now)
-
-pub returns-clause-within : goal.returns-clause-within
-returns-clause-within g c = count_within (λ b. goes_before b (key c.args.update.now)) c.args.taken.now c.count_before.result c.count_before.ensures
+returns-clause-place g c =
+    let split = IsPartitionPoint-from_clause (stands_before c.args.update.now) c.args.taken.now c.partition_point.result c.partition_point.ensures.partitioned
+    (partitioned c.args.update.now c.args.taken.now c.requires) (λ a r f k. search rules) in
+    split-place c.args.update.now c.args.taken.now c.partition_point.result c.requires c.partition_point.ensures.bound split

@@ -1,3 +1,5 @@
+use Rattle.std.proofs.Common.{ap, ◌∙◌}
+use Rattle.replica.specs.Replicas.{ReplicaState}
 use Rattle.replica.proofs.Settling.{settles-more, fewer-held}
 use Rattle.replica.proofs.replica.Replica.settle.Goals as goal
 
@@ -5,4 +7,7 @@ pub loop-at-smaller : goal.loop-at-smaller
 loop-at-smaller g c = fewer-held g.P.UpdateOrder.place c.loop-at.self c.release.new.self c.in-Some.at c.in-Some.update c.in-Some.ensures c.release.ensures
 
 pub loop-at-preserved : goal.loop-at-preserved
-loop-at-preserved g c = λ r settles. c.loop-at.invariant r (settles-more g.P.UpdateOrder.place c.loop-at.self c.release.new.self r c.in-Some.at c.in-Some.update c.in-Some.ensures c.release.ensures settles)
+loop-at-preserved g c = (
+  ap (λ (r : ReplicaState g.row.O-Start.Denot g.row.O-Call.Denot). r.delivery) c.release.ensures ∙ c.loop-at.invariant.0,
+  λ r settles. c.loop-at.invariant.1 r (settles-more g.P.UpdateOrder.place c.loop-at.self c.release.new.self r c.in-Some.at c.in-Some.update c.in-Some.ensures c.release.ensures settles),
+)

@@ -1,10 +1,12 @@
-use Rattle.std.proofs.Common.{length}
+use Rattle.std.proofs.Common.{◌≡◌, length}
+use Rattle.replica.specs.declared.delivery.Delivery.{Delivery}
 use Rattle.replica.specs.Replicas.{ReplicaState, Settles}
 use Rattle.replica.proofs.replica.Replica.settle.Given as goal
 
 -- what it settles to from here on is what it settles to from the start
 abbrev pub invariant-loop-at : goal.invariant-loop-at
-invariant-loop-at g l = (r : ReplicaState g.row.O-Start.Denot g.row.O-Call.Denot) → Settles g.P.UpdateOrder.place l.self r → Settles g.P.UpdateOrder.place l.fn.self r
+invariant-loop-at g l = (l.self.delivery ≡ Delivery.Causal)
+    × ((r : ReplicaState g.row.O-Start.Denot g.row.O-Call.Denot) → Settles g.P.UpdateOrder.place l.self r → Settles g.P.UpdateOrder.place l.fn.self r)
 
 -- the updates that are held
 abbrev pub decreases-loop-at : goal.decreases-loop-at
