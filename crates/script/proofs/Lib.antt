@@ -1,2 +1,4 @@
 pub mod CaseForms
+pub mod ScriptForms
+pub mod ScriptReading
 pub mod StepForms

@@ -1,4 +1,3 @@
-use Rattle.std.proofs.Common.{sym}
 use Rattle.serde_json.specs.View.{view}
 use Rattle.script.proofs.CaseForms.{no_certified_case}
 use Rattle.script.proofs.reading_parts.read_certified.Goals as goal
