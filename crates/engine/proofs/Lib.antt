@@ -5,5 +5,6 @@ pub mod Founded
 pub mod JudgeErrors
 pub mod ReadCallLaws
 pub mod NotRefused
+pub mod ScriptOutcomes
 pub mod Outcomes
 pub mod Decided

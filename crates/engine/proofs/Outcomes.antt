@@ -14,15 +14,16 @@ use Rattle.cert_check.specs.declared.certificate.Certificate.{Certificate}
 use Rattle.cert_check.specs.CertificateForm.{IsCertificate, form_of as certificate_form}
 use Rattle.cert_check.proofs.CertificateForms.{one_certificate}
 use Rattle.engine.specs.declared.command_line.Order.{Order}
-use Rattle.engine.specs.declared.command_line.Order.TheVariants.{Judge, Check}
+use Rattle.engine.specs.declared.command_line.Order.TheVariants.{Judge, Check, Replay}
 use Rattle.engine.specs.declared.failure.RunError.{RunError}
-use Rattle.engine.specs.declared.failure.RunError.TheVariants.{History, BadCertificate, ShapeMismatch, TooLong, Memory, ReadFault, WriteFault}
+use Rattle.engine.specs.declared.failure.RunError.TheVariants.{History, Script, BadCertificate, ShapeMismatch, TooLong, Memory, ReadFault, WriteFault}
 use Rattle.engine.specs.declared.input.TheConstants.{MAX_INPUT_BYTES}
 use Rattle.engine.specs.Checking.{HasOtherShape, HasShape, IsCheckReport, IsPair, IsPairError, pair_form, pair_refusal}
-use Rattle.engine.specs.Failure.{failure_status, refusal_status}
-use Rattle.engine.specs.Running.{Answers, Fails, IsAnswer, IsAnswerError, IsReport}
+use Rattle.engine.specs.Failure.{failure_status, refusal_status, script_status}
+use Rattle.engine.specs.Running.{Answers, Fails, IsAnswer, IsAnswerError, IsReplayReport, IsReport}
 use Rattle.engine.proofs.NotRefused.{form_is_fine}
 use Rattle.engine.proofs.Pairs.{refusal-pair}
+use Rattle.engine.proofs.ScriptOutcomes.{script_is_fine, script_refused_once, script_statuses}
 
 -- a text has one value, a value is the form of one history, and of one certificate
 one_value : (text : List ℕ) (d e : Data) → IsJson text d → IsJson text e → d ≡ e
@@ -120,12 +121,14 @@ judge_once workers text (History p) (History q) is_e is_f one two =
     ap History (one_refusal first_refusal text p q (judge_refused text p is_e one) (judge_refused text q is_f two))
 judge_once workers text BadCertificate f is_e is_f one two = absurd is_e
 judge_once workers text ShapeMismatch f is_e is_f one two = absurd is_e
+judge_once workers text (Script p) f is_e is_f one two = absurd is_e
 judge_once workers text TooLong f is_e is_f one two = absurd is_e
 judge_once workers text Memory f is_e is_f one two = absurd (omega arith)
 judge_once workers text ReadFault f is_e is_f one two = absurd is_e
 judge_once workers text WriteFault f is_e is_f one two = absurd is_e
 judge_once workers text e BadCertificate is_e is_f one two = absurd is_f
 judge_once workers text e ShapeMismatch is_e is_f one two = absurd is_f
+judge_once workers text e (Script q) is_e is_f one two = absurd is_f
 judge_once workers text e TooLong is_e is_f one two = absurd is_f
 judge_once workers text e Memory is_e is_f one two = absurd (omega arith)
 judge_once workers text e ReadFault is_e is_f one two = absurd is_f
@@ -142,19 +145,39 @@ check_once workers text BadCertificate ShapeMismatch is_e is_f one two = absurd 
 check_once workers text ShapeMismatch (History q) is_e is_f one two = absurd (no_other_shape text q is_f is_e two)
 check_once workers text ShapeMismatch BadCertificate is_e is_f one two = absurd (has_a_form text is_e.0 is_e.1 is_e.3 is_e.4 is_f)
 check_once workers text ShapeMismatch ShapeMismatch is_e is_f one two = refl
+check_once workers text (Script p) f is_e is_f one two = absurd is_e
 check_once workers text TooLong f is_e is_f one two = absurd is_e
 check_once workers text Memory f is_e is_f one two = absurd (omega arith)
 check_once workers text ReadFault f is_e is_f one two = absurd is_e
 check_once workers text WriteFault f is_e is_f one two = absurd is_e
+check_once workers text e (Script q) is_e is_f one two = absurd is_f
 check_once workers text e TooLong is_e is_f one two = absurd is_f
 check_once workers text e Memory is_e is_f one two = absurd (omega arith)
 check_once workers text e ReadFault is_e is_f one two = absurd is_f
 check_once workers text e WriteFault is_e is_f one two = absurd is_f
 
+replay_once : (text : List ℕ) (e f : RunError) → IsAnswerError Replay text e → IsAnswerError Replay text f → failure_status e ≡ 1 → failure_status f ≡ 1 → e ≡ f
+replay_once text (Script p) (Script q) is_e is_f one two = ap Script (script_refused_once text p q is_e is_f one two)
+replay_once text (History p) f is_e is_f one two = absurd is_e
+replay_once text BadCertificate f is_e is_f one two = absurd is_e
+replay_once text ShapeMismatch f is_e is_f one two = absurd is_e
+replay_once text TooLong f is_e is_f one two = absurd is_e
+replay_once text Memory f is_e is_f one two = absurd (omega arith)
+replay_once text ReadFault f is_e is_f one two = absurd is_e
+replay_once text WriteFault f is_e is_f one two = absurd is_e
+replay_once text e (History q) is_e is_f one two = absurd is_f
+replay_once text e BadCertificate is_e is_f one two = absurd is_f
+replay_once text e ShapeMismatch is_e is_f one two = absurd is_f
+replay_once text e TooLong is_e is_f one two = absurd is_f
+replay_once text e Memory is_e is_f one two = absurd (omega arith)
+replay_once text e ReadFault is_e is_f one two = absurd is_f
+replay_once text e WriteFault is_e is_f one two = absurd is_f
+
 pub refused_in_one_way : (order : Order) (text : List ℕ) (e f : RunError) → IsAnswerError order text e → IsAnswerError order text f
     → failure_status e ≡ 1 → failure_status f ≡ 1 → e ≡ f
 refused_in_one_way (Judge workers) text e f is_e is_f one two = judge_once workers text e f is_e is_f one two
 refused_in_one_way (Check workers) text e f is_e is_f one two = check_once workers text e f is_e is_f one two
+refused_in_one_way Replay text e f is_e is_f one two = replay_once text e f is_e is_f one two
 
 -- what is answered is not refused
 judge_not_refused : (workers : ℕ) (text answer : List ℕ) (e : RunError) → IsReport text answer → IsAnswerError (Judge workers) text e → failure_status e ≡ 4
@@ -164,6 +187,7 @@ judge_not_refused workers text answer (History p) report is_e =
     (statuses p)
 judge_not_refused workers text answer BadCertificate report is_e = absurd is_e
 judge_not_refused workers text answer ShapeMismatch report is_e = absurd is_e
+judge_not_refused workers text answer (Script p) report is_e = absurd is_e
 judge_not_refused workers text answer TooLong report is_e = absurd is_e
 judge_not_refused workers text answer Memory report is_e = refl
 judge_not_refused workers text answer ReadFault report is_e = absurd is_e
@@ -182,14 +206,29 @@ check_not_refused workers text answer ShapeMismatch report is_e =
     let history : report.history ≡ is_e.0 = sym (any_forms_are_distinct is_e.0 report.history is_e.2 report.is_history same.0) in
     let certificate : report.certificate ≡ is_e.1 = sym (one_certificate is_e.1 report.certificate same.1) in
     absurd (is_e.5 (subst (λ (h : AnyHistory). HasShape h is_e.1) history (subst (λ (c : Certificate). HasShape report.history c) certificate report.shape)))
+check_not_refused workers text answer (Script p) report is_e = absurd is_e
 check_not_refused workers text answer TooLong report is_e = absurd is_e
 check_not_refused workers text answer Memory report is_e = refl
 check_not_refused workers text answer ReadFault report is_e = absurd is_e
 check_not_refused workers text answer WriteFault report is_e = absurd is_e
 
+replay_not_refused : (text answer : List ℕ) (e : RunError) → IsReplayReport text answer → IsAnswerError Replay text e → failure_status e ≡ 4
+replay_not_refused text answer (Script p) report is_e =
+    ⊎_elim (λ (four : script_status p ≡ 4). four)
+    (λ (one : script_status p ≡ 1). absurd (script_is_fine text report.script report.is_script report.read p is_e one))
+    (script_statuses p)
+replay_not_refused text answer (History p) report is_e = absurd is_e
+replay_not_refused text answer BadCertificate report is_e = absurd is_e
+replay_not_refused text answer ShapeMismatch report is_e = absurd is_e
+replay_not_refused text answer TooLong report is_e = absurd is_e
+replay_not_refused text answer Memory report is_e = refl
+replay_not_refused text answer ReadFault report is_e = absurd is_e
+replay_not_refused text answer WriteFault report is_e = absurd is_e
+
 pub answered_is_not_refused : (order : Order) (text answer : List ℕ) (e : RunError) → IsAnswer order text answer → IsAnswerError order text e → failure_status e ≡ 4
 answered_is_not_refused (Judge workers) text answer e report is_e = judge_not_refused workers text answer e report is_e
 answered_is_not_refused (Check workers) text answer e report is_e = check_not_refused workers text answer e report is_e
+answered_is_not_refused Replay text answer e report is_e = replay_not_refused text answer e report is_e
 
 -- a report is on the history of its input
 pub reported_history : (text answer : List ℕ) (h : AnyHistory) → IsAnyHistory h → IsJson text (form_of h) → (report : IsReport text answer) → report.history ≡ h
@@ -201,6 +240,7 @@ too_long-not_answered order bytes before after long answers = let same : length 
 
 pub too_long-fails : (order : Order) (bytes : List ℕ) (e : RunError) → MAX_INPUT_BYTES < length bytes → Fails order (Some bytes) e → (e ≡ TooLong) ⊎ ((e ≡ Memory) ⊎ (e ≡ ReadFault))
 too_long-fails order bytes (History p) long fails = let same : length fails.0 ≡ length bytes = ap length fails.1 in let within = fails.2 in absurd (omega arith)
+too_long-fails order bytes (Script p) long fails = let same : length fails.0 ≡ length bytes = ap length fails.1 in let within = fails.2 in absurd (omega arith)
 too_long-fails order bytes BadCertificate long fails = let same : length fails.0 ≡ length bytes = ap length fails.1 in let within = fails.2 in absurd (omega arith)
 too_long-fails order bytes ShapeMismatch long fails = let same : length fails.0 ≡ length bytes = ap length fails.1 in let within = fails.2 in absurd (omega arith)
 too_long-fails order bytes TooLong long fails = inl refl

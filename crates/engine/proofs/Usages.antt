@@ -1,6 +1,7 @@
 -- What is said of a fault is said of it among those that `clap` finds.
-use Rattle.std.proofs.Common.{inl, inr}
-use Rattle.clap.specs.Words.{HasKind, Kinds, kind_of}
+use Rattle.std.proofs.Common.{◌≡◌, [], inl, inr}
+use Rattle.std.specs.Prelude.{IfOk, Result, Ok, Err}
+use Rattle.clap.specs.Words.{FailsBy, HasKind, Kinds, kind_of}
 use Rattle.clap.specs.declared.Error.{Error}
 use Rattle.engine.specs.declared.command_line.Usage.{Usage}
 use Rattle.engine.specs.declared.command_line.Usage.TheVariants.{Fault, Help, Memory}
@@ -12,3 +13,8 @@ usage_among kinds e (Help text) (inr among) help = rw (← help) among
 usage_among kinds e (Fault text) (inl memory) fault = absurd (fault.1 memory)
 usage_among kinds e (Fault text) (inr among) fault = inr (kind_of e, among, fault.0)
 usage_among kinds e Memory has any = tt
+
+-- what is taken has no fault
+pub taken_without_fault : {T : Type 0} (kinds : Kinds) (r : Result T Error) → FailsBy kinds r → IfOk r (λ _. kinds ≡ [])
+taken_without_fault kinds (Ok m) fails = fails
+taken_without_fault kinds (Err e) fails = tt

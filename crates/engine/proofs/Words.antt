@@ -1,8 +1,12 @@
--- What the first words of a list are, and what the others ask for.
-use Rattle.std.proofs.Common.{◌≡◌, ◌≤◌, ◌<◌, ℕ, List, [], ◌∷◌, length, map, drop, get_or, sym, arith}
+-- What the first words of a list are, and which order they are of.
+use Rattle.std.proofs.Common.{◌≡◌, ◌≤◌, ◌<◌, ◌∙◌, ℕ, Bool, true, false, List, [], ◌∷◌, length, map, drop, get_or, ap, sym, subst, arith, Option, MatchOption}
+use Rattle.std.specs.Prelude.{◌≢◌, codes, nat_eq}
+use Rattle.std.specs.Cmp.Lexicographic.{pointwise}
 use Rattle.clap.specs.Words.{Text}
 use Rattle.collector.specs.Judgements.{AreWorkers}
-use Rattle.engine.specs.CommandLine.{AskFor, GivesNoOrder, workers_of}
+use Rattle.engine.specs.declared.command_line.Order.{Order}
+use Rattle.engine.specs.declared.command_line.Order.TheVariants.{Judge, Check, Replay}
+use Rattle.engine.specs.CommandLine.{AskFor, GivesNoOrder, IsCommandLine, IsOrder}
 
 pub one_word : {A : Type 0} (f : A → Text) (xs : List A) (a : A) → 1 ≤ length xs → length xs < 2 → a ≡ get_or xs 0 a → map f xs ≡ f a ∷ []
 one_word f [] a least most first = absurd (omega arith)
@@ -16,8 +20,28 @@ two_words f (x ∷ []) a b least most first second = absurd (omega arith)
 two_words f (x ∷ y ∷ []) a b least most first second = λ i. f (sym first i) ∷ f (sym second i) ∷ []
 two_words f (x ∷ y ∷ z ∷ xs) a b least most first second = absurd (omega arith)
 
--- words behind the first two that ask for no number of workers give no order
-pub no_number : {A : Type 0} (f : A → Text) (xs : List A) → ((n : ℕ) → AreWorkers n → ¬ AskFor n (map f (drop 2 xs))) → GivesNoOrder (map f xs)
-no_number f [] none order is = is
-no_number f (x ∷ []) none order is = is
-no_number f (x ∷ y ∷ xs) none order is = none (workers_of order) is.1 is.2
+-- words that ask for no number of workers are none of an order that has one, nor some words of one that has none
+module _ (word : Text) (words : List Text) where
+  pub no_judge : word ≡ codes "judge" → ((n : ℕ) → AreWorkers n → ¬ AskFor n words) → (order : Order) → ¬ IsOrder order word words
+  no_judge is none (Judge n) order = none n order.1.0 order.1.1
+  no_judge is none (Check n) order = let e : ◌≡◌ {A = Bool} true false = ap (pointwise nat_eq (codes "judge")) (sym is ∙ order.0) in absurd cc
+  no_judge is none Replay order = let e : ◌≡◌ {A = Bool} true false = ap (pointwise nat_eq (codes "judge")) (sym is ∙ order.0) in absurd cc
+
+  pub no_check : word ≡ codes "check" → ((n : ℕ) → AreWorkers n → ¬ AskFor n words) → (order : Order) → ¬ IsOrder order word words
+  no_check is none (Judge n) order = let e : ◌≡◌ {A = Bool} true false = ap (pointwise nat_eq (codes "check")) (sym is ∙ order.0) in absurd cc
+  no_check is none (Check n) order = none n order.1.0 order.1.1
+  no_check is none Replay order = let e : ◌≡◌ {A = Bool} true false = ap (pointwise nat_eq (codes "check")) (sym is ∙ order.0) in absurd cc
+
+  pub no_order : word ≢ codes "judge" → word ≢ codes "check" → (word ≡ codes "replay" → words ≢ []) → (order : Order) → ¬ IsOrder order word words
+  no_order judge check replay (Judge n) order = judge order.0
+  no_order judge check replay (Check n) order = check order.0
+  no_order judge check replay Replay order = replay order.0 order.1
+
+-- the words of a command line are the program's name, the word of a command, and the words behind it
+pub whole_order : {A : Type 0} (f : A → Text) (xs : List A) (word : A) (r : Option Order) → 2 ≤ length xs → word ≡ get_or xs 1 word
+    → MatchOption r ((order : Order) → ¬ IsOrder order (f word) (map f (drop 2 xs))) (λ order. IsOrder order (f word) (map f (drop 2 xs)))
+    → MatchOption r (GivesNoOrder (map f xs)) (λ order. IsCommandLine order (map f xs))
+whole_order f [] word r least here of = absurd (omega arith)
+whole_order f (x ∷ []) word r least here of = absurd (omega arith)
+whole_order f (x ∷ y ∷ xs) word r least here of =
+    subst (λ z. MatchOption r ((order : Order) → ¬ IsOrder order (f z) (map f xs)) (λ order. IsOrder order (f z) (map f xs))) here of

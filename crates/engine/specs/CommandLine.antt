@@ -10,18 +10,15 @@ use Rattle.clap.specs.declared.error.kind.ErrorKind.TheVariants.{DisplayHelp, Ou
 use Rattle.collector.specs.declared.judging.TheConstants.{MAX_WORKERS}
 use Rattle.collector.specs.Judgements.{AreWorkers}
 use Rattle.engine.specs.declared.command_line.Order.{Order}
-use Rattle.engine.specs.declared.command_line.Order.TheVariants.{Judge, Check}
+use Rattle.engine.specs.declared.command_line.Order.TheVariants.{Judge, Check, Replay}
 use Rattle.engine.specs.declared.command_line.Usage.{Usage}
 use Rattle.engine.specs.declared.command_line.Usage.TheVariants.{Fault, Help, Memory}
 
--- the word that names an order's command, and how many workers it asks for
+-- the word that names an order's command
 abbrev pub command_word : Order → Text
 command_word (Judge workers) = codes "judge"
 command_word (Check workers) = codes "check"
-
-abbrev pub workers_of : Order → ℕ
-workers_of (Judge workers) = workers
-workers_of (Check workers) = workers
+command_word Replay = codes "replay"
 
 -- a text writes a number: decimal digits, and perhaps a plus before them
 abbrev pub Writes : Text → ℕ → Type 0
@@ -41,12 +38,21 @@ AskFor n (word ∷ []) = AsksFor n word
 AskFor n (word ∷ number ∷ []) = AskTogetherFor n word number
 AskFor n (word ∷ number ∷ further ∷ words) = ⊥
 
--- the command line of an order: the program's name, the order's word, and words that ask for its number of workers
+-- the words behind a command's word ask for the number of workers of an order, and are none where it has none
+abbrev pub AreOptions : Order → List Text → Type 0
+AreOptions (Judge workers) words = AreWorkers workers × AskFor workers words
+AreOptions (Check workers) words = AreWorkers workers × AskFor workers words
+AreOptions Replay words = words ≡ []
+
+-- the word of an order's command, and the words behind it
+abbrev pub IsOrder : Order → Text → List Text → Type 0
+IsOrder order word words = (word ≡ command_word order) × AreOptions order words
+
+-- the command line of an order: the program's name, the word of its command, and the words behind it
 abbrev pub IsCommandLine : Order → List Text → Type 0
 IsCommandLine order [] = ⊥
 IsCommandLine order (program ∷ []) = ⊥
-IsCommandLine order (program ∷ word ∷ words) =
-    (word ≡ command_word order) × AreWorkers (workers_of order) × AskFor (workers_of order) words
+IsCommandLine order (program ∷ word ∷ words) = IsOrder order word words
 
 -- words that are no command line
 abbrev pub GivesNoOrder : List Text → Type 0
@@ -58,7 +64,7 @@ top =
     let app = new_app (codes "causal_judge") in
     record app { top = record app.top { subcommand_required = true } }
 
--- the commands `judge` and `check` take the option `--workers N`
+-- the commands `judge` and `check` take the option `--workers N`, and `replay` takes none
 abbrev pub workers : Rule
 workers = record (new_rule (codes "workers")) {
   long = Some (codes "workers");
@@ -73,8 +79,14 @@ judge = with_rule (new_app (codes "judge")) workers
 abbrev pub check : App
 check = with_rule (new_app (codes "check")) workers
 
+abbrev pub replay : App
+replay = new_app (codes "replay")
+
+abbrev pub judging : App
+judging = with_subcommand (with_subcommand top judge.top) check.top
+
 abbrev pub command_line : App
-command_line = with_subcommand (with_subcommand top judge.top) check.top
+command_line = with_subcommand judging replay.top
 
 -- what is said of one fault, or in its place that memory ran out: help is no fault but a request
 abbrev pub IsUsageOf : ErrorKind → Usage → Type 0

@@ -3,14 +3,17 @@ use Rattle.std.specs.Prelude.{◌≡◌, ◌<◌, ◌≤◌, ℕ, List, Option, 
 use Rattle.std.specs.Io.KnownBytes.{Appends}
 use Rattle.engine.specs.declared.command_line.Order.{Order}
 use Rattle.engine.specs.declared.failure.RunError.{RunError}
-use Rattle.engine.specs.declared.failure.RunError.TheVariants.{History, BadCertificate, ShapeMismatch, TooLong, Memory, ReadFault, WriteFault}
+use Rattle.engine.specs.declared.failure.RunError.TheVariants.{History, Script, BadCertificate, ShapeMismatch, TooLong, Memory, ReadFault, WriteFault}
 use Rattle.operations.specs.declared.any_history.AnyHistory.{AnyHistory}
 use Rattle.operations.specs.AnyForm.{form_of, IsAnyHistory, IsJson, IsRefusedFor}
 use Rattle.engine.specs.declared.report.Report.{Report}
-use Rattle.engine.specs.declared.command_line.Order.TheVariants.{Judge, Check}
+use Rattle.engine.specs.declared.command_line.Order.TheVariants.{Judge, Check, Replay}
 use Rattle.engine.specs.Report.{EachIsTrueOf, EachNamesUnexplained, EachIsKnownOnDistinctValues, text_for}
 use Rattle.engine.specs.Checking.{IsCheckReport, IsPairError, HasOtherShape}
 use Rattle.engine.specs.declared.input.TheConstants.{MAX_INPUT_BYTES}
+use Rattle.script.specs.declared.any_script.AnyScript.{AnyScript}
+use Rattle.script.specs.AnyScriptForm.{IsAnyScript, IsRefusedFor as IsScriptRefusedFor, form_of as script_form}
+use Rattle.script.specs.Replays.{IsReplay}
 
 -- the text is a report on the history in the input: its three lines, each of which is true of that history
 pub record IsReport (input text : List ℕ) : Type 0 where
@@ -23,10 +26,18 @@ pub record IsReport (input text : List ℕ) : Type 0 where
   pub unexplained : EachNamesUnexplained history report
   pub lines : text ≡ text_for report
 
+-- the text answers the script in the input: it is the lines of the replies of a run of its steps
+pub record IsReplayReport (input text : List ℕ) : Type 0 where
+  pub script : AnyScript
+  pub is_script : IsAnyScript script
+  pub read : IsJson input (script_form script)
+  pub lines : IsReplay script text
+
 -- the text answers the input as the order asks, whatever the number of its workers
 abbrev pub IsAnswer : Order → List ℕ → List ℕ → Type 0
 IsAnswer (Judge workers) input text = IsReport input text
 IsAnswer (Check workers) input text = IsCheckReport input text
+IsAnswer Replay input text = IsReplayReport input text
 
 -- what can come of making an answer, in its place: the input is refused, or memory ran out
 abbrev pub IsAnswerError : Order → List ℕ → RunError → Type 0
@@ -35,6 +46,7 @@ IsAnswerError (Judge workers) input (History refusal) = IsRefusedFor input refus
 IsAnswerError (Check workers) input (History refusal) = IsPairError input (History refusal)
 IsAnswerError (Check workers) input BadCertificate = IsPairError input BadCertificate
 IsAnswerError (Check workers) input ShapeMismatch = HasOtherShape input
+IsAnswerError Replay input (Script refusal) = IsScriptRefusedFor input refusal
 IsAnswerError order input _ = ⊥
 
 -- an input was read whole, and an answer to it was written whole: what the reader had, where it tells its bytes, and
@@ -56,6 +68,7 @@ IsOfInput reader IsSo = (input : List ℕ) × IfSome reader (λ bytes. input ≡
 abbrev pub Fails : Order → Option (List ℕ) → RunError → Type 0
 Fails order reader TooLong = IfSome reader (λ bytes. MAX_INPUT_BYTES < length bytes)
 Fails order reader (History refusal) = IsOfInput reader (λ input. IsAnswerError order input (History refusal))
+Fails order reader (Script refusal) = IsOfInput reader (λ input. IsAnswerError order input (Script refusal))
 Fails order reader BadCertificate = IsOfInput reader (λ input. IsAnswerError order input BadCertificate)
 Fails order reader ShapeMismatch = IsOfInput reader (λ input. IsAnswerError order input ShapeMismatch)
 Fails order reader WriteFault = IsOfInput reader (λ input. (text : List ℕ) × IsAnswer order input text)

@@ -1,9 +1,9 @@
 //! The command line.
-ghost use Rattle.std.specs.Prelude.{◌≡◌, ◌≢◌, ℕ, [], false, IfErr, IfOk, IfSome, IsNone, MatchOption, MatchResult, map};
+ghost use Rattle.std.specs.Prelude.{◌≡◌, ℕ, [], false, IfErr, IfOk, MatchOption, MatchResult, map};
 ghost use Rattle.clap.specs.Words.{HasKind, app_of, fault_of, kind_of, rule_of};
 ghost use Rattle.clap.specs.declared.builder.Command.TheViews.{out-Command};
-ghost use Rattle.engine.specs.CommandLine.{AskFor, AskTogetherFor, AsksFor, GivesNoOrder, IsCommandLine, IsUsageFor};
-ghost use Rattle.engine.specs.CommandLine.{IsUsageOf, Writes, check, command_line, command_word, judge, workers, workers_of};
+ghost use Rattle.engine.specs.CommandLine.{AskFor, AskTogetherFor, AsksFor, GivesNoOrder, IsCommandLine, IsOrder, IsUsageFor};
+ghost use Rattle.engine.specs.CommandLine.{IsUsageOf, Writes, check, command_line, judge, judging, replay, workers};
 ghost use Rattle.collector.specs.Judgements.{AreWorkers};
 
 use crate::workers::Workers;
@@ -21,6 +21,8 @@ pub enum Order {
     Judge(Workers),
     /// Checks the certificate in the input against the history in it, by so many workers.
     Check(Workers),
+    /// Runs the script in the input.
+    Replay,
 }
 
 /// Why a command line gives no order.
@@ -34,8 +36,8 @@ pub enum Usage {
     Memory,
 }
 
-/// The order that a command line gives: the program's name, the word `judge` or `check`, and behind it `--workers N` or
-/// `--workers=N` for a number from 1 to 16, or nothing for 2.
+/// The order that a command line gives: the program's name and the word `replay`, or the program's name, the word `judge` or
+/// `check`, and behind it `--workers N` or `--workers=N` for a number from 1 to 16, or nothing for 2.
 ///
 /// Any other words give none. `Help` answers those in which `clap` finds a request for help, and `Fault` all others: an
 /// unknown command, option or further word, no command, another number or none. `Memory` comes in the place of either where
@@ -58,20 +60,18 @@ fn order_in<S: AsStr>(words: &[S]) -> Option<Order>
     let [_, word, further @ ..] = words else {
         return None;
     };
-    match workers_in(further) {
-        Some(workers) => order_of_word(word.as_str(), workers),
-        None => None,
-    }
+    order_of(word.as_str(), further)
 }
 
-// The order of a command and its workers.
-fn order_of_word(word: &str, workers: Workers) -> Option<Order>
-    ensures none { IsNone result → (order : Order) → word.now ≢ command_word order }
-    ensures named { IfSome result (λ order. (word.now ≡ command_word order) × (workers_of order ≡ workers)) }
+// The order of a command's word and the words behind it.
+fn order_of<S: AsStr>(word: &str, words: &[S]) -> Option<Order>
+    ensures { MatchOption result ((order : Order) → ¬ IsOrder order word.now (map S.text words.now))
+        (λ order. IsOrder order word.now (map S.text words.now)) }
 {
     match word {
-        "judge" => Some(Order::Judge(workers)),
-        "check" => Some(Order::Check(workers)),
+        "judge" => Some(Order::Judge(workers_in(words)?)),
+        "check" => Some(Order::Check(workers_in(words)?)),
+        "replay" if words.is_empty() => Some(Order::Replay),
         _ => None,
     }
 }
@@ -156,6 +156,13 @@ fn matches_of<'a, S: AsStr>(alloc: Global, words: &'a [S]) -> Result<ArgMatches<
 fn program<'a>(alloc: Global) -> Result<Command<'a>, AllocError>
     ensures { IfOk result (λ command. app_of command ≡ command_line) }
 {
+    judging_program(alloc)?.subcommand(replay_command(alloc)?)
+}
+
+// The same without `replay`.
+fn judging_program<'a>(alloc: Global) -> Result<Command<'a>, AllocError>
+    ensures { IfOk result (λ command. app_of command ≡ judging) }
+{
     Command::new(alloc, "causal_judge")
         .about(
             "Judges a recorded history of replicated objects by the criteria of causal consistency",
@@ -181,6 +188,15 @@ fn check_command<'a>(alloc: Global) -> Result<Command<'a>, AllocError>
     Command::new(alloc, "check")
         .about("Reads a history and a certificate of it, and checks it")
         .arg(workers_option(alloc))
+}
+
+fn replay_command<'a>(alloc: Global) -> Result<Command<'a>, AllocError>
+    ensures app { IfOk result (λ command. app_of command ≡ replay) }
+    ensures local { IfOk result (λ command. (out-Command command).has_globals ≡ false) }
+{
+    Ok(Command::new(alloc, "replay").about(
+        "Reads a script of sessions, sealers and workers, and runs it",
+    ))
 }
 
 fn workers_option<'a>(alloc: Global) -> Arg<'a>

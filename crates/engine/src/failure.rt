@@ -1,9 +1,10 @@
 //! Why a run gave no answer, and what the program says of it.
 ghost use Rattle.std.specs.Prelude.{◌≡◌, IfOk, string_bytes};
-ghost use Rattle.engine.specs.Failure.{line_for, refusal_line, refused_at, status_for};
+ghost use Rattle.engine.specs.Failure.{line_for, refusal_line, refused_at, script_line as line_for_script, status_for};
 
 use cert_check::CertError;
 use operations::{OpId, ReadError};
+use script::ScriptError;
 use std::alloc::{AllocError, AllocFailed, Global};
 use thiserror::Error;
 
@@ -13,6 +14,9 @@ pub enum RunError {
     /// The history in the input is refused.
     #[error("the history is refused: {0}")]
     History(ReadError),
+    /// The script in the input is refused.
+    #[error("the script is refused: {0}")]
+    Script(ScriptError),
     /// The certificate in the input has no form of a certificate.
     #[error("the certificate has no form of a certificate")]
     BadCertificate,
@@ -83,17 +87,36 @@ impl From<ReadError> for RunError {
     }
 }
 
-/// The exit status after a run: 0 where it was judged, 1 where its input was refused, 3 where its reader or its writer
+impl From<ScriptError> for RunError {
+    ghost use Rattle.std.specs.Prelude.{◌≡◌};
+    ghost use Rattle.engine.specs.Failure.{script_failure};
+
+    ghost from_gives = { λ refusal e. e ≡ script_failure refusal };
+
+    fn from(refusal: ScriptError) -> RunError {
+        match refusal {
+            ScriptError::Memory => RunError::Memory,
+            _ => RunError::Script(refusal),
+        }
+    }
+}
+
+/// The exit status after a run: 0 where it was answered, 1 where its input was refused, 3 where its reader or its writer
 /// failed, and 4 where memory ran out.
 pub fn status_of(outcome: &Result<(), RunError>) -> u8
     ensures { result ≡ status_for outcome.now }
 {
     match outcome {
         Ok(()) => 0,
-        Err(RunError::Memory | RunError::History(ReadError::Memory)) => 4,
+        Err(
+            RunError::Memory
+            | RunError::History(ReadError::Memory)
+            | RunError::Script(ScriptError::Memory),
+        ) => 4,
         Err(RunError::ReadFault | RunError::WriteFault) => 3,
         Err(
             RunError::History(_)
+            | RunError::Script(_)
             | RunError::BadCertificate
             | RunError::ShapeMismatch
             | RunError::TooLong,
@@ -102,12 +125,13 @@ pub fn status_of(outcome: &Result<(), RunError>) -> u8
 }
 
 /// The line on standard error after a run that failed, without its line feed: `refused N`, `refused N s.i` with the
-/// operation that is at fault, `read fault`, `write fault` or `no memory`.
+/// operation that is at fault, `refused 28 i` with the place of the step that is, `read fault`, `write fault` or `no memory`.
 pub fn fault_line(alloc: Global, error: &RunError) -> Result<String, AllocError>
     ensures { IfOk result (λ line. string_bytes line ≡ line_for error.now) }
 {
     match error {
         RunError::History(refusal) => history_line(alloc, refusal),
+        RunError::Script(refusal) => script_line(alloc, refusal),
         RunError::TooLong => String::from_str(alloc, "refused 9"),
         RunError::BadCertificate => String::from_str(alloc, "refused 20"),
         RunError::ShapeMismatch => String::from_str(alloc, "refused 21"),
@@ -126,6 +150,18 @@ fn history_line(alloc: Global, refusal: &ReadError) -> Result<String, AllocError
         ReadError::BadOp(op) => operation_line(alloc, refusal.number(), *op),
         ReadError::ReturnAfterUnknown(op) => operation_line(alloc, refusal.number(), *op),
         _ => format!(in alloc; "refused {}", refusal.number()),
+    }
+}
+
+// The line for a script that is refused.
+fn script_line(alloc: Global, refusal: &ScriptError) -> Result<String, AllocError>
+    ensures { IfOk result (λ line. string_bytes line ≡ line_for_script refusal.now) }
+{
+    let number = refusal.number();
+    match refusal {
+        ScriptError::Memory => String::from_str(alloc, "no memory"),
+        ScriptError::BadStep(place) => format!(in alloc; "refused {number} {place}"),
+        _ => format!(in alloc; "refused {number}"),
     }
 }
 

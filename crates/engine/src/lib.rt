@@ -10,6 +10,7 @@ mod judging;
 pub mod laws;
 mod output;
 mod program;
+mod replaying;
 mod report;
 mod running;
 mod source;

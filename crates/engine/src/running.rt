@@ -10,6 +10,7 @@ use crate::failure::RunError;
 use crate::input::{MAX_READ_CALLS, read_input};
 use crate::judging::report_on;
 use crate::output::write_answer;
+use crate::replaying::replay;
 use crate::report::report_text;
 use crate::source::Source;
 use crate::workers::Workers;
@@ -24,7 +25,7 @@ use std::thread::Threads;
 /// Nothing is written before the answer is made: after every error but a write fault the writer is as it was. How much
 /// was written before a write fault is not said, nor how much was read before an error; how many read calls are made is
 /// said by [`read_input`]. O(n log n) for an input of n bytes, and what [`report_on`] or
-/// [`answer_of_certificate`](crate::answer_of_certificate) takes for its history.
+/// [`answer_of_certificate`](crate::answer_of_certificate) takes for its history, or [`script::replay`] for its script.
 pub fn run<P: Threads + Wait + Sync + AllocGlobal, R: Source, W: Write>(
     rt: &P,
     reader: &mut R,
@@ -49,7 +50,8 @@ pub fn run<P: Threads + Wait + Sync + AllocGlobal, R: Source, W: Write>(
 /// The whole answer to an input, as the order asks.
 ///
 /// Refuses what is no input of the order, and fails for want of memory. Its cost is that of reading the input, and what
-/// [`report_on`] or [`answer_of_certificate`](crate::answer_of_certificate) takes for its history.
+/// [`report_on`] or [`answer_of_certificate`](crate::answer_of_certificate) takes for its history, or [`script::replay`] for its
+/// script.
 pub fn answer_to<T: Threads + Wait + Sync>(
     rt: &T,
     alloc: Global,
@@ -62,6 +64,7 @@ pub fn answer_to<T: Threads + Wait + Sync>(
     match order {
         Order::Judge(workers) => judge(rt, alloc, input, *workers),
         Order::Check(workers) => check(rt, alloc, input, *workers),
+        Order::Replay => replay(alloc, input),
     }
 }
 

@@ -1,0 +1,18 @@
+//! What a script is answered.
+
+ghost use Rattle.std.specs.Prelude.{IfErr, IfOk, string_bytes};
+ghost use Rattle.engine.specs.Running.{IsAnswer, IsAnswerError};
+
+use crate::command_line::Order;
+use crate::failure::RunError;
+use script::read_script;
+use std::alloc::Global;
+
+/// The lines of the replies to the steps of the script in the input.
+pub fn replay(alloc: Global, input: &[u8]) -> Result<String, RunError>
+    ensures answer { IfOk result (λ text. IsAnswer Order.Replay input.now (string_bytes text)) }
+    ensures error { IfErr result (IsAnswerError Order.Replay input.now) }
+{
+    let read = read_script(alloc, input)?;
+    Ok(script::replay(alloc, read)?)
+}
