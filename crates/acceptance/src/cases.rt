@@ -1,8 +1,8 @@
 //! Cases as lines of text, `name | input | wanted answer`.
 
 use crate::{
-    applied_calls, checked, command_lines, found_patterns, judged, made_certificates, patterns,
-    texts,
+    advised, applied_calls, checked, command_lines, desks, found_patterns, judged, judgements,
+    made_certificates, patterns, replica_runs, replicas, texts, worlds,
 };
 use std::alloc::AllocError;
 use std::sync::Wait;
@@ -15,6 +15,8 @@ pub enum Question {
     Judge(usize),
     /// What a run of `check` by so many workers says of it.
     Check(usize),
+    /// What `judge` or `judge_with` of the library by so many workers says of it.
+    JudgeBy(usize),
     /// Which order its words give.
     Order,
     /// Which kinds of patterns are found in its history.
@@ -25,14 +27,26 @@ pub enum Question {
     Make,
     /// The same by program order alone.
     MakeByProgramOrder,
+    /// Which piece of an operation is made for its history from its advice.
+    MakeAsAdvised,
+    /// Which operation the certificate that is made for its history from its advice leaves unexplained.
+    ExplainAsAdvised,
     /// Which operation the certificate that is made for its history leaves unexplained.
     Explain,
+    /// What a desk answers to its steps.
+    Desk,
     /// How its history is written.
     Write,
     /// What a copy of its history has.
     Copy,
     /// What the object of its history answers.
     Apply,
+    /// What the world answers to the steps of its script.
+    Replay,
+    /// What replicas answer to its steps.
+    Replicate,
+    /// Whether replicas answer as a replay does, in random runs.
+    ReplicateAtRandom,
 }
 
 /// The cases of a table that get another answer than the wanted one: the name and the answer of each.
@@ -76,14 +90,21 @@ fn answer_to<P: Threads + Wait + Sync + AllocGlobal>(
     match question {
         Question::Judge(workers) => judged::said(rt, workers, input),
         Question::Check(workers) => checked::said(rt, workers, input),
+        Question::JudgeBy(workers) => judgements::said(rt, workers, input),
         Question::Order => command_lines::ordered(rt.alloc(), input),
         Question::Find => found_patterns::found(rt.alloc(), input),
         Question::Show => patterns::shown(rt.alloc(), input),
         Question::Make => made_certificates::made(rt.alloc(), input),
         Question::MakeByProgramOrder => made_certificates::made_by_program_order(rt.alloc(), input),
+        Question::MakeAsAdvised => advised::made(rt.alloc(), input),
+        Question::ExplainAsAdvised => advised::explained(rt.alloc(), input),
         Question::Explain => made_certificates::explained(rt.alloc(), input),
+        Question::Desk => desks::answered(rt, input),
         Question::Write => texts::written(rt.alloc(), input),
         Question::Copy => texts::copied(rt.alloc(), input),
         Question::Apply => applied_calls::applied(rt.alloc(), input),
+        Question::Replay => worlds::replied(rt.alloc(), input),
+        Question::Replicate => replicas::replicated(rt.alloc(), input),
+        Question::ReplicateAtRandom => replica_runs::replayed(rt.alloc(), input),
     }
 }

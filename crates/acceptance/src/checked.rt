@@ -62,6 +62,7 @@ table_with_zero_before_the_certificate | [["memory",[],[[0,0]]],null] | 1 refuse
 
 #[test]
 fn pairs_are_refused_with_their_line(rt: HostRuntime) -> Result<(), Fail> {
+    assert_eq!(rt; failures(&rt, Question::Check(1), REFUSED)?.as_str(), "");
     assert_eq!(rt; failures(&rt, Question::Check(2), REFUSED)?.as_str(), "");
     Ok(())
 }

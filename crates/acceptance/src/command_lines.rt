@@ -12,6 +12,9 @@ judge_by_one_worker | causal_judge judge --workers 1 | judge 1
 judge_by_16_workers | causal_judge judge --workers 16 | judge 16
 check_by_one_worker | causal_judge check --workers 1 | check 1
 check_by_16_workers_in_one_word | causal_judge check --workers=16 | check 16
+replay | causal_judge replay | replay
+replay_by_workers | causal_judge replay --workers 2 | fault
+further_word_behind_replay | causal_judge replay judge | fault
 number_behind_a_plus_and_zeros | causal_judge judge --workers=+004 | judge 4
 name_alone | causal_judge | fault
 two_commands | causal_judge check judge | fault
@@ -45,7 +48,7 @@ fn words_give_an_order_a_fault_or_help(rt: HostRuntime) -> Result<(), Fail> {
     Ok(())
 }
 
-/// The order that the words in a text give, and the number of its workers; or `fault` or `help`, where the usage is told.
+/// The order that the words in a text give, with the number of its workers; or `fault` or `help`, where the usage is told.
 pub fn ordered(alloc: Global, text: &str) -> Result<String, AllocError> {
     let words: Vec<&str> = text.split_whitespace().collect(alloc)?;
     match command_of(alloc, words.as_slice()) {
@@ -60,11 +63,12 @@ pub fn ordered(alloc: Global, text: &str) -> Result<String, AllocError> {
     }
 }
 
-/// The word of an order, and the number of its workers.
+/// The word of an order, and the number of its workers where it has one.
 fn text_of(alloc: Global, order: Order) -> Result<String, AllocError> {
     let (word, workers) = match order {
         Order::Judge(workers) => ("judge", workers.count()),
         Order::Check(workers) => ("check", workers.count()),
+        Order::Replay => return String::from_str(alloc, "replay"),
     };
     format!(in alloc; "{word} {workers}")
 }

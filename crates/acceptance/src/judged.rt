@@ -42,6 +42,7 @@ value_written_twice_forbids_a_no_of_a_cycle | ["memory",[[["r",0,1],["w",0,1]],[
 fn histories_of_a_memory_are_judged(rt: HostRuntime) -> Result<(), Fail> {
     assert_eq!(rt; failures(&rt, Question::Judge(1), MEMORIES)?.as_str(), "");
     assert_eq!(rt; failures(&rt, Question::Judge(2), MEMORIES)?.as_str(), "");
+    assert_eq!(rt; failures(&rt, Question::Judge(16), MEMORIES)?.as_str(), "");
     Ok(())
 }
 

@@ -1,17 +1,23 @@
 //! Tests that cross the crates: what the objects answer, whole runs over readers and writers in memory, patterns and
-//! certificates, recorders and their seals.
+//! certificates, desks and their workers, recorders and their seals, replicas, and the replies of the world.
 //!
 //! Most cases are lines of text, `name | input | wanted answer`, which one test reads.
 #![tactic(auto)]
 
 #[cfg(test)]
+mod advised;
+#[cfg(test)]
 mod applied_calls;
+#[cfg(test)]
+mod case_files;
 #[cfg(test)]
 mod cases;
 #[cfg(test)]
 mod checked;
 #[cfg(test)]
 mod command_lines;
+#[cfg(test)]
+mod desks;
 #[cfg(test)]
 mod devices;
 #[cfg(test)]
@@ -24,6 +30,8 @@ mod found_patterns;
 mod histories;
 #[cfg(test)]
 mod judged;
+#[cfg(test)]
+mod judgements;
 #[cfg(test)]
 mod made_certificates;
 #[cfg(test)]
@@ -39,6 +47,10 @@ mod recordings;
 #[cfg(test)]
 mod refused;
 #[cfg(test)]
+mod replica_runs;
+#[cfg(test)]
+mod replicas;
+#[cfg(test)]
 mod running;
 #[cfg(test)]
 mod runs;
@@ -50,3 +62,7 @@ mod seal_steps;
 mod seals;
 #[cfg(test)]
 mod texts;
+#[cfg(test)]
+mod workers;
+#[cfg(test)]
+mod worlds;

@@ -1,9 +1,10 @@
 //! What certificates are made of small histories.
 
 use crate::cases::{Question, failures};
-use crate::histories::{criterion_first, memory};
+use crate::histories::{criterion_first, memory, op_of};
 use causal_order::ByOperation;
 use cert_check::{CaseFile, Certificate, Criterion, first_unexplained};
+use object_trait::SeqObject;
 use objects::Memory;
 use operations::{History, OpId};
 use std::alloc::{AllocError, Global};
@@ -114,9 +115,10 @@ fn explained_in(
     }
 }
 
-fn explained_by(
+/// The first operation that a certificate does not explain.
+pub fn explained_by<O: SeqObject>(
     alloc: Global,
-    history: History<Memory>,
+    history: History<O>,
     made: Certificate,
 ) -> Result<String, AllocError> {
     match CaseFile::new(history, made.criterion(), Some(made)) {
@@ -135,13 +137,8 @@ fn told_first(alloc: Global, unexplained: Option<OpId>) -> Result<String, AllocE
 /// The criterion, the operation and the text of the history.
 fn asked(input: &str) -> Option<(Criterion, OpId, &str)> {
     let (criterion, rest) = criterion_first(input)?;
-    let (session, rest) = rest.split_once('.')?;
-    let (index, history) = rest.split_once(' ')?;
-    let op = OpId {
-        session: session.parse().ok()?,
-        index: index.parse().ok()?,
-    };
-    Some((criterion, op, history))
+    let (op, history) = rest.split_once(' ')?;
+    Some((criterion, op_of(op)?, history))
 }
 
 fn made_for(
@@ -150,9 +147,9 @@ fn made_for(
     criterion: Criterion,
 ) -> Result<Option<Certificate>, AllocError> {
     match criterion {
-        Criterion::Cc => certify_cc::make_memory(alloc, history),
-        Criterion::Cm => certify_cm::make_memory(alloc, history),
-        Criterion::Ccv => certify_ccv::make_memory(alloc, history),
+        Criterion::Cc => certify_cc::make_memory(alloc, history, &[]),
+        Criterion::Cm => certify_cm::make_memory(alloc, history, &[]),
+        Criterion::Ccv => certify_ccv::make_memory(alloc, history, &[]),
     }
 }
 
@@ -162,13 +159,14 @@ fn by_program_order(
     criterion: Criterion,
 ) -> Result<Option<Certificate>, AllocError> {
     match criterion {
-        Criterion::Cc => certify_cc::make(alloc, history),
-        Criterion::Cm => certify_cm::make(alloc, history),
-        Criterion::Ccv => certify_ccv::make(alloc, history),
+        Criterion::Cc => certify_cc::make(alloc, history, &[]),
+        Criterion::Cm => certify_cm::make(alloc, history, &[]),
+        Criterion::Ccv => certify_ccv::make(alloc, history, &[]),
     }
 }
 
-fn told(alloc: Global, made: Option<Certificate>, op: OpId) -> Result<String, AllocError> {
+/// The vector and the schedule of an operation in a certificate, or the one list in the place of the schedule.
+pub fn told(alloc: Global, made: Option<Certificate>, op: OpId) -> Result<String, AllocError> {
     match made {
         Some(certificate) => piece_of(alloc, &certificate, op),
         None => String::from_str(alloc, "none"),

@@ -72,7 +72,7 @@ fn found_and_made(alloc: Global, more: usize, cycle: bool) -> Result<(bool, bool
         return Ok((false, false));
     };
     let found = find(alloc, &history, Criterion::Cm)?.is_some();
-    let made = make_memory(alloc, &history)?.is_some();
+    let made = make_memory(alloc, &history, &[])?.is_some();
     Ok((found, made))
 }
 

@@ -1,10 +1,11 @@
 //! Which texts `judge` refuses.
 
 use crate::cases::{Question, failures};
+use crate::histories::writes;
 use crate::judged::said;
 use crate::running::said_of;
 use engine::{Order, Workers};
-use std::alloc::{AllocError, Global};
+use std::alloc::AllocError;
 use std::sync::Wait;
 use std::test::Fail;
 use std::thread::Threads;
@@ -59,6 +60,7 @@ third_element_of_a_counter_that_is_no_list | ["counter",[],0] | 1 refused 2
 
 #[test]
 fn texts_are_refused_with_their_line(rt: HostRuntime) -> Result<(), Fail> {
+    assert_eq!(rt; failures(&rt, Question::Judge(1), REFUSED)?.as_str(), "");
     assert_eq!(rt; failures(&rt, Question::Judge(2), REFUSED)?.as_str(), "");
     Ok(())
 }
@@ -74,34 +76,13 @@ fn bytes_that_are_no_text_are_refused(rt: HostRuntime) -> Result<(), Fail> {
     Ok(())
 }
 
-/// Puts a session of so many writes of its own variable into a text.
-fn push_writes(
-    text: &mut String,
-    alloc: Global,
-    session: usize,
-    operations: usize,
-) -> Result<(), AllocError> {
-    for value in 1..=operations {
-        let comma = if value == 1 { "" } else { "," };
-        let write = format!(in alloc; "{comma}[\"w\",{session},{value}]")?;
-        text.push_str(write.as_str())?;
-    }
-    Ok(())
-}
-
 /// What `judge` says of a memory history of so many sessions, each of so many writes of its own variable.
 fn said_of_writes<P: Threads + Wait + Sync + AllocGlobal>(
     rt: &P,
     sessions: usize,
     operations: usize,
 ) -> Result<String, AllocError> {
-    let mut text = String::from_str(rt.alloc(), r#"["memory",["#)?;
-    for session in 0..sessions {
-        text.push_str(if session == 0 { "[" } else { ",[" })?;
-        push_writes(&mut text, rt.alloc(), session, operations)?;
-        text.push_str("]")?;
-    }
-    text.push_str("]]")?;
+    let text = writes(rt.alloc(), sessions, operations)?;
     said(rt, 2, text.as_str())
 }
 
