@@ -11,6 +11,8 @@ import json
 import sys
 from operator import le
 
+from objects import OBJECTS, UNKNOWN, State, split
+
 
 class Unexplained(Exception):
     """A piece, or the shape of the whole, breaks a rule."""
@@ -66,30 +68,32 @@ def check_schedule(sessions, vectors, schedule, vector):
     demand(seen == vector, "a schedule names what the vector counts")
 
 
-def check_returns(sessions, operations, kept):
-    """In this order the memory answers the returns that are kept."""
-    memory = {}
+def check_returns(state, sessions, operations, kept):
+    """In this order the object answers the known returns that are kept."""
     for s, i in operations:
-        word, key, value = sessions[s][i]
-        if word == "w":
-            memory[key] = value
-        elif kept(s, i):
-            demand(memory.get(key, 0) == value, f"the return of {s}.{i} is the answer of the memory")
+        call, ret = sessions[s][i]
+        answer = state.apply(call)
+        if kept(s, i) and ret != UNKNOWN:
+            demand(answer == ret, f"the return of {s}.{i} is the answer of the object")
 
 
-def check_piece(sessions, vectors, kind, explained, s, i):
+def check_piece(state, sessions, vectors, kind, explained, s, i):
+    """The piece of an operation explains it. The sessions are lists of a call and a return each, and the state is the start.
+
+    `explained` is the list of schedules, or for causal convergence what `counts_in_order` makes of the one list.
+    """
     check_vector(sessions, vectors, s, i)
     vector = vectors[s][i]
     if kind == "ccv":
         order = explained
         demand(all(map(le, vector, order[s, i])), "in the list an operation comes after those that it counts")
         operations = [(t, j) for t, j in order if j < vector[t]]
-        check_returns(sessions, operations, lambda t, j: (t, j) == (s, i))
+        check_returns(state, sessions, operations, lambda t, j: (t, j) == (s, i))
     else:
         schedule = explained[s][i]
         check_schedule(sessions, vectors, schedule, vector)
         kept = (lambda t, j: (t, j) == (s, i)) if kind == "cc" else (lambda t, j: t == s and j <= i)
-        check_returns(sessions, named(schedule), kept)
+        check_returns(state, sessions, named(schedule), kept)
 
 
 def counts_in_order(order, sessions):
@@ -103,15 +107,16 @@ def counts_in_order(order, sessions):
 
 
 def check(history, certificate):
-    name, sessions = history
+    name, sessions, *start = history
     kind, vectors, explained = certificate
-    demand(name == "memory" and kind in ("cc", "cm", "ccv"), "a history of memory and a criterion")
+    demand(name in OBJECTS and kind in ("cc", "cm", "ccv"), "a history of an object and a criterion")
+    sessions = [[split(name, form) for form in session] for session in sessions]
     check_shape(sessions, vectors, kind, explained)
     if kind == "ccv":
         explained = counts_in_order(explained, sessions)
     for s, session in enumerate(sessions):
         for i in range(len(session)):
-            check_piece(sessions, vectors, kind, explained, s, i)
+            check_piece(State(name, start[0] if start else []), sessions, vectors, kind, explained, s, i)
 
 
 def main():

@@ -15,8 +15,13 @@ more than that is the time that the pieces take. Both are given as ratios: the t
 The second table has a row for each healthy history of that size, in which one value is written twice: so nothing decides it,
 and `judge` makes certificates and checks them. Making takes one thread, and is not told apart.
 
-The last lines tell, for the certificates, what one piece costs beside its test: the time of the run whose pieces are refused at
-their first test, by 1, 2 and 4 workers.
+The third table tells what a piece takes at the desk, and so by how much the board's lock may bind. A worker holds the lock twice
+for a piece, once where it takes it and once where it puts the verdict, and tests it outside; at the end the calling thread holds
+it once more for each piece, where it looks whether its row is filled. What the run with vectors that count nothing takes more than
+one that is refused before a case is filed, since the certificate has one session too many, is all that happens at the desk: these
+lock sections, the first tests and the starting of the workers. By one worker nobody waits for the lock, so that the time of a
+piece there is a bound of the time for which it is held. Its part in the whole run of a piece by one worker is the last column: as
+long as that is below one by the number of workers, the lock does not bind.
 """
 
 import argparse
@@ -32,30 +37,32 @@ WORKERS = (1, 2, 4)
 SIZE = "16x256"
 
 
-def run_once(command, path):
-    """The time on the clock of one run in seconds, and what it wrote."""
+def run_once(command, path, wanted):
+    """The time on the clock of one run in seconds, and what it wrote. It ends with the wanted status."""
     with tempfile.TemporaryFile() as output:
         actions = [
             (os.POSIX_SPAWN_OPEN, 0, path, os.O_RDONLY, 0),
             (os.POSIX_SPAWN_DUP2, output.fileno(), 1),
+            (os.POSIX_SPAWN_DUP2, output.fileno(), 2),
         ]
         begin = time.perf_counter()
         process = os.posix_spawnp(command[0], command, os.environ, file_actions=actions)
         _, status = os.waitpid(process, 0)
         taken = time.perf_counter() - begin
-        if os.waitstatus_to_exitcode(status) != 0:
-            raise SystemExit(f"{' '.join(command)} failed on {path}")
+        ended = os.waitstatus_to_exitcode(status)
+        if ended != wanted:
+            raise SystemExit(f"{' '.join(command)} on {path}: status {ended}")
         output.seek(0)
         return taken, output.read().decode()
 
 
-def measure(program, word, path, rounds):
+def measure(program, word, path, rounds, wanted=0):
     """For each number of workers the least time of some rounds in seconds, and what all wrote."""
     least = {}
     written = set()
     for _ in range(rounds):
         for workers in WORKERS:
-            taken, lines = run_once([*program, word, "--workers", str(workers)], path)
+            taken, lines = run_once([*program, word, "--workers", str(workers)], path, wanted)
             least[workers] = min(taken, least.get(workers, taken))
             written.add(lines)
     if len(written) != 1:
@@ -70,6 +77,17 @@ def refused_at_once(pair):
     return [history, [criterion, nothing, rest]]
 
 
+def of_another_shape(pair):
+    """The same pair with one session more in its vectors: it is read, and refused before a case is filed."""
+    history, (criterion, vectors, rest) = pair
+    return [history, [criterion, [*vectors, []], rest]]
+
+
+def operations_in(pair):
+    """How many operations its history has, and so how many pieces its certificate."""
+    return sum(len(session) for session in pair[0][1])
+
+
 def undecided(history):
     """The same history, in which the last operations of the first two sessions write one value."""
     name, sessions = history
@@ -81,6 +99,10 @@ def undecided(history):
 
 def milliseconds(seconds):
     return f"{1000 * seconds:.1f}"
+
+
+def microseconds(seconds):
+    return f"{1_000_000 * seconds:.2f}"
 
 
 def ratios(times):
@@ -100,19 +122,34 @@ def write_json(path, value):
     return path
 
 
+def measure_changed(program, pair, path, rounds, wanted=0):
+    """The times of `check` on a pair that is written to a path."""
+    times, _ = measure(program, "check", write_json(path, pair), rounds, wanted)
+    return times
+
+
 def check_rows(program, files, room, rounds):
-    """A row for each certificate, and the times of the runs whose pieces are refused at once."""
-    rows, bare = [], {}
+    """For each certificate a row of its runs, and one of what a piece takes at the desk."""
+    rows, desk_rows = [], []
     for path in files:
+        pair = json.loads(path.read_text())
         with_tests, said = measure(program, "check", path, rounds)
-        refused = write_json(room / path.name, refused_at_once(json.loads(path.read_text())))
-        without, _ = measure(program, "check", refused, rounds)
-        pieces = {workers: with_tests[workers] - without[workers] for workers in WORKERS}
+        counting_nothing = refused_at_once(pair)
+        refused = measure_changed(program, counting_nothing, room / path.name, rounds)
+        shapeless = measure_changed(program, of_another_shape(counting_nothing), room / path.name, rounds, wanted=1)
+        pieces = {workers: with_tests[workers] - refused[workers] for workers in WORKERS}
         whole = [milliseconds(with_tests[workers]) for workers in WORKERS]
         tests = [milliseconds(pieces[workers]) for workers in WORKERS]
         rows.append([path.stem, *whole, *ratios(with_tests), *tests, *ratios(pieces), said])
-        bare[path.stem] = without
-    return rows, bare
+        desk_rows.append([path.stem, *desk_times(with_tests, refused, shapeless, operations_in(pair))])
+    return rows, desk_rows
+
+
+def desk_times(with_tests, refused, shapeless, pieces):
+    """What a piece takes at the desk by each number of workers and with its test by one, and the part of the first in that."""
+    at_desk = {workers: (refused[workers] - shapeless[workers]) / pieces for workers in WORKERS}
+    tested = (with_tests[1] - shapeless[1]) / pieces
+    return [*(microseconds(at_desk[workers]) for workers in WORKERS), microseconds(tested), f"{at_desk[1] / tested:.3f}"]
 
 
 def judge_rows(program, files, room, rounds):
@@ -141,13 +178,13 @@ def main():
         raise SystemExit(f"no certificates or no histories of {SIZE} there")
     with tempfile.TemporaryDirectory() as name:
         room = pathlib.Path(name)
-        rows, bare = check_rows(given.program, certificates, room, given.rounds)
+        rows, desk_rows = check_rows(given.program, certificates, room, given.rounds)
         head = ["check", *(f"{workers}: ms" for workers in WORKERS), "1/2", "1/4"]
         print_table([*head, *(f"pieces {workers}: ms" for workers in WORKERS), "1/2", "1/4", "lines"], rows)
         rows = judge_rows(given.program, histories, room, given.rounds)
         print_table(["judge", *(f"{workers}: ms" for workers in WORKERS), "1/2", "1/4", "lines"], rows)
-    for stem, times in bare.items():
-        print(f"{stem}, pieces refused at once: " + ", ".join(f"{milliseconds(times[workers])} ms by {workers}" for workers in WORKERS))
+        head = [*(f"at the desk {workers}: us" for workers in WORKERS), "with its test 1: us", "desk 1 / test 1"]
+        print_table(["a piece", *head], desk_rows)
 
 
 if __name__ == "__main__":
