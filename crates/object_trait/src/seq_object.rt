@@ -46,6 +46,12 @@ pub trait SeqObject: Drop + Sized {
         requires { is_start start.now }
         ensures { IfOk result (λ o. stands o start.now []) };
 
+    /// The same state once more.
+    ///
+    /// Fails for want of memory alone. It takes time and room for what the state holds.
+    fn again(&self, alloc: Global) -> Result<Self, AllocError>
+        ensures { IfOk result (λ o. o ≡ self.now) };
+
     /// Answers a call and takes it in. A refusal leaves the state.
     fn apply(&mut self, call: Self::Call) -> Result<Self::Ret, AllocError>
         ensures answers { (s : Self.Start) (cs : List Self.Call) → stands self.old s cs → IfOk result (λ r. r ≡ answer s cs call) }

@@ -1,9 +1,9 @@
 -- What a search by key finds in entries whose keys rise.
 use Rattle.std.specs.Prelude.{◌==◌}
-use Rattle.std.proofs.Common.{◌≡◌, ℕ, ◌<◌, ◌+◌, false, List, [], ◌∷◌, length, get_or, cond, Some, None, Equal, Less, Greater, nat_cmp, refl, sym, ◌∙◌, ap, subst, arith, ◌≢◌, ◌≤◌, ◌^◌, ◌++◌, ⊎_elim, length-append}
+use Rattle.std.proofs.Common.{◌≡◌, ℕ, ◌<◌, ◌+◌, false, List, [], ◌∷◌, length, get_or, cond, Some, None, Equal, Less, Greater, nat_cmp, refl, sym, ◌∙◌, ap, subst, arith, ◌≢◌, ◌≤◌, ◌^◌, ◌++◌, ⊎_elim, length-append, append_assoc, suc}
 use Rattle.std.specs.Cmp.{nat_eq_equiv, nat_cmp_total, unsigned_tied, eq_by_cmp_equiv, nat_cmp_is}
 use Rattle.std.specs.Ordering.{is_lt, is_eq, eq_by_cmp, ordering_index, ordering_reverse}
-use Rattle.std.specs.BTreeMap.{is_at}
+use Rattle.std.specs.BTreeMap.{insert_entry, is_at}
 use Rattle.std.specs.Map.{lookup, keys_of}
 use Rattle.std.specs.List.{slice_get, HoldsAt, IsDistinct, All}
 use Rattle.std.specs.List.Sorted.{IsStrictlySortedBy, IsPartitionPoint, IsNonDecreasingBy, IsStrictlyIncreasing}
@@ -14,7 +14,7 @@ use Rattle.std.proofs.Math.Seq.{get_or-append_seam}
 use Rattle.std.proofs.lemmas.List.Sorted.{searchable_from_sorted}
 use Rattle.std.proofs.lemmas.Option.{slice_get-get_or, get_or_from_slice_get, slice_get_within}
 use Rattle.std.proofs.lemmas.Map.Entries.{lookup_from_place, lookup_at_gap, length-keys_of}
-use Rattle.std.proofs.lemmas.Map.Keys.{sorted_from_strictly_increasing, IsDistinct-from_sorted}
+use Rattle.std.proofs.lemmas.Map.Keys.{sorted_from_strictly_increasing, sorted_tail, IsDistinct-from_sorted, Less-from_sorted}
 use Rattle.objects.specs.Table.{IsRising, IsTable, value_at}
 use Rattle.objects.specs.declared.table.TheConstants.{MAX_ENTRIES}
 
@@ -109,3 +109,26 @@ pushed_is_table {S} plain is_start table key start is few fits above other good 
   not_plain = All-more (λ e. e.1 ≢ plain) table (key, start) is.not_plain other;
   each_start = All-more (λ e. is_start e.1) table (key, start) is.each_start good;
 }
+
+-- an entry whose key stands above those before it goes behind them
+pub insert_entry-last : {X : Type 0} (es rest : List (ℕ × X)) (k : ℕ) (v : X) → IsStrictlySortedBy nat_cmp (keys_of (es ++ (k, v) ∷ rest))
+    → insert_entry nat_cmp es k v ≡ es ++ (k, v) ∷ []
+insert_entry-last [] rest k v rising = refl
+insert_entry-last {X} (e ∷ es) rest k v rising =
+    let keys : keys_of (es ++ (k, v) ∷ rest) ≡ keys_of es ++ k ∷ keys_of rest = map-append (λ (x : ℕ × X). x.0) es ((k, v) ∷ rest) in
+    let seam : get_or (keys_of es ++ k ∷ keys_of rest) (length (keys_of es)) 0 ≡ k = get_or-append_seam (keys_of es) k (keys_of rest) 0 in
+    let size : length (keys_of es ++ k ∷ keys_of rest) ≡ length (keys_of es) + length (k ∷ keys_of rest) = length-append (keys_of es) (k ∷ keys_of rest) in
+    let above : IsStrictlySortedBy nat_cmp (e.0 ∷ (keys_of es ++ k ∷ keys_of rest)) = subst (λ (ks : List ℕ). IsStrictlySortedBy nat_cmp (e.0 ∷ ks)) keys rising in
+    let less : nat_cmp e.0 (get_or (keys_of es ++ k ∷ keys_of rest) (length (keys_of es)) 0) ≡ Less =
+    Less-from_sorted nat_cmp (e.0 ∷ (keys_of es ++ k ∷ keys_of rest)) 0 (suc (length (keys_of es))) 0 above (omega arith) (omega arith) in
+    let greater : nat_cmp k e.0 ≡ Greater = turned_less e.0 k (ap (λ (m : ℕ). nat_cmp e.0 m) (sym seam) ∙ less) in
+    rw greater (ap (λ (l : List (ℕ × X)). e ∷ l) (insert_entry-last es rest k v (sorted_tail nat_cmp e.0 (keys_of (es ++ (k, v) ∷ rest)) rising)))
+
+-- entries taken from the front of a map's list go behind those that were taken before
+pub entries_more : {X : Type 0} (all es es' left left' : List (ℕ × X)) (k : ℕ) (v w : X) → IsStrictlySortedBy nat_cmp (keys_of all) → es ++ left ≡ all
+    → left ≡ (k, v) ∷ left' → w ≡ v → es' ≡ insert_entry nat_cmp es k w → es' ++ left' ≡ all
+entries_more {X} all es es' left left' k v w rising so_far next same inserted =
+    let whole : es ++ (k, v) ∷ left' ≡ all = ap (λ (l : List (ℕ × X)). es ++ l) (sym next) ∙ so_far in
+    let behind : es' ≡ es ++ (k, v) ∷ [] = inserted ∙ ap (λ (x : X). insert_entry nat_cmp es k x) same
+    ∙ insert_entry-last es left' k v (subst (λ (l : List (ℕ × X)). IsStrictlySortedBy nat_cmp (keys_of l)) (sym whole) rising) in
+    ap (λ (l : List (ℕ × X)). l ++ left') behind ∙ append_assoc es ((k, v) ∷ []) left' ∙ whole

@@ -27,7 +27,7 @@ pub enum SetRet {
 
 /// Elements that calls add and remove. An element is there where the last add or remove of it is an add.
 ///
-/// A call takes O(log n) for n elements, and only an add of a new element allocates.
+/// A call takes O(log n) for n elements, and only an add of a new element allocates. A copy takes O(n).
 #[derive(Drop)]
 pub struct AddRemoveSet {
     elements: BTreeSet<u64>,
@@ -94,6 +94,12 @@ impl SeqObject for AddRemoveSet {
     fn fresh(alloc: Global, _start: &()) -> Result<AddRemoveSet, AllocError> {
         Ok(AddRemoveSet {
             elements: BTreeSet::new(alloc),
+        })
+    }
+
+    fn again(&self, _alloc: Global) -> Result<AddRemoveSet, AllocError> {
+        Ok(AddRemoveSet {
+            elements: self.elements.clone()?,
         })
     }
 

@@ -91,6 +91,10 @@ impl SeqObject for Counter {
         Ok(Counter { count: 0 })
     }
 
+    fn again(&self, _alloc: Global) -> Result<Counter, AllocError> {
+        Ok(*self)
+    }
+
     fn apply(&mut self, call: CounterCall) -> Result<CounterRet, AllocError> {
         Ok(match call {
             CounterCall::Increment => {

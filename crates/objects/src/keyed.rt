@@ -20,7 +20,8 @@ pub struct KeyedCall<C> {
 /// One object for each key, each with its own start.
 ///
 /// A call costs one call of the object at its key, and a search among the keys: O(log n) for n keys. A fresh state and
-/// a copied start take time and room for each entry of the start.
+/// a copied start take time and room for each entry of the start. A copy of a state takes that, and for each key that was
+/// called a copy of the object there and O(log n).
 #[derive(Drop)]
 pub struct Keyed<O: SeqObject> {
     start: Table<O::Start>,
@@ -83,6 +84,20 @@ impl<O: SeqObject> SeqObject for Keyed<O> {
         Ok(Keyed {
             start: Keyed::<O>::copy_start(alloc, start)?,
             states: BTreeMap::new(alloc),
+            alloc,
+        })
+    }
+
+    fn again(&self, alloc: Global) -> Result<Keyed<O>, AllocError> {
+        let start = Keyed::<O>::copy_start(alloc, &self.start)?;
+        let mut states = BTreeMap::new(alloc);
+        for (key, state) in &self.states {
+            let copy = state.again(alloc)?;
+            states.insert(*key, copy)?;
+        }
+        Ok(Keyed {
+            start,
+            states,
             alloc,
         })
     }

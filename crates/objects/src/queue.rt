@@ -29,6 +29,7 @@ pub enum QueueRet {
 /// call is a query.
 ///
 /// A pop takes constant time. So does a push, but for one that finds no room, which moves the n items: O(1) on average.
+/// A copy takes O(n).
 #[derive(Drop)]
 pub struct Queue {
     items: VecDeque<u64>,
@@ -88,6 +89,12 @@ impl SeqObject for Queue {
     fn fresh(alloc: Global, _start: &()) -> Result<Queue, AllocError> {
         Ok(Queue {
             items: VecDeque::new(alloc),
+        })
+    }
+
+    fn again(&self, _alloc: Global) -> Result<Queue, AllocError> {
+        Ok(Queue {
+            items: self.items.clone()?,
         })
     }
 

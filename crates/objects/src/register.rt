@@ -79,6 +79,10 @@ impl SeqObject for Register {
         Ok(Register { value: *start })
     }
 
+    fn again(&self, _alloc: Global) -> Result<Register, AllocError> {
+        Ok(*self)
+    }
+
     fn apply(&mut self, call: RegisterCall) -> Result<RegisterRet, AllocError> {
         Ok(match call {
             RegisterCall::Write(value) => {
