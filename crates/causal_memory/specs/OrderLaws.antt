@@ -1,5 +1,5 @@
 -- Laws of the order in which updates were taken in.
-use Rattle.std.specs.Prelude.{ℕ, ◌≤◌, List, length}
+use Rattle.std.specs.Prelude.{◌≤◌, List, length}
 use Rattle.std.proofs.Common.{arith}
 use Rattle.replica.specs.Orders.{Key}
 

@@ -1,4 +1,4 @@
-ghost use Rattle.std.specs.Prelude.{length, true};
+ghost use Rattle.std.specs.Prelude.{length, refl, true};
 ghost use Rattle.causal_memory.specs.OrderLaws.{length_within};
 
 use replica::{UpdateOf, UpdateOrder};
@@ -14,6 +14,10 @@ impl UpdateOrder for AsTakenIn {
 
     ghost told = { true };
 
+    ghost behind = { true };
+
+    ghost behind_others = { λ _ _ _. refl };
+
     ghost within = { length_within };
 
     ghost none_in_order = { tt };
@@ -24,6 +28,10 @@ impl UpdateOrder for AsTakenIn {
 
     fn place_of<C: Copy>(taken: &[UpdateOf<C>], _update: &UpdateOf<C>) -> usize {
         taken.len()
+    }
+
+    fn is_behind() -> bool {
+        true
     }
 
     fn is_told() -> bool {

@@ -1,13 +1,13 @@
 -- Laws of the order of stamps. (Lamport, "Time, clocks and the ordering of events in a distributed system", 1978.)
-use Rattle.std.proofs.Common.{◌≡◌, ◌≢◌, ℕ, zero, suc, ◌+◌, ◌-◌, ◌<◌, ◌≤◌, List, [], ◌∷◌, ◌++◌, length, refl, sym, ap, subst, ◌∙◌, arith, cond, ⊎_elim, ◌⊎◌, inl, inr}
+use Rattle.std.proofs.Common.{◌≡◌, ◌≢◌, ℕ, zero, suc, ◌+◌, ◌<◌, ◌≤◌, List, [], ◌∷◌, ◌++◌, length, refl, sym, ap, subst, ◌∙◌, arith, cond, ⊎_elim, ◌⊎◌, inl, inr}
 use Rattle.std.specs.Prelude.{Bool, true, false, ◌==◌, ◌&&◌, ◌||◌, Some, count_by, insert, nat_lt, slice_get}
 use Rattle.std.proofs.Math.Bool.{or-true}
 use Rattle.std.proofs.lemmas.Bool.{cases_lt, eq-eqb, eqb-true, lt-ltb, ltb-true}
 use Rattle.std.proofs.lemmas.List.Edits.{insert_end}
 use Rattle.std.proofs.lemmas.List.Sums.{sum_by-cons, count_by-le-length}
 use Rattle.std.proofs.lemmas.Option.{same_Some, slice_get_within}
-use Rattle.replica.specs.Orders.{IsLatest, IsNew, Key}
-use Rattle.replica.proofs.Placing.{Stood, insert-stood}
+use Rattle.replica.specs.Orders.{IsBehind, IsLatest, IsNew, Key}
+use Rattle.replica.proofs.Placing.{insert-stood}
 use Rattle.lamport_store.specs.Stamps.{IsRising, goes_before, place_by_stamp}
 
 -- one number and then a test
@@ -205,3 +205,7 @@ rising_latest ks k rising latest = subst IsRising (insert_end ks k) (rising-inse
 
 pub place_within : (ks : List Key) (k : Key) → place_by_stamp ks k ≤ length ks
 place_within ks k = count_by-le-length _ ks
+
+-- an update may go before others
+pub not_behind : false ≡ true → IsBehind place_by_stamp
+not_behind e = absurd cc

@@ -1,6 +1,6 @@
 ghost use Rattle.std.specs.Prelude.{◌≡◌, false, map};
 ghost use Rattle.lamport_store.specs.Stamps.{IsRising, goes_before, place_by_stamp};
-ghost use Rattle.lamport_store.specs.StampLaws.{place_within, rising_latest, rising_none, rising_taken};
+ghost use Rattle.lamport_store.specs.StampLaws.{not_behind, place_within, rising_latest, rising_none, rising_taken};
 ghost use Rattle.replica.specs.Updates.{key};
 
 use replica::{UpdateOf, UpdateOrder};
@@ -16,6 +16,10 @@ impl UpdateOrder for ByStamp {
 
     ghost told = { false };
 
+    ghost behind = { false };
+
+    ghost behind_others = { not_behind };
+
     ghost within = { place_within };
 
     ghost none_in_order = { rising_none };
@@ -26,6 +30,10 @@ impl UpdateOrder for ByStamp {
 
     fn place_of<C: Copy>(taken: &[UpdateOf<C>], update: &UpdateOf<C>) -> usize {
         taken.partition_point(|other| goes_before(other, update))
+    }
+
+    fn is_behind() -> bool {
+        false
     }
 
     fn is_told() -> bool {

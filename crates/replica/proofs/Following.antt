@@ -1,14 +1,15 @@
 -- A state that has taken in some calls, with queries between them.
-use Rattle.std.proofs.Common.{◌≡◌, ℕ, ◌+◌, ◌<◌, ◌≤◌, List, [], ◌∷◌, ◌++◌, take, length, refl, sym, ap, subst, ◌∙◌, arith, add-one, append_assoc, length-append}
-use Rattle.std.specs.Prelude.{Bool, true, false, not, filter, map, insert, Option, Some, None, slice_get}
+use Rattle.std.proofs.Common.{◌≡◌, ℕ, zero, suc, ◌+◌, ◌≤◌, List, [], ◌∷◌, ◌++◌, take, length, refl, sym, ap, subst, ◌∙◌, arith, add-one, append_assoc, length-append}
+use Rattle.std.specs.Prelude.{Bool, true, false, not, filter, insert, Some, slice_get}
 use Rattle.std.proofs.lemmas.List.Elements.{filter-append}
 use Rattle.std.proofs.lemmas.List.{map-append, take_all}
+use Rattle.std.proofs.lemmas.List.Edits.{insert_end, length-insert}
 use Rattle.std.proofs.lemmas.Option.{slice_get_within, get_or_from_slice_get}
 use Rattle.std.proofs.Math.Seq.{take-suc, take-length}
 use Rattle.replica.specs.declared.update.UpdateOf.{UpdateOf}
 use Rattle.replica.specs.Updates.{calls}
 use Rattle.replica.specs.Replaying.{SameUpdates}
-use Rattle.replica.specs.Steps.Logs.{Serves, IsFollowing}
+use Rattle.replica.specs.Steps.Logs.{HasTaken, Serves}
 
 module _ {C : Type 0} (query : C → Bool) where
   -- the calls but for queries
@@ -68,27 +69,6 @@ module _ {S C Z : Type 0} (query : C → Bool) (stands : Z → S → List C → 
       → (es : List C) → SameUpdates query cs es → r ≡ answer start es c
   served answer law z start cs c r s replies es e = replies s.0 s.2 ∙ same_answer query answer law start c s.0 es (sym s.1 ∙ e)
 
-  following-fresh : (z : Z) (start : S) (us : List (UpdateOf C)) (n : ℕ) → stands z start [] → Some 0 ≡ Some n → Serves query stands z start (calls (take n us))
-  following-fresh z start us n st e = let zero_is : 0 ≡ n = cc in subst (λ (m : ℕ). Serves query stands z start (calls (take m us))) zero_is (serves-fresh z start st)
-
-  -- an object that has taken nothing in
-  pub following-new : (z : Z) (start : S) (us : List (UpdateOf C)) → stands z start [] → IsFollowing query stands z start us (Some 0)
-  following-new z start us st = record {
-    within = λ n e. let zero_is : 0 ≡ n = cc in omega arith;
-    serves = λ n e. following-fresh z start us n st e;
-  }
-
-  -- an object that has to be made anew
-  pub following-none : (z : Z) (start : S) (us : List (UpdateOf C)) → IsFollowing query stands z start us None
-  following-none z start us = record { within = λ n e. absurd (cc); serves = λ n e. absurd (cc) }
-
-  -- an object that has taken in so many
-  pub following-some : (z : Z) (start : S) (us : List (UpdateOf C)) (m : ℕ) → m ≤ length us → Serves query stands z start (calls (take m us)) → IsFollowing query stands z start us (Some m)
-  following-some z start us m le s = record {
-    within = λ n e. let same : m ≡ n = cc in omega arith;
-    serves = λ n e. let same : m ≡ n = cc in subst (λ (k : ℕ). Serves query stands z start (calls (take k us))) same s;
-  }
-
 module _ {C : Type 0} where
   -- the calls of one more of the first updates
   pub calls-more : (us : List (UpdateOf C)) (i : ℕ) (u : UpdateOf C) → slice_get us i ≡ Some u → calls (take (i + 1) us) ≡ calls (take i us) ++ u.call ∷ []
@@ -101,33 +81,57 @@ module _ {C : Type 0} where
   pub calls-push : (us : List (UpdateOf C)) (u : UpdateOf C) → calls (us ++ u ∷ []) ≡ calls us ++ u.call ∷ []
   calls-push us u = map-append (λ (v : UpdateOf C). v.call) us (u ∷ [])
 
+  take-insert : (n at : ℕ) (us : List (UpdateOf C)) (u : UpdateOf C) → n ≤ at → at ≤ length us → take n (insert us at u) ≡ take n us
+  take-insert zero at us u before within = refl
+  take-insert (suc n) zero us u before within = absurd (omega arith)
+  take-insert (suc n) (suc at) [] u before within = absurd (omega arith)
+  take-insert (suc n) (suc at) (v ∷ us) u before within = ap (λ (l : List (UpdateOf C)). v ∷ l) (take-insert n at us u (omega arith) (omega arith))
+
+module _ {S C Z : Type 0} (query : C → Bool) (stands : Z → S → List C → Type 0) (z : Z) (start : S) (us : List (UpdateOf C)) where
+  -- a state that has taken nothing in
+  pub taken-none : stands z start [] → HasTaken query stands z start us 0
+  taken-none st = record { within = omega arith; serves = serves-fresh query stands z start st }
+
+  -- an update that comes in behind the first ones
+  pub taken-insert : (n at : ℕ) (u : UpdateOf C) → n ≤ at → at ≤ length us → HasTaken query stands z start us n → HasTaken query stands z start (insert us at u) n
+  taken-insert n at u before within t = record {
+    within = omega (arith, length-insert us at u within);
+    serves = subst (λ (l : List (UpdateOf C)). Serves query stands z start (calls l)) (sym (take-insert n at us u before within)) t.serves;
+  }
+
+  -- an update that comes in behind them all
+  pub taken-behind : (n : ℕ) (u : UpdateOf C) → HasTaken query stands z start us n → HasTaken query stands z start (us ++ u ∷ []) n
+  taken-behind n u t = subst (λ (l : List (UpdateOf C)). HasTaken query stands z start l n) (insert_end us u) (taken-insert n (length us) u t.within (omega arith) t)
+
+  -- a state that has taken in all of them
+  pub taken-all : (n : ℕ) → n ≡ length us → HasTaken query stands z start us n → Serves query stands z start (calls us)
+  taken-all n e t = subst (λ (l : List (UpdateOf C)). Serves query stands z start (calls l)) (ap (λ (m : ℕ). take m us) e ∙ take-length us) t.serves
+
 module _ {S C Z : Type 0} (query : C → Bool) (stands : Z → S → List C → Type 0) (z z' : Z) (start : S) (us : List (UpdateOf C)) (c : C) (takes : (ds : List C) → stands z start ds → stands z' start (ds ++ c ∷ [])) where
   -- the next of the updates is taken in
-  pub following-more : (i : ℕ) (u : UpdateOf C) → slice_get us i ≡ Some u → u.call ≡ c → (applied : Option ℕ) → applied ≡ Some i → IsFollowing query stands z start us applied → IsFollowing query stands z' start us (Some (i + 1))
-  following-more i u at is applied e f =
-      let below = slice_get_within us i u at in
-      following-some query stands z' start us (i + 1) (omega arith)
-      (subst (λ (cs : List C). Serves query stands z' start cs) (sym (calls-more us i u at ∙ ap (λ (d : C). calls (take i us) ++ d ∷ []) is)) (serves-push query stands z z' start (calls (take i us)) c (f.serves i e) takes))
-
-  serves-all : (applied : Option ℕ) → applied ≡ Some (length us) → IsFollowing query stands z start us applied → Serves query stands z start (calls us)
-  serves-all applied e f = subst (λ (l : List (UpdateOf C)). Serves query stands z start (calls l)) (take-length us) (f.serves (length us) e)
+  pub taken-more : (i : ℕ) (u : UpdateOf C) → slice_get us i ≡ Some u → u.call ≡ c → HasTaken query stands z start us i → HasTaken query stands z' start us (i + 1)
+  taken-more i u at is t =
+      let below = slice_get_within us i u at in record {
+        within = omega arith;
+        serves = subst (λ (cs : List C). Serves query stands z' start cs) (sym (calls-more us i u at ∙ ap (λ (d : C). calls (take i us) ++ d ∷ []) is))
+            (serves-push query stands z z' start (calls (take i us)) c t.serves takes);
+      }
 
   -- an update behind them all is taken in
-  pub following-push : (applied : Option ℕ) → applied ≡ Some (length us) → IsFollowing query stands z start us applied → (u : UpdateOf C) → u.call ≡ c → IsFollowing query stands z' start (us ++ u ∷ []) (Some (length us + 1))
-  following-push applied e f u is =
-      following-some query stands z' start (us ++ u ∷ []) (length us + 1) (omega (arith, length-append us (u ∷ [])))
-      (subst (λ (l : List (UpdateOf C)). Serves query stands z' start (calls l)) (sym (take_at_length us u))
-      (subst (λ (cs : List C). Serves query stands z' start cs) (sym (calls-push us u ∙ ap (λ (d : C). calls us ++ d ∷ []) is)) (serves-push query stands z z' start (calls us) c (serves-all applied e f) takes)))
+  pub taken-push : HasTaken query stands z start us (length us) → (u : UpdateOf C) → u.call ≡ c → HasTaken query stands z' start (us ++ u ∷ []) (length us + 1)
+  taken-push t u is = record {
+    within = omega (arith, length-append us (u ∷ []));
+    serves = subst (λ (l : List (UpdateOf C)). Serves query stands z' start (calls l)) (sym (take_at_length us u))
+        (subst (λ (cs : List C). Serves query stands z' start cs) (sym (calls-push us u ∙ ap (λ (d : C). calls us ++ d ∷ []) is))
+        (serves-push query stands z z' start (calls us) c (taken-all query stands z start us (length us) refl t) takes));
+  }
 
   -- a query is taken in
-  pub following-query : query c ≡ true → (applied : Option ℕ) → applied ≡ Some (length us) → IsFollowing query stands z start us applied → IsFollowing query stands z' start us applied
-  following-query q applied e f = record {
-    within = f.within;
-    serves = λ n is. serves-query query stands z z' start (calls (take n us)) c q (f.serves n is) takes;
-  }
+  pub taken-query : query c ≡ true → (n : ℕ) → HasTaken query stands z start us n → HasTaken query stands z' start us n
+  taken-query q n t = record { within = t.within; serves = serves-query query stands z z' start (calls (take n us)) c q t.serves takes }
 
   -- what is answered after all of the updates
   pub answered : {R : Type 0} (answer : S → List C → C → R) → ((s : S) (before after : List C) (q d : C) → query q ≡ true → answer s (before ++ q ∷ after) d ≡ answer s (before ++ after) d)
-      → (applied : Option ℕ) → applied ≡ Some (length us) → IsFollowing query stands z start us applied → (r : R) → ((ds : List C) → stands z start ds → r ≡ answer start ds c)
+      → HasTaken query stands z start us (length us) → (r : R) → ((ds : List C) → stands z start ds → r ≡ answer start ds c)
       → (cs : List C) → SameUpdates query (calls us) cs → r ≡ answer start cs c
-  answered answer law applied e f r replies = served query stands answer law z start (calls us) c r (serves-all applied e f) replies
+  answered answer law t r replies = served query stands answer law z start (calls us) c r (taken-all query stands z start us (length us) refl t) replies

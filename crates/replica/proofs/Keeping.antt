@@ -1,6 +1,6 @@
 -- What is kept of the updates that a replica has taken in, when one more is.
-use Rattle.std.proofs.Common.{◌≡◌, ◌≢◌, ℕ, ◌+◌, ◌<◌, ◌≤◌, ◌==◌, ◌&&◌, ◌||◌, List, [], ◌∷◌, ◌++◌, take, drop, length, refl, sym, ap, subst, ◌∙◌, arith, get_or, ⊎_elim, ◌⊎◌}
-use Rattle.std.specs.Prelude.{Bool, true, false, if◌then◌else◌, max, map, insert, nat_le, nat_lt, Some, slice_get, slice_index, MatchOption, Option, None}
+use Rattle.std.proofs.Common.{◌≡◌, ◌≢◌, ℕ, ◌+◌, ◌<◌, ◌≤◌, ◌==◌, ◌&&◌, ◌||◌, List, [], ◌∷◌, ◌++◌, take, drop, length, refl, sym, ap, subst, ◌∙◌, arith, ⊎_elim}
+use Rattle.std.specs.Prelude.{Bool, true, false, if◌then◌else◌, max, map, insert, nat_le, nat_lt, Some, slice_get, slice_index}
 use Rattle.std.proofs.lemmas.Grind.{common_steps}
 use Rattle.std.proofs.lemmas.Bool.{lt-ltb}
 use Rattle.std.proofs.lemmas.List.{take-append-drop, length-map, map-append}
@@ -12,8 +12,8 @@ use Rattle.history.specs.declared.limits.TheConstants.{MAX_SESSIONS}
 use Rattle.replica.specs.declared.delivery.Delivery.{Delivery}
 use Rattle.replica.specs.declared.update.UpdateOf.{UpdateOf}
 use Rattle.replica.specs.Causality.{AreFirst, IsCausal, StandsBefore}
-use Rattle.replica.specs.Orders.{IsBehind, IsLatest, IsNew, Key, Place}
-use Rattle.replica.specs.Updates.{is_named, key, many, one_of}
+use Rattle.replica.specs.Orders.{IsLatest, IsNew, Key, Place}
+use Rattle.replica.specs.Updates.{is_named, key, many}
 use Rattle.replica.specs.Steps.Logs.{IsKept}
 use Rattle.replica.proofs.Placing.{any-at, each-insert, map-insert, map-stood, push-stood, stands-append}
 use Rattle.replica.proofs.Tallies.{many-insert}

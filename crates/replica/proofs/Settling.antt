@@ -1,6 +1,6 @@
 -- How held updates are taken in, one after the other.
 use Rattle.std.proofs.Common.{◌≡◌, ℕ, ◌+◌, ◌<◌, ◌≤◌, List, [], ◌∷◌, length, refl, sym, ap, subst, ◌∙◌, arith, get_or, below_more}
-use Rattle.std.specs.Prelude.{Some, slice_get, remove}
+use Rattle.std.specs.Prelude.{Some, slice_get}
 use Rattle.std.proofs.lemmas.List.Edits.{length-remove}
 use Rattle.std.proofs.lemmas.Option.{slice_get_read, slice_get_within}
 use Rattle.replica.specs.declared.update.UpdateOf.{UpdateOf}

@@ -1,6 +1,6 @@
 -- What is counted of updates when one more is put among them.
-use Rattle.std.proofs.Common.{◌≡◌, ℕ, ◌+◌, ◌<◌, ◌≤◌, List, [], ◌∷◌, ◌++◌, take, drop, length, refl, sym, ap, ◌∙◌, arith, get_or}
-use Rattle.std.specs.Prelude.{max, insert, count_by}
+use Rattle.std.proofs.Common.{◌≡◌, ℕ, ◌+◌, ◌<◌, ◌≤◌, List, [], ◌∷◌, ◌++◌, take, drop, length, sym, ap, ◌∙◌, arith, get_or}
+use Rattle.std.specs.Prelude.{max, insert}
 use Rattle.std.proofs.lemmas.List.Sums.{sum_by-insert, count_by-le-length}
 use Rattle.std.proofs.lemmas.List.{take-append-drop}
 use Rattle.history.specs.declared.limits.TheConstants.{MAX_SESSIONS}

@@ -1,6 +1,5 @@
 -- Updates in an order that respects causality. (Ahamad, Neiger, Burns, Kohli and Hutto, "Causal memory", 1995.)
-use Rattle.std.specs.Prelude.{◌≡◌, ◌≢◌, ◌<◌, ℕ, Bool, List, Some, nat_lt, slice_get, slice_index}
-use Rattle.std.specs.List.{list_any}
+use Rattle.std.specs.Prelude.{◌≡◌, ◌≢◌, ◌<◌, ℕ, List, Some, nat_lt, slice_get, slice_index}
 use Rattle.history.specs.declared.limits.TheConstants.{MAX_SESSIONS}
 use Rattle.replica.specs.declared.update.UpdateOf.{UpdateOf}
 use Rattle.replica.specs.Updates.{is_named, many}

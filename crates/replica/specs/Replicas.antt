@@ -1,6 +1,6 @@
 -- The replica of a session: what it has taken in and what it holds back, and what its operations and updates do.
 -- (Ahamad, Neiger, Burns, Kohli and Hutto, "Causal memory", 1995; the clock: Lamport, "Time, clocks and the ordering of events in a distributed system", 1978.)
-use Rattle.std.specs.Prelude.{◌≡◌, ◌≢◌, ℕ, ◌+◌, ◌^◌, ◌<◌, ◌≤◌, ◌==◌, ◌||◌, nat_le, if◌then◌else◌, max, Bool, true, false, List, [], ◌∷◌, ◌++◌, length, map, insert, remove, Option, Some, None, slice_get, slice_index}
+use Rattle.std.specs.Prelude.{◌≡◌, ◌≢◌, ℕ, ◌+◌, ◌^◌, ◌<◌, ◌≤◌, ◌==◌, ◌||◌, nat_le, if◌then◌else◌, max, Bool, List, [], ◌∷◌, ◌++◌, map, insert, remove, Option, Some, None, slice_get, slice_index}
 use Rattle.history.specs.declared.limits.TheConstants.{MAX_OPERATIONS, MAX_SESSIONS}
 use Rattle.history.specs.declared.advice.Advice.{Advice}
 use Rattle.replica.specs.declared.delivery.Delivery.{Delivery}

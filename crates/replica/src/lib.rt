@@ -2,6 +2,7 @@
 #![tactic(auto)]
 
 mod acted;
+mod checkpoint;
 mod delivery;
 mod follower;
 mod replica;

@@ -21,6 +21,9 @@ use std::alloc::{AllocError, Global};
 use std::marker::Model;
 
 /// The replica of a session, whose answers follow the order of updates that `P` gives.
+///
+/// It keeps the updates that it has taken in and those that it holds, and an object that answers. Where the order of the store is
+/// not that in which updates are taken in, it keeps copies of what the object was too, one for each 64 updates at most.
 #[derive(Drop)]
 pub struct Replica<O: SeqObject, P: UpdateOrder> {
     alloc: Global,
@@ -318,9 +321,12 @@ impl<O: SeqObject, P: UpdateOrder> Replica<O, P> {
     /// Refused in this order: `LaneFull` after 256 operations, `ClockFull` where the clock stands at the greatest `u64`,
     /// `Memory`. The replica is then as before.
     ///
-    /// O(k), and O(n) for n updates taken in where the store tells their order, beside what the object takes for each update
-    /// that came since the last operation. Where one of these stands before another that the object has taken in, the object
-    /// is made anew and takes all of them: it can't go back, and there is no copy of what it was.
+    /// O(k), and O(n) for n updates taken in where the store tells their order, beside what the object takes to apply updates and
+    /// to be copied. It applies each update that came since the last operation. Where one of these came in before others that it
+    /// has applied, it goes on from a copy of what it was before that place: with m updates behind the place, it applies 4m + 64
+    /// at most. A copy is made where 64 updates were applied since the last one, and three times as many as are left to apply:
+    /// one for each 64 updates that come in behind the others, O(log m) where m are applied anew. A store in whose order each
+    /// update goes behind the others makes none.
     pub fn act(&mut self, call: O::Call) -> Result<ActedOf<O::Call, O::Ret>, ReplicaError>
         ensures reply { IfOk result (λ a. IsAnswer O.query O.answer self.old.start (calls self.old.taken) call a.ret) }
         ensures update { IfOk result (λ a. MatchOption a.update (O.query call ≡ true)
@@ -350,7 +356,8 @@ impl<O: SeqObject, P: UpdateOrder> Replica<O, P> {
     ///
     /// With causal delivery O(h + k²) for h updates held, and as much again for each that is taken in: the counts tell what was
     /// taken in. With eager delivery O(n + h) for n updates taken in: any of a session's updates may be missing. An update that
-    /// is taken in takes its place in O(log n + m) where m updates stand behind it.
+    /// is taken in takes its place in O(log n + m) where m updates stand behind it, and drops the copies of the object that were
+    /// made behind that place.
     pub fn receive(&mut self, update: UpdateOf<O::Call>) -> Result<(), ReplicaError>
         ensures ignored { OnOk result (ignores self.old update ≡ true → self.new ≡ self.old) }
         ensures eager { OnOk result (ignores self.old update ≡ false → self.old.delivery ≡ Delivery.Eager

@@ -27,7 +27,8 @@ impl<O: SeqObject, P: UpdateOrder> Model for UpdateLog<O, P> {
     ghost view = { λ l. record { start = l.follower.start; updates = l.taken.updates; room = l.taken.room } };
 
     ghost invariant = { λ l. O.is_start l.follower.start
-        × IsFollowing O.query O.stands l.follower.object l.follower.start l.taken.updates l.follower.applied };
+        × IsFollowing O.query O.stands l.follower.object l.follower.start l.taken.updates l.follower.applied
+        l.follower.checkpoints.items };
 }
 
 impl<O: SeqObject, P: UpdateOrder> UpdateLog<O, P> {
@@ -37,7 +38,7 @@ impl<O: SeqObject, P: UpdateOrder> UpdateLog<O, P> {
         ensures start { IfOk result (λ l. l.start ≡ start.now) }
         ensures updates { IfOk result (λ l. l.updates ≡ []) }
     {
-        let follower = Follower::new(alloc, start)?;
+        let follower = Follower::new(alloc, start, !P::is_behind())?;
         Ok(UpdateLog {
             follower,
             taken: Taken::new(alloc),

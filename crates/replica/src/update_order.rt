@@ -1,5 +1,5 @@
-ghost use Rattle.std.specs.Prelude.{◌≡◌, ◌∷◌, ◌++◌, ◌≤◌, ℕ, [], List, Bool, insert, length, map};
-ghost use Rattle.replica.specs.Orders.{IsLatest, IsNew, Key};
+ghost use Rattle.std.specs.Prelude.{◌≡◌, ◌∷◌, ◌++◌, ◌≤◌, ℕ, [], List, Bool, true, insert, length, map};
+ghost use Rattle.replica.specs.Orders.{IsBehind, IsLatest, IsNew, Key};
 ghost use Rattle.replica.specs.Updates.{key};
 
 use crate::update::UpdateOf;
@@ -17,15 +17,24 @@ pub trait UpdateOrder {
     /// Advice tells the sessions of the updates, in this order.
     ghost told: { Bool };
 
+    /// Each update goes behind those taken in before it.
+    ghost behind: { Bool };
+
     /// Where an update goes among those taken in before it, which are in order.
     fn place_of<C: Copy>(taken: &[UpdateOf<C>], update: &UpdateOf<C>) -> usize
         requires { in_order (map key taken.now) }
         ensures place { result ≡ place (map key taken.now) (key update.now) }
         ensures within { result ≤ length taken.now };
 
+    /// Whether each update goes behind those taken in before it, so that no earlier state is wanted.
+    fn is_behind() -> bool
+        ensures { result ≡ behind };
+
     /// Whether advice tells the order.
     fn is_told() -> bool
         ensures { result ≡ told };
+
+    ghost behind_others: { behind ≡ true → IsBehind place };
 
     ghost within: { (ks : List Key) (k : Key) → place ks k ≤ length ks };
 

@@ -1,6 +1,7 @@
 -- What the parts of a replica say to one another.
-use Rattle.std.specs.Prelude.{◌≡◌, ℕ, ◌<◌, ◌≤◌, Bool, List, length, map, take, Option, Some, slice_get, slice_index}
+use Rattle.std.specs.Prelude.{◌≡◌, ℕ, ◌<◌, ◌≤◌, All, AllPairs, Bool, List, length, map, take, Option, Some, slice_get, slice_index}
 use Rattle.history.specs.declared.limits.TheConstants.{MAX_OPERATIONS, MAX_SESSIONS}
+use Rattle.replica.specs.declared.checkpoint.Checkpoint.{Checkpoint}
 use Rattle.replica.specs.declared.update.UpdateOf.{UpdateOf}
 use Rattle.replica.specs.declared.delivery.Delivery.{Delivery}
 use Rattle.replica.specs.Causality.{AreFirst, IsCausal}
@@ -23,10 +24,18 @@ pub record IsTally {C : Type 0} (updates : List (UpdateOf C)) (counts ends : Lis
 abbrev pub Serves : {S C Z : Type 0} → (C → Bool) → (Z → S → List C → Type 0) → Z → S → List C → Type 0
 Serves {S} {C} {Z} query stands z start cs = (ds : List C) × SameUpdates query cs ds × stands z start ds
 
--- the object has taken in so many of the updates, the first ones; or it has to be made anew
-pub record IsFollowing {S C Z : Type 0} (query : C → Bool) (stands : Z → S → List C → Type 0) (object : Z) (start : S) (updates : List (UpdateOf C)) (applied : Option ℕ) : Type 0 where
-  pub within : (n : ℕ) → applied ≡ Some n → n ≤ length updates
-  pub serves : (n : ℕ) → applied ≡ Some n → Serves query stands object start (calls (take n updates))
+-- a state has taken in so many of the updates, the first ones
+pub record HasTaken {S C Z : Type 0} (query : C → Bool) (stands : Z → S → List C → Type 0) (object : Z) (start : S) (updates : List (UpdateOf C)) (n : ℕ) : Type 0 where
+  pub within : n ≤ length updates
+  pub serves : Serves query stands object start (calls (take n updates))
+
+-- the object has taken in so many of the updates, the first ones, or it has to go on from an earlier state; each checkpoint
+-- has taken in as many as it says, none fewer than those before it and none more than the object
+pub record IsFollowing {S C Z : Type 0} (query : C → Bool) (stands : Z → S → List C → Type 0) (object : Z) (start : S) (updates : List (UpdateOf C)) (applied : Option ℕ) (checkpoints : List (Checkpoint Z)) : Type 0 where
+  pub taken : (n : ℕ) → applied ≡ Some n → HasTaken query stands object start updates n
+  pub each : All (λ c. HasTaken query stands c.object start updates c.applied) checkpoints
+  pub rising : AllPairs (λ c d. c.applied ≤ d.applied) checkpoints
+  pub earlier : (n : ℕ) → applied ≡ Some n → All (λ c. c.applied ≤ n) checkpoints
 
 -- the start of an object, the updates that its answers follow, and for how many more there is room
 pub record LogState (S C : Type 0) : Type 0 where

@@ -9,5 +9,5 @@ invariant-loop-at g l = record {
   start : l.self.start ≡ l.fn.self.start;
   within : l.at ≤ length l.updates;
   applied : l.self.applied ≡ Some l.at;
-  following : IsFollowing g.O.SeqObject.query g.O.SeqObject.stands l.self.object l.self.start l.updates l.self.applied;
+  following : IsFollowing g.O.SeqObject.query g.O.SeqObject.stands l.self.object l.self.start l.updates l.self.applied l.self.checkpoints.items;
 }

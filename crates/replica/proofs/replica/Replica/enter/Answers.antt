@@ -1,4 +1,4 @@
-use Rattle.std.proofs.Common.{◌+◌, ◌≤◌, length, arith, rules, subst, sym}
+use Rattle.std.proofs.Common.{arith, rules, subst, sym}
 use Rattle.replica.specs.Replicas.{CanAct, IsOwnUpdate, ReplicaState}
 use Rattle.replica.proofs.Keeping.{kept-own}
 use Rattle.replica.proofs.replica.Replica.enter.Goals as goal

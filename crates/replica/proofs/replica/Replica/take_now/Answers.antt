@@ -1,4 +1,4 @@
-use Rattle.std.proofs.Common.{◌≡◌, arith, rules, subst, sym, false}
+use Rattle.std.proofs.Common.{◌≡◌, rules, subst, sym, false}
 use Rattle.replica.specs.declared.delivery.Delivery.{Delivery}
 use Rattle.replica.specs.Replicas.{ignores, ReplicaState}
 use Rattle.replica.proofs.Keeping.{absent-unknown, kept-taken, not_eager}

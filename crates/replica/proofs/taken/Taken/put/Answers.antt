@@ -1,4 +1,4 @@
-use Rattle.std.proofs.Common.{◌≡◌, List, ℕ, arith, subst, sym}
+use Rattle.std.proofs.Common.{◌≡◌, List, arith, subst, sym}
 use Rattle.std.specs.Prelude.{insert}
 use Rattle.std.proofs.lemmas.Grind.{common_steps}
 use Rattle.replica.specs.declared.update.UpdateOf.{UpdateOf}

@@ -1,0 +1,6 @@
+/// A state that an object had, and how many updates it had taken in.
+#[derive(Drop)]
+pub(crate) struct Checkpoint<Z> {
+    pub(crate) object: Z,
+    pub(crate) applied: usize,
+}
