@@ -9,7 +9,8 @@ use Rattle.causal_order.proofs.PushedLaws.{listed-length}
 use Rattle.causal_order.proofs.WaitingCycles.{waiting-cycle}
 use Rattle.causal_order.proofs.Walked.{within-push}
 use Rattle.causal_order.specs.Vectors.{IsListed, Counts, count, list_of}
-use Rattle.causal_order.specs.Topological.{placed, next_of, IsWalk, IsFullWalk}
+use Rattle.causal_order.specs.Topological.{IsWalk, IsFullWalk}
+use Rattle.causal_order.specs.Schedules.{placed, next_of}
 
 module _ (v : Counts) (limits before whole : List ℕ) (walk : IsWalk v limits before whole) where
   -- a walk is no shorter than the schedule that it goes on from

@@ -3,7 +3,7 @@ use Rattle.std.specs.Prelude.{◌≡◌, ◌==◌, ℕ, ◌+◌, List, [], ◌�
 use Rattle.std.proofs.Common.{ap, ◌∙◌, refl}
 use Rattle.std.proofs.lemmas.Bool.{eq-eqb}
 use Rattle.std.proofs.lemmas.List.Sums.{sum_by_push}
-use Rattle.causal_order.specs.Topological.{placed}
+use Rattle.causal_order.specs.Schedules.{placed}
 
 -- one operation more of its session is placed
 pub placed-same : (schedule : List ℕ) (s : ℕ) → placed (schedule ++ s ∷ []) s ≡ placed schedule s + 1

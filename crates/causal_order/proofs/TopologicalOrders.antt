@@ -8,7 +8,8 @@ use Rattle.history.specs.History.{Precedes}
 use Rattle.causal_order.specs.Orders.{op, Leads}
 use Rattle.causal_order.specs.Vectors.{IsListed, Counts, count}
 use Rattle.causal_order.specs.Steps.Waiting.{IsLimit, AreLimits, IsOpen, IsStuck}
-use Rattle.causal_order.specs.Topological.{placed, next_of, CanGoOn, IsFullWalk}
+use Rattle.causal_order.specs.Topological.{CanGoOn, IsFullWalk}
+use Rattle.causal_order.specs.Schedules.{placed, next_of}
 use Rattle.causal_order.specs.Waits.{WaitsFor, IsAwaited, IsWaitEdge, CanFollow, IsTopologicalOrder}
 use Rattle.causal_order.proofs.VectorsLaws.{counted-listed}
 use Rattle.causal_order.proofs.OrdersLaws.{same_op}

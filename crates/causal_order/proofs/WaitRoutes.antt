@@ -7,7 +7,7 @@ use Rattle.std.proofs.lemmas.Option.{same_Some, slice_get_within, slice_get-get_
 use Rattle.history.specs.declared.op_id.OpId.{OpId}
 use Rattle.causal_order.specs.Orders.{op, StandsAt}
 use Rattle.causal_order.specs.Steps.Waiting.{AreOfOthers, IsChain, IsOpen, IsRoute, IsStuck, IsUnplaced}
-use Rattle.causal_order.specs.Topological.{placed, next_of}
+use Rattle.causal_order.specs.Schedules.{placed, next_of}
 use Rattle.causal_order.specs.Vectors.{Counts, count, list_of}
 use Rattle.causal_order.specs.Waits.{AreWaits, IsAwaited, IsWaitEdge, IsWaitingCycle}
 use Rattle.causal_order.proofs.Fronts.{push-at, push-last}

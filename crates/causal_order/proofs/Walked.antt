@@ -7,7 +7,8 @@ use Rattle.std.proofs.lemmas.List.Sums.{sum_by_push}
 use Rattle.std.proofs.lemmas.Option.{slice_get_within, get_or_from_slice_get, slice_get-get_or}
 use Rattle.causal_order.specs.Orders.{op}
 use Rattle.causal_order.specs.Vectors.{Counts, count, list_of, IsListed}
-use Rattle.causal_order.specs.Topological.{placed, next_of, CanGoOn, IsNext, IsWalk, AreSeen, IsTally}
+use Rattle.causal_order.specs.Topological.{CanGoOn, IsNext, IsWalk, AreSeen, IsTally}
+use Rattle.causal_order.specs.Schedules.{placed, next_of}
 use Rattle.causal_order.proofs.TopologicalLaws.{placed-same}
 
 -- how many operations the limits of the first n sessions leave behind a schedule

@@ -6,7 +6,8 @@ use Rattle.std.proofs.lemmas.List.{get_or_past}
 use Rattle.causal_order.proofs.FullWalks.{missing}
 use Rattle.causal_order.proofs.Searches.{IsDecided, least}
 use Rattle.causal_order.proofs.Walked.{room, room-push, limit-within, walk-none, walk-push}
-use Rattle.causal_order.specs.Topological.{placed, next_of, CanGoOn, IsWalk, IsFullWalk}
+use Rattle.causal_order.specs.Topological.{CanGoOn, IsWalk, IsFullWalk}
+use Rattle.causal_order.specs.Schedules.{placed, next_of}
 use Rattle.causal_order.specs.Vectors.{Counts, list_of}
 
 module _ (v : Counts) (limits : List ℕ) where

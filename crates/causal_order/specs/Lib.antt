@@ -1,6 +1,7 @@
 pub mod Orders
 pub mod Vectors
 pub mod ProgramOrder
+pub mod Schedules
 pub mod Topological
 pub mod Waits
 pub mod Steps

@@ -1,18 +1,9 @@
 -- The topological rule: operations are placed one after another, each after those that its vector counts (Kahn,
 -- "Topological sorting of large networks", 1962).
-use Rattle.std.specs.Prelude.{◌≡◌, ◌≢◌, ℕ, ◌<◌, ◌≤◌, ◌==◌, List, Some, length, take, slice_get, slice_index_or}
-use Rattle.std.specs.List.{count_by}
+use Rattle.std.specs.Prelude.{◌≡◌, ◌≢◌, ℕ, ◌<◌, ◌≤◌, List, Some, length, take, slice_get, slice_index_or}
 use Rattle.history.specs.declared.op_id.OpId.{OpId}
-use Rattle.causal_order.specs.Orders.{op}
+use Rattle.causal_order.specs.Schedules.{placed, next_of}
 use Rattle.causal_order.specs.Vectors.{Counts, count, list_of, IsListed}
-
--- how many operations of the session s a schedule places: as many as it names s
-abbrev pub placed : List ℕ → ℕ → ℕ
-placed schedule s = count_by (λ t. t == s) schedule
-
--- the first operation of the session s that a schedule doesn't place
-abbrev pub next_of : List ℕ → ℕ → OpId
-next_of schedule s = op s (placed schedule s)
 
 -- each vector has one count for each session
 abbrev pub AreSquare : Counts → Type 0

@@ -6,7 +6,8 @@ use Rattle.history.specs.declared.op_id.OpId.{OpId}
 use Rattle.history.specs.History.{Precedes}
 use Rattle.causal_order.specs.Orders.{StandsAt, IsPath, Leads}
 use Rattle.causal_order.specs.Vectors.{IsListed, Counts, count, IsCounted}
-use Rattle.causal_order.specs.Topological.{placed, next_of, AreSquare}
+use Rattle.causal_order.specs.Topological.{AreSquare}
+use Rattle.causal_order.specs.Schedules.{placed, next_of}
 use Rattle.causal_order.specs.declared.sorting.OrderOrCycle.{OrderOrCycle}
 use Rattle.causal_order.specs.declared.sorting.OrderOrCycle.TheVariants.{Order, Cycle}
 

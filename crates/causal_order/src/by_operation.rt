@@ -75,7 +75,17 @@ impl<T: Copy> ByOperation<T> {
         ensures ok { OnOk result (self.new ≡ self.old ++ [] ∷ []) }
         ensures err { OnErr result (self.new ≡ self.old) }
     {
-        self.sessions.push(Rows::new(self.alloc))?;
+        self.push_rows(Rows::new(self.alloc))
+    }
+
+    /// Puts a session whose operations have these lists behind the others.
+    ///
+    /// Fails for want of memory alone, and the sessions are then as they were.
+    pub fn push_rows(&mut self, rows: Rows<T>) -> Result<(), AllocError>
+        ensures ok { OnOk result (self.new ≡ self.old ++ rows ∷ []) }
+        ensures err { OnErr result (self.new ≡ self.old) }
+    {
+        self.sessions.push(rows)?;
         Ok(())
     }
 

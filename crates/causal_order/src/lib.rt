@@ -17,6 +17,6 @@ pub use program_vectors::program_order;
 pub use rows::Rows;
 pub use shape::{are_vectors_of, has_one_each};
 pub use sorting::{OrderOrCycle, topological_sort};
-pub use topological::Walk;
+pub use topological::{MAX_PLACED, Walk};
 pub use vectors::{count_at, count_of, has_counted, has_counted_other, is_at_most, vector_ok};
 pub use waits::Waits;

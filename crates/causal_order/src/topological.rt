@@ -1,11 +1,15 @@
 ghost use Rattle.std.specs.Prelude.{◌≡◌, ◌≢◌, ◌∷◌, ◌++◌, ◌<◌, ◌≤◌, ◌↔◌, ℕ, [], length, max, slice_index_or};
 ghost use Rattle.std.specs.Prelude.{MatchOption, OnErr, OnOk, IsTrue};
-ghost use Rattle.causal_order.specs.Topological.{AreSeen, AreSquare, CanGoOn, IsFullWalk, IsNext, IsWalk, placed};
+ghost use Rattle.causal_order.specs.Schedules.{placed};
+ghost use Rattle.causal_order.specs.Topological.{AreSeen, AreSquare, CanGoOn, IsFullWalk, IsNext, IsWalk};
 
 use crate::by_operation::Vectors;
 use history::{MAX_SESSIONS, OpId};
 use std::alloc::{AllocError, Global};
 use std::marker::Model;
+
+/// How many operations of one session a walk can place.
+pub const MAX_PLACED: usize = 65536;
 
 /// A walk through operations of at most 16 sessions: which are placed, and in what order.
 #[derive(Drop)]
@@ -45,18 +49,20 @@ impl Walk {
     }
 
     /// For each placed operation its session, in order.
-    pub(crate) fn into_schedule(self) -> Vec<u8>
+    pub fn into_schedule(self) -> Vec<u8>
         ensures { result.items ≡ self }
     {
         self.schedule
     }
 
-    /// How many operations of a session are placed.
-    pub(crate) fn placed(&self, session: usize) -> usize
-        requires { session < MAX_SESSIONS }
+    /// How many operations of a session are placed. O(1).
+    pub fn placed(&self, session: usize) -> usize
         ensures { result ≡ placed self.now session }
     {
-        self.placed[session] as usize
+        match self.placed.get(session) {
+            Some(placed) => *placed as usize,
+            None => 0,
+        }
     }
 
     /// Places the next operation of a session, whether it can follow or not.
@@ -64,7 +70,7 @@ impl Walk {
     /// Fails for want of memory alone, and the walk is then as it was.
     pub fn place(&mut self, session: usize) -> Result<(), AllocError>
         requires few { session < MAX_SESSIONS }
-        requires room { placed self.old session < 65536 }
+        requires room { placed self.old session < MAX_PLACED }
         ensures ok { OnOk result (self.new ≡ self.old ++ session ∷ []) }
         ensures err { OnErr result (self.new ≡ self.old) }
     {

@@ -4,7 +4,7 @@ ghost use Rattle.std.specs.Prelude.{◌≡◌, ◌+◌, ◌<◌, ◌≤◌, ℕ,
 ghost use Rattle.history.specs.declared.op_id.OpId.{OpId as Operation};
 ghost use Rattle.causal_order.specs.Orders.{StandsAt};
 ghost use Rattle.causal_order.specs.Steps.Waiting.{AreOfOthers, IsChain, IsOpen, IsPlaceOf, IsRepetition, IsStuck, IsUnplaced};
-ghost use Rattle.causal_order.specs.Topological.{next_of};
+ghost use Rattle.causal_order.specs.Schedules.{next_of};
 ghost use Rattle.causal_order.specs.Waits.{AreWaits, IsAwaited, IsWaitingCycle};
 
 use crate::by_operation::Vectors;

@@ -7,15 +7,17 @@ use Rattle.std.proofs.lemmas.List.Elements.{filter-append}
 use Rattle.std.proofs.lemmas.Option.{slice_get_within, get_or_from_slice_get}
 use Rattle.history.specs.declared.op_id.OpId.{OpId}
 use Rattle.history.specs.History.{HistoryValue, IsOp, calls, entry, session}
+use Rattle.causal_order.proofs.Placed.{placed-up}
 use Rattle.causal_order.specs.Orders.{op, StandsAt}
 use Rattle.causal_order.proofs.OrdersLaws.{same_op}
 use Rattle.causal_order.specs.Vectors.{Counts, count, IsCounted, IsVectorOk}
 use Rattle.cert_check.specs.Certificates.{counted, IsArbitratedPiece}
-use Rattle.cert_check.specs.Schedules.{times, named, StandsBefore}
+use Rattle.cert_check.specs.Schedules.{named, StandsBefore}
+use Rattle.causal_order.specs.Schedules.{placed}
 use Rattle.cert_check.specs.Steps.Replays.{AreCountsAt, IsAnsweredAfter}
 use Rattle.cert_check.proofs.ConvergentLaws.{only-same}
 use Rattle.cert_check.proofs.FilteredLaws.{filter_in_order}
-use Rattle.cert_check.proofs.Named.{times-next, times-same, times-other, times-take-le, named_once}
+use Rattle.cert_check.proofs.Named.{placed-next, placed-one, placed-none, named_once}
 use Rattle.cert_check.proofs.Pasts.{only-itself}
 use Rattle.cert_check.proofs.ReplaySteps.{after_from_within, within_from_after}
 
@@ -75,47 +77,47 @@ module _ {X : Type 0} (p : X → Bool) where
       (cases_lt j k)
 
 -- a list that names each operation of a history as often as it is there
-module _ {S C R : Type 0} (h : HistoryValue S C R) (list : List ℕ) (whole : (s : ℕ) → times s list ≡ length (session h s)) where
-  times-whole : (s i : ℕ) → times s (take i list) ≤ length (session h s)
-  times-whole s i =
+module _ {S C R : Type 0} (h : HistoryValue S C R) (list : List ℕ) (whole : (s : ℕ) → placed list s ≡ length (session h s)) where
+  placed-within : (s i : ℕ) → placed (take i list) s ≤ length (session h s)
+  placed-within s i =
       let all = whole s in
-      let every = ap (times s) (take_all (length list) list (omega arith)) in
+      let every = ap (λ (xs : List ℕ). placed xs s) (take_all (length list) list (omega arith)) in
       ⊎_elim
-      (λ (below : i < length list). let up_to = times-take-le s list i (length list) (omega arith) in omega arith)
-      (λ (past : length list ≤ i). let same = ap (times s) (take_all i list past) in omega arith)
+      (λ (below : i < length list). let up_to = placed-up list i (length list) s (omega arith) in omega arith)
+      (λ (past : length list ≤ i). let same = ap (λ (xs : List ℕ). placed xs s) (take_all i list past) in omega arith)
       (cases_lt i (length list))
 
   -- the operation that is named next is there
   pub next_is_op : (i n s : ℕ) → slice_get list i ≡ Some s → (counts : List ℕ) → AreCountsAt list i n counts → IsOp h (op s (get_or counts s 0))
   next_is_op i n s here counts at =
-      let next = times-next s list i s here in
-      let one = times-same s s refl in
-      let most = times-whole s (i + 1) in
+      let next = placed-next s list i s here in
+      let one = placed-one s s refl in
+      let most = placed-within s (i + 1) in
       let now = at.each s in
       omega arith
 
   -- at the end each operation was named
-  pub is_named : (o : OpId) → IsOp h o → (i : ℕ) → length list ≤ i → times o.session (take i list) ≤ o.index → ⊥
+  pub is_named : (o : OpId) → IsOp h o → (i : ℕ) → length list ≤ i → placed (take i list) o.session ≤ o.index → ⊥
   is_named o is_op i past not_yet =
       let all = whole o.session in
-      let same = ap (times o.session) (take_all i list past) in
+      let same = ap (λ (xs : List ℕ). placed xs o.session) (take_all i list past) in
       omega arith
 
 -- where another operation is named, the operation is named later
 pub not_named_yet : (list : List ℕ) (i n s : ℕ) → slice_get list i ≡ Some s → (counts : List ℕ) → AreCountsAt list i n counts
-    → (o : OpId) → op s (get_or counts s 0) ≢ o → times o.session (take i list) ≤ o.index → times o.session (take (i + 1) list) ≤ o.index
+    → (o : OpId) → op s (get_or counts s 0) ≢ o → placed (take i list) o.session ≤ o.index → placed (take (i + 1) list) o.session ≤ o.index
 not_named_yet list i n s here counts at o apart not_yet =
-    let next = times-next o.session list i s here in
+    let next = placed-next o.session list i s here in
     let now = at.each s in
     ⊎_elim
     (λ (same : s ≡ o.session).
-    let one = times-same o.session s same in
-    let own = ap (λ (t : ℕ). times t (take i list)) same in
+    let one = placed-one o.session s same in
+    let own = ap (λ (t : ℕ). placed (take i list) t) same in
     ⊎_elim
     (λ (equal : get_or counts s 0 ≡ o.index). absurd (apart (same_op (op s (get_or counts s 0)) o same equal)))
     (λ (other : get_or counts s 0 ≡ o.index → ⊥). omega arith)
     (cases_eq (get_or counts s 0) o.index))
-    (λ (other : s ≡ o.session → ⊥). let none = times-other o.session s other in omega arith)
+    (λ (other : s ≡ o.session → ⊥). let none = placed-none o.session s other in omega arith)
     (cases_eq s o.session)
 
 -- the piece of an operation by the one list, at the operation's place

@@ -8,7 +8,8 @@ use Rattle.history.specs.History.{HistoryValue, IsOp, session}
 use Rattle.causal_order.specs.Orders.{op, Ops, Order, only, past, IsLinearization}
 use Rattle.causal_order.specs.Vectors.{Counts, count, IsCounted, IsWithin, IsVectorOk}
 use Rattle.cert_check.specs.Criteria.{every, IsCausalOrder, Explains}
-use Rattle.cert_check.specs.Schedules.{times, named, IsSchedule}
+use Rattle.cert_check.specs.Schedules.{named, IsSchedule}
+use Rattle.causal_order.specs.Schedules.{placed}
 use Rattle.cert_check.specs.Certificates.{counted, IsArbitratedPiece}
 use Rattle.cert_check.proofs.ConvergentLaws.{only-same}
 use Rattle.cert_check.proofs.Counting.{past-of_history, past-closed}
@@ -50,8 +51,8 @@ module _ {S C R : Type 0} (h : HistoryValue S C R) (co : Order) (causal : IsCaus
       (linearization-in_order (every h) ops (λ a inside. every-op h a inside) (λ a b inside before. op-every h a (causal.of_history a b before).0) linear)
 
   -- the session numbers of a linearization of the history are one list for all
-  pub whole-ends : (arbitration : List ℕ) → IsLinearization (every h) co (named arbitration) → (s : ℕ) → times s arbitration ≡ length (session h s)
-  whole-ends arbitration linear s = same_count (times s arbitration) (length (session h s))
+  pub whole-ends : (arbitration : List ℕ) → IsLinearization (every h) co (named arbitration) → (s : ℕ) → placed arbitration s ≡ length (session h s)
+  whole-ends arbitration linear s = same_count (placed arbitration s) (length (session h s))
       (λ i below. let there = named_each arbitration (op s i) below in every-op h (op s i) (linear.no_other there.0 (op s i) there.1))
       (λ i below. let there = linear.each (op s i) (op-every h (op s i) below) in named_within arbitration there.0 (op s i) there.1)
 
@@ -131,7 +132,7 @@ module _ {S C R : Type 0} (h : HistoryValue S C R) (co : Order) (causal : IsCaus
           let before = counted_before-order b a (past-of_history h co causal o b is_op inside) counted apart in
           let there = linear.each a (past-closed h co causal o a b inside before) in
           (there.0, linear.ordered there.0 k a b there.1 stands before, there.1);
-      ends = λ s. same_count (times s schedule) (count v o s)
+      ends = λ s. same_count (placed schedule s) (count v o s)
           (λ i below. let there = named_each schedule (op s i) below in (counts o is_op (op s i)).1 (linear.no_other there.0 (op s i) there.1))
           (λ i below. let there = linear.each (op s i) ((counts o is_op (op s i)).0 below) in named_within schedule there.0 (op s i) there.1);
     }

@@ -11,7 +11,8 @@ use Rattle.cert_check.specs.declared.certificate.Certificate.{Certificate}
 use Rattle.cert_check.specs.declared.certificate.Certificate.TheVariants.{Cc, Cm, Ccv}
 use Rattle.cert_check.specs.CertificateForm.{AreBelow, IsCertificate}
 use Rattle.cert_check.specs.Certificates.{HasShapeOf, IsExplainedThroughout}
-use Rattle.cert_check.specs.Schedules.{named, times}
+use Rattle.cert_check.specs.Schedules.{named}
+use Rattle.causal_order.specs.Schedules.{placed}
 use Rattle.cert_check.proofs.Named.{named_at, named_within}
 
 -- counts that are at most the lengths of sessions
@@ -37,7 +38,7 @@ module _ {S C R : Type 0} (h : HistoryValue S C R) where
       → All (λ s. s < 16) list
   sessions-below list few of_history = All-from_get_or (λ s. s < 16) list 0 (λ k below.
       let s : ℕ = get_or list k 0 in
-      let a : OpId = op s (times s (take k list)) in
+      let a : OpId = op s (placed (take k list) s) in
       let inside = session-of_history h a (of_history k a (named_at list k s (slice_get-get_or list k 0 below))) in
       omega arith)
 

@@ -8,12 +8,14 @@ use Rattle.std.proofs.lemmas.List.Elements.{filter_map-append}
 use Rattle.std.proofs.lemmas.Option.{same_Some}
 use Rattle.history.specs.declared.op_id.OpId.{OpId}
 use Rattle.history.specs.History.{HistoryValue, IsOp, calls, entry}
+use Rattle.causal_order.proofs.Placed.{placed-up}
 use Rattle.causal_order.specs.Orders.{Ops, op, StandsAt}
 use Rattle.causal_order.proofs.OrdersLaws.{same_op, session-of_history}
 use Rattle.causal_order.specs.Vectors.{Counts, count, IsCounted}
-use Rattle.cert_check.specs.Schedules.{times, named, StandsBefore}
+use Rattle.cert_check.specs.Schedules.{named, StandsBefore}
+use Rattle.causal_order.specs.Schedules.{placed}
 use Rattle.cert_check.specs.Steps.Replays.{AreCountsAt, IsAnsweredAfter, IsStepOk, IsReplayAt}
-use Rattle.cert_check.proofs.Named.{times-next, times-same, times-other, times-take-le, named_at, named_is, take_next, counted_from_before, before_from_counted}
+use Rattle.cert_check.proofs.Named.{placed-next, placed-one, placed-none, named_at, named_is, take_next, counted_from_before, before_from_counted}
 
 -- one call more
 pub calls_push : {S C R : Type 0} (h : HistoryValue S C R) (ops : List OpId) (o : OpId) (c : C)
@@ -38,16 +40,16 @@ module _ (list : List ℕ) (i n s : ℕ) (here : slice_get list i ≡ Some s) (c
     each = λ t.
         let width = at.width in
         let before = at.each t in
-        let next = times-next t list i s here in
+        let next = placed-next t list i s here in
         ⊎_elim
         (λ (same : t ≡ s).
-        let one = times-same t s (sym same) in
+        let one = placed-one t s (sym same) in
         let counted = get_or-set_same counts s (get_or counts s 0 + 1) 0 (omega arith) in
         let place = ap (λ (k : ℕ). get_or (set counts s (get_or counts s 0 + 1)) k 0) same in
         let own = ap (λ (k : ℕ). get_or counts k 0) same in
         omega arith)
         (λ (other : t ≡ s → ⊥).
-        let none = times-other t s (λ e. other (sym e)) in
+        let none = placed-none t s (λ e. other (sym e)) in
         let kept = get_or-set_other counts s t (get_or counts s 0 + 1) 0 other in
         omega arith)
         (cases_eq t s);
@@ -60,20 +62,20 @@ module _ (v : Counts) (list : List ℕ) (i n : ℕ) (o : OpId) (stands : StandsA
   after_from_within within a counts_a apart =
       let is = named_is list i o stands in
       let index = is.1 in
-      let next = times-next a.session list i o.session is.0 in
+      let next = placed-next a.session list i o.session is.0 in
       let now = at.each a.session in
       let most = within a.session in
       before_from_counted list i a (
       ⊎_elim
       (λ (same : a.session ≡ o.session).
-      let one = times-same a.session o.session (sym same) in
-      let own = ap (λ (s : ℕ). times s (take i list)) same in
+      let one = placed-one a.session o.session (sym same) in
+      let own = ap (λ (s : ℕ). placed (take i list) s) same in
       ⊎_elim
       (λ (equal : a.index ≡ o.index). absurd (apart (same_op a o same equal)))
       (λ (other : a.index ≡ o.index → ⊥). omega arith)
       (cases_eq a.index o.index))
       (λ (other : a.session ≡ o.session → ⊥).
-      let none = times-other a.session o.session (λ e. other (sym e)) in
+      let none = placed-none a.session o.session (λ e. other (sym e)) in
       omega arith)
       (cases_eq a.session o.session))
 
@@ -81,18 +83,18 @@ module _ (v : Counts) (list : List ℕ) (i n : ℕ) (o : OpId) (stands : StandsA
   within_from_after after s =
       let is = named_is list i o stands in
       let index = is.1 in
-      let next = times-next s list i o.session is.0 in
+      let next = placed-next s list i o.session is.0 in
       let now = at.each s in
       ⊎_elim
       (λ (below : get_or counts s 0 < count v o s).
       let apart : op s (get_or counts s 0) ≢ o = λ e.
       let same : s ≡ o.session = ap (λ (x : OpId). x.session) e in
       let equal : get_or counts s 0 ≡ o.index = ap (λ (x : OpId). x.index) e in
-      let one = times-same s o.session (sym same) in
-      let own = ap (λ (t : ℕ). times t (take i list)) same in
+      let one = placed-one s o.session (sym same) in
+      let own = ap (λ (t : ℕ). placed (take i list) t) same in
       omega arith in
       let before = counted_from_before list i (op s (get_or counts s 0)) (after (op s (get_or counts s 0)) below apart) in
-      let up_to = times-take-le s list i (i + 1) (omega arith) in
+      let up_to = placed-up list i (i + 1) s (omega arith) in
       absurd (omega arith))
       (λ (most : count v o s ≤ get_or counts s 0). most)
       (cases_lt (get_or counts s 0) (count v o s))

@@ -7,7 +7,8 @@ use Rattle.history.specs.History.{HistoryValue}
 use Rattle.causal_order.specs.Orders.{Ops, StandsAt}
 use Rattle.causal_order.specs.Vectors.{Counts, count, IsVectorOk}
 use Rattle.cert_check.specs.Certificates.{IsScheduledPiece}
-use Rattle.cert_check.specs.Schedules.{times, named}
+use Rattle.cert_check.specs.Schedules.{named}
+use Rattle.causal_order.specs.Schedules.{placed}
 use Rattle.cert_check.specs.Steps.Replays.{AreCountsAt, AreStepsOk, IsStepOk}
 use Rattle.cert_check.proofs.Named.{length-named}
 
@@ -18,8 +19,8 @@ nothing_past list i past o there =
     omega arith
 
 -- at the end of a list the running counts are those of the whole list
-pub counts_at_end : (list : List ℕ) (i n : ℕ) (counts : List ℕ) → AreCountsAt list i n counts → length list ≤ i → (s : ℕ) → get_or counts s 0 ≡ times s list
-counts_at_end list i n counts at past s = at.each s ∙ ap (times s) (take_all i list past)
+pub counts_at_end : (list : List ℕ) (i n : ℕ) (counts : List ℕ) → AreCountsAt list i n counts → length list ≤ i → (s : ℕ) → get_or counts s 0 ≡ placed list s
+counts_at_end list i n counts at past s = at.each s ∙ ap (λ (xs : List ℕ). placed xs s) (take_all i list past)
 
 module _ {S C R : Type 0} (answer : S → List C → C → R) (h : HistoryValue S C R) (v : Counts) (kept : Ops) (list : List ℕ) where
   pub steps_all : (i : ℕ) → length list ≤ i → ((j : ℕ) → j < i → IsStepOk answer h v kept (named list) j) → AreStepsOk answer h v kept (named list)
@@ -33,7 +34,7 @@ module _ {S C R : Type 0} (answer : S → List C → C → R) (h : HistoryValue 
       })
       (cases_lt j i)
 
-  pub piece-from : (o : OpId) → IsVectorOk h v o → AreStepsOk answer h v kept (named list) × ((s : ℕ) → times s list ≡ count v o s)
+  pub piece-from : (o : OpId) → IsVectorOk h v o → AreStepsOk answer h v kept (named list) × ((s : ℕ) → placed list s ≡ count v o s)
       → IsScheduledPiece answer h v list o kept
   piece-from o vector walked = record {
     vector = vector;
@@ -45,7 +46,7 @@ module _ {S C R : Type 0} (answer : S → List C → C → R) (h : HistoryValue 
     explains = λ k a c r there inside known. (walked.0 k).explains a there inside c r known;
   }
 
-  pub piece-walked : (o : OpId) → IsScheduledPiece answer h v list o kept → AreStepsOk answer h v kept (named list) × ((s : ℕ) → times s list ≡ count v o s)
+  pub piece-walked : (o : OpId) → IsScheduledPiece answer h v list o kept → AreStepsOk answer h v kept (named list) × ((s : ℕ) → placed list s ≡ count v o s)
   piece-walked o piece = (
     (λ k. record {
       existing = λ a there. piece.schedules.existing k a there;

@@ -8,8 +8,9 @@ use Rattle.history.specs.declared.op_id.OpId.{OpId}
 use Rattle.history.specs.History.{Precedes}
 use Rattle.causal_order.specs.Orders.{op, StandsAt}
 use Rattle.causal_order.proofs.OrdersLaws.{same_op}
-use Rattle.cert_check.specs.Schedules.{times, named, StandsBefore}
-use Rattle.cert_check.proofs.Named.{times-same, times-other, times-next, length-named, named_at}
+use Rattle.cert_check.specs.Schedules.{named, StandsBefore}
+use Rattle.causal_order.specs.Schedules.{placed}
+use Rattle.cert_check.proofs.Named.{placed-one, placed-none, placed-next, length-named, named_at}
 
 -- the session numbers of a list of operations
 abbrev pub sessions_of : List OpId → List ℕ
@@ -22,16 +23,16 @@ pub record IsInProgramOrder (ops : List OpId) : Type 0 where
 
 -- the operations before a place are those that the session numbers before it count
 abbrev CountsFront : List OpId → ℕ → Type 0
-CountsFront ops k = (a : OpId) → (a.index < times a.session (take k (sessions_of ops))) ↔ StandsBefore ops k a
+CountsFront ops k = (a : OpId) → (a.index < placed (take k (sessions_of ops)) a.session) ↔ StandsBefore ops k a
 
 module _ (ops : List OpId) (in_order : IsInProgramOrder ops) where
   session_at : (k : ℕ) (b : OpId) → StandsAt ops k b → slice_get (sessions_of ops) k ≡ Some b.session
   session_at k b stands = slice_get-map (λ (o : OpId). o.session) ops k ∙ ap (option_map (λ (o : OpId). o.session)) stands
 
   -- an operation's index is how often its session is named before it
-  index_is : (k : ℕ) (b : OpId) → StandsAt ops k b → CountsFront ops k → b.index ≡ times b.session (take k (sessions_of ops))
+  index_is : (k : ℕ) (b : OpId) → StandsAt ops k b → CountsFront ops k → b.index ≡ placed (take k (sessions_of ops)) b.session
   index_is k b stands front =
-      let named_before : ℕ = times b.session (take k (sessions_of ops)) in
+      let named_before : ℕ = placed (take k (sessions_of ops)) b.session in
       ⊎_elim
       (λ (below : b.index < named_before).
       let r = (front b).0 below in
@@ -48,24 +49,24 @@ module _ (ops : List OpId) (in_order : IsInProgramOrder ops) where
 
   front_more : (k : ℕ) (b : OpId) → StandsAt ops k b → CountsFront ops k → CountsFront ops (k + 1)
   front_more k b stands front a =
-      let next = times-next a.session (sessions_of ops) k b.session (session_at k b stands) in
+      let next = placed-next a.session (sessions_of ops) k b.session (session_at k b stands) in
       let index = index_is k b stands front in (
-        (λ (counts : a.index < times a.session (take (k + 1) (sessions_of ops))). ⊎_elim
-            (λ (old : a.index < times a.session (take k (sessions_of ops))).
+        (λ (counts : a.index < placed (take (k + 1) (sessions_of ops)) a.session). ⊎_elim
+            (λ (old : a.index < placed (take k (sessions_of ops)) a.session).
             let r = (front a).0 old in
             let less = r.1 in
             (r.0, omega arith, r.2))
-            (λ (new : times a.session (take k (sessions_of ops)) ≤ a.index). ⊎_elim
+            (λ (new : placed (take k (sessions_of ops)) a.session ≤ a.index). ⊎_elim
             (λ (same : b.session ≡ a.session).
-            let one = times-same a.session b.session same in
-            let here : times a.session (take k (sessions_of ops)) ≡ times b.session (take k (sessions_of ops)) = ap (λ (s : ℕ). times s (take k (sessions_of ops))) (sym same) in
+            let one = placed-one a.session b.session same in
+            let here : placed (take k (sessions_of ops)) a.session ≡ placed (take k (sessions_of ops)) b.session = ap (λ (s : ℕ). placed (take k (sessions_of ops)) s) (sym same) in
             let equal : b ≡ a = same_op b a same (omega arith) in
             (k, omega arith, stands ∙ ap Some equal))
             (λ (other : b.session ≡ a.session → ⊥).
-            let none = times-other a.session b.session other in
+            let none = placed-none a.session b.session other in
             absurd (omega arith))
             (cases_eq b.session a.session))
-            (cases_lt a.index (times a.session (take k (sessions_of ops))))),
+            (cases_lt a.index (placed (take k (sessions_of ops)) a.session))),
         (λ (before : StandsBefore ops (k + 1) a).
             let less = before.1 in
             ⊎_elim
@@ -75,9 +76,9 @@ module _ (ops : List OpId) (in_order : IsInProgramOrder ops) where
             (λ (up_to : k ≤ before.0).
             let here : before.0 ≡ k = omega arith in
             let equal : b ≡ a = same_Some b a (sym stands ∙ ap (slice_get ops) (sym here) ∙ before.2) in
-            let one = times-same a.session b.session (ap (λ (o : OpId). o.session) equal) in
+            let one = placed-one a.session b.session (ap (λ (o : OpId). o.session) equal) in
             let same_index : b.index ≡ a.index = ap (λ (o : OpId). o.index) equal in
-            let same_times : times b.session (take k (sessions_of ops)) ≡ times a.session (take k (sessions_of ops)) = ap (λ (o : OpId). times o.session (take k (sessions_of ops))) equal in
+            let same_times : placed (take k (sessions_of ops)) b.session ≡ placed (take k (sessions_of ops)) a.session = ap (λ (o : OpId). placed (take k (sessions_of ops)) o.session) equal in
             omega arith)
             (cases_lt before.0 k)),
       )

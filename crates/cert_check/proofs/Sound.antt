@@ -9,7 +9,8 @@ use Rattle.causal_order.specs.Vectors.{Counts, list_of, IsCounted, IsVectorOk}
 use Rattle.cert_check.specs.declared.certificate.Certificate.{Certificate}
 use Rattle.cert_check.specs.declared.certificate.Certificate.TheVariants.{Cc, Cm, Ccv}
 use Rattle.cert_check.specs.Criteria.{every, Explains, Meets}
-use Rattle.cert_check.specs.Schedules.{times, named, StandsBefore, IsSchedule}
+use Rattle.cert_check.specs.Schedules.{named, StandsBefore, IsSchedule}
+use Rattle.causal_order.specs.Schedules.{placed}
 use Rattle.cert_check.specs.Certificates.{counted, criterion_of, HasShapeOf, IsExplainedThroughout}
 use Rattle.cert_check.specs.Witnesses.{counted_before, IsWitness}
 use Rattle.cert_check.proofs.ConvergentLaws.{cut_is_linearization}
@@ -39,7 +40,7 @@ module _ {S C R : Type 0} (h : HistoryValue S C R) (v : Counts) (good : (o : OpI
   }
 
   -- what one list names is a linearization of the history
-  arbitrated_whole : (arbitration : List ℕ) → ((s : ℕ) → times s arbitration ≡ length (session h s))
+  arbitrated_whole : (arbitration : List ℕ) → ((s : ℕ) → placed arbitration s ≡ length (session h s))
       → ((o : OpId) → IsOp h o → (k : ℕ) (a : OpId) → StandsAt (named arbitration) k o → IsCounted v o a → a ≢ o → StandsBefore (named arbitration) k a)
       → IsLinearization (every h) (counted_before h v) (named arbitration)
   arbitrated_whole arbitration whole after_counted = record {

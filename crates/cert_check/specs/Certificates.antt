@@ -10,7 +10,8 @@ use Rattle.cert_check.specs.declared.criterion.Criterion.TheVariants as criteria
 use Rattle.cert_check.specs.declared.certificate.Certificate.{Certificate}
 use Rattle.cert_check.specs.declared.certificate.Certificate.TheVariants.{Cc, Cm, Ccv}
 use Rattle.cert_check.specs.Criteria.{Explains}
-use Rattle.cert_check.specs.Schedules.{times, named, StandsBefore, IsSchedule}
+use Rattle.cert_check.specs.Schedules.{named, StandsBefore, IsSchedule}
+use Rattle.causal_order.specs.Schedules.{placed}
 
 -- the criterion of a certificate
 abbrev pub criterion_of : Certificate → Criterion
@@ -34,7 +35,7 @@ module _ {S C R : Type 0} where
   abbrev pub HasShapeOf : HistoryValue S C R → Certificate → Type 0
   HasShapeOf h (Cc vectors schedules) = AreVectorsOf h vectors × HasOneEach h schedules
   HasShapeOf h (Cm vectors schedules) = AreVectorsOf h vectors × HasOneEach h schedules
-  HasShapeOf h (Ccv vectors arbitration) = AreVectorsOf h vectors × ((s : ℕ) → times s arbitration ≡ length (session h s))
+  HasShapeOf h (Ccv vectors arbitration) = AreVectorsOf h vectors × ((s : ℕ) → placed arbitration s ≡ length (session h s))
 
 module _ {S C R : Type 0} (answer : S → List C → C → R) (h : HistoryValue S C R) where
   -- the piece of o by a schedule: its vector and its schedule are good, and the operations that the schedule names

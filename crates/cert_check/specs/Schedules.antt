@@ -1,19 +1,15 @@
 -- Schedules: lists of session numbers, each of which names the next operation of its session (this project's profile).
-use Rattle.std.specs.Prelude.{◌≡◌, ◌≢◌, ℕ, ◌<◌, ◌==◌, ◌++◌, List, [], ◌∷◌}
-use Rattle.std.specs.List.{count_by}
+use Rattle.std.specs.Prelude.{◌≡◌, ◌≢◌, ℕ, ◌<◌, ◌++◌, List, [], ◌∷◌}
 use Rattle.history.specs.declared.op_id.OpId.{OpId}
 use Rattle.history.specs.History.{HistoryValue, IsOp}
-use Rattle.causal_order.specs.Orders.{op, StandsAt}
+use Rattle.causal_order.specs.Orders.{StandsAt}
+use Rattle.causal_order.specs.Schedules.{placed, next_of}
 use Rattle.causal_order.specs.Vectors.{Counts, count, IsCounted}
-
--- how often a list names the session s
-abbrev pub times : ℕ → List ℕ → ℕ
-times s schedule = count_by (λ t. t == s) schedule
 
 -- the operations that a list names behind another list, and those that it names alone
 abbrev pub named_after : List ℕ → List ℕ → List OpId
 named_after before [] = []
-named_after before (s ∷ schedule) = op s (times s before) ∷ named_after (before ++ s ∷ []) schedule
+named_after before (s ∷ schedule) = next_of before s ∷ named_after (before ++ s ∷ []) schedule
 
 abbrev pub named : List ℕ → List OpId
 named schedule = named_after [] schedule
@@ -28,4 +24,4 @@ module _ {S C R : Type 0} where
   pub record IsSchedule (h : HistoryValue S C R) (v : Counts) (o : OpId) (schedule : List ℕ) : Type 0 where
     pub existing : (k : ℕ) (a : OpId) → StandsAt (named schedule) k a → IsOp h a
     pub after_counted : (k : ℕ) (b a : OpId) → StandsAt (named schedule) k b → IsCounted v b a → a ≢ b → StandsBefore (named schedule) k a
-    pub ends : (s : ℕ) → times s schedule ≡ count v o s
+    pub ends : (s : ℕ) → placed schedule s ≡ count v o s

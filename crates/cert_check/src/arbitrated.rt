@@ -3,7 +3,8 @@ ghost use Rattle.history.specs.History.{session, IsOp};
 ghost use Rattle.causal_order.specs.Orders.{StandsAt};
 ghost use Rattle.causal_order.specs.Vectors.{AreVectorsOf};
 ghost use Rattle.cert_check.specs.Certificates.{counted, IsArbitratedPiece};
-ghost use Rattle.cert_check.specs.Schedules.{named, times};
+ghost use Rattle.cert_check.specs.Schedules.{named};
+ghost use Rattle.causal_order.specs.Schedules.{placed};
 ghost use Rattle.cert_check.specs.Steps.Replays.{IsReplayAt};
 
 use crate::replay::Replay;
@@ -24,7 +25,7 @@ pub fn is_arbitrated_piece<O: SeqObject>(
     op: OpId,
 ) -> Result<bool, AllocError>
     requires shape { AreVectorsOf h.now v.now }
-    requires whole { (s : ℕ) → times s list.now ≡ length (session h.now s) }
+    requires whole { (s : ℕ) → placed list.now s ≡ length (session h.now s) }
     requires is_op { IsOp h.now op }
     ensures { IfOk result (λ yes. IsTrue yes ↔ IsArbitratedPiece O.answer h.now v.now list.now op) }
 {
@@ -46,7 +47,7 @@ fn replay_to<O: SeqObject>(
     op: OpId,
 ) -> Result<Replay<O>, AllocError>
     requires shape { AreVectorsOf h.now v.now }
-    requires whole { (s : ℕ) → times s list.now ≡ length (session h.now s) }
+    requires whole { (s : ℕ) → placed list.now s ≡ length (session h.now s) }
     requires is_op { IsOp h.now op }
     ensures { IfOk result (λ replay. (i : ℕ) × StandsAt (named list.now) i op
         × IsReplayAt O.stands h.now list.now (i + 1) (filter (counted v.now op) (take i (named list.now)))

@@ -1,12 +1,11 @@
 //! Reading the lists of a certificate from JSON values.
 
-ghost use Rattle.std.specs.Prelude.{◌≡◌, All, option_map, IfOk};
+ghost use Rattle.std.specs.Prelude.{All, option_map, IfOk};
 ghost use Rattle.serde_json.specs.View.{view};
 ghost use Rattle.operations.specs.Reads.{list_form, IsReadWithin};
-ghost use Rattle.cert_check.specs.Steps.CertificateReading.{IsReadBehind};
 
 use crate::number::Number;
-use causal_order::ByOperation;
+use causal_order::{ByOperation, Rows};
 use operations::elements_of;
 use serde_json::Value;
 use std::alloc::{AllocError, Global};
@@ -29,28 +28,21 @@ pub fn read_numbers<T: Number>(alloc: Global, value: &Value) -> Result<Option<Ve
     Ok(Some(numbers))
 }
 
-/// Puts the session that a value is the form of behind the others: a list of numbers for each of its operations.
-///
-/// Answers whether it is one; where it is none, a part of it may stand behind the others.
-fn read_session<T: Number>(
-    alloc: Global,
-    lists: &mut ByOperation<T>,
-    value: &Value,
-) -> Result<bool, AllocError>
-    ensures { IfOk result (IsReadBehind (All (All T.fits)) (list_form (list_form T.form)) (view value.now) lists.old lists.new) }
+/// The lists of a session that a value is the form of: a list of numbers for each of its operations.
+fn read_rows<T: Number>(alloc: Global, value: &Value) -> Result<Option<Rows<T>>, AllocError>
+    ensures { IfOk result (IsReadWithin (All (All T.fits)) (list_form (list_form T.form)) (view value.now)) }
 {
     let Some(values) = elements_of(value) else {
-        return Ok(false);
+        return Ok(None);
     };
-    let session = lists.sessions();
-    lists.push_session()?;
+    let mut rows = Rows::new(alloc);
     for element in values {
         let Some(numbers) = read_numbers::<T>(alloc, element)? else {
-            return Ok(false);
+            return Ok(None);
         };
-        lists.push(session, numbers.as_slice())?;
+        rows.push(numbers.as_slice())?;
     }
-    Ok(true)
+    Ok(Some(rows))
 }
 
 /// The lists that a value is the form of, one list of numbers for each operation of each session.
@@ -67,9 +59,10 @@ pub fn read_lists<T: Number>(
     };
     let mut lists = ByOperation::new(alloc);
     for element in values {
-        if !read_session::<T>(alloc, &mut lists, element)? {
+        let Some(rows) = read_rows::<T>(alloc, element)? else {
             return Ok(None);
-        }
+        };
+        lists.push_rows(rows)?;
     }
     Ok(Some(lists))
 }

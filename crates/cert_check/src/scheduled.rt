@@ -2,7 +2,8 @@ ghost use Rattle.std.specs.Prelude.{◌≡◌, ◌↔◌, ℕ, IfOk, IsTrue};
 ghost use Rattle.history.specs.History.{IsOp};
 ghost use Rattle.causal_order.specs.Vectors.{count, AreVectorsOf};
 ghost use Rattle.cert_check.specs.Certificates.{IsScheduledPiece};
-ghost use Rattle.cert_check.specs.Schedules.{named, times};
+ghost use Rattle.cert_check.specs.Schedules.{named};
+ghost use Rattle.causal_order.specs.Schedules.{placed};
 ghost use Rattle.cert_check.specs.Steps.Replays.{kept_of, AreStepsOk};
 
 use crate::kept::Kept;
@@ -45,7 +46,7 @@ fn is_replayed<O: SeqObject>(
     requires shape { AreVectorsOf h.now v.now }
     requires is_op { IsOp h.now op }
     ensures { IfOk result (λ yes. IsTrue yes ↔ (AreStepsOk O.answer h.now v.now (kept_of kept) (named schedule.now)
-        × ((s : ℕ) → times s schedule.now ≡ count v.now op s))) }
+        × ((s : ℕ) → placed schedule.now s ≡ count v.now op s))) }
 {
     let mut replay = Replay::new(alloc, h)?;
     for session in schedule {

@@ -1,7 +1,7 @@
 ghost use Rattle.std.specs.Prelude.{◌≡◌, ◌<◌, ℕ, ◌↔◌, All, IsTrue, length};
 ghost use Rattle.history.specs.History.{session};
 ghost use Rattle.cert_check.specs.Certificates.{HasShapeOf};
-ghost use Rattle.cert_check.specs.Schedules.{times};
+ghost use Rattle.causal_order.specs.Schedules.{placed};
 
 use crate::certificate::Certificate;
 use causal_order::{are_vectors_of, has_one_each};
@@ -32,13 +32,13 @@ pub fn shape_ok<O: SeqObject>(h: &History<O>, certificate: &Certificate) -> bool
 ///
 /// Takes no memory. O(n k) for a list of n numbers and k sessions.
 pub fn names_all<O: SeqObject>(h: &History<O>, list: &[u8]) -> bool
-    ensures { IsTrue result ↔ ((s : ℕ) → times s list.now ≡ length (session h.now s)) }
+    ensures { IsTrue result ↔ ((s : ℕ) → placed list.now s ≡ length (session h.now s)) }
 {
     if !names_sessions(list, h.sessions()) {
         return false;
     }
     for session in 0..h.sessions() {
-        if times_named(list, session) != h.len(session as u64) {
+        if placed_of(list, session) != h.len(session as u64) {
             return false;
         }
     }
@@ -52,9 +52,9 @@ fn names_sessions(list: &[u8], sessions: usize) -> bool
     list.iter().all(|session| usize::from(*session) < sessions)
 }
 
-/// How often the list names a session.
-fn times_named(list: &[u8], session: usize) -> usize
-    ensures { result ≡ times session list.now }
+/// How many operations of a session the list places.
+fn placed_of(list: &[u8], session: usize) -> usize
+    ensures { result ≡ placed list.now session }
 {
     list.iter()
         .filter(|named| usize::from(**named) == session)

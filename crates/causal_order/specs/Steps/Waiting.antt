@@ -3,7 +3,7 @@ use Rattle.std.specs.Prelude.{◌≡◌, ◌≢◌, ◌⊎◌, ℕ, ◌+◌, ◌
 use Rattle.history.specs.declared.op_id.OpId.{OpId}
 use Rattle.causal_order.specs.Orders.{op, StandsAt, IsPath}
 use Rattle.causal_order.specs.Vectors.{IsListed, Counts, count}
-use Rattle.causal_order.specs.Topological.{placed, next_of}
+use Rattle.causal_order.specs.Schedules.{placed, next_of}
 use Rattle.causal_order.specs.Waits.{AreAlike, CanFollow, IsAwaited, IsWaitEdge}
 
 -- one count for each of the sessions, and all are 0

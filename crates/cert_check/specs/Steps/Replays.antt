@@ -6,7 +6,8 @@ use Rattle.causal_order.specs.Orders.{Ops, StandsAt, only, program_past}
 use Rattle.causal_order.specs.Vectors.{Counts, IsCounted}
 use Rattle.cert_check.specs.declared.kept.Kept.{Kept}
 use Rattle.cert_check.specs.declared.kept.Kept.TheVariants.{Only, ProgramPast}
-use Rattle.cert_check.specs.Schedules.{times, StandsBefore}
+use Rattle.cert_check.specs.Schedules.{StandsBefore}
+use Rattle.causal_order.specs.Schedules.{placed}
 
 -- the operations whose known returns are kept
 abbrev pub kept_of : Kept → Ops
@@ -16,7 +17,7 @@ kept_of (ProgramPast o) = program_past o
 -- counts of n sessions: how often the first i numbers of a list name each
 pub record AreCountsAt (list : List ℕ) (i n : ℕ) (counts : List ℕ) : Type 0 where
   pub width : length counts ≡ n
-  pub each : (s : ℕ) → slice_index_or counts s 0 ≡ times s (take i list)
+  pub each : (s : ℕ) → slice_index_or counts s 0 ≡ placed (take i list) s
 
 -- a replay has counted the first i numbers of a list, and its object stands for the calls of some operations
 pub record IsReplayAt {S C R X : Type 0} (stands : X → S → List C → Type 0) (h : HistoryValue S C R) (list : List ℕ) (i : ℕ) (taken : List OpId) (counts : List ℕ) (object : X) : Type 0 where

@@ -1,6 +1,7 @@
 use Rattle.std.proofs.Common.{◌≤◌, ℕ, List, subst₂, sym, get_or}
 use Rattle.std.specs.Prelude.{max}
-use Rattle.causal_order.specs.Topological.{placed, IsFullWalk}
+use Rattle.causal_order.specs.Topological.{IsFullWalk}
+use Rattle.causal_order.specs.Schedules.{placed}
 use Rattle.causal_order.specs.Vectors.{Counts}
 use Rattle.causal_order.specs.Waits.{IsTopologicalOrder}
 use Rattle.causal_order.proofs.TopologicalOrders.{sorted-acyclic, walk-order, walk-stuck}

@@ -1,6 +1,6 @@
 use Rattle.std.proofs.Common.{◌≡◌, get_or, ap, ◌∙◌, subst, sym}
 use Rattle.history.specs.declared.op_id.OpId.{OpId}
-use Rattle.causal_order.specs.Topological.{next_of}
+use Rattle.causal_order.specs.Schedules.{next_of}
 use Rattle.causal_order.specs.Vectors.{list_of}
 use Rattle.causal_order.specs.Steps.Waiting.{IsUnplaced}
 use Rattle.causal_order.specs.Waits.{IsAwaited}

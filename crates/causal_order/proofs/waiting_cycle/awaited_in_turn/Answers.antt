@@ -1,6 +1,6 @@
 use Rattle.std.proofs.Common.{ℕ, arith, sym, subst, refl}
 use Rattle.std.proofs.lemmas.List.{length_push}
-use Rattle.causal_order.specs.Topological.{next_of}
+use Rattle.causal_order.specs.Schedules.{next_of}
 use Rattle.causal_order.specs.Waits.{IsAwaited}
 use Rattle.causal_order.proofs.WaitRoutes.{chain-none, chain-push, unplaced-open, last-pushed}
 use Rattle.causal_order.proofs.waiting_cycle.awaited_in_turn.Goals as goal

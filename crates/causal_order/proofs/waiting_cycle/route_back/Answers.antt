@@ -4,7 +4,7 @@ use Rattle.std.proofs.lemmas.Option.{slice_get-get_or}
 use Rattle.history.specs.declared.op_id.OpId.{OpId}
 use Rattle.causal_order.specs.Orders.{op, StandsAt}
 use Rattle.causal_order.specs.Steps.Waiting.{IsRoute}
-use Rattle.causal_order.specs.Topological.{next_of}
+use Rattle.causal_order.specs.Schedules.{next_of}
 use Rattle.causal_order.specs.Waits.{IsAwaited}
 use Rattle.causal_order.proofs.WaitRoutes.{at-place, chain-few, route-none, route-later, route-same, route-cycle}
 use Rattle.causal_order.proofs.waiting_cycle.route_back.Goals as goal

@@ -2,7 +2,7 @@ use Rattle.std.proofs.Common.{◌≡◌, ◌-◌, ◌<◌, length}
 use Rattle.history.specs.declared.op_id.OpId.{OpId}
 use Rattle.causal_order.specs.Orders.{StandsAt}
 use Rattle.causal_order.specs.Steps.Waiting.{IsRoute}
-use Rattle.causal_order.specs.Topological.{next_of}
+use Rattle.causal_order.specs.Schedules.{next_of}
 use Rattle.causal_order.proofs.waiting_cycle.route_back.Given as goal
 
 -- the route so far goes to the next operation of the session of the operation that is reached in the chain

@@ -1,6 +1,7 @@
 use Rattle.std.proofs.Common.{◌≤◌, filter, take}
 use Rattle.cert_check.specs.Certificates.{counted}
-use Rattle.cert_check.specs.Schedules.{named, times}
+use Rattle.cert_check.specs.Schedules.{named}
+use Rattle.causal_order.specs.Schedules.{placed}
 use Rattle.cert_check.specs.Steps.Replays.{IsReplayAt}
 use Rattle.cert_check.proofs.arbitrated.replay_to.Given as goal
 
@@ -8,4 +9,4 @@ use Rattle.cert_check.proofs.arbitrated.replay_to.Given as goal
 abbrev pub invariant-loop-session : goal.invariant-loop-session
 invariant-loop-session g l =
     IsReplayAt g.O.SeqObject.stands l.h l.list l.session-index (filter (counted l.v l.op) (take l.session-index (named l.list))) l.replay.counts.items l.replay.object
-    × (times l.op.session (take l.session-index l.list) ≤ l.op.index)
+    × (placed (take l.session-index l.list) l.op.session ≤ l.op.index)

@@ -1,5 +1,5 @@
 use Rattle.std.proofs.Common.{◌<◌, ◌≤◌, ◌≢◌, ℕ, get_or}
-use Rattle.causal_order.specs.Topological.{placed}
+use Rattle.causal_order.specs.Schedules.{placed}
 use Rattle.causal_order.proofs.topological.Walk.first_missing.Given as goal
 
 -- the sessions so far have no count above what is placed

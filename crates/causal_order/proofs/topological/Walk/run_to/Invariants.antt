@@ -1,6 +1,7 @@
 use Rattle.std.proofs.Common.{◌≤◌, ℕ, length, get_or}
 use Rattle.std.specs.Prelude.{max}
-use Rattle.causal_order.specs.Topological.{AreSeen, IsWalk, placed}
+use Rattle.causal_order.specs.Topological.{AreSeen, IsWalk}
+use Rattle.causal_order.specs.Schedules.{placed}
 use Rattle.causal_order.proofs.Walked.{room}
 use Rattle.causal_order.proofs.topological.Walk.run_to.Given as goal
 
