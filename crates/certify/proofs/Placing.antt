@@ -7,15 +7,15 @@ use Rattle.std.proofs.lemmas.Option.{slice_get_past}
 use Rattle.history.specs.declared.op_id.OpId.{OpId}
 use Rattle.history.specs.History.{HistoryValue, session}
 use Rattle.causal_order.specs.Orders.{op}
-use Rattle.causal_order.specs.Topological.{placed}
+use Rattle.causal_order.specs.Schedules.{placed}
 use Rattle.causal_order.proofs.OrdersLaws.{session-of_history}
 use Rattle.certify.specs.ByOrder.{is_update, is_update_call}
-use Rattle.certify.proofs.InTurn.{times-same}
+use Rattle.certify.proofs.InTurn.{placed-replicate}
 
 -- so many operations more of a session are placed
 pub placed_more : (schedule : List ℕ) (s n : ℕ) → placed (schedule ++ replicate n s) s ≡ placed schedule s + n
 placed_more schedule s n =
-    sum_by-append (λ t. cond (t == s) 1 0) schedule (replicate n s) ∙ ap (λ (m : ℕ). placed schedule s + m) (times-same n s)
+    sum_by-append (λ t. cond (t == s) 1 0) schedule (replicate n s) ∙ ap (λ (m : ℕ). placed schedule s + m) (placed-replicate n s)
 
 -- an operation is of one of the sessions
 pub session_there : {S C R : Type 0} (h : HistoryValue S C R) (s i : ℕ) → i < length (session h s) → s < length h.1

@@ -5,7 +5,7 @@ use Rattle.std.proofs.lemmas.List.{map-append, replicate-append-replicate}
 use Rattle.std.proofs.lemmas.List.Sorted.{IsPermutation-map, sum_by-IsPermutation}
 use Rattle.history.specs.declared.advice.Advice.{Advice}
 use Rattle.history.specs.History.{HistoryValue, session}
-use Rattle.cert_check.specs.Schedules.{times}
+use Rattle.causal_order.specs.Schedules.{placed}
 use Rattle.certify.specs.Advice.{advice_in, heard_before}
 use Rattle.certify.specs.ByProgramOrder.{in_turn}
 use Rattle.certify.specs.ByStamp.{AreByStamp, Stamped, sessions_of, stamped_before, stamped_in}
@@ -42,8 +42,8 @@ module _ {S C R : Type 0} (h : HistoryValue S C R) (advice : List (Option Advice
       ∙ ap (λ (xs : List ℕ). in_turn h n ++ xs) (sessions-in (advice_in h advice n) n (length (session h n)))
 
   -- in any order they name each session as often as it has operations
-  pub stamped_times : (ops : List Stamped) → AreByStamp h advice ops → (s : ℕ) → times s (sessions_of ops) ≡ length (session h s)
+  pub stamped_times : (ops : List Stamped) → AreByStamp h advice ops → (s : ℕ) → placed (sessions_of ops) s ≡ length (session h s)
   stamped_times ops by_stamp s =
       sum_by-IsPermutation (λ (t : ℕ). cond (t == s) 1 0) _ _ (IsPermutation-map (λ (o : Stamped). o.1) _ _ by_stamp.all)
-      ∙ ap (λ (xs : List ℕ). times s xs) (sessions-before (length h.1))
+      ∙ ap (λ (xs : List ℕ). placed xs s) (sessions-before (length h.1))
       ∙ in_turn-all h s

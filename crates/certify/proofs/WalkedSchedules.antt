@@ -12,9 +12,10 @@ use Rattle.memory_order.proofs.SourceVectors.{own-count, counted-counted}
 use Rattle.memory_order.specs.Memory.{MemoryHistory}
 use Rattle.causal_order.specs.Orders.{StandsAt}
 use Rattle.memory_order.specs.SourceOrder.{CountsSourceOrder}
-use Rattle.causal_order.specs.Topological.{placed, next_of, CanGoOn, IsFullWalk}
+use Rattle.causal_order.specs.Topological.{CanGoOn, IsFullWalk}
+use Rattle.causal_order.specs.Schedules.{placed, next_of}
 use Rattle.causal_order.specs.Vectors.{Counts, list_of, count, IsCounted}
-use Rattle.cert_check.specs.Schedules.{times, named, StandsBefore, IsSchedule}
+use Rattle.cert_check.specs.Schedules.{named, StandsBefore, IsSchedule}
 use Rattle.cert_check.proofs.Named.{named_is, before_from_counted}
 
 -- what stands at a place is the next operation of its session there
@@ -40,7 +41,7 @@ module _ (h : MemoryHistory) (v : Counts) (order : CountsSourceOrder h v) (sched
           let own = own-count h v order b step-existing in
           let mine = ap (λ (s : ℕ). count v b s) same in
           let other : a.index ≢ b.index = λ equal. apart (same_op a b same equal) in
-          let here = ap (λ (s : ℕ). times s (take k schedule)) same in
+          let here = ap (λ (s : ℕ). placed (take k schedule) s) same in
           omega arith)
           (λ (other : a.session ≢ b.session).
           let ready : count v b a.session ≤ placed (take k schedule) a.session =
@@ -51,7 +52,7 @@ module _ (h : MemoryHistory) (v : Counts) (order : CountsSourceOrder h v) (sched
   module _ (o : OpId) (is_op : IsOp h o) where
     -- a walk up to what the vector of an operation counts places all that, and no more
     pub walk-ends : (before : List ℕ) → IsFullWalk v (list_of v o) before schedule → ((s : ℕ) → placed before s ≤ count v o s)
-        → (s : ℕ) → times s schedule ≡ count v o s
+        → (s : ℕ) → placed schedule s ≡ count v o s
     walk-ends before full begun s =
         let most = walk-within v (list_of v o) before schedule full.walk s in
         let least = closed-reached h v order (list_of v o) before schedule full

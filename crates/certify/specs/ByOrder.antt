@@ -7,7 +7,7 @@ use Rattle.history.specs.declared.advice.Advice.{Advice}
 use Rattle.history.specs.declared.op_id.OpId.{OpId}
 use Rattle.history.specs.History.{HistoryValue, entry}
 use Rattle.causal_order.specs.Orders.{op}
-use Rattle.causal_order.specs.Topological.{placed}
+use Rattle.causal_order.specs.Schedules.{placed}
 use Rattle.certify.specs.Advice.{order_of}
 
 -- the order of the operation at a place of a session, and how many of its entries come before that of the operation itself

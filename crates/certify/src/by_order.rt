@@ -5,7 +5,8 @@ ghost use Rattle.history.specs.History.{IsOp, session as operations_of};
 ghost use Rattle.certify.specs.ByOrder.{AreAsked, GoesByOrder, HasNoUpdate, IsNamed, IsNextUpdate, MayCome};
 ghost use Rattle.certify.specs.ByOrder.{is_query, is_update, many_first, order_at};
 
-use crate::schedule::Schedule;
+use crate::schedule::place_before;
+use causal_order::Walk;
 use history::{Advice, History, MAX_OPERATIONS, MAX_SESSIONS, OpId};
 use object_trait::SeqObject;
 use std::alloc::{AllocError, Global};
@@ -38,13 +39,15 @@ pub(crate) fn schedule_by_order<O: SeqObject>(
     ensures { IfOk result (λ schedule. GoesByOrder O.query h.now told.now op schedule.items) }
 {
     let order = order_at(told, op.index as usize);
-    let mut schedule = Schedule::new(alloc);
+    let mut walk = Walk::new(alloc);
     for done in 0..many_first(told, op.index as usize) {
-        ask(h, told, op, Some(done), &mut schedule)?;
-        name(h, usize::from(order[done]), &mut schedule)?;
+        ask(h, told, op, Some(done), &mut walk)?;
+        name(h, usize::from(order[done]), &mut walk)?;
     }
-    ask(h, told, op, None, &mut schedule)?;
-    schedule.end_with(op.session as u8)
+    ask(h, told, op, None, &mut walk)?;
+    let mut schedule = walk.into_schedule();
+    schedule.push(op.session as u8)?;
+    Ok(schedule)
 }
 
 /// How many entries of the order of an operation come before that of the operation itself.
@@ -62,17 +65,17 @@ fn ask<O: SeqObject>(
     told: &[Option<Advice>],
     op: OpId,
     done: Option<usize>,
-    schedule: &mut Schedule,
+    walk: &mut Walk,
 ) -> Result<(), AllocError>
     requires few { length h.now.1 ≤ MAX_SESSIONS }
     requires is_op { IsOp h.now op }
     requires short { op.index < MAX_OPERATIONS }
     requires told { length told.now ≡ length (operations_of h.now op.session) }
-    ensures { OnOk result (AreAsked O.query h.now told.now op done schedule.old schedule.new) }
+    ensures { OnOk result (AreAsked O.query h.now told.now op done walk.old walk.new) }
 {
     let session = op.session as usize;
-    let end = end_of_asked(h, told, op, done, schedule.placed(session));
-    schedule.place_before(session, end)
+    let end = end_of_asked(h, told, op, done, walk.placed(session));
+    place_before(walk, session, end)
 }
 
 /// Up to which index the own queries of an operation may come, from one on.
@@ -119,16 +122,12 @@ fn may_come<O: SeqObject>(
 }
 
 /// Places the next update of a session, and the queries before it just before it; nothing where there is none.
-fn name<O: SeqObject>(
-    h: &History<O>,
-    session: usize,
-    schedule: &mut Schedule,
-) -> Result<(), AllocError>
+fn name<O: SeqObject>(h: &History<O>, session: usize, walk: &mut Walk) -> Result<(), AllocError>
     requires few { length h.now.1 ≤ MAX_SESSIONS }
-    ensures { OnOk result (IsNamed O.query h.now session schedule.old schedule.new) }
+    ensures { OnOk result (IsNamed O.query h.now session walk.old walk.new) }
 {
-    match next_update(h, session, schedule.placed(session)) {
-        Some(index) => schedule.place_before(session, index + 1),
+    match next_update(h, session, walk.placed(session)) {
+        Some(index) => place_before(walk, session, index + 1),
         None => Ok(()),
     }
 }

@@ -14,7 +14,8 @@ use Rattle.causal_order.proofs.Walked.{limit-within}
 use Rattle.memory_order.specs.Memory.{MemoryHistory}
 use Rattle.causal_order.specs.Orders.{op}
 use Rattle.memory_order.specs.SourceOrder.{CountsSourceOrder, SourceOrder}
-use Rattle.causal_order.specs.Topological.{placed, IsFullWalk}
+use Rattle.causal_order.specs.Topological.{IsFullWalk}
+use Rattle.causal_order.specs.Schedules.{placed}
 use Rattle.causal_order.specs.Vectors.{Counts, count, IsCounted}
 use Rattle.certify_cc.specs.BySources.{AreApart}
 

@@ -13,12 +13,14 @@ use Rattle.memory_order.proofs.SourceVectors.{counts-before}
 use Rattle.causal_order.proofs.TopologicalLaws.{placed-same}
 use Rattle.causal_order.proofs.Walked.{placed-other}
 use Rattle.memory_order.specs.Memory.{MemoryHistory}
+use Rattle.causal_order.proofs.Placed.{placed-up}
 use Rattle.causal_order.specs.Orders.{op, StandsAt}
 use Rattle.memory_order.specs.SourceOrder.{CountsSourceOrder, SourceOrder}
-use Rattle.causal_order.specs.Topological.{placed, CanGoOn, IsFullWalk}
+use Rattle.causal_order.specs.Topological.{CanGoOn, IsFullWalk}
+use Rattle.causal_order.specs.Schedules.{placed}
 use Rattle.causal_order.specs.Vectors.{Counts, list_of, count, IsCounted}
-use Rattle.cert_check.specs.Schedules.{times, named, StandsBefore, IsSchedule}
-use Rattle.cert_check.proofs.Named.{named_is, named_at, named_within, times-take-le, before_from_counted}
+use Rattle.cert_check.specs.Schedules.{named, StandsBefore, IsSchedule}
+use Rattle.cert_check.proofs.Named.{named_is, named_at, named_within, before_from_counted}
 use Rattle.certify.proofs.WalkedSchedules.{step-existing, step-after, walk-ends}
 use Rattle.certify_cc.specs.BySources.{AreApart}
 use Rattle.certify_cc.proofs.SourceLimits.{write-op, limit-most, apart-to, write-above, write-limit, first-places}
@@ -47,10 +49,10 @@ module _ (h : MemoryHistory) (v : Counts) (order : CountsSourceOrder h v) (o w :
       let len = first-length in
       push-last first w.session s (front-at (first ++ w.session ∷ []) schedule rest.walk.extends (length first) s (omega arith) at)
 
-  front-places : (s : ℕ) → times s (take (length first) schedule) ≡ get_or limits s 0
+  front-places : (s : ℕ) → placed (take (length first) schedule) s ≡ get_or limits s 0
   front-places s =
       let whole = front-of (length first) (omega arith) ∙ take_all (length first) first (omega arith) in
-      ap (times s) whole ∙ first-places h v order o w is_op before limits apart first full s
+      ap (λ (xs : List ℕ). placed xs s) whole ∙ first-places h v order o w is_op before limits apart first full s
 
   -- the write stands behind the first part
   pub write-stands : StandsAt (named schedule) (length first) w
@@ -75,7 +77,7 @@ module _ (h : MemoryHistory) (v : Counts) (order : CountsSourceOrder h v) (o w :
       (λ (here : k ≡ length first).
       let session = at-write b.session (ap (λ (n : ℕ). slice_get schedule n) (sym here) ∙ is.0) in
       let index = is.1 in
-      let places = ap (λ (n : ℕ). times b.session (take n schedule)) here ∙ front-places b.session in
+      let places = ap (λ (n : ℕ). placed (take n schedule) b.session) here ∙ front-places b.session in
       let limit = ap (λ (s : ℕ). get_or limits s 0) session in
       let own = write-limit h v order o w is_op before limits apart in
       inr (inl (here, same_op w b session (omega arith))))
@@ -148,7 +150,7 @@ module _ (h : MemoryHistory) (v : Counts) (order : CountsSourceOrder h v) (o w :
             (λ (free : count v b w.session ≤ w.index).
             let below = apart-to h v order o w is_op before limits apart b (place-existing i b stands) counts (λ more. omega arith) in
             let index = (named_is schedule i b stands).1 in
-            let fewer = times-take-le b.session schedule (length first) i (omega arith) in
+            let fewer = placed-up schedule (length first) i b.session (omega arith) in
             let places = front-places b.session in
             absurd (omega arith))
             (cases_lt w.index (count v b w.session)),

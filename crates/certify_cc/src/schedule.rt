@@ -6,7 +6,7 @@ ghost use Rattle.causal_order.specs.Vectors.{IsListed, list_of};
 ghost use Rattle.causal_order.specs.Topological.{AreSquare, IsFullWalk};
 ghost use Rattle.certify_cc.specs.BySources.{AreApart, IsApart, IsBySource};
 
-use causal_order::{Vectors, Walk};
+use causal_order::{MAX_PLACED, Vectors, Walk};
 use history::{MAX_SESSIONS, OpId};
 use std::alloc::{AllocError, Global};
 
@@ -49,7 +49,7 @@ fn limits_apart_from(
     requires listed { IsListed vectors.now op }
     requires write { IsListed vectors.now write }
     ensures apart { IfOk result (λ limits. AreApart vectors.now op write limits.items) }
-    ensures small { IfOk result (λ limits. (s : ℕ) → s < length vectors.now → slice_index_or limits.items s 0 < 65536) }
+    ensures small { IfOk result (λ limits. (s : ℕ) → s < length vectors.now → slice_index_or limits.items s 0 < MAX_PLACED) }
 {
     let counts = vectors.get(op);
     let mut limits = Vec::new(alloc);

@@ -6,41 +6,38 @@ use Rattle.history.specs.declared.op_id.OpId.{OpId}
 use Rattle.history.specs.History.{IsOp, Precedes}
 use Rattle.memory_order.specs.Memory.{MemoryHistory, Writes, Reads}
 use Rattle.causal_order.specs.Orders.{op, Leads}
-use Rattle.memory_order.specs.SourceOrder.{CountsSourceOrder, IsSource, IsSourceEdge, SourceOrder}
+use Rattle.memory_order.specs.SourceOrder.{IsSource, IsSourceEdge, SourceOrder}
 use Rattle.causal_order.specs.Vectors.{IsListed, Counts, count}
-use Rattle.memory_order.specs.Steps.Conflicts.{IsCountedWrite, IsDue}
-use Rattle.causal_order.specs.Topological.{placed, next_of}
+use Rattle.memory_order.specs.Steps.Conflicts.{IsWriteInPast, IsDue}
+use Rattle.causal_order.specs.Schedules.{placed, next_of}
 use Rattle.causal_order.specs.Waits.{AreAlike, AreWaitsFor, CanFollow, IsAwaited, IsTopologicalOrder, IsWaitEdge, IsWaitingCycle}
 use Rattle.causal_order.proofs.Items.{cases-op}
-use Rattle.memory_order.proofs.MemoryLaws.{read-of_history, same_read, same_written, write-or_read}
+use Rattle.memory_order.proofs.MemoryLaws.{same_read, same_written, write-or_read}
 use Rattle.causal_order.proofs.OrdersLaws.{same_op}
 use Rattle.causal_order.proofs.Placed.{front-places, placed-up}
 use Rattle.causal_order.proofs.PathsLaws.{last-edge, leads-back, leads-edge, leads-wider}
-use Rattle.memory_order.proofs.SourceVectors.{before-counted, counts-before}
 use Rattle.causal_order.proofs.WaitsLead.{cycle-leads}
 use Rattle.certify_ccv.specs.ByConflicts.{SourceConflict, ComesFirst, CanStand, GoesByRule}
 
-module _ (h : MemoryHistory) (v : Counts) (order : CountsSourceOrder h v) where
+module _ (h : MemoryHistory) where
   -- what is due before another operation has to stand before it
-  due-first : (a o : OpId) → IsDue h v a o → a ≢ o → ComesFirst h a o
+  due-first : (a o : OpId) → IsDue h a o → a ≢ o → ComesFirst h a o
   due-first a o due apart = ⊎_elim
       (λ (is : IsSource h a due.0 × (o ≡ due.0)).
       inl (leads-edge (IsSourceEdge h) a o (inr (subst (λ (r : OpId). IsSource h a r) (sym is.1) is.0))))
-      (λ (is : IsSource h o due.0 × IsCountedWrite h v due.0 a).
+      (λ (is : IsSource h o due.0 × IsWriteInPast h due.0 a).
       let r : OpId = due.0 in
       let reads = is.0.0 in
       let wrote = is.1 in
-      let is_op = read-of_history h r reads.0 reads.1 reads.3 in
-      let before = before-counted h v order r a is_op wrote.counted (write-or_read h a r wrote.x wrote.u wrote.x wrote.y wrote.writes wrote.reads) in
       let variable : reads.0 ≡ wrote.x = (same_read h r reads.0 reads.1 wrote.x wrote.y reads.3 wrote.reads).0 in
-      inr ((apart, (wrote.x, wrote.u, reads.1, wrote.writes, subst (λ (x : ℕ). Writes h o x reads.1) variable reads.2)), (r, before, is.0)))
+      inr ((apart, (wrote.x, wrote.u, reads.1, wrote.writes, subst (λ (x : ℕ). Writes h o x reads.1) variable reads.2)), (r, wrote.before, is.0)))
       due.1
 
   -- a source, and a write that conflicts with one, is due
-  source-due : (a o : OpId) → IsSource h a o → IsDue h v a o
+  source-due : (a o : OpId) → IsSource h a o → IsDue h a o
   source-due a o source = (o, inl (source, refl))
 
-  conflict-due : (a o : OpId) → SourceConflict h a o → IsDue h v a o
+  conflict-due : (a o : OpId) → SourceConflict h a o → IsDue h a o
   conflict-due a o conflict =
       let wrote = conflict.0.1 in
       let r : OpId = conflict.1.0 in
@@ -56,12 +53,12 @@ module _ (h : MemoryHistory) (v : Counts) (order : CountsSourceOrder h v) where
             y = reads.1;
             writes = wrote.3;
             reads = subst (λ (x : ℕ). Reads h r x reads.1) variable reads.3;
-            counted = counts-before h v order r a (read-of_history h r reads.0 reads.1 reads.3) conflict.1.1;
+            before = conflict.1.1;
           },
         ),
       )
 
-  module _ (waits : Counts) (alike : AreAlike waits h.1) (are : AreWaitsFor (IsDue h v) waits) where
+  module _ (waits : Counts) (alike : AreAlike waits h.1) (are : AreWaitsFor (IsDue h) waits) where
     -- a cycle of operations that wait for one another is one of what has to stand before what
     pub cycle-first : (ops : List OpId) → IsWaitingCycle waits ops → (a : OpId) × Leads (ComesFirst h) a a
     cycle-first ops cycle =
@@ -81,7 +78,7 @@ module _ (h : MemoryHistory) (v : Counts) (order : CountsSourceOrder h v) where
       IsPlaced k a = a.index < placed (take k list) a.session
 
       -- what is due before an operation that can follow is placed
-      due-placed : (k s : ℕ) → CanFollow waits (take k list) s → (a : OpId) → IsDue h v a (next_of (take k list) s) → a ≢ next_of (take k list) s → IsPlaced k a
+      due-placed : (k s : ℕ) → CanFollow waits (take k list) s → (a : OpId) → IsDue h a (next_of (take k list) s) → a ≢ next_of (take k list) s → IsPlaced k a
       due-placed k s can a due apart = can.ready a (are.each a (next_of (take k list) s) due, apart)
 
       -- so is what an edge of the order puts before it

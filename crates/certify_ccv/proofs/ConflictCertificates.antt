@@ -12,7 +12,7 @@ use Rattle.memory_order.specs.OverwrittenReads.{HasOverwrittenStart}
 use Rattle.memory_order.specs.Relations.{AreRivalWrites, CO, CF}
 use Rattle.causal_order.specs.Orders.{Leads}
 use Rattle.memory_order.specs.SourceOrder.{CountsSourceOrder, IsCyclic, IsSource, LacksSource, SourceOrder}
-use Rattle.causal_order.specs.Topological.{placed, next_of}
+use Rattle.causal_order.specs.Schedules.{placed, next_of}
 use Rattle.causal_order.specs.Vectors.{Counts}
 use Rattle.memory_order.proofs.FirstWrites.{CO-from_sources}
 use Rattle.causal_order.proofs.Fronts.{each-push}
@@ -28,7 +28,6 @@ use Rattle.causal_order.proofs.Walked.{placed-other, room, room-push}
 use Rattle.causal_order.proofs.TopologicalLaws.{placed-same}
 use Rattle.cert_check.specs.declared.certificate.Certificate.TheVariants.{Ccv}
 use Rattle.cert_check.specs.Criteria.{IsCausallyConvergent}
-use Rattle.cert_check.specs.Schedules.{times}
 use Rattle.cert_check.proofs.Sound.{explained-meets}
 use Rattle.certify_ccv.specs.ByConflicts.{SourceConflict, ComesFirst, CanStand, GoesByRule}
 use Rattle.certify_ccv.proofs.FirstOperations.{IsOpen, first-of_history, waits-for}
@@ -139,7 +138,7 @@ module _ (h : MemoryHistory) (v : Counts) (order : CountsSourceOrder h v) where
   module _ (acyclic : (a : OpId) → ¬ Leads (ComesFirst h) a a) where
     -- a list by the rule of all operations
     abbrev IsWhole : List ℕ → Type 0
-    IsWhole list = GoesByRule h list × ((s : ℕ) → times s list ≡ length (session h s))
+    IsWhole list = GoesByRule h list × ((s : ℕ) → placed list s ≡ length (session h s))
 
     whole-from : (n : ℕ) (list : List ℕ) → GoesByRule h list → ((s : ℕ) → placed list s ≤ length (session h s))
         → room (length h.1) lengths list < n → (whole : List ℕ) × IsWhole whole

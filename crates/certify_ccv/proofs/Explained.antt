@@ -20,7 +20,8 @@ use Rattle.causal_order.specs.Vectors.{Counts, count, IsCounted}
 use Rattle.cert_check.specs.declared.certificate.Certificate.{Certificate}
 use Rattle.cert_check.specs.declared.certificate.Certificate.TheVariants.{Cc, Cm, Ccv}
 use Rattle.cert_check.specs.Certificates.{counted, HasShapeOf, IsArbitratedPiece, IsExplainedThroughout}
-use Rattle.cert_check.specs.Schedules.{times, named, StandsBefore}
+use Rattle.cert_check.specs.Schedules.{named, StandsBefore}
+use Rattle.causal_order.specs.Schedules.{placed}
 use Rattle.cert_check.proofs.ConvergentLaws.{only-same}
 use Rattle.cert_check.proofs.FilteredLaws.{filter_keeps, filter_from, filter_in_order}
 use Rattle.cert_check.proofs.Named.{named_is, named_each, named_once, before_from_counted}
@@ -75,7 +76,7 @@ module _ (h : MemoryHistory) (list : List ℕ) (by_rule : GoesByRule h list) whe
         let apart = both.2 in
         omega arith
 
-    module _ (order : CountsSourceOrder h v) (is_op : IsOp h o) (whole : (s : ℕ) → times s list ≡ length (session h s)) where
+    module _ (order : CountsSourceOrder h v) (is_op : IsOp h o) (whole : (s : ℕ) → placed list s ≡ length (session h s)) where
       -- what is counted stands in it
       cut-stands : (a : OpId) → IsCounted v o a → (k : ℕ) × StandsAt cut k a
       cut-stands a counts =

@@ -9,7 +9,7 @@ use Rattle.memory_order.proofs.MemoryLaws.{write-of_history}
 use Rattle.causal_order.specs.Orders.{op, Leads}
 use Rattle.causal_order.proofs.PathsLaws.{leads-edge, leads-first}
 use Rattle.memory_order.specs.SourceOrder.{IsSourceEdge, SourceOrder}
-use Rattle.causal_order.specs.Topological.{placed, next_of}
+use Rattle.causal_order.specs.Schedules.{placed, next_of}
 use Rattle.certify_ccv.specs.ByConflicts.{SourceConflict, ComesFirst}
 
 module _ (h : MemoryHistory) where

@@ -5,7 +5,7 @@ use Rattle.history.specs.History.{IsOp}
 use Rattle.memory_order.specs.Memory.{MemoryHistory}
 use Rattle.memory_order.specs.Relations.{AreRivalWrites}
 use Rattle.memory_order.specs.SourceOrder.{CountsSourceOrder, IsSource, SourceOrder}
-use Rattle.causal_order.specs.Topological.{placed, next_of}
+use Rattle.causal_order.specs.Schedules.{placed, next_of}
 use Rattle.causal_order.specs.Vectors.{Counts}
 use Rattle.cert_check.specs.declared.certificate.Certificate.{Certificate}
 use Rattle.cert_check.specs.declared.certificate.Certificate.TheVariants.{Cc, Cm, Ccv}

@@ -9,11 +9,11 @@ ghost use Rattle.memory_order.specs.Memory.{memory_answer};
 ghost use Rattle.memory_order.specs.OverwrittenReads.{HasOverwrittenStart};
 ghost use Rattle.memory_order.specs.Relations.{CF, CO};
 ghost use Rattle.cert_check.specs.Certificates.{IsExplainedThroughout};
-ghost use Rattle.memory_order.specs.SourceOrder.{CountsSourceOrder, LacksSource};
+ghost use Rattle.memory_order.specs.SourceOrder.{LacksSource};
 ghost use Rattle.cert_check.specs.Certificates.{criterion_of, HasShapeOf};
 ghost use Rattle.certify_ccv.specs.ByConflicts.{ComesFirst, IsByConflicts};
 
-use causal_order::{OrderOrCycle, Vectors, topological_sort};
+use causal_order::{OrderOrCycle, topological_sort};
 use cert_check::{Arbitration, Certificate, Criterion};
 use history::History;
 use memory_order::{CausalOrder, IndexedMemory, waits_with_conflicts};
@@ -59,25 +59,12 @@ pub fn make_by_order(alloc: Global, order: &CausalOrder) -> Result<Option<Certif
     ensures exact { IfOk result (λ made. IfSome made (IsByConflicts order.now)) }
     ensures none { IfOk result (λ made. IfNone made ((a : Operation) × Leads (ComesFirst order.now) a a)) }
 {
-    let vectors = order.vectors().copy(alloc)?;
-    certificate_by(alloc, order.memory().history(), vectors)
-}
-
-/// The certificate by vectors of the causal order.
-fn certificate_by(
-    alloc: Global,
-    h: &History<Memory>,
-    vectors: Vectors,
-) -> Result<Option<Certificate>, AllocError>
-    requires order { CountsSourceOrder h.now vectors }
-    ensures criterion { IfOk result (λ made. IfSome made (λ c. criterion_of c ≡ Criterion.Ccv)) }
-    ensures shape { IfOk result (λ made. IfSome made (HasShapeOf h.now)) }
-    ensures exact { IfOk result (λ made. IfSome made (IsByConflicts h.now)) }
-    ensures none { IfOk result (λ made. IfNone made ((a : Operation) × Leads (ComesFirst h.now) a a)) }
-{
-    let waits = waits_with_conflicts(alloc, h, &vectors)?;
+    let waits = waits_with_conflicts(alloc, order)?;
     match topological_sort(alloc, &waits)? {
-        OrderOrCycle::Order(list) => { Ok(Some(Certificate::Ccv(vectors, Arbitration::of(list)))) }
+        OrderOrCycle::Order(list) => {
+            let vectors = order.vectors().copy(alloc)?;
+            Ok(Some(Certificate::Ccv(vectors, Arbitration::of(list))))
+        }
         OrderOrCycle::Cycle(_) => Ok(None),
     }
 }

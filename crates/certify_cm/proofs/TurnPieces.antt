@@ -13,9 +13,9 @@ use Rattle.memory_order.specs.Memory.{MemoryHistory, IsDifferentiated}
 use Rattle.causal_order.specs.Orders.{StandsAt}
 use Rattle.memory_order.specs.Relations.{CO, IsPast, HB}
 use Rattle.memory_order.specs.SourceOrder.{CountsSourceOrder}
-use Rattle.causal_order.specs.Topological.{placed}
+use Rattle.causal_order.specs.Schedules.{placed}
 use Rattle.causal_order.specs.Vectors.{Counts, count}
-use Rattle.cert_check.specs.Schedules.{times, named, StandsBefore, IsSchedule}
+use Rattle.cert_check.specs.Schedules.{named, StandsBefore, IsSchedule}
 use Rattle.cert_check.proofs.Named.{named_is, counted_from_before, before_from_counted}
 use Rattle.certify.proofs.WalkedSchedules.{next-is}
 use Rattle.certify_cm.specs.Turns.{AreTurns}
@@ -59,7 +59,7 @@ module _ (h : MemoryHistory) (v : Counts) (order : CountsSourceOrder h v) (disti
       let in_b = stands-past k b stands in
       happened-stands k a b stands (HB-causal h o a b (past-before h o a b leads in_b) in_b leads)
 
-  turns-end : (u : ℕ) → times u schedule ≡ count v o u
+  turns-end : (u : ℕ) → placed schedule u ≡ count v o u
   turns-end u =
       let all : AreTurns now o.session (suc o.index) schedule =
       (let next : o.index + 1 ≡ suc o.index = omega arith in subst (λ (n : ℕ). AreTurns now o.session n schedule) next turns) in
@@ -68,8 +68,8 @@ module _ (h : MemoryHistory) (v : Counts) (order : CountsSourceOrder h v) (disti
       (λ (same : u ≡ o.session).
       let places = turn-own h v order distinct o is_op now happened acyclic o.index (omega arith) all.0 schedule all.2 begun in
       let own = own-count h v order o is_op in
-      let here : times o.session schedule ≡ count v o o.session = omega arith in
-      subst (λ (s : ℕ). times s schedule ≡ count v o s) (sym same) here)
+      let here : placed schedule o.session ≡ count v o o.session = omega arith in
+      subst (λ (s : ℕ). placed schedule s ≡ count v o s) (sym same) here)
       (λ (apart : u ≢ o.session).
       turn-other h v order distinct o is_op now happened acyclic o.index (omega arith) all.0 schedule all.2 begun u apart
       ∙ other-happened h v order distinct o is_op now happened acyclic u apart)

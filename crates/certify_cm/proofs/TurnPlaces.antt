@@ -15,7 +15,7 @@ use Rattle.memory_order.specs.Memory.{MemoryHistory, IsDifferentiated}
 use Rattle.causal_order.specs.Orders.{op}
 use Rattle.memory_order.specs.Relations.{IsPast, HB}
 use Rattle.memory_order.specs.SourceOrder.{CountsSourceOrder}
-use Rattle.causal_order.specs.Topological.{placed, next_of}
+use Rattle.causal_order.specs.Schedules.{placed, next_of}
 use Rattle.causal_order.specs.Vectors.{Counts, count, list_of}
 use Rattle.certify_cm.specs.Turns.{IsTurn, AreTurns}
 

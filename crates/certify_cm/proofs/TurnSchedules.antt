@@ -10,12 +10,12 @@ use Rattle.causal_order.proofs.Fronts.{front-take, front-at, push-at, push-last}
 use Rattle.memory_order.proofs.HappenedBeforeCounts.{counted-in_past, own-happened}
 use Rattle.memory_order.specs.HappenedBeforeVectors.{IsHBVectors}
 use Rattle.memory_order.specs.Memory.{MemoryHistory, IsDifferentiated}
+use Rattle.causal_order.proofs.Placed.{placed-up}
 use Rattle.causal_order.specs.Orders.{op}
 use Rattle.memory_order.specs.Relations.{IsPast, HB}
 use Rattle.memory_order.specs.SourceOrder.{CountsSourceOrder}
-use Rattle.causal_order.specs.Topological.{placed, next_of}
+use Rattle.causal_order.specs.Schedules.{placed, next_of}
 use Rattle.causal_order.specs.Vectors.{Counts, count}
-use Rattle.cert_check.proofs.Named.{times-take-le}
 use Rattle.certify_cm.specs.Turns.{IsTurn, AreTurns}
 use Rattle.certify_cm.proofs.TurnPlaces.{turn-past, turn-counted, turns-within, turns-own}
 
@@ -64,7 +64,7 @@ module _ (h : MemoryHistory) (v : Counts) (order : CountsSourceOrder h v) (disti
               let below : placed xs o.session < count now (op o.session m) o.session =
               subst (λ (s : ℕ). placed xs s < count now (op o.session m) s) same can.below in
               let own_q = own-happened h v order distinct o is_op now happened acyclic (op o.session m) in_q in
-              let more = times-take-le o.session turn.counted (length before) k from in
+              let more = placed-up turn.counted (length before) k o.session from in
               let begins = ap (λ (ys : List ℕ). placed ys o.session) turn.walk.walk.extends in
               absurd (omega arith);
         }

@@ -12,7 +12,6 @@ ghost use Rattle.cert_check.specs.Certificates.{criterion_of, HasShapeOf, IsExpl
 ghost use Rattle.certify_cm.specs.ByTurns.{HasNoTurns, IsByTurns, TakesTurns};
 
 use crate::schedule::schedule_of;
-use causal_order::Vectors;
 use cert_check::{Certificate, Criterion, Schedules};
 use history::{History, MAX_SESSIONS, OpId};
 use memory_order::{CausalOrder, HappenedBefore, IndexedMemory, MAX_PAIRS, Saturation};
@@ -69,27 +68,8 @@ pub fn make_by_order(alloc: Global, order: &CausalOrder) -> Result<Option<Certif
     ensures explained { IsDifferentiated order.now → ¬ HasStartOverwrittenInHB order.now
         → IfOk result (λ made. IfSome made (IsExplainedThroughout memory_answer order.now)) }
 {
-    let vectors = order.vectors().copy(alloc)?;
-    certificate_by(alloc, order, vectors)
-}
-
-/// The certificate by vectors of the causal order.
-fn certificate_by(
-    alloc: Global,
-    order: &CausalOrder,
-    vectors: Vectors,
-) -> Result<Option<Certificate>, AllocError>
-    requires counts { CountsSourceOrder order.now vectors }
-    ensures criterion { IfOk result (λ made. IfSome made (λ c. criterion_of c ≡ Criterion.Cm)) }
-    ensures shape { IfOk result (λ made. IfSome made (HasShapeOf order.now)) }
-    ensures vectors { IfOk result (λ made. IfSome made (λ c. CountsSourceOrder order.now (vectors_of c))) }
-    ensures turns { IsDifferentiated order.now → IfOk result (λ made. IfSome made (IsByTurns order.now)) }
-    ensures none { IsDifferentiated order.now → IfOk result (λ made. IfNone made (HasNoTurns order.now)) }
-    ensures some { IsDifferentiated order.now → IfOk result (λ made. IfSome made (λ _. ¬ HasNoTurns order.now)) }
-    ensures explained { IsDifferentiated order.now → ¬ HasStartOverwrittenInHB order.now
-        → IfOk result (λ made. IfSome made (IsExplainedThroughout memory_answer order.now)) }
-{
     order.history().value_is_history();
+    let vectors = order.vectors().copy(alloc)?;
     let Some(schedules) = schedules_by_happened_before(alloc, order)? else {
         return Ok(None);
     };

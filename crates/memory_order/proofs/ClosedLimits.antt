@@ -9,7 +9,8 @@ use Rattle.memory_order.proofs.SourcedLaws.{listed-op}
 use Rattle.memory_order.proofs.SourceVectors.{before-counted}
 use Rattle.memory_order.specs.Memory.{MemoryHistory}
 use Rattle.memory_order.specs.SourceOrder.{CountsSourceOrder, IsSourceEdge, SourceOrder}
-use Rattle.causal_order.specs.Topological.{placed, next_of, IsFullWalk}
+use Rattle.causal_order.specs.Topological.{IsFullWalk}
+use Rattle.causal_order.specs.Schedules.{placed, next_of}
 use Rattle.causal_order.specs.Vectors.{Counts, IsCounted}
 
 -- limits that have with each operation all that its vector counts are reached

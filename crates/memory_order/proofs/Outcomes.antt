@@ -14,6 +14,13 @@ module _ {A E : Type 0} where
   none-weaker (Ok (Some x)) P Q weaker p = p
   none-weaker (Err e) P Q weaker p = p
 
+  -- what is so of something, and what is so of nothing
+  pub one-outcome : (r : Result (Option A) E) (P Q R : A → Type 0) (M N : Type 0) → ((x : A) → P x → Q x → R x) → (M → N)
+      → IfOk r (λ o. IfSome o P) → IfOk r (λ o. IfSome o Q) → IfOk r (λ o. IfNone o M) → IfOk r (λ o. MatchOption o N R)
+  one-outcome (Ok None) P Q R M N both weaker p q none = weaker none
+  one-outcome (Ok (Some x)) P Q R M N both weaker p q none = both x p q
+  one-outcome (Err e) P Q R M N both weaker p q none = p
+
 module _ {A E : Type 0} where
   pub on_ok-one : (r : Result A E) (P Q : Type 0) → (P → Q) → OnOk r P → OnOk r Q
   on_ok-one (Ok x) P Q weaker p = weaker p
@@ -22,8 +29,3 @@ module _ {A E : Type 0} where
   pub on_ok-both : (r : Result A E) (P Q R : Type 0) → (P → Q → R) → OnOk r P → OnOk r Q → OnOk r R
   on_ok-both (Ok x) P Q R both p q = both p q
   on_ok-both (Err e) P Q R both p q = p
-
--- what is so of nothing, and what is so of something
-pub both-outcomes : {A : Type 0} (e : Option A) (P : Type 0) (Q : A → Type 0) → IfNone e P → IfSome e Q → MatchOption e P Q
-both-outcomes None P Q none some = none
-both-outcomes (Some x) P Q none some = some

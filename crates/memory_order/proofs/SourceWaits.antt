@@ -13,7 +13,7 @@ use Rattle.memory_order.specs.Sources.{Sources, HasSource, Comes, IsStep, IsRead
 use Rattle.causal_order.specs.Vectors.{IsListed, Counts, count}
 use Rattle.causal_order.specs.Steps.Waiting.{AddsWait}
 use Rattle.memory_order.specs.Steps.SourceWaits.{FollowsSources, IsSourceBefore}
-use Rattle.causal_order.specs.Topological.{placed, next_of}
+use Rattle.causal_order.specs.Schedules.{placed, next_of}
 use Rattle.causal_order.specs.Waits.{AreAlike, AreWaitsFor, IsAwaited, IsWaitEdge, IsWaitingCycle, IsTopologicalOrder}
 use Rattle.memory_order.proofs.EarlierLaws.{earlier_cases, earlier_later}
 use Rattle.memory_order.proofs.FirstWrites.{source-listed, sources-length}

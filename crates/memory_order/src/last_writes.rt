@@ -1,25 +1,11 @@
 //! The last writes of a variable.
 
-ghost use Rattle.std.specs.Prelude.{◌≡◌, ◌<◌, ◌↔◌, ℕ, IfOk, IfSome, IsPermutation};
+ghost use Rattle.std.specs.Prelude.{◌≡◌, ◌<◌, ◌↔◌, ℕ, IfSome, IsPermutation};
 ghost use Rattle.memory_order.specs.Steps.Indexed.{end_of};
-ghost use Rattle.memory_order.specs.Steps.Written.{AreByVariable, IsBelowWrite, ListsWrites};
+ghost use Rattle.memory_order.specs.Steps.Written.{AreByVariable, IsBelowWrite};
 
-use crate::writes::{Write, sorted_writes};
-use history::{History, OpId};
-use objects::Memory;
-use std::alloc::{AllocError, Global};
-
-/// The writes of a history, by variable and operation.
-///
-/// Fails for want of memory alone. O(n log n) for n operations.
-pub fn writes_by_variable(alloc: Global, h: &History<Memory>) -> Result<Vec<Write>, AllocError>
-    ensures writes { IfOk result (λ writes. ListsWrites h.now writes.items) }
-    ensures sorted { IfOk result (λ writes. AreByVariable writes.items) }
-{
-    let mut writes = sorted_writes(alloc, h)?;
-    sort_by_variable(&mut writes);
-    Ok(writes)
-}
+use crate::writes::Write;
+use history::OpId;
 
 /// Sorts writes by variable and operation.
 pub(crate) fn sort_by_variable(writes: &mut Vec<Write>)
@@ -53,7 +39,7 @@ pub(crate) fn last_write_before(writes: &[Write], key: u32, end: OpId) -> Option
 /// of these writes it.
 ///
 /// The writes are those of a history, by variable and operation. O(log n) for n writes.
-pub fn end_of_writes(writes: &[Write], key: u32, session: u64, count: u16) -> u16
+pub(crate) fn end_of_writes(writes: &[Write], key: u32, session: u64, count: u16) -> u16
     requires { AreByVariable writes.now }
     ensures { (i : ℕ) → (i < result) ↔ IsBelowWrite writes.now key session count i }
 {

@@ -1,14 +1,23 @@
-//! What holds of the relations on the operations of a memory history. The function does nothing: what it ensures is the
-//! law.
+//! What holds of the relations on the operations of a memory history. The functions do nothing: what they ensure are
+//! the laws.
 
-ghost use Rattle.std.specs.Prelude.{◌↔◌};
+ghost use Rattle.std.specs.Prelude.{◌⊎◌, ◌↔◌};
 ghost use Rattle.history.specs.declared.op_id.OpId.{OpId as Operation};
 ghost use Rattle.history.specs.History.{IsOp};
 ghost use Rattle.memory_order.specs.HappenedBeforeVectors.{IsHBVectors};
 ghost use Rattle.memory_order.specs.Memory.{MemoryHistory, IsDifferentiated};
 ghost use Rattle.memory_order.specs.Relations.{HB, HBWithin, IsPast};
-ghost use Rattle.memory_order.specs.SourceOrder.{CountsSourceOrder};
+ghost use Rattle.memory_order.specs.SourceOrder.{CountsCO, CountsSourceOrder, IsCyclic, LacksSource};
+ghost use Rattle.memory_order.specs.Steps.Indexed.{IsUnordered};
 ghost use Rattle.causal_order.specs.Vectors.{Counts};
+
+/// On distinct values the order of program order and sources is the causal order: vectors that count the one count the other,
+/// and there is none exactly where the causal order is cyclic or a known read has no source that it needs.
+pub fn source_order_is_causal_order()
+    ensures counted { (h : MemoryHistory) (v : Counts) → IsDifferentiated h → CountsSourceOrder h v → CountsCO h v }
+    ensures acyclic { (h : MemoryHistory) (v : Counts) → IsDifferentiated h → CountsSourceOrder h v → ¬ IsCyclic h }
+    ensures unordered { (h : MemoryHistory) → IsDifferentiated h → IsUnordered h → IsCyclic h ⊎ LacksSource h }
+{}
 
 /// The happened-before relation of an operation relates operations of its past in the causal order alone, and is the same
 /// where the orders of its definition may relate no others.

@@ -1,8 +1,6 @@
-ghost use Rattle.std.specs.Prelude.{◌≡◌, ◌⊎◌, IfOk, IfNone, IfSome};
-ghost use Rattle.history.specs.declared.op_id.OpId.{OpId as Operation};
-ghost use Rattle.memory_order.specs.Memory.{IsDifferentiated};
-ghost use Rattle.memory_order.specs.SourceOrder.{CountsCO, CountsSourceOrder, IsCyclic, LacksSource, SourceOrder};
-ghost use Rattle.memory_order.specs.Steps.Indexed.{ListsReads, ListsSourcesIfAny};
+ghost use Rattle.std.specs.Prelude.{IfOk, MatchOption};
+ghost use Rattle.memory_order.specs.SourceOrder.{CountsSourceOrder};
+ghost use Rattle.memory_order.specs.Steps.Indexed.{IsUnordered, ListsReads, ListsSourcesIfAny};
 
 use crate::found_sources::found_sources;
 use crate::known_reads::{KnownRead, known_reads, lacks_source};
@@ -17,13 +15,10 @@ use std::alloc::{AllocError, Global};
 /// initial one to each known read that returned it.
 ///
 /// `None` where that order is cyclic, or where a known read returned a value that is not the initial one and that nobody
-/// writes. Fails for want of memory alone. O(n (log n + k)) for n operations of k sessions.
+/// writes. What this means on distinct values a law says (`laws::source_order_is_causal_order`). Fails for want of memory
+/// alone. O(n (log n + k)) for n operations of k sessions.
 pub fn memory_order(alloc: Global, h: &History<Memory>) -> Result<Option<Vectors>, AllocError>
-    ensures order { IfOk result (λ order. IfSome order (CountsSourceOrder h.now)) }
-    ensures none { IfOk result (λ order. IfNone order (((a : Operation) × SourceOrder h.now a a) ⊎ LacksSource h.now)) }
-    ensures exact { IsDifferentiated h.now → IfOk result (λ order. IfSome order (CountsCO h.now)) }
-    ensures acyclic { IsDifferentiated h.now → IfOk result (λ order. IfSome order (λ _. ¬ IsCyclic h.now)) }
-    ensures none_exact { IsDifferentiated h.now → IfOk result (λ order. IfNone order (IsCyclic h.now ⊎ LacksSource h.now)) }
+    ensures { IfOk result (λ order. MatchOption order (IsUnordered h.now) (CountsSourceOrder h.now)) }
 {
     let writes = sorted_writes(alloc, h)?;
     let sources = found_sources(alloc, h, &writes)?;
@@ -40,8 +35,7 @@ pub(crate) fn order_by_sources(
 ) -> Result<Option<Vectors>, AllocError>
     requires sources { ListsSourcesIfAny h.now sources.now }
     requires reads { ListsReads h.now reads.now }
-    ensures order { IfOk result (λ order. IfSome order (CountsSourceOrder h.now)) }
-    ensures none { IfOk result (λ order. IfNone order (((a : Operation) × SourceOrder h.now a a) ⊎ LacksSource h.now)) }
+    ensures { IfOk result (λ order. MatchOption order (IsUnordered h.now) (CountsSourceOrder h.now)) }
 {
     if lacks_source(h, reads) {
         return Ok(None);

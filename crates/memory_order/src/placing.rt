@@ -4,7 +4,7 @@ ghost use Rattle.history.specs.declared.op_id.OpId.{OpId as Operation};
 ghost use Rattle.memory_order.specs.Sources.{AreListed, AreShort, AreVectorsSoFar, Comes, HasSource, IsReady, IsUnfinished};
 ghost use Rattle.causal_order.specs.Vectors.{IsListed, list_of};
 ghost use Rattle.memory_order.specs.Steps.SourceWaits.{FollowsSources, counted_before, with_list};
-ghost use Rattle.causal_order.specs.Topological.{placed};
+ghost use Rattle.causal_order.specs.Schedules.{placed};
 ghost use Rattle.causal_order.specs.Waits.{AreAlike};
 
 use crate::source_waits::waits_for_sources;

@@ -4,7 +4,7 @@ use Rattle.history.specs.declared.op_id.OpId.{OpId}
 use Rattle.causal_order.specs.Orders.{IsEarlier}
 use Rattle.memory_order.specs.Sources.{Sources, HasSource}
 use Rattle.causal_order.specs.Vectors.{Counts, IsListed, count}
-use Rattle.causal_order.specs.Topological.{placed, next_of}
+use Rattle.causal_order.specs.Schedules.{placed, next_of}
 
 -- w is the source of o, which is earlier than an operation
 abbrev pub IsSourceBefore : Sources → OpId → OpId → OpId → Type 0

@@ -1,5 +1,6 @@
 use Rattle.std.proofs.Common.{◌≡◌, ◌<◌, ℕ, length, get_or}
 use Rattle.causal_order.specs.Vectors.{count}
+use Rattle.causal_order.specs.declared.topological.TheConstants.{MAX_PLACED}
 use Rattle.certify_cc.specs.BySources.{IsApart}
 use Rattle.certify_cc.proofs.schedule.limits_apart_from.Given as goal
 
@@ -8,5 +9,5 @@ abbrev pub invariant-loop-session : goal.invariant-loop-session
 invariant-loop-session l = record {
   size : length l.limits.items ≡ l.session;
   each : (s : ℕ) → s < l.session → IsApart l.vectors l.write s (count l.vectors l.fn.op s) (get_or l.limits.items s 0);
-  small : (s : ℕ) → s < l.session → get_or l.limits.items s 0 < 65536;
+  small : (s : ℕ) → s < l.session → get_or l.limits.items s 0 < MAX_PLACED;
 }

@@ -1,12 +1,25 @@
-use Rattle.std.proofs.Common.{◌∙◌, subst}
-use Rattle.std.specs.Prelude.{IfNone, IfOk}
-use Rattle.history.specs.declared.op_id.OpId.{OpId}
-use Rattle.memory_order.specs.Memory.{MemoryHistory}
-use Rattle.causal_order.specs.Orders.{Leads}
-use Rattle.certify_ccv.specs.ByConflicts.{ComesFirst}
+use Rattle.std.proofs.Common.{sym, subst, ◌∙◌}
+use Rattle.causal_order.specs.Vectors.{Counts}
+use Rattle.memory_order.specs.SourceOrder.{CountsSourceOrder}
+use Rattle.certify_ccv.proofs.ByRule.{cycle-first, sorted-by_rule}
 use Rattle.certify_ccv.proofs.by_conflicts.make_by_order.Goals as goal
 
 pub returns-clause-none : goal.returns-clause-none
 returns-clause-none c =
-    subst (λ (m : MemoryHistory). IfOk c.certificate_by.result (λ made. IfNone made ((a : OpId) × Leads (ComesFirst m) a a)))
-    (c.history.ensures ∙ c.memory.ensures) c.certificate_by.ensures.none
+    let sorted = rw c.in-Cycle.is at c.in_ok-list.ensures.sorted in
+    cycle-first c.args.order.now c.in_ok-waits.waits c.in_ok-waits.ensures.alike c.in_ok-waits.ensures.exact _ sorted
+
+pub returns-in-Order-clause-shape : goal.returns-in-Order-clause-shape
+returns-in-Order-clause-shape c =
+    let sorted = rw c.in-Order.is at c.in_ok-list.ensures.sorted in
+    let counts = subst (λ (v : Counts). CountsSourceOrder c.args.order.now v) (sym c.in_ok-vectors-in-Order.ensures) c.vectors.ensures in
+    rw c.of.ensures (counts.vectors, λ s. sorted.0.whole s ∙ c.in_ok-waits.ensures.alike.operations s)
+
+pub returns-in-Order-clause-exact : goal.returns-in-Order-clause-exact
+returns-in-Order-clause-exact c =
+    let sorted = rw c.in-Order.is at c.in_ok-list.ensures.sorted in
+    let counts = subst (λ (v : Counts). CountsSourceOrder c.args.order.now v) (sym c.in_ok-vectors-in-Order.ensures) c.vectors.ensures in
+    rw c.of.ensures (record {
+      order = counts;
+      by_rule = sorted-by_rule c.args.order.now c.in_ok-waits.waits c.in_ok-waits.ensures.alike c.in_ok-waits.ensures.exact c.in-Order.list.items sorted.0;
+    })

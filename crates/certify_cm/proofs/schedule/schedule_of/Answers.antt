@@ -1,6 +1,7 @@
 use Rattle.std.proofs.Common.{◌≡◌, ◌+◌, ◌≤◌, List, ℕ, length, get_or, suc, ap, subst, arith}
 use Rattle.causal_order.specs.Orders.{op}
-use Rattle.causal_order.specs.Topological.{IsFullWalk, placed}
+use Rattle.causal_order.specs.Topological.{IsFullWalk}
+use Rattle.causal_order.specs.Schedules.{placed}
 use Rattle.causal_order.proofs.TopologicalLaws.{placed-same}
 use Rattle.certify_cm.specs.Turns.{AreTurns}
 use Rattle.certify_cm.proofs.schedule.schedule_of.Goals as goal

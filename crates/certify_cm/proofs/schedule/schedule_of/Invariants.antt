@@ -1,5 +1,5 @@
 use Rattle.std.proofs.Common.{◌+◌, ◌≤◌}
-use Rattle.causal_order.specs.Topological.{placed}
+use Rattle.causal_order.specs.Schedules.{placed}
 use Rattle.certify_cm.specs.Turns.{AreTurns}
 use Rattle.certify_cm.proofs.schedule.schedule_of.Given as goal
 

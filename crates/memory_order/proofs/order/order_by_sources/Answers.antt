@@ -4,7 +4,7 @@ use Rattle.memory_order.specs.Sources.{Comes}
 use Rattle.memory_order.proofs.FirstWrites.{sources-exist, counts-order, order-from_steps}
 use Rattle.memory_order.proofs.IndexedLaws.{sources-sourced}
 use Rattle.memory_order.proofs.SourceWaits.{lists-alike, source-apart}
-use Rattle.memory_order.proofs.Outcomes.{some-weaker, none-weaker}
+use Rattle.memory_order.proofs.Outcomes.{one-outcome}
 use Rattle.memory_order.proofs.order.order_by_sources.Goals as goal
 
 pub order_of-requires-clause-listed : goal.order_of-requires-clause-listed
@@ -22,15 +22,10 @@ order_of-requires-clause-apart c =
     let lists = sources-sourced c.args.h.now c.lacks_source.result c.lacks_source.ensures c.if-lacks_source.false c.args.sources.now c.requires.sources in
     source-apart c.args.h.now c.args.sources.now lists
 
-pub returns-clause-order : goal.returns-clause-order
-returns-clause-order c =
-    let lists = sources-sourced c.args.h.now c.lacks_source.result c.lacks_source.ensures c.if-lacks_source.false c.args.sources.now c.requires.sources in
-    some-weaker c.order_of.result _ _ _
-    (λ v so_far finished. counts-order c.args.h.now c.args.sources.now lists v so_far finished) c.order_of.ensures.exact c.order_of.ensures.finished
-
-pub returns-clause-none : goal.returns-clause-none
-returns-clause-none c =
-    let lists = sources-sourced c.args.h.now c.lacks_source.result c.lacks_source.ensures c.if-lacks_source.false c.args.sources.now c.requires.sources in
-    none-weaker c.order_of.result _ _
-    (λ (cycle : (a : OpId) × Comes c.args.sources.now a a). inl (cycle.0, order-from_steps c.args.h.now c.args.sources.now lists _ _ cycle.1))
-    c.order_of.ensures.cyclic
+pub returns : goal.returns
+returns c =
+    let h = c.args.h.now in
+    let lists = sources-sourced h c.lacks_source.result c.lacks_source.ensures c.if-lacks_source.false c.args.sources.now c.requires.sources in
+    one-outcome c.order_of.result _ _ _ _ _ (λ v so_far finished. counts-order h c.args.sources.now lists v so_far finished)
+    (λ (cycle : (a : OpId) × Comes c.args.sources.now a a). inl (cycle.0, order-from_steps h c.args.sources.now lists _ _ cycle.1))
+    c.order_of.ensures.exact c.order_of.ensures.finished c.order_of.ensures.cyclic

@@ -1,6 +1,6 @@
 use Rattle.std.proofs.Common.{◌≡◌, ℕ, [], length, get_or, take}
 use Rattle.memory_order.specs.Sources.{AreVectorsSoFar}
-use Rattle.causal_order.specs.Topological.{placed}
+use Rattle.causal_order.specs.Schedules.{placed}
 use Rattle.memory_order.proofs.placing.vectors_along.Given as goal
 
 -- the vectors so far are right, and are those of the operations that are named so far

@@ -1,11 +1,8 @@
 use Rattle.std.specs.Prelude.{◌≡◌, List}
 use Rattle.std.proofs.Common.{subst, sym, ◌∙◌}
 use Rattle.memory_order.specs.declared.writes.Write.{Write}
-use Rattle.memory_order.specs.SourceOrder.{CountsSourceOrder}
-use Rattle.memory_order.specs.Steps.Indexed.{IsUnordered}
 use Rattle.memory_order.specs.Steps.Written.{ListsWrites}
 use Rattle.memory_order.proofs.Listed.{ListsWrites-permutation}
-use Rattle.memory_order.proofs.Outcomes.{both-outcomes}
 use Rattle.memory_order.proofs.indexed.IndexedMemory.of.Goals as goal
 
 pub invariant_of-result : goal.invariant_of-result
@@ -21,6 +18,5 @@ invariant_of-result c =
       sources = c.in_ok-sources.ensures;
       reads = c.in_ok-reads.ensures;
       distinct = c.are_distinct-is_differentiated.ensures;
-      ordered = both-outcomes c.in_ok-order.order (IsUnordered c.args.h.now) (CountsSourceOrder c.args.h.now)
-          c.in_ok-order.ensures.none c.in_ok-order.ensures.order;
+      ordered = c.in_ok-order.ensures;
     }

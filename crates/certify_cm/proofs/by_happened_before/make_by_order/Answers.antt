@@ -4,15 +4,16 @@ use Rattle.memory_order.proofs.ReadAnswers.{history-fits}
 use Rattle.memory_order.specs.Memory.{MemoryHistory}
 use Rattle.memory_order.specs.MemoryHistories.{IsMemoryHistory}
 use Rattle.memory_order.specs.Relations.{HB}
+use Rattle.memory_order.specs.SourceOrder.{CountsSourceOrder}
 use Rattle.memory_order.specs.Steps.HappenedBefores.{HasMorePairs}
 use Rattle.causal_order.specs.Vectors.{list_of}
 use Rattle.certify_cm.proofs.Explained.{turns-piece}
-use Rattle.certify_cm.proofs.by_happened_before.certificate_by.Goals as goal
+use Rattle.certify_cm.proofs.by_happened_before.make_by_order.Goals as goal
 
 pub returns-clause-turns : goal.returns-clause-turns
 returns-clause-turns c = λ distinct.
     record {
-      order = c.requires.counts;
+      order = rw c.in_ok-vectors.ensures c.vectors.ensures;
       each = λ o is_op. ((rw c.in-Some.is at c.in_ok-schedules.ensures.each) o is_op distinct).0;
     }
 
@@ -28,6 +29,7 @@ pub returns-clause-explained : goal.returns-clause-explained
 returns-clause-explained c = λ distinct start o is_op.
     let h = c.args.order.now in
     let turns = (rw c.in-Some.is at c.in_ok-schedules.ensures.each) o is_op distinct in
-    turns-piece h (history-fits h _ (subst (λ (m : MemoryHistory). IsMemoryHistory m) c.history.ensures c.value_is_history.ensures)) c.args.vectors c.requires.counts distinct o is_op turns.0.vectors turns.0.happened
+    let counts : CountsSourceOrder h c.in_ok-vectors.vectors = rw c.in_ok-vectors.ensures c.vectors.ensures in
+    turns-piece h (history-fits h _ (subst (λ (m : MemoryHistory). IsMemoryHistory m) c.history.ensures c.value_is_history.ensures)) c.in_ok-vectors.vectors counts distinct o is_op turns.0.vectors turns.0.happened
     turns.1.acyclic (list_of c.in-Some.schedules o) turns.0.turns
     (λ w r x t writes reads inside before. start (o, w, r, x, t, writes, reads, inside, before))
