@@ -1,11 +1,11 @@
 -- What a JSON value is, from what was read of it, for the forms of patterns.
 use Rattle.std.proofs.Common.{◌≡◌, ℕ, ◌<◌, ◌≤◌, List, [], ◌∷◌, length, map, get_or, refl, sym, ◌∙◌, arith}
-use Rattle.std.specs.Prelude.{◌≢◌, codes, Some}
+use Rattle.std.specs.Prelude.{◌≢◌, Some}
 use Rattle.std.proofs.lemmas.List.{length-map}
 use Rattle.serde_json.specs.Data.{Data}
 use Rattle.operations.specs.Json.{list, elements, whole_number}
 use Rattle.operations.specs.JsonLaws.{whole_number-read}
-use Rattle.operations.specs.Reads.{number_form, worded}
+use Rattle.operations.specs.Reads.{worded}
 use Rattle.operations.proofs.ReadForms.{is_list, one_word, sized}
 use Rattle.bad_patterns.specs.declared.kind.Kind.{Kind}
 use Rattle.bad_patterns.specs.declared.kind.Kind.TheVariants as kinds

@@ -16,9 +16,9 @@ use Rattle.bad_patterns.specs.declared.link.Link.{Link}
 use Rattle.bad_patterns.specs.declared.link.Link.TheVariants.{Co, Cf}
 use Rattle.bad_patterns.specs.declared.pattern.Pattern.{Pattern}
 use Rattle.bad_patterns.specs.declared.pattern.Pattern.TheVariants.{CyclicCO, ThinAirRead, WriteCOInitRead, WriteCORead, WriteHBInitRead, CyclicHB, CyclicCF}
-use Rattle.bad_patterns.specs.Kinds.{is_against, Shows}
+use Rattle.bad_patterns.specs.Kinds.{is_against, Shows, IsTrueNo}
 use Rattle.bad_patterns.specs.Paths.{begin_of, end_of, IsLink, IsCycle}
-use Rattle.bad_patterns.specs.Patterns.{kind_of, IsShownBy, IsBadPattern, IsTrueNo}
+use Rattle.bad_patterns.specs.Patterns.{kind_of, IsShownBy, IsBadPattern}
 use Rattle.bad_patterns.proofs.Derived.{derivation-sound}
 use Rattle.bad_patterns.proofs.MemoryExclusion.{initial_read_HB-excluded, cyclic_HB-excluded}
 use Rattle.bad_patterns.proofs.Exclusion.{consistency-excluded, convergence-excluded}

@@ -2,11 +2,12 @@
 -- patterns), where the value 0 of the paper is the initial value of a variable.
 use Rattle.std.specs.Prelude.{◌≢◌, ◌⊎◌, ℕ, Bool, IsTrue, true, false}
 use Rattle.history.specs.declared.op_id.OpId.{OpId}
+use Rattle.cert_check.specs.Criteria.{Meets}
 use Rattle.cert_check.specs.declared.criterion.Criterion.{Criterion}
 use Rattle.cert_check.specs.declared.criterion.Criterion.TheVariants.{Cc, Cm, Ccv}
 use Rattle.bad_patterns.specs.declared.kind.Kind.{Kind}
 use Rattle.bad_patterns.specs.declared.kind.Kind.TheVariants.{CyclicCO, ThinAirRead, WriteCOInitRead, WriteCORead, WriteHBInitRead, CyclicHB, CyclicCF}
-use Rattle.memory_order.specs.Memory.{MemoryHistory, initial, Writes, Reads, IsDifferentiated}
+use Rattle.memory_order.specs.Memory.{MemoryHistory, memory_answer, initial, Writes, Reads, IsDifferentiated}
 use Rattle.causal_order.specs.Orders.{Leads}
 use Rattle.memory_order.specs.Relations.{CO, CF}
 use Rattle.memory_order.specs.OverwrittenReads.{HasOverwrittenRead, HasOverwrittenStart}
@@ -50,3 +51,9 @@ module _ (h : MemoryHistory) where
   -- no kind that is against a criterion is present
   abbrev pub IsFreeOf : Criterion → Type 0
   IsFreeOf criterion = (kind : Kind) → IsTrue (is_against kind criterion) → ¬ IsPresent kind
+
+-- a "no" with a kind is true: the kind is against the criterion and present, and the history does not meet the criterion
+pub record IsTrueNo (h : MemoryHistory) (criterion : Criterion) (kind : Kind) : Type 0 where
+  pub against : IsTrue (is_against kind criterion)
+  pub present : IsPresent h kind
+  pub not_met : ¬ Meets memory_answer h criterion

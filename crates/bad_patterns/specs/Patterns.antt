@@ -2,16 +2,15 @@
 use Rattle.std.specs.Prelude.{ℕ, List, IsTrue}
 use Rattle.history.specs.declared.op_id.OpId.{OpId}
 use Rattle.cert_check.specs.declared.criterion.Criterion.{Criterion}
-use Rattle.cert_check.specs.Criteria.{Meets}
 use Rattle.bad_patterns.specs.declared.kind.Kind.{Kind}
 use Rattle.bad_patterns.specs.declared.kind.Kind.TheVariants as kinds
 use Rattle.bad_patterns.specs.declared.pattern.Pattern.{Pattern}
 use Rattle.bad_patterns.specs.declared.pattern.Pattern.TheVariants.{CyclicCO, ThinAirRead, WriteCOInitRead, WriteCORead, WriteHBInitRead, CyclicHB, CyclicCF}
 use Rattle.bad_patterns.specs.declared.derivation.Line.{Line}
-use Rattle.memory_order.specs.Memory.{MemoryHistory, memory_answer, initial, Writes, Reads, IsDifferentiated}
+use Rattle.memory_order.specs.Memory.{MemoryHistory, initial, Writes, Reads, IsDifferentiated}
 use Rattle.causal_order.specs.Orders.{program_past}
 use Rattle.memory_order.specs.Relations.{ReadsFrom, AreRivalWrites}
-use Rattle.bad_patterns.specs.Kinds.{is_against, IsThinAirRead, IsPresent}
+use Rattle.bad_patterns.specs.Kinds.{is_against, IsThinAirRead}
 use Rattle.bad_patterns.specs.Paths.{GoesFrom, HasEdge, IsCycle}
 use Rattle.bad_patterns.specs.Derivations.{IsDerivation}
 
@@ -64,9 +63,3 @@ pub record IsBadPattern (h : MemoryHistory) (criterion : Criterion) (pattern : P
   pub differentiated : IsDifferentiated h
   pub against : IsTrue (is_against (kind_of pattern) criterion)
   pub shown : IsShownBy h pattern
-
--- a "no" with a kind is true: the kind is against the criterion and present, and the history does not meet the criterion
-pub record IsTrueNo (h : MemoryHistory) (criterion : Criterion) (kind : Kind) : Type 0 where
-  pub against : IsTrue (is_against kind criterion)
-  pub present : IsPresent h kind
-  pub not_met : ¬ Meets memory_answer h criterion

@@ -1,5 +1,6 @@
 ghost use Rattle.std.specs.Prelude.{◌↔◌, IfOk, IsTrue};
-ghost use Rattle.bad_patterns.specs.Patterns.{IsBadPattern, IsShownBy, IsTrueNo, kind_of};
+ghost use Rattle.bad_patterns.specs.Kinds.{IsTrueNo};
+ghost use Rattle.bad_patterns.specs.Patterns.{IsBadPattern, IsShownBy, kind_of};
 ghost use Rattle.memory_order.specs.Memory.{IsDifferentiated};
 ghost use Rattle.memory_order.specs.Steps.Written.{AreInOrder, IsSorted, ListsWrites};
 

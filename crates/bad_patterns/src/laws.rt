@@ -3,8 +3,8 @@
 ghost use Rattle.std.specs.Prelude.{IsTrue};
 ghost use Rattle.memory_order.specs.Memory.{MemoryHistory, memory_answer};
 ghost use Rattle.cert_check.specs.Criteria.{Meets};
-ghost use Rattle.bad_patterns.specs.Kinds.{is_against, IsPresent};
-ghost use Rattle.bad_patterns.specs.Patterns.{IsBadPattern, IsTrueNo, kind_of};
+ghost use Rattle.bad_patterns.specs.Kinds.{is_against, IsPresent, IsTrueNo};
+ghost use Rattle.bad_patterns.specs.Patterns.{IsBadPattern, kind_of};
 
 use crate::kind::Kind;
 use crate::pattern::Pattern;

@@ -1,10 +1,8 @@
 -- What is decided where no kind against causal consistency is present.
-use Rattle.std.specs.Prelude.{IsTrue}
 use Rattle.std.proofs.Common.{refl, ⊎_elim}
-use Rattle.bad_patterns.specs.declared.kind.Kind.{Kind}
-use Rattle.bad_patterns.specs.declared.kind.Kind.TheVariants.{CyclicCO, ThinAirRead, WriteCOInitRead, WriteCORead, WriteHBInitRead, CyclicHB, CyclicCF}
+use Rattle.bad_patterns.specs.declared.kind.Kind.TheVariants.{CyclicCO, ThinAirRead}
 use Rattle.bad_patterns.specs.declared.pattern.Pattern.{Pattern}
-use Rattle.bad_patterns.specs.Kinds.{is_against, IsFreeOf, Shows}
+use Rattle.bad_patterns.specs.Kinds.{IsFreeOf}
 use Rattle.bad_patterns.specs.Patterns.{IsBadPattern, kind_of}
 use Rattle.cert_check.specs.declared.criterion.Criterion.{Criterion}
 use Rattle.cert_check.specs.declared.criterion.Criterion.TheVariants.{Cc, Cm, Ccv}
@@ -13,18 +11,9 @@ use Rattle.memory_order.specs.Memory.{MemoryHistory, IsDifferentiated}
 use Rattle.memory_order.specs.SourceOrder.{LacksSource, SourceOrder}
 use Rattle.memory_order.specs.Steps.Indexed.{IsUnordered}
 use Rattle.memory_order.proofs.FirstWrites.{CO-from_sources}
+use Rattle.pattern_search.proofs.NothingFound.{against-memory}
 use Rattle.decision.specs.declared.deciding.Decisions.{Decisions}
 use Rattle.decision.specs.Decisions.{IsDecided, decision_for}
-
--- what is against causal consistency is against causal memory
-against-memory : (kind : Kind) → IsTrue (is_against kind Cc) → IsTrue (is_against kind Cm)
-against-memory CyclicCO against = refl
-against-memory ThinAirRead against = refl
-against-memory WriteCOInitRead against = refl
-against-memory WriteCORead against = refl
-against-memory WriteHBInitRead against = absurd cc
-against-memory CyclicHB against = absurd cc
-against-memory CyclicCF against = absurd cc
 
 module _ (h : MemoryHistory) where
   pub bad-memory : (pattern : Pattern) → IsBadPattern h Cc pattern → IsBadPattern h Cm pattern
@@ -40,16 +29,6 @@ module _ (h : MemoryHistory) where
       (λ (cyclic : (a : OpId) × SourceOrder h a a). free CyclicCO refl (distinct, (cyclic.0, CO-from_sources h cyclic.0 cyclic.0 cyclic.1)))
       (λ (lacks : LacksSource h). free ThinAirRead refl (distinct, (lacks.0, (lacks.1, lacks.2, lacks.3, lacks.4, lacks.5))))
       unordered
-
-  -- without cycles of conflicts it has no kind against causal convergence
-  pub free-convergence : IsFreeOf h Cc → ¬ Shows h CyclicCF → IsFreeOf h Ccv
-  free-convergence free acyclic CyclicCO against present = free CyclicCO against present
-  free-convergence free acyclic ThinAirRead against present = free ThinAirRead against present
-  free-convergence free acyclic WriteCOInitRead against present = free WriteCOInitRead against present
-  free-convergence free acyclic WriteCORead against present = free WriteCORead against present
-  free-convergence free acyclic WriteHBInitRead against present = absurd cc
-  free-convergence free acyclic CyclicHB against present = absurd cc
-  free-convergence free acyclic CyclicCF against present = acyclic present.1
 
   -- what is decided for each criterion
   pub all-decided : (all : Decisions) → IsDecided h Cc all.cc → IsDecided h Cm all.cm → IsDecided h Ccv all.ccv

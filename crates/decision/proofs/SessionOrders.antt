@@ -1,11 +1,9 @@
 -- Where a schedule of a session's last operation explains the session's known returns, it does so cut to the past of each
 -- operation of the session.
-use Rattle.std.proofs.Common.{◌≡◌, ℕ, ◌+◌, ◌-◌, ◌<◌, ◌≤◌, List, take, length, inr, ⊎_elim, sym, ap, refl, subst, ◌∙◌, arith, eq-or-lt_of_le, lt_of_not-le}
+use Rattle.std.proofs.Common.{◌≡◌, ℕ, ◌-◌, ◌<◌, ◌≤◌, List, take, length, inr, ⊎_elim, sym, ap, refl, subst, ◌∙◌, arith, eq-or-lt_of_le, lt_of_not-le}
 use Rattle.std.specs.Prelude.{IsTrue, filter, slice_get}
 use Rattle.std.proofs.lemmas.Bool.{cases_lt}
 use Rattle.std.proofs.lemmas.Option.{same_Some}
-use Rattle.objects.specs.declared.keyed.KeyedCall.{KeyedCall}
-use Rattle.objects.specs.declared.register.RegisterCall.{RegisterCall}
 use Rattle.objects.specs.declared.register.RegisterCall.TheVariants.{Read}
 use Rattle.objects.specs.declared.register.RegisterRet.TheVariants.{Value}
 use Rattle.history.specs.declared.op_id.OpId.{OpId}

@@ -5,7 +5,8 @@ use Rattle.cert_check.specs.declared.criterion.Criterion.{Criterion}
 use Rattle.cert_check.specs.declared.criterion.Criterion.TheVariants.{Cc, Cm, Ccv}
 use Rattle.cert_check.specs.Criteria.{Meets}
 use Rattle.memory_order.specs.Memory.{MemoryHistory, IsDifferentiated, memory_answer}
-use Rattle.bad_patterns.specs.Patterns.{IsBadPattern, IsTrueNo}
+use Rattle.bad_patterns.specs.Kinds.{IsTrueNo}
+use Rattle.bad_patterns.specs.Patterns.{IsBadPattern}
 use Rattle.pattern_search.specs.Searches.{HasLargeHB}
 use Rattle.decision.specs.declared.deciding.Decision.{Decision}
 use Rattle.decision.specs.declared.deciding.Decisions.{Decisions}

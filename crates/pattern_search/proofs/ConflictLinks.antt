@@ -10,14 +10,13 @@ use Rattle.memory_order.specs.declared.known_reads.KnownRead.{KnownRead}
 use Rattle.memory_order.specs.Memory.{MemoryHistory, Reads, Writes}
 use Rattle.causal_order.specs.Orders.{only, op, StandsAt}
 use Rattle.memory_order.specs.Relations.{IsEdge, ReadsFrom}
-use Rattle.memory_order.specs.SourceOrder.{CountsSourceOrder, IsSource}
+use Rattle.memory_order.specs.SourceOrder.{IsSource, SourceOrder}
 use Rattle.causal_order.specs.Vectors.{IsListed, Counts, count}
-use Rattle.memory_order.specs.Steps.Conflicts.{IsCountedWrite, IsDue}
+use Rattle.memory_order.specs.Steps.Conflicts.{IsWriteInPast, IsDue}
 use Rattle.memory_order.specs.Steps.Indexed.{HasNoWriteOfPast, IsKnownRead, IsLastWriteOfPast, IsSourceIfAny, IsSourcePast, ListsReads}
 use Rattle.causal_order.specs.Waits.{AreAlike, AreWaitsFor, IsAwaited, IsWaitEdge, IsWaitingCycle}
-use Rattle.memory_order.proofs.CausalOrders.{counted-past}
 use Rattle.memory_order.proofs.IndexedLaws.{if_any-unique}
-use Rattle.memory_order.proofs.MemoryLaws.{same_read}
+use Rattle.memory_order.proofs.MemoryLaws.{read-of_history, same_read, write-or_read}
 use Rattle.causal_order.proofs.OrdersLaws.{same_op}
 use Rattle.cert_check.proofs.ConvergentLaws.{only-same}
 use Rattle.bad_patterns.specs.declared.link.Link.{Link}
@@ -38,20 +37,23 @@ apart-tested a b t is holds same =
     let no = not-true ((a.session == b.session) && (a.index == b.index)) (sym is ∙ holds) in
     true≢false (sym test ∙ no)
 
-module _ (h : MemoryHistory) (v : Counts) (order : CountsSourceOrder h v) (waits : Counts) (alike : AreAlike waits h.1)
-    (are : AreWaitsFor (IsDue h v) waits) where
+module _ (h : MemoryHistory) (waits : Counts) (alike : AreAlike waits h.1) (are : AreWaitsFor (IsDue h) waits) where
   -- the last write of a session that an operation waits for by a read is the last one in the past of the read
-  awaited-last : (a b r : OpId) → count waits b a.session ≡ a.index + 1 → IsSource h b r → (counts : IsCountedWrite h v r a)
-      → IsLastWriteOfPast h counts.x a.session r a
-  awaited-last a b r awaited source counts = record {
+  awaited-last : (a b r : OpId) → count waits b a.session ≡ a.index + 1 → IsSource h b r → (write : IsWriteInPast h r a)
+      → IsLastWriteOfPast h write.x a.session r a
+  awaited-last a b r awaited source write = record {
     session = refl;
-    past = (counted-past h v order r a).0 counts.counted;
-    value = counts.u;
-    writes = counts.writes;
+    past = (read-of_history h r write.x write.y write.reads, inr write.before);
+    value = write.u;
+    writes = write.writes;
     last = λ i u past wrote.
+        let before : SourceOrder h (op a.session i) r = ⊎_elim
+        (λ (same : op a.session i ≡ r). absurd (write-or_read h (op a.session i) r write.x u write.x write.y wrote write.reads same))
+        (λ (earlier : SourceOrder h (op a.session i) r). earlier)
+        past.1 in
         let counted = are.each (op a.session i) b (
           r,
-          inr (source, record { x = counts.x; u = u; y = counts.y; writes = wrote; reads = counts.reads; counted = (counted-past h v order r (op a.session i)).1 past }),
+          inr (source, record { x = write.x; u = u; y = write.y; writes = wrote; reads = write.reads; before = before }),
         ) in
         omega arith;
   }
@@ -65,12 +67,12 @@ module _ (h : MemoryHistory) (v : Counts) (order : CountsSourceOrder h v) (waits
       let r : OpId = due.0 in
       ⊎_elim
       (λ (source : IsSource h a r × (b ≡ r)). inl (inr (subst (λ (o : OpId). ReadsFrom h a o) (sym source.1) source.0.0)))
-      (λ (conflict : IsSource h b r × IsCountedWrite h v r a).
-      let counts = conflict.1 in
+      (λ (conflict : IsSource h b r × IsWriteInPast h r a).
+      let write = conflict.1 in
       inr (
-        record { op = r; key = counts.x; source = Some b },
-        record { value = counts.y; reads = counts.reads; source = conflict.0 },
-        record { source = refl; apart = awaited.1; last = awaited-last a b r awaited.0 conflict.0 counts },
+        record { op = r; key = write.x; source = Some b },
+        record { value = write.y; reads = write.reads; source = conflict.0 },
+        record { source = refl; apart = awaited.1; last = awaited-last a b r awaited.0 conflict.0 write },
       ))
       due.1)
 

@@ -1,6 +1,6 @@
 -- The lines of a derivation while they are made.
-use Rattle.std.proofs.Common.{◌≡◌, ℕ, ◌+◌, ◌-◌, ◌*◌, ◌<◌, ◌≤◌, List, [], ◌∷◌, ◌++◌, Bool, true, false, length, ⊎_elim, inl, inr, refl, sym, ◌∙◌, ap, subst, arith, length-append, eq-or-lt_of_le}
-use Rattle.std.specs.Prelude.{◌≢◌, IsTrue, Some, slice_get}
+use Rattle.std.proofs.Common.{◌≡◌, ℕ, ◌+◌, ◌-◌, ◌<◌, ◌≤◌, List, [], ◌∷◌, ◌++◌, Bool, true, false, length, ⊎_elim, inl, inr, refl, sym, ◌∙◌, ap, subst, arith, length-append, eq-or-lt_of_le}
+use Rattle.std.specs.Prelude.{◌≢◌, Some, slice_get}
 use Rattle.std.proofs.lemmas.Bool.{cases_lt, true≢false}
 use Rattle.std.proofs.lemmas.Option.{same_Some, slice_get_within}
 use Rattle.history.specs.declared.op_id.OpId.{OpId}

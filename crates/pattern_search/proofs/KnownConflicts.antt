@@ -7,18 +7,17 @@ use Rattle.history.specs.History.{IsOp, Precedes}
 use Rattle.memory_order.specs.Memory.{MemoryHistory, IsDifferentiated, Reads}
 use Rattle.memory_order.specs.Relations.{CF, CO}
 use Rattle.causal_order.specs.Orders.{Leads}
-use Rattle.memory_order.specs.SourceOrder.{CountsSourceOrder, IsSource, IsSourceEdge}
+use Rattle.memory_order.specs.SourceOrder.{IsSource, IsSourceEdge}
 use Rattle.memory_order.specs.Steps.Conflicts.{IsDue}
 use Rattle.causal_order.specs.Vectors.{Counts}
 use Rattle.causal_order.specs.Waits.{AreAlike, AreWaits, AreWaitsFor, IsWaitEdge}
 use Rattle.memory_order.proofs.FirstWrites.{CO-by_sources, distinct-source}
-use Rattle.memory_order.proofs.MemoryLaws.{read-of_history, same_written, write-or_read}
+use Rattle.memory_order.proofs.MemoryLaws.{same_written, write-or_read}
 use Rattle.causal_order.proofs.PathsLaws.{leads-edge, leads-leads, leads-within}
-use Rattle.memory_order.proofs.SourceVectors.{counts-before}
 use Rattle.causal_order.proofs.WaitsLead.{first-leads}
 
-module _ (h : MemoryHistory) (distinct : IsDifferentiated h) (v : Counts) (order : CountsSourceOrder h v)
-    (waits : Counts) (kept : AreWaits waits) (alike : AreAlike waits h.1) (are : AreWaitsFor (IsDue h v) waits) where
+module _ (h : MemoryHistory) (distinct : IsDifferentiated h)
+    (waits : Counts) (kept : AreWaits waits) (alike : AreAlike waits h.1) (are : AreWaitsFor (IsDue h) waits) where
   -- what is before an operation in the causal order leads to it
   order-leads : (a b : OpId) → CO h a b → Leads (IsWaitEdge waits) a b
   order-leads a b before = leads-within (IsSourceEdge h) (Leads (IsWaitEdge waits)) (λ c d edge. ⊎_elim
@@ -28,7 +27,7 @@ module _ (h : MemoryHistory) (distinct : IsDifferentiated h) (v : Counts) (order
       leads-edge (IsWaitEdge waits) c d (inl (first.0, omega arith)))
       (λ (source : IsSource h c d).
       let reads = source.0 in
-      first-leads waits kept (IsDue h v) are c d (d, inl (source, refl))
+      first-leads waits kept (IsDue h) are c d (d, inl (source, refl))
       (write-or_read h c d reads.0 reads.1 reads.0 reads.1 reads.2 reads.3))
       edge)
       (leads-leads (IsWaitEdge waits)) a b (CO-by_sources h distinct a b before)
@@ -41,7 +40,7 @@ module _ (h : MemoryHistory) (distinct : IsDifferentiated h) (v : Counts) (order
       let reads = conflict.1.2 in
       let source = distinct-source h distinct b r reads in
       let variable : reads.0 ≡ wrote.0 = (same_written h b reads.0 reads.1 wrote.0 wrote.2 reads.2 wrote.4).0 in
-      first-leads waits kept (IsDue h v) are a b (
+      first-leads waits kept (IsDue h) are a b (
         r,
         inr (
           source,
@@ -51,7 +50,7 @@ module _ (h : MemoryHistory) (distinct : IsDifferentiated h) (v : Counts) (order
             y = reads.1;
             writes = wrote.3;
             reads = subst (λ (x : ℕ). Reads h r x reads.1) variable reads.3;
-            counted = counts-before h v order r a (read-of_history h r reads.0 reads.1 reads.3) (CO-by_sources h distinct a r conflict.1.1);
+            before = CO-by_sources h distinct a r conflict.1.1;
           },
         ),
       )

@@ -1,5 +1,5 @@
 -- Which raises a pair of a happened-before relation rests on.
-use Rattle.std.proofs.Common.{◌≡◌, ℕ, ◌+◌, ◌-◌, ◌<◌, ◌≤◌, List, Bool, true, false, length, set, replicate, ⊎_elim, inl, inr, refl, sym, ◌∙◌, subst, arith, eq-or-lt_of_le}
+use Rattle.std.proofs.Common.{◌≡◌, ℕ, ◌+◌, ◌-◌, ◌<◌, List, Bool, true, false, length, set, replicate, ⊎_elim, inl, inr, refl, sym, ◌∙◌, subst, arith, eq-or-lt_of_le}
 use Rattle.std.specs.Prelude.{MatchOption, None, Option, Some, slice_get, ◌≢◌}
 use Rattle.std.proofs.lemmas.Bool.{cases_eq, true≢false}
 use Rattle.std.proofs.lemmas.List.{length-set}
@@ -12,7 +12,7 @@ use Rattle.memory_order.specs.Memory.{MemoryHistory}
 use Rattle.memory_order.specs.SourceOrder.{SourceOrder}
 use Rattle.bad_patterns.specs.Derivations.{Pair}
 use Rattle.pattern_search.specs.Steps.Reasons.{AreClosedFrom, ArePremises, IsBefore, IsFirstRaise, IsMarked, IsRaisedBy, MarksBelow, RestsOn, last_of}
-use Rattle.pattern_search.proofs.PlacedLists.{none-marked, set-apart, set-here, set-kept}
+use Rattle.pattern_search.proofs.PlacedLists.{none-marked, set-apart, set-kept}
 
 -- what follows of each pair that a raise rests on
 pub rests-both : (P Q R : Pair → Type 0) → ((p : Pair) → P p → Q p → R p) → (a b : OpId) (c : Cause) → RestsOn P a b c → RestsOn Q a b c → RestsOn R a b c

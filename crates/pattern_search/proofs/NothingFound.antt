@@ -1,6 +1,6 @@
 -- Which kinds are present in a memory history, by what a search for them found.
 use Rattle.std.specs.Prelude.{◌≢◌, ◌⊎◌, IsTrue, Some, true}
-use Rattle.std.proofs.Common.{⊎_elim, inl, inr}
+use Rattle.std.proofs.Common.{⊎_elim, inl, inr, refl}
 use Rattle.history.specs.declared.op_id.OpId.{OpId}
 use Rattle.cert_check.specs.declared.criterion.Criterion.{Criterion}
 use Rattle.cert_check.specs.declared.criterion.Criterion.TheVariants.{Cc, Cm, Ccv}
@@ -9,9 +9,20 @@ use Rattle.memory_order.specs.OverwrittenReads.{HasOverwrittenRead, HasOverwritt
 use Rattle.memory_order.specs.SourceOrder.{IsCyclic, LacksSource, SourceOrder}
 use Rattle.memory_order.specs.Steps.Indexed.{IsOrdered, IsUnordered}
 use Rattle.memory_order.proofs.FirstWrites.{CO-by_sources, CO-from_sources}
+use Rattle.bad_patterns.specs.declared.kind.Kind.{Kind}
 use Rattle.bad_patterns.specs.declared.kind.Kind.TheVariants.{CyclicCO, ThinAirRead, WriteCOInitRead, WriteCORead, WriteHBInitRead, CyclicHB, CyclicCF}
 use Rattle.bad_patterns.specs.Kinds.{is_against, IsFreeOf, IsThinAirRead, Shows}
 use Rattle.pattern_search.specs.Searches.{HasLargeHB, IsClear, IsFreeOrLarge}
+
+-- what is against causal consistency is against causal memory
+pub against-memory : (kind : Kind) → IsTrue (is_against kind Cc) → IsTrue (is_against kind Cm)
+against-memory CyclicCO against = refl
+against-memory ThinAirRead against = refl
+against-memory WriteCOInitRead against = refl
+against-memory WriteCORead against = refl
+against-memory WriteHBInitRead against = absurd cc
+against-memory CyclicHB against = absurd cc
+against-memory CyclicCF against = absurd cc
 
 module _ (h : MemoryHistory) where
   -- a history without an order has a cycle or a thin-air read

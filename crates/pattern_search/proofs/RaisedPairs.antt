@@ -1,6 +1,6 @@
 -- What right raises rest on: the causal order, or raises before them.
-use Rattle.std.proofs.Common.{◌≡◌, ◌⊎◌, ℕ, zero, suc, ◌+◌, ◌-◌, ◌<◌, ◌≤◌, List, length, inl, inr, ⊎_elim, refl, sym, ◌∙◌, ap, subst, arith, eq-or-lt_of_le}
-use Rattle.std.specs.Prelude.{IsTrue, Some, slice_get}
+use Rattle.std.proofs.Common.{◌≡◌, ◌⊎◌, ℕ, zero, suc, ◌+◌, ◌-◌, ◌<◌, ◌≤◌, List, length, inl, inr, ⊎_elim, sym, ap, subst, arith, eq-or-lt_of_le}
+use Rattle.std.specs.Prelude.{Some, slice_get}
 use Rattle.std.proofs.lemmas.Bool.{cases_eq}
 use Rattle.std.proofs.lemmas.Option.{slice_get_within}
 use Rattle.history.specs.declared.op_id.OpId.{OpId}
@@ -13,14 +13,14 @@ use Rattle.memory_order.specs.Relations.{CO, HB, IsPast}
 use Rattle.memory_order.specs.SourceOrder.{CountsSourceOrder, IsSourceEdge, SourceOrder}
 use Rattle.memory_order.specs.Steps.HappenedBefores.{AreStrictOf}
 use Rattle.memory_order.specs.Steps.Indexed.{IsSourcePast}
-use Rattle.causal_order.specs.Orders.{op, program_past}
+use Rattle.causal_order.specs.Orders.{op}
 use Rattle.causal_order.specs.Vectors.{Counts, count, IsCounted}
 use Rattle.memory_order.proofs.FirstWrites.{CO-by_sources, CO-from_sources}
 use Rattle.memory_order.proofs.HappenedBeforeLaws.{HB-inside, past-of_history, past-program}
 use Rattle.causal_order.proofs.OrdersLaws.{same_op}
 use Rattle.causal_order.proofs.PathsLaws.{leads-edge, leads-leads}
-use Rattle.memory_order.specs.Raises.{AreReached, AreRightRaises, IsReached, IsRightCause, operation_of}
-use Rattle.pattern_search.specs.Steps.Reasons.{AreGrounded, ArePremises, IsBefore, IsGrounded, IsPremise, IsRaisedBy, IsRule, RestsOn, last_of}
+use Rattle.memory_order.specs.Raises.{AreRightRaises, IsReached, IsRightCause, operation_of}
+use Rattle.pattern_search.specs.Steps.Reasons.{AreGrounded, ArePremises, IsBefore, IsPremise, IsRaisedBy, IsRule, RestsOn, last_of}
 use Rattle.pattern_search.specs.Steps.Relations.{IsRelation}
 use Rattle.pattern_search.proofs.NeededRaises.{rests-each}
 

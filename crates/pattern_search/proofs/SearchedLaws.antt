@@ -1,5 +1,5 @@
 -- What follows for what a search of happened-before relations comes to.
-use Rattle.std.proofs.Common.{◌≡◌, ℕ, ◌+◌, ◌-◌, ◌<◌, ◌≤◌, List, Ok, Err, Result, length, inl, inr, ⊎_elim, refl, sym, arith, lt-ltb, ltb-true, subst, eq-or-lt_of_le}
+use Rattle.std.proofs.Common.{◌≡◌, ℕ, ◌+◌, ◌-◌, ◌<◌, ◌≤◌, List, Ok, Err, Result, length, inr, ⊎_elim, refl, sym, arith, lt-ltb, ltb-true, subst, eq-or-lt_of_le}
 use Rattle.std.specs.Prelude.{IfOk, IsTrue, None, Option, Some}
 use Rattle.std.proofs.lemmas.Bool.{cases_lt}
 use Rattle.history.specs.declared.op_id.OpId.{OpId}

@@ -1,4 +1,5 @@
-ghost use Rattle.bad_patterns.specs.Patterns.{IsBadPattern, IsTrueNo};
+ghost use Rattle.bad_patterns.specs.Kinds.{IsTrueNo};
+ghost use Rattle.bad_patterns.specs.Patterns.{IsBadPattern};
 
 use crate::refutable::Refutable;
 use bad_patterns::Pattern;

@@ -4,16 +4,14 @@ ghost use Rattle.bad_patterns.specs.Paths.{IsCycle};
 ghost use Rattle.pattern_search.specs.Steps.Conflicts.{IsConflictBy, IsConflictCycle, IsConflictStep, IsLastConflict, LinksTo};
 ghost use Rattle.bad_patterns.specs.declared.kind.Kind.TheVariants.{CyclicCF};
 ghost use Rattle.memory_order.specs.Memory.{IsDifferentiated};
-ghost use Rattle.memory_order.specs.SourceOrder.{CountsSourceOrder};
 ghost use Rattle.memory_order.specs.Steps.Indexed.{IsKnownRead};
 ghost use Rattle.memory_order.specs.declared.known_reads.KnownRead.{KnownRead as Read};
 
 use crate::search::routes_back::path_between;
 use bad_patterns::{Link, Links};
-use causal_order::{OrderOrCycle, Vectors, topological_sort};
-use history::{History, OpId};
+use causal_order::{OrderOrCycle, topological_sort};
+use history::OpId;
 use memory_order::{CausalOrder, KnownRead, waits_with_conflicts};
-use objects::Memory;
 use std::alloc::{AllocError, Global};
 
 /// A cycle of the causal order and of conflicts: a write that is in the past of a read of another write of its variable
@@ -25,23 +23,21 @@ pub fn cycle_with_conflicts(alloc: Global, order: &CausalOrder) -> Result<Option
     requires differentiated { IsDifferentiated order.now }
     ensures { IfOk result (λ found. MatchOption found (¬ Shows order.now CyclicCF) (IsCycle order.now)) }
 {
-    match conflicting_operations(alloc, order.memory().history(), order.vectors())? {
+    match conflicting_operations(alloc, order)? {
         Some(ops) => Ok(Some(links_of(alloc, order, &ops)?)),
         None => Ok(None),
     }
 }
 
-/// Operations of a cycle of the causal order, which the vectors count, and of conflicts.
+/// Operations of a cycle of the causal order and of conflicts.
 fn conflicting_operations(
     alloc: Global,
-    h: &History<Memory>,
-    vectors: &Vectors,
+    order: &CausalOrder,
 ) -> Result<Option<Vec<OpId>>, AllocError>
-    requires order { CountsSourceOrder h.now vectors.now }
-    requires differentiated { IsDifferentiated h.now }
-    ensures { IfOk result (λ found. MatchOption found (¬ Shows h.now CyclicCF) (λ ops. IsConflictCycle h.now ops.items)) }
+    requires differentiated { IsDifferentiated order.now }
+    ensures { IfOk result (λ found. MatchOption found (¬ Shows order.now CyclicCF) (λ ops. IsConflictCycle order.now ops.items)) }
 {
-    let waits = waits_with_conflicts(alloc, h, vectors)?;
+    let waits = waits_with_conflicts(alloc, order)?;
     match topological_sort(alloc, &waits)? {
         OrderOrCycle::Order(_) => Ok(None),
         OrderOrCycle::Cycle(ops) => Ok(Some(ops)),

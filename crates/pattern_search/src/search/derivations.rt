@@ -1,4 +1,4 @@
-ghost use Rattle.std.specs.Prelude.{◌≡◌, ◌+◌, ◌<◌, [], ◌∷◌, ◌++◌, length, slice_get, IfOk, MatchOption, Some};
+ghost use Rattle.std.specs.Prelude.{◌≡◌, ◌-◌, ◌+◌, ◌<◌, [], ◌∷◌, ◌++◌, length, slice_get, IfOk, MatchOption, Some};
 ghost use Rattle.memory_order.specs.declared.growing_order.Raise.{Raise as CountRaise};
 ghost use Rattle.memory_order.specs.Memory.{IsDifferentiated};
 ghost use Rattle.memory_order.specs.Relations.{HB};
@@ -86,7 +86,7 @@ fn write_raise(
     requires exists { number < length reasons.now }
     ensures { (e : CountRaise) → slice_get reasons.now number ≡ Some e
         → IfOk result (λ written. MatchOption written (MAX_RAISES < length reasons.now)
-        (EndsIn order.now op 99998 (last_of e, e.op) draft.new)) }
+        (EndsIn order.now op (MAX_LINES - 2) (last_of e, e.op) draft.new)) }
 {
     let needed = needed_raises(alloc, order, reasons, number)?;
     let mut written = Vec::new(alloc);

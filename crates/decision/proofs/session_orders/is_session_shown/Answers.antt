@@ -1,4 +1,4 @@
-use Rattle.std.proofs.Common.{◌≡◌, ap, subst, sym, ◌∙◌}
+use Rattle.std.proofs.Common.{ap, subst, sym, ◌∙◌}
 use Rattle.std.specs.Prelude.{◌↔◌, IfOk, IsTrue, length}
 use Rattle.std.proofs.lemmas.Result.{IfOk-weaker}
 use Rattle.memory_order.specs.Memory.{MemoryHistory, memory_answer}

@@ -1,5 +1,3 @@
-use Rattle.std.proofs.Common.{◌≡◌, length, sym, subst, subst₂, ap}
-use Rattle.pattern_search.specs.Steps.Reasons.{AreGrounded, IsPremise}
 use Rattle.pattern_search.proofs.DraftLines.{ends-derivation}
 use Rattle.pattern_search.proofs.RaisedPairs.{relation-before, relation-grounded}
 use Rattle.pattern_search.proofs.search.derivations.derivation_of.Goals as goal

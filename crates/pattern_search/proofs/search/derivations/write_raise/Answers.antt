@@ -2,8 +2,7 @@ use Rattle.std.proofs.Common.{◌≡◌, ℕ, ◌+◌, ◌<◌, ◌≤◌, ◌�
 use Rattle.std.specs.Prelude.{Some, slice_get}
 use Rattle.std.proofs.lemmas.Bool.{cases_lt}
 use Rattle.std.proofs.lemmas.Option.{same_Some}
-use Rattle.memory_order.specs.declared.growing_order.Raise.{Raise}
-use Rattle.pattern_search.specs.Steps.Drafts.{AreWritten, EndsIn, IsWritten}
+use Rattle.pattern_search.specs.Steps.Drafts.{AreWritten, IsWritten}
 use Rattle.pattern_search.specs.Steps.Reasons.{AreClosedFrom, ArePremises, IsBefore, IsMarked, last_of}
 use Rattle.pattern_search.proofs.DraftLines.{ends-in, ends-same, premise-written, written-none}
 use Rattle.pattern_search.proofs.NeededRaises.{rests-both}

@@ -1,4 +1,4 @@
-use Rattle.std.proofs.Common.{◌≡◌, ℕ, ◌+◌, ◌<◌, inr, arith, length}
+use Rattle.std.proofs.Common.{inr, arith}
 use Rattle.pattern_search.proofs.NeededRaises.{first-below, marks-set}
 use Rattle.pattern_search.proofs.PlacedLists.{set-here}
 use Rattle.pattern_search.proofs.search.needed.need.Goals as goal

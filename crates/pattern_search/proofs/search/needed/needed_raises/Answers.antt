@@ -1,4 +1,4 @@
-use Rattle.std.proofs.Common.{◌≡◌, ℕ, ◌+◌, ◌-◌, subst, arith, ◌∙◌, length}
+use Rattle.std.proofs.Common.{◌≡◌, ℕ, ◌+◌, ◌-◌, subst, arith, ◌∙◌}
 use Rattle.pattern_search.specs.Steps.Reasons.{AreClosedFrom}
 use Rattle.pattern_search.proofs.search.needed.needed_raises.Goals as goal
 

@@ -1,7 +1,6 @@
-use Rattle.std.proofs.Common.{◌≡◌, ℕ, List, length, sym, subst, subst₂, arith}
-use Rattle.bad_patterns.specs.declared.derivation.Line.{Line}
-use Rattle.bad_patterns.specs.Derivations.{Gives, Pair}
-use Rattle.pattern_search.specs.Steps.Drafts.{EndsWithin, IsDraft, Lines}
+use Rattle.std.proofs.Common.{◌≡◌, length, sym, subst, arith}
+use Rattle.bad_patterns.specs.Derivations.{Gives}
+use Rattle.pattern_search.specs.Steps.Drafts.{IsDraft, Lines}
 use Rattle.pattern_search.proofs.DraftLines.{line-more}
 use Rattle.pattern_search.proofs.search.drafts.Draft.push.Goals as goal
 

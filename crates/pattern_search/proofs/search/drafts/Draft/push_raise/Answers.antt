@@ -1,9 +1,9 @@
-use Rattle.std.proofs.Common.{◌≡◌, ℕ, length, sym, subst, arith}
+use Rattle.std.proofs.Common.{length, sym, subst, arith}
 use Rattle.std.specs.Prelude.{IfOk}
 use Rattle.history.specs.declared.op_id.OpId.{OpId}
 use Rattle.memory_order.specs.Relations.{AreRivalWrites}
 use Rattle.pattern_search.specs.Steps.Drafts.{EndsWithin, IsWritten}
-use Rattle.pattern_search.specs.Steps.Reasons.{IsPremise, last_of}
+use Rattle.pattern_search.specs.Steps.Reasons.{IsPremise}
 use Rattle.pattern_search.proofs.DraftLines.{ends-more, within-more, written-kept}
 use Rattle.pattern_search.proofs.NeededRaises.{read-rests, through-rests}
 use Rattle.pattern_search.proofs.RaisedPairs.{grounded-premises, grounded-read}

@@ -1,5 +1,4 @@
-use Rattle.std.proofs.Common.{◌≡◌, ℕ, ◌+◌, length, arith, sym, rules}
-use Rattle.history.specs.declared.op_id.OpId.{OpId}
+use Rattle.std.proofs.Common.{◌≡◌, ◌+◌, length, rules}
 use Rattle.pattern_search.specs.Steps.Drafts.{EndsWithin, GivesWithin}
 use Rattle.pattern_search.proofs.DraftLines.{within-more}
 use Rattle.pattern_search.proofs.RaisedPairs.{apart-before}
