@@ -1,4 +1,4 @@
-use Rattle.std.proofs.Common.{rules, ◌≡◌, ◌<◌, length, sym, ◌∙◌, subst}
+use Rattle.std.proofs.Common.{rules, ◌<◌, length, sym, ◌∙◌, subst}
 use Rattle.snapshot.specs.Walks.{Stands}
 use Rattle.snapshot.specs.Steps.PlanStates.{PlanState}
 use Rattle.snapshot.proofs.FoundCounts.{calls_counted, found_within}
