@@ -10,7 +10,7 @@ use crate::judged::Judged;
 use bad_patterns::Pattern;
 use bad_patterns::laws::present_kinds_exclude_criteria;
 use cert_check::{Certificate, Criterion};
-use history::History;
+use history::{Advice, History};
 use objects::Memory;
 use std::alloc::{AllocError, Global};
 
@@ -28,12 +28,13 @@ impl Judged for Memory {
     fn make(
         alloc: Global,
         h: &History<Memory>,
+        advice: &[Option<Advice>],
         criterion: Criterion,
     ) -> Result<Option<Certificate>, AllocError> {
         match criterion {
-            Criterion::Cc => make_for_consistency(alloc, h),
-            Criterion::Cm => make_for_causal_memory(alloc, h),
-            Criterion::Ccv => make_for_convergence(alloc, h),
+            Criterion::Cc => make_for_consistency(alloc, h, advice),
+            Criterion::Cm => make_for_causal_memory(alloc, h, advice),
+            Criterion::Ccv => make_for_convergence(alloc, h, advice),
         }
     }
 }
@@ -58,6 +59,7 @@ fn find(
 fn make_for_consistency(
     alloc: Global,
     h: &History<Memory>,
+    advice: &[Option<Advice>],
 ) -> Result<Option<Certificate>, AllocError>
     ensures criterion { IfOk result (λ made. IfSome made (λ c. criterion_of c ≡ Cc)) }
     ensures shape { IfOk result (λ made. IfSome made (HasShapeOf h.now)) }
@@ -65,13 +67,14 @@ fn make_for_consistency(
         → IfOk result (λ made. IsSomeAnd made (IsExplainedThroughout memory_answer h.now)) }
 {
     present_kinds_exclude_criteria();
-    certify_cc::make_memory(alloc, h, &[])
+    certify_cc::make_memory(alloc, h, advice)
 }
 
 /// A certificate of causal memory of a memory history.
 fn make_for_causal_memory(
     alloc: Global,
     h: &History<Memory>,
+    advice: &[Option<Advice>],
 ) -> Result<Option<Certificate>, AllocError>
     ensures criterion { IfOk result (λ made. IfSome made (λ c. criterion_of c ≡ Cm)) }
     ensures shape { IfOk result (λ made. IfSome made (HasShapeOf h.now)) }
@@ -79,13 +82,14 @@ fn make_for_causal_memory(
         → IfOk result (λ made. IsSomeAnd made (IsExplainedThroughout memory_answer h.now)) }
 {
     present_kinds_exclude_criteria();
-    certify_cm::make_memory(alloc, h, &[])
+    certify_cm::make_memory(alloc, h, advice)
 }
 
 /// A certificate of causal convergence of a memory history.
 fn make_for_convergence(
     alloc: Global,
     h: &History<Memory>,
+    advice: &[Option<Advice>],
 ) -> Result<Option<Certificate>, AllocError>
     ensures criterion { IfOk result (λ made. IfSome made (λ c. criterion_of c ≡ Ccv)) }
     ensures shape { IfOk result (λ made. IfSome made (HasShapeOf h.now)) }
@@ -93,5 +97,5 @@ fn make_for_convergence(
         → IfOk result (λ made. IsSomeAnd made (IsExplainedThroughout memory_answer h.now)) }
 {
     present_kinds_exclude_criteria();
-    certify_ccv::make_memory(alloc, h, &[])
+    certify_ccv::make_memory(alloc, h, advice)
 }

@@ -6,7 +6,7 @@ ghost use Rattle.cert_check.specs.Criteria.{Meets};
 
 use bad_patterns::Pattern;
 use cert_check::{Certificate, Criterion};
-use history::History;
+use history::{Advice, History};
 use refutable::Refutable;
 use std::alloc::{AllocError, Global};
 
@@ -29,13 +29,15 @@ pub trait Judged: Refutable {
         ensures found { IfOk result (λ found. IfSome found (Self.passes h.now criterion)) }
         ensures decided { decides h.now criterion → IfOk result (λ found. IfNone found (Meets Self.answer h.now criterion)) };
 
-    /// A certificate for the criterion, where one is made. Whether it explains the known returns is for the checker of
-    /// certificates to say.
+    /// A certificate for the criterion, where one is made: from what a store told of each operation, unless what the history
+    /// says of itself decides. Empty advice is none. Whether it explains the known returns is for the checker of certificates to
+    /// say: nobody trusts advice.
     ///
     /// Fails for want of memory alone.
     fn make(
         alloc: Global,
         h: &History<Self>,
+        advice: &[Option<Advice>],
         criterion: Criterion,
     ) -> Result<Option<Certificate>, AllocError>
         ensures criterion { IfOk result (λ made. IfSome made (λ c. criterion_of c ≡ criterion)) }

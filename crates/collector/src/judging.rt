@@ -10,7 +10,7 @@ use crate::working::answer_of_file;
 use cert_check::laws::explained_certificates_show_their_criterion;
 use cert_check::{CaseFile, Criterion, DeskError};
 use desk::{Answer, Gate};
-use history::History;
+use history::{Advice, History};
 use std::alloc::Global;
 use std::sync::Wait;
 use std::thread::Threads;
@@ -24,6 +24,9 @@ pub const MAX_WORKERS: usize = 16;
 /// checked as `judge_with` does: `Yes` where every piece explains its operation, and `Unknown` with the first operation whose
 /// piece does not. `Unknown` with no operation where no certificate is made. It is never `Open`.
 ///
+/// The advice is what a store told of each operation, in order; none where it is empty. It can help to a certificate, and
+/// nobody trusts it: whatever it says, what is answered is so.
+///
 /// `BadWorkers` where `workers` is not 1 to 16, and then nothing else happens; else `Memory`. The cost is that of `find`, of
 /// `make` and of `judge_with`.
 #[tactic(auto, using(crate::proofs::JudgedLaws::memory_alone))]
@@ -31,6 +34,7 @@ pub fn judge<O: Judged + Send + Sync, R: Threads + Wait + Sync, G: Gate>(
     rt: &R,
     alloc: Global,
     h: History<O>,
+    advice: &[Option<Advice>],
     criterion: Criterion,
     workers: usize,
     gate: &G,
@@ -47,7 +51,7 @@ pub fn judge<O: Judged + Send + Sync, R: Threads + Wait + Sync, G: Gate>(
     O::passing_patterns_exclude();
     match O::find(alloc, &h, criterion)? {
         Some(pattern) => Ok(Answer::No(pattern.kind())),
-        None => judge_by_certificate(rt, alloc, h, criterion, workers, gate),
+        None => judge_by_certificate(rt, alloc, h, advice, criterion, workers, gate),
     }
 }
 
@@ -56,6 +60,7 @@ fn judge_by_certificate<O: Judged + Send + Sync, R: Threads + Wait + Sync, G: Ga
     rt: &R,
     alloc: Global,
     h: History<O>,
+    advice: &[Option<Advice>],
     criterion: Criterion,
     workers: usize,
     gate: &G,
@@ -64,7 +69,7 @@ fn judge_by_certificate<O: Judged + Send + Sync, R: Threads + Wait + Sync, G: Ga
     ensures decided { O.decides h criterion → Meets O.answer h criterion → IfOk result IsKnown }
     ensures error { IfErr result (λ e. e ≡ DeskError.Memory) }
 {
-    let made = O::make(alloc, &h, criterion)?;
+    let made = O::make(alloc, &h, advice, criterion)?;
     let file = CaseFile::new(h, criterion, made)?;
     judge_file(rt, alloc, file, workers, gate)
 }

@@ -1,13 +1,12 @@
 //! From a history to an answer: how the histories of each object are judged, `judge` and `judge_with`.
 #![tactic(auto)]
 
-mod by_program_order;
+mod as_advised;
 mod by_sources;
 mod judged;
 mod judging;
 mod working;
 
-pub use by_program_order::ByProgramOrder;
 pub use desk::{Answer, Gate, OpenGate};
 pub use judged::Judged;
 pub use judging::{MAX_WORKERS, judge, judge_with};

@@ -17,7 +17,7 @@ use Rattle.memory_order.specs.Memory.{IsDifferentiated, memory_answer}
 use Rattle.cert_check.specs.Criteria.{Meets}
 use Rattle.cert_check.specs.CriterionNames.{name_of}
 use Rattle.bad_patterns.specs.KindNames.{kind_name}
-use Rattle.bad_patterns.specs.Patterns.{IsTrueNo}
+use Rattle.bad_patterns.specs.Kinds.{IsTrueNo}
 use Rattle.board.specs.declared.answer.Answer.{Answer}
 use Rattle.board.specs.declared.answer.Answer.TheVariants.{Yes, No, Unknown, Open}
 use Rattle.collector.specs.Judgements.{IsUnexplainedOf}

@@ -2,7 +2,7 @@
 
 ghost use Rattle.std.specs.Prelude.{◌≡◌, IfErr, IfOk, IfSome};
 ghost use Rattle.memory_order.specs.Memory.{memory_answer};
-ghost use Rattle.bad_patterns.specs.Patterns.{IsTrueNo};
+ghost use Rattle.bad_patterns.specs.Kinds.{IsTrueNo};
 ghost use Rattle.cert_check.specs.Certificates.{HasShapeOf, criterion_of};
 ghost use Rattle.decision.specs.Decisions.{IsDecided};
 ghost use Rattle.engine.specs.Report.{IsTrueOf, NamesUnexplained, IsKnownOnDistinctValues, answer_for};
@@ -17,6 +17,7 @@ use bad_patterns::laws::bad_patterns_exclude_criteria;
 use cert_check::{CaseFile, Certificate, Criterion, DeskError};
 use collector::{Answer, Judged, OpenGate, judge};
 use decision::{Decision, decide_all};
+use history::Advice;
 use memory_order::IndexedMemory;
 use objects::Memory;
 use operations::{AnyHistory, History};
@@ -32,6 +33,9 @@ use std::thread::Threads;
 /// `Unknown` with no operation where no certificate is made. What is known of a memory history is made once for all
 /// criteria, and the certificates for the three are made, checked and dropped one after the other.
 ///
+/// The advice is what a store told of each operation, in order; none where it is empty. A certificate is made from it where it
+/// is there, and nobody trusts it: whatever it says, each answer is true of the history.
+///
 /// Fails for want of memory alone. O(n (n + p k + k^2)) for n operations with pasts of p operations in k sessions, and what
 /// the search for patterns and the makers of certificates take.
 #[tactic(auto, using(crate::proofs::Founded::founded_is_true, crate::proofs::Founded::founded_names))]
@@ -39,6 +43,7 @@ pub fn report_on<T: Threads + Wait + Sync>(
     rt: &T,
     alloc: Global,
     history: AnyHistory,
+    advice: &[Option<Advice>],
     workers: Workers,
 ) -> Result<Report, RunError>
     ensures truth { IfOk result (EachIsTrueOf history) }
@@ -47,14 +52,38 @@ pub fn report_on<T: Threads + Wait + Sync>(
     ensures error { IfErr result (λ e. e ≡ RunError.Memory) }
 {
     match history {
-        AnyHistory::Register(plain) => report_on_object(rt, alloc, plain.into_history(), workers),
-        AnyHistory::Counter(plain) => report_on_object(rt, alloc, plain.into_history(), workers),
-        AnyHistory::Set(plain) => report_on_object(rt, alloc, plain.into_history(), workers),
-        AnyHistory::Queue(plain) => report_on_object(rt, alloc, plain.into_history(), workers),
-        AnyHistory::Memory(history) => report_on_memory(rt, alloc, history, workers),
-        AnyHistory::Counters(history) => report_on_object(rt, alloc, history, workers),
-        AnyHistory::Sets(history) => report_on_object(rt, alloc, history, workers),
-        AnyHistory::Queues(history) => report_on_object(rt, alloc, history, workers),
+        AnyHistory::Register(plain) => report_on_object(
+            rt,
+            alloc,
+            plain.into_history(),
+            advice,
+            workers,
+        ),
+        AnyHistory::Counter(plain) => report_on_object(
+            rt,
+            alloc,
+            plain.into_history(),
+            advice,
+            workers,
+        ),
+        AnyHistory::Set(plain) => report_on_object(
+            rt,
+            alloc,
+            plain.into_history(),
+            advice,
+            workers,
+        ),
+        AnyHistory::Queue(plain) => report_on_object(
+            rt,
+            alloc,
+            plain.into_history(),
+            advice,
+            workers,
+        ),
+        AnyHistory::Memory(history) => report_on_memory(rt, alloc, history, advice, workers),
+        AnyHistory::Counters(history) => report_on_object(rt, alloc, history, advice, workers),
+        AnyHistory::Sets(history) => report_on_object(rt, alloc, history, advice, workers),
+        AnyHistory::Queues(history) => report_on_object(rt, alloc, history, advice, workers),
     }
 }
 
@@ -63,6 +92,7 @@ fn report_on_memory<T: Threads + Wait + Sync>(
     rt: &T,
     alloc: Global,
     history: History<Memory>,
+    advice: &[Option<Advice>],
     workers: Workers,
 ) -> Result<Report, RunError>
     ensures truth { IfOk result (EachIsTrueOf (AnyHistory.Memory history)) }
@@ -72,9 +102,33 @@ fn report_on_memory<T: Threads + Wait + Sync>(
 {
     let memory = IndexedMemory::of(alloc, &history)?;
     let decisions = decide_all(alloc, &memory)?;
-    let cc = answer_of_memory(rt, alloc, &memory, Criterion::Cc, decisions.cc, workers)?;
-    let cm = answer_of_memory(rt, alloc, &memory, Criterion::Cm, decisions.cm, workers)?;
-    let ccv = answer_of_memory(rt, alloc, &memory, Criterion::Ccv, decisions.ccv, workers)?;
+    let cc = answer_of_memory(
+        rt,
+        alloc,
+        &memory,
+        advice,
+        Criterion::Cc,
+        decisions.cc,
+        workers,
+    )?;
+    let cm = answer_of_memory(
+        rt,
+        alloc,
+        &memory,
+        advice,
+        Criterion::Cm,
+        decisions.cm,
+        workers,
+    )?;
+    let ccv = answer_of_memory(
+        rt,
+        alloc,
+        &memory,
+        advice,
+        Criterion::Ccv,
+        decisions.ccv,
+        workers,
+    )?;
     Ok(Report { cc, cm, ccv })
 }
 
@@ -83,15 +137,30 @@ fn report_on_object<O: Judged + Send + Sync, T: Threads + Wait + Sync>(
     rt: &T,
     alloc: Global,
     history: History<O>,
+    advice: &[Option<Advice>],
     workers: Workers,
 ) -> Result<Report, RunError>
     ensures founded { IfOk result (λ report. (criterion : Criterion)
         → IsFoundedOn O.answer O.excluded history criterion (answer_for report criterion)) }
     ensures error { IfErr result (λ e. e ≡ RunError.Memory) }
 {
-    let cc = answer_of_object(rt, alloc, history.copy(alloc)?, Criterion::Cc, workers)?;
-    let cm = answer_of_object(rt, alloc, history.copy(alloc)?, Criterion::Cm, workers)?;
-    let ccv = answer_of_object(rt, alloc, history, Criterion::Ccv, workers)?;
+    let cc = answer_of_object(
+        rt,
+        alloc,
+        history.copy(alloc)?,
+        advice,
+        Criterion::Cc,
+        workers,
+    )?;
+    let cm = answer_of_object(
+        rt,
+        alloc,
+        history.copy(alloc)?,
+        advice,
+        Criterion::Cm,
+        workers,
+    )?;
+    let ccv = answer_of_object(rt, alloc, history, advice, Criterion::Ccv, workers)?;
     Ok(Report { cc, cm, ccv })
 }
 
@@ -102,6 +171,7 @@ fn answer_of_memory<T: Threads + Wait + Sync>(
     rt: &T,
     alloc: Global,
     memory: &IndexedMemory,
+    advice: &[Option<Advice>],
     criterion: Criterion,
     decision: Decision,
     workers: Workers,
@@ -117,7 +187,7 @@ fn answer_of_memory<T: Threads + Wait + Sync>(
         Decision::Meets => Ok(Answer::Yes),
         Decision::Excluded(pattern) => Ok(Answer::No(pattern.kind())),
         Decision::ExcludedBy(kind) => Ok(Answer::No(kind)),
-        Decision::Open => answer_by_certificate(rt, alloc, memory, criterion, workers),
+        Decision::Open => answer_by_certificate(rt, alloc, memory, advice, criterion, workers),
     }
 }
 
@@ -126,6 +196,7 @@ fn answer_by_certificate<T: Threads + Wait + Sync>(
     rt: &T,
     alloc: Global,
     memory: &IndexedMemory,
+    advice: &[Option<Advice>],
     criterion: Criterion,
     workers: Workers,
 ) -> Result<Answer, RunError>
@@ -133,7 +204,7 @@ fn answer_by_certificate<T: Threads + Wait + Sync>(
     ensures error { IfErr result (λ e. e ≡ RunError.Memory) }
 {
     let history = memory.history().copy(alloc)?;
-    let made = certificate_by_causal_order(alloc, memory, criterion)?;
+    let made = certificate_of(alloc, memory, advice, criterion)?;
     answer_by(rt, alloc, history, made, criterion, workers)
 }
 
@@ -164,16 +235,59 @@ fn answer_of_object<O: Judged + Send + Sync, T: Threads + Wait + Sync>(
     rt: &T,
     alloc: Global,
     history: History<O>,
+    advice: &[Option<Advice>],
     criterion: Criterion,
     workers: Workers,
 ) -> Result<Answer, RunError>
     ensures founded { IfOk result (IsFoundedOn O.answer O.excluded history criterion) }
     ensures error { IfErr result (λ e. e ≡ RunError.Memory) }
 {
-    match judge(rt, alloc, history, criterion, workers.count(), &OpenGate) {
+    match judge(
+        rt,
+        alloc,
+        history,
+        advice,
+        criterion,
+        workers.count(),
+        &OpenGate,
+    ) {
         Ok(answer) => Ok(answer),
         Err(DeskError::Memory) => Err(RunError::Memory),
         Err(_) => unreachable!(),
+    }
+}
+
+// The certificate of a history of a memory, where one is made: from advice where there is any, and else by its causal order.
+fn certificate_of(
+    alloc: Global,
+    memory: &IndexedMemory,
+    advice: &[Option<Advice>],
+    criterion: Criterion,
+) -> Result<Option<Certificate>, AllocError>
+    ensures criterion { IfOk result (λ made. IfSome made (λ c. criterion_of c ≡ criterion)) }
+    ensures shape { IfOk result (λ made. IfSome made (HasShapeOf memory.now)) }
+{
+    if advice.is_empty() {
+        certificate_by_causal_order(alloc, memory, criterion)
+    } else {
+        certificate_by_advice(alloc, memory.history(), advice, criterion)
+    }
+}
+
+// The certificate of a history of a memory from advice, where it decides; else by the sources of its reads, where one is made.
+fn certificate_by_advice(
+    alloc: Global,
+    history: &History<Memory>,
+    advice: &[Option<Advice>],
+    criterion: Criterion,
+) -> Result<Option<Certificate>, AllocError>
+    ensures criterion { IfOk result (λ made. IfSome made (λ c. criterion_of c ≡ criterion)) }
+    ensures shape { IfOk result (λ made. IfSome made (HasShapeOf history.now)) }
+{
+    match criterion {
+        Criterion::Cc => certify_cc::make_memory(alloc, history, advice),
+        Criterion::Cm => certify_cm::make_memory(alloc, history, advice),
+        Criterion::Ccv => certify_ccv::make_memory(alloc, history, advice),
     }
 }
 

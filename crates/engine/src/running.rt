@@ -79,6 +79,6 @@ fn judge<T: Threads + Wait + Sync>(
     ensures error { IfErr result (IsAnswerError (Order.Judge workers) input.now) }
 {
     let history = read_history(alloc, input)?;
-    let report = report_on(rt, alloc, history, workers)?;
+    let report = report_on(rt, alloc, history, &[], workers)?;
     Ok(report_text(alloc, &report)?)
 }

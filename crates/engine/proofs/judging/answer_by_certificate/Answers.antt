@@ -1,6 +1,6 @@
 use Rattle.std.proofs.Common.{◌∙◌, subst}
 use Rattle.std.specs.Prelude.{IfOk}
-use Rattle.bad_patterns.specs.Patterns.{IsTrueNo}
+use Rattle.bad_patterns.specs.Kinds.{IsTrueNo}
 use Rattle.memory_order.specs.Memory.{MemoryHistory, memory_answer}
 use Rattle.cert_check.specs.Criteria.{Meets}
 use Rattle.collector.specs.Judgements.{IsFounded, IsUnexplainedOf}

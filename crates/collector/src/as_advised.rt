@@ -1,0 +1,179 @@
+ghost use Rattle.std.specs.Prelude.{◌≡◌, IfOk, IfSome};
+ghost use Rattle.cert_check.specs.Certificates.{HasShapeOf, criterion_of};
+
+use crate::judged::Judged;
+use bad_patterns::Pattern;
+use cert_check::{Certificate, Criterion};
+use history::{Advice, History};
+use object_trait::SeqObject;
+use objects::{AddRemoveSet, Counter, Counters, Queue, Queues, Register, Sets};
+use std::alloc::{AllocError, Global};
+
+// The histories of these objects are judged as a store advises: no pattern is looked for, and certificates are made from what a
+// store told of each operation, or where nothing is told by program order alone. Each implementation is written out: one for all
+// objects of a kind makes every call at an object under keys several times as long to prove.
+
+/// A certificate from what a store told, or by program order alone where the advice is empty or of another length than the
+/// history, for any object.
+fn certificate_for<O: SeqObject>(
+    alloc: Global,
+    h: &History<O>,
+    advice: &[Option<Advice>],
+    criterion: Criterion,
+) -> Result<Option<Certificate>, AllocError>
+    ensures criterion { IfOk result (λ made. IfSome made (λ c. criterion_of c ≡ criterion)) }
+    ensures shape { IfOk result (λ made. IfSome made (HasShapeOf h.now)) }
+{
+    match criterion {
+        Criterion::Cc => certify_cc::make(alloc, h, advice),
+        Criterion::Cm => certify_cm::make(alloc, h, advice),
+        Criterion::Ccv => certify_ccv::make(alloc, h, advice),
+    }
+}
+
+impl Judged for Register {
+    ghost decides = { λ h criterion. ⊥ };
+
+    fn find(
+        _alloc: Global,
+        _h: &History<Register>,
+        _criterion: Criterion,
+    ) -> Result<Option<Pattern>, AllocError> {
+        Ok(None)
+    }
+
+    fn make(
+        alloc: Global,
+        h: &History<Register>,
+        advice: &[Option<Advice>],
+        criterion: Criterion,
+    ) -> Result<Option<Certificate>, AllocError> {
+        certificate_for(alloc, h, advice, criterion)
+    }
+}
+
+impl Judged for Counter {
+    ghost decides = { λ h criterion. ⊥ };
+
+    fn find(
+        _alloc: Global,
+        _h: &History<Counter>,
+        _criterion: Criterion,
+    ) -> Result<Option<Pattern>, AllocError> {
+        Ok(None)
+    }
+
+    fn make(
+        alloc: Global,
+        h: &History<Counter>,
+        advice: &[Option<Advice>],
+        criterion: Criterion,
+    ) -> Result<Option<Certificate>, AllocError> {
+        certificate_for(alloc, h, advice, criterion)
+    }
+}
+
+impl Judged for AddRemoveSet {
+    ghost decides = { λ h criterion. ⊥ };
+
+    fn find(
+        _alloc: Global,
+        _h: &History<AddRemoveSet>,
+        _criterion: Criterion,
+    ) -> Result<Option<Pattern>, AllocError> {
+        Ok(None)
+    }
+
+    fn make(
+        alloc: Global,
+        h: &History<AddRemoveSet>,
+        advice: &[Option<Advice>],
+        criterion: Criterion,
+    ) -> Result<Option<Certificate>, AllocError> {
+        certificate_for(alloc, h, advice, criterion)
+    }
+}
+
+impl Judged for Queue {
+    ghost decides = { λ h criterion. ⊥ };
+
+    fn find(
+        _alloc: Global,
+        _h: &History<Queue>,
+        _criterion: Criterion,
+    ) -> Result<Option<Pattern>, AllocError> {
+        Ok(None)
+    }
+
+    fn make(
+        alloc: Global,
+        h: &History<Queue>,
+        advice: &[Option<Advice>],
+        criterion: Criterion,
+    ) -> Result<Option<Certificate>, AllocError> {
+        certificate_for(alloc, h, advice, criterion)
+    }
+}
+
+impl Judged for Counters {
+    ghost decides = { λ h criterion. ⊥ };
+
+    fn find(
+        _alloc: Global,
+        _h: &History<Counters>,
+        _criterion: Criterion,
+    ) -> Result<Option<Pattern>, AllocError> {
+        Ok(None)
+    }
+
+    fn make(
+        alloc: Global,
+        h: &History<Counters>,
+        advice: &[Option<Advice>],
+        criterion: Criterion,
+    ) -> Result<Option<Certificate>, AllocError> {
+        certificate_for(alloc, h, advice, criterion)
+    }
+}
+
+impl Judged for Sets {
+    ghost decides = { λ h criterion. ⊥ };
+
+    fn find(
+        _alloc: Global,
+        _h: &History<Sets>,
+        _criterion: Criterion,
+    ) -> Result<Option<Pattern>, AllocError> {
+        Ok(None)
+    }
+
+    fn make(
+        alloc: Global,
+        h: &History<Sets>,
+        advice: &[Option<Advice>],
+        criterion: Criterion,
+    ) -> Result<Option<Certificate>, AllocError> {
+        certificate_for(alloc, h, advice, criterion)
+    }
+}
+
+impl Judged for Queues {
+    ghost decides = { λ h criterion. ⊥ };
+
+    fn find(
+        _alloc: Global,
+        _h: &History<Queues>,
+        _criterion: Criterion,
+    ) -> Result<Option<Pattern>, AllocError> {
+        Ok(None)
+    }
+
+    fn make(
+        alloc: Global,
+        h: &History<Queues>,
+        advice: &[Option<Advice>],
+        criterion: Criterion,
+    ) -> Result<Option<Certificate>, AllocError> {
+        certificate_for(alloc, h, advice, criterion)
+    }
+}
