@@ -1,8 +1,9 @@
 //! What certificates are made of what a store told of each operation.
 
-use crate::cases::{Question, failures};
+use crate::cases::Question;
 use crate::histories::criterion_first;
 use crate::made_certificates::{explained_by, told};
+use crate::tables::as_wanted;
 use cert_check::{Certificate, Criterion};
 use history::{Advice, TakenIn};
 use object_trait::SeqObject;
@@ -47,11 +48,7 @@ convergence_by_advice_on_one_value_twice | ccv 1.0 1.0/5/0;2.0/6/0.0;0.1/1/1 ["m
 
 #[test]
 fn certificates_are_made_by_what_is_told(rt: HostRuntime) -> Result<(), Fail> {
-    assert_eq!(rt;
-        failures(&rt, Question::MakeAsAdvised, PIECES)?.as_str(),
-        ""
-    );
-    Ok(())
+    as_wanted(&rt, Question::MakeAsAdvised, PIECES)
 }
 
 const UNEXPLAINED: &str = r#"
@@ -68,9 +65,7 @@ no_word_of_any_operation | cc -;- ["counter",[[["inc"]],[["get",1]]]] | 1.0
 
 #[test]
 fn certificates_from_advice_may_explain_all_or_not(rt: HostRuntime) -> Result<(), Fail> {
-    let failed = failures(&rt, Question::ExplainAsAdvised, UNEXPLAINED)?;
-    assert_eq!(rt; failed.as_str(), "");
-    Ok(())
+    as_wanted(&rt, Question::ExplainAsAdvised, UNEXPLAINED)
 }
 
 /// The piece of an operation in the certificate that is made, where the input has the name of a criterion, an operation,
@@ -213,7 +208,8 @@ fn numbers(alloc: Global, text: &str) -> Result<Vec<u8>, AllocError> {
     Ok(numbers)
 }
 
-fn made_for<O: SeqObject>(
+/// The certificate that is made for a criterion from advice, of an object by what it is told alone.
+pub fn made_for<O: SeqObject>(
     alloc: Global,
     criterion: Criterion,
     advice: &[Option<Advice>],

@@ -1,6 +1,7 @@
 //! What the objects answer to calls.
 
-use crate::cases::{Question, failures};
+use crate::cases::Question;
+use crate::tables::as_wanted;
 use object_trait::{SeqObject, replay};
 use operations::{AnyHistory, History, read_history};
 use std::alloc::{AllocError, Global};
@@ -25,8 +26,7 @@ queues_hold_their_own_items | ["queues",[[],[["push",4,7,"?"],["pop",1,"?"],["po
 
 #[test]
 fn objects_answer_calls_after_calls(rt: HostRuntime) -> Result<(), Fail> {
-    assert_eq!(rt; failures(&rt, Question::Apply, ANSWERS)?.as_str(), "");
-    Ok(())
+    as_wanted(&rt, Question::Apply, ANSWERS)
 }
 
 /// What the object of a history answers to the calls of the second session, after those of the first.

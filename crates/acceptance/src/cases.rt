@@ -41,7 +41,7 @@ pub enum Question {
     Copy,
     /// What the object of its history answers.
     Apply,
-    /// What the world answers to the steps of its script.
+    /// What `replay` answers to its script.
     Replay,
     /// What replicas answer to its steps.
     Replicate,
@@ -103,7 +103,7 @@ fn answer_to<P: Threads + Wait + Sync + AllocGlobal>(
         Question::Write => texts::written(rt.alloc(), input),
         Question::Copy => texts::copied(rt.alloc(), input),
         Question::Apply => applied_calls::applied(rt.alloc(), input),
-        Question::Replay => worlds::replied(rt.alloc(), input),
+        Question::Replay => worlds::replied(rt, input),
         Question::Replicate => replicas::replicated(rt.alloc(), input),
         Question::ReplicateAtRandom => replica_runs::replayed(rt.alloc(), input),
     }

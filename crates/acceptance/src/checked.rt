@@ -1,7 +1,8 @@
 //! What `check` says of certificates.
 
-use crate::cases::{Question, failures};
+use crate::cases::Question;
 use crate::running::said_of;
+use crate::tables::as_wanted_of_each;
 use engine::{Order, Workers};
 use std::alloc::AllocError;
 use std::sync::Wait;
@@ -25,19 +26,8 @@ list_in_which_the_get_stands_before_the_increment | [["counter",[[["inc"]],[["ge
 
 #[test]
 fn certificates_explain_each_operation_or_not(rt: HostRuntime) -> Result<(), Fail> {
-    assert_eq!(rt;
-        failures(&rt, Question::Check(1), CERTIFICATES)?.as_str(),
-        ""
-    );
-    assert_eq!(rt;
-        failures(&rt, Question::Check(2), CERTIFICATES)?.as_str(),
-        ""
-    );
-    assert_eq!(rt;
-        failures(&rt, Question::Check(16), CERTIFICATES)?.as_str(),
-        ""
-    );
-    Ok(())
+    let questions = [Question::Check(1), Question::Check(2), Question::Check(16)];
+    as_wanted_of_each(&rt, &questions, CERTIFICATES)
 }
 
 const REFUSED: &str = r#"
@@ -62,9 +52,8 @@ table_with_zero_before_the_certificate | [["memory",[],[[0,0]]],null] | 1 refuse
 
 #[test]
 fn pairs_are_refused_with_their_line(rt: HostRuntime) -> Result<(), Fail> {
-    assert_eq!(rt; failures(&rt, Question::Check(1), REFUSED)?.as_str(), "");
-    assert_eq!(rt; failures(&rt, Question::Check(2), REFUSED)?.as_str(), "");
-    Ok(())
+    let questions = [Question::Check(1), Question::Check(2)];
+    as_wanted_of_each(&rt, &questions, REFUSED)
 }
 
 /// What a run of `check` by so many workers says of a text.

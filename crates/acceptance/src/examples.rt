@@ -1,6 +1,7 @@
 //! What the program says of the files of `examples/`.
 
-use crate::cases::{Question, failures};
+use crate::cases::Question;
+use crate::tables::as_wanted;
 use crate::{checked, worlds};
 use std::test::Fail;
 
@@ -71,8 +72,7 @@ const REPEATED_VERDICT_LINES: &str =
 
 #[test]
 fn histories_of_the_examples_are_judged(rt: HostRuntime) -> Result<(), Fail> {
-    assert_eq!(rt; failures(&rt, Question::Judge(2), HISTORIES)?.as_str(), "");
-    Ok(())
+    as_wanted(&rt, Question::Judge(2), HISTORIES)
 }
 
 #[test]
@@ -83,12 +83,9 @@ fn certificate_of_the_examples_is_checked(rt: HostRuntime) -> Result<(), Fail> {
 
 #[test]
 fn scripts_of_the_examples_are_answered(rt: HostRuntime) -> Result<(), Fail> {
+    assert_eq!(rt; worlds::replied(&rt, OPEN_CALL)?.as_str(), OPEN_CALL_LINES);
     assert_eq!(rt;
-        worlds::replied(rt.alloc(), OPEN_CALL)?.as_str(),
-        OPEN_CALL_LINES
-    );
-    assert_eq!(rt;
-        worlds::replied(rt.alloc(), REPEATED_VERDICT)?.as_str(),
+        worlds::replied(&rt, REPEATED_VERDICT)?.as_str(),
         REPEATED_VERDICT_LINES
     );
     Ok(())

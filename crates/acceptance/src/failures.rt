@@ -2,6 +2,7 @@
 
 use engine::{RunError, fault_line, status_of};
 use operations::{OpId, ReadError};
+use script::ScriptError;
 use std::alloc::{AllocError, Global};
 use std::test::Fail;
 
@@ -12,6 +13,18 @@ fn status_and_line(alloc: Global, error: RunError) -> Result<String, AllocError>
     format!(in alloc; "{status} {line}")
 }
 
+/// The cases whose failure has another status or another line than the wanted ones.
+fn otherwise(alloc: Global, cases: &[(RunError, &str)]) -> Result<String, AllocError> {
+    let mut otherwise = String::new(alloc);
+    for (error, wanted) in cases {
+        let said = status_and_line(alloc, *error)?;
+        if said.as_str() != *wanted {
+            otherwise.push_str(format!(in alloc; "{said} for {wanted}\n")?.as_str())?;
+        }
+    }
+    Ok(otherwise)
+}
+
 const LAST: OpId = OpId {
     session: 15,
     index: 255,
@@ -19,70 +32,58 @@ const LAST: OpId = OpId {
 
 #[test]
 fn each_refusal_of_a_history_has_its_status_and_its_line(rt: HostRuntime) -> Result<(), Fail> {
-    let alloc = rt.alloc();
-    assert_eq!(rt;
-        status_and_line(alloc, RunError::History(ReadError::NotJson))?.as_str(),
-        "1 refused 1"
-    );
-    assert_eq!(rt;
-        status_and_line(alloc, RunError::History(ReadError::BadShape))?.as_str(),
-        "1 refused 2"
-    );
-    assert_eq!(rt;
-        status_and_line(alloc, RunError::History(ReadError::UnknownObject))?.as_str(),
-        "1 refused 3"
-    );
-    assert_eq!(rt;
-        status_and_line(alloc, RunError::History(ReadError::BadOp(LAST)))?.as_str(),
-        "1 refused 4 15.255"
-    );
-    let after_unknown = status_and_line(
-        alloc,
-        RunError::History(ReadError::ReturnAfterUnknown(LAST)),
-    )?;
-    assert_eq!(rt; after_unknown.as_str(), "1 refused 5 15.255");
-    assert_eq!(rt;
-        status_and_line(alloc, RunError::History(ReadError::TooManySessions))?.as_str(),
-        "1 refused 6"
-    );
-    assert_eq!(rt;
-        status_and_line(alloc, RunError::History(ReadError::TooManyOps))?.as_str(),
-        "1 refused 7"
-    );
-    assert_eq!(rt;
-        status_and_line(alloc, RunError::History(ReadError::Memory))?.as_str(),
-        "4 no memory"
-    );
-    assert_eq!(rt;
-        status_and_line(alloc, RunError::History(ReadError::BadInitial))?.as_str(),
-        "1 refused 29"
-    );
+    let cases = [
+        (RunError::History(ReadError::NotJson), "1 refused 1"),
+        (RunError::History(ReadError::BadShape), "1 refused 2"),
+        (RunError::History(ReadError::UnknownObject), "1 refused 3"),
+        (
+            RunError::History(ReadError::BadOp(LAST)),
+            "1 refused 4 15.255",
+        ),
+        (
+            RunError::History(ReadError::ReturnAfterUnknown(LAST)),
+            "1 refused 5 15.255",
+        ),
+        (RunError::History(ReadError::TooManySessions), "1 refused 6"),
+        (RunError::History(ReadError::TooManyOps), "1 refused 7"),
+        (RunError::History(ReadError::Memory), "4 no memory"),
+        (RunError::History(ReadError::BadInitial), "1 refused 29"),
+    ];
+    assert_eq!(rt; otherwise(rt.alloc(), &cases)?.as_str(), "");
+    Ok(())
+}
+
+#[test]
+fn each_refusal_of_a_script_has_its_status_and_its_line(rt: HostRuntime) -> Result<(), Fail> {
+    let cases = [
+        (RunError::Script(ScriptError::NotJson), "1 refused 1"),
+        (RunError::Script(ScriptError::BadShape), "1 refused 2"),
+        (RunError::Script(ScriptError::UnknownObject), "1 refused 3"),
+        (RunError::Script(ScriptError::Memory), "4 no memory"),
+        (RunError::Script(ScriptError::BadLimits), "1 refused 10"),
+        (RunError::Script(ScriptError::TooManySteps), "1 refused 27"),
+        (RunError::Script(ScriptError::BadStep(0)), "1 refused 28 0"),
+        (
+            RunError::Script(ScriptError::BadStep(65_536)),
+            "1 refused 28 65536",
+        ),
+        (RunError::Script(ScriptError::BadInitial), "1 refused 29"),
+    ];
+    assert_eq!(rt; otherwise(rt.alloc(), &cases)?.as_str(), "");
     Ok(())
 }
 
 #[test]
 fn each_other_failure_has_its_status_and_its_line(rt: HostRuntime) -> Result<(), Fail> {
-    let alloc = rt.alloc();
-    let bad_certificate = status_and_line(alloc, RunError::BadCertificate)?;
-    assert_eq!(rt; bad_certificate.as_str(), "1 refused 20");
-    let other_shape = status_and_line(alloc, RunError::ShapeMismatch)?;
-    assert_eq!(rt; other_shape.as_str(), "1 refused 21");
-    assert_eq!(rt;
-        status_and_line(alloc, RunError::TooLong)?.as_str(),
-        "1 refused 9"
-    );
-    assert_eq!(rt;
-        status_and_line(alloc, RunError::Memory)?.as_str(),
-        "4 no memory"
-    );
-    assert_eq!(rt;
-        status_and_line(alloc, RunError::ReadFault)?.as_str(),
-        "3 read fault"
-    );
-    assert_eq!(rt;
-        status_and_line(alloc, RunError::WriteFault)?.as_str(),
-        "3 write fault"
-    );
+    let cases = [
+        (RunError::BadCertificate, "1 refused 20"),
+        (RunError::ShapeMismatch, "1 refused 21"),
+        (RunError::TooLong, "1 refused 9"),
+        (RunError::Memory, "4 no memory"),
+        (RunError::ReadFault, "3 read fault"),
+        (RunError::WriteFault, "3 write fault"),
+    ];
+    assert_eq!(rt; otherwise(rt.alloc(), &cases)?.as_str(), "");
     assert_eq!(rt; status_of(&Ok(())), 0);
     Ok(())
 }

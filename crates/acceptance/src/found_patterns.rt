@@ -1,7 +1,8 @@
 //! What the search for patterns finds in small histories.
 
-use crate::cases::{Question, failures};
+use crate::cases::Question;
 use crate::histories::memory;
+use crate::tables::as_wanted;
 use bad_patterns::{Line, Pattern, check_pattern};
 use cert_check::Criterion;
 use objects::Memory;
@@ -30,8 +31,7 @@ write_before_a_read_of_the_start_by_way_of_many_reads | ["memory",[[["w",1,1],["
 
 #[test]
 fn patterns_are_found_and_shown(rt: HostRuntime) -> Result<(), Fail> {
-    assert_eq!(rt; failures(&rt, Question::Find, PATTERNS)?.as_str(), "");
-    Ok(())
+    as_wanted(&rt, Question::Find, PATTERNS)
 }
 
 /// The kinds of the patterns that are found against each criterion.

@@ -1,7 +1,8 @@
 //! What `judge` says of histories.
 
-use crate::cases::{Question, failures};
+use crate::cases::Question;
 use crate::running::said_of;
+use crate::tables::as_wanted_of_each;
 use engine::{Order, Workers};
 use std::alloc::{AllocError, Global};
 use std::sync::Wait;
@@ -40,10 +41,8 @@ value_written_twice_forbids_a_no_of_a_cycle | ["memory",[[["r",0,1],["w",0,1]],[
 
 #[test]
 fn histories_of_a_memory_are_judged(rt: HostRuntime) -> Result<(), Fail> {
-    assert_eq!(rt; failures(&rt, Question::Judge(1), MEMORIES)?.as_str(), "");
-    assert_eq!(rt; failures(&rt, Question::Judge(2), MEMORIES)?.as_str(), "");
-    assert_eq!(rt; failures(&rt, Question::Judge(16), MEMORIES)?.as_str(), "");
-    Ok(())
+    let questions = [Question::Judge(1), Question::Judge(2), Question::Judge(16)];
+    as_wanted_of_each(&rt, &questions, MEMORIES)
 }
 
 const OTHER_OBJECTS: &str = r#"
@@ -63,19 +62,8 @@ register_has_no_start_but_zero | ["register",[[["r",5]]]] | 0 cc unknown 0.0;cm 
 
 #[test]
 fn the_other_objects_are_explained_by_program_order_alone(rt: HostRuntime) -> Result<(), Fail> {
-    assert_eq!(rt;
-        failures(&rt, Question::Judge(1), OTHER_OBJECTS)?.as_str(),
-        ""
-    );
-    assert_eq!(rt;
-        failures(&rt, Question::Judge(2), OTHER_OBJECTS)?.as_str(),
-        ""
-    );
-    assert_eq!(rt;
-        failures(&rt, Question::Judge(16), OTHER_OBJECTS)?.as_str(),
-        ""
-    );
-    Ok(())
+    let questions = [Question::Judge(1), Question::Judge(2), Question::Judge(16)];
+    as_wanted_of_each(&rt, &questions, OTHER_OBJECTS)
 }
 
 /// What a run of `judge` by so many workers says of a text.

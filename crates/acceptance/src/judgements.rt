@@ -1,9 +1,10 @@
 //! What `judge` and `judge_with` of the library say of histories and certificates.
 
 use crate::case_files::certificate_of;
-use crate::cases::{Question, failures};
+use crate::cases::Question;
 use crate::desks::{refusal, told};
 use crate::histories::criterion_first;
+use crate::tables::as_wanted_of_each;
 use cert_check::{CaseFile, Certificate, Criterion, DeskError};
 use collector::{Answer, Judged, OpenGate, judge, judge_with};
 use operations::{AnyHistory, History, read_history};
@@ -50,19 +51,12 @@ certificate_of_another_criterion | judge_with cm ["memory",[[["w",0,1]],[["r",0,
 fn histories_and_certificates_are_judged_by_any_number_of_workers(
     rt: HostRuntime,
 ) -> Result<(), Fail> {
-    assert_eq!(rt;
-        failures(&rt, Question::JudgeBy(1), JUDGEMENTS)?.as_str(),
-        ""
-    );
-    assert_eq!(rt;
-        failures(&rt, Question::JudgeBy(2), JUDGEMENTS)?.as_str(),
-        ""
-    );
-    assert_eq!(rt;
-        failures(&rt, Question::JudgeBy(16), JUDGEMENTS)?.as_str(),
-        ""
-    );
-    Ok(())
+    let questions = [
+        Question::JudgeBy(1),
+        Question::JudgeBy(2),
+        Question::JudgeBy(16),
+    ];
+    as_wanted_of_each(&rt, &questions, JUDGEMENTS)
 }
 
 const REFUSED: &str = r#"
@@ -74,13 +68,12 @@ no_certificate | judge_with ccv ["memory",[[["w",0,1]],[["r",0,1]]]] | refused 1
 
 #[test]
 fn other_numbers_of_workers_are_refused(rt: HostRuntime) -> Result<(), Fail> {
-    assert_eq!(rt; failures(&rt, Question::JudgeBy(0), REFUSED)?.as_str(), "");
-    assert_eq!(rt; failures(&rt, Question::JudgeBy(17), REFUSED)?.as_str(), "");
-    assert_eq!(rt;
-        failures(&rt, Question::JudgeBy(usize::MAX), REFUSED)?.as_str(),
-        ""
-    );
-    Ok(())
+    let questions = [
+        Question::JudgeBy(0),
+        Question::JudgeBy(17),
+        Question::JudgeBy(usize::MAX),
+    ];
+    as_wanted_of_each(&rt, &questions, REFUSED)
 }
 
 /// Which call judges, and by what.
@@ -163,7 +156,7 @@ fn answer_on<O: Judged + Send + Sync, P: Threads + Wait + Sync + AllocGlobal>(
     call: Call,
 ) -> Result<Answer, DeskError> {
     match call {
-        Call::Judge => judge(rt, rt.alloc(), history, criterion, workers, &OpenGate),
+        Call::Judge => judge(rt, rt.alloc(), history, &[], criterion, workers, &OpenGate),
         Call::JudgeWith(certificate) => {
             let file = CaseFile::new(history, criterion, certificate)?;
             judge_with(rt, rt.alloc(), file, workers, &OpenGate)

@@ -13,6 +13,8 @@ mod case_files;
 #[cfg(test)]
 mod cases;
 #[cfg(test)]
+mod causal_runs;
+#[cfg(test)]
 mod checked;
 #[cfg(test)]
 mod command_lines;
@@ -41,11 +43,15 @@ mod objects_alone;
 #[cfg(test)]
 mod patterns;
 #[cfg(test)]
+mod random;
+#[cfg(test)]
 mod recorder_tests;
 #[cfg(test)]
 mod recordings;
 #[cfg(test)]
 mod refused;
+#[cfg(test)]
+mod refused_scripts;
 #[cfg(test)]
 mod replica_runs;
 #[cfg(test)]
@@ -60,6 +66,8 @@ mod seal_cut;
 mod seal_steps;
 #[cfg(test)]
 mod seals;
+#[cfg(test)]
+mod tables;
 #[cfg(test)]
 mod texts;
 #[cfg(test)]

@@ -1,7 +1,8 @@
 //! What certificates are made of small histories.
 
-use crate::cases::{Question, failures};
+use crate::cases::Question;
 use crate::histories::{criterion_first, memory, op_of};
+use crate::tables::as_wanted;
 use causal_order::ByOperation;
 use cert_check::{CaseFile, Certificate, Criterion, first_unexplained};
 use object_trait::SeqObject;
@@ -41,8 +42,7 @@ cycle_of_conflicts_has_no_certificate_for_convergence | ccv 0.0 ["memory",[[["w"
 
 #[test]
 fn certificates_are_made_by_what_is_read(rt: HostRuntime) -> Result<(), Fail> {
-    assert_eq!(rt; failures(&rt, Question::Make, PIECES)?.as_str(), "");
-    Ok(())
+    as_wanted(&rt, Question::Make, PIECES)
 }
 
 const PIECES_BY_PROGRAM_ORDER: &str = r#"
@@ -53,9 +53,7 @@ sessions_one_after_the_other_for_convergence | ccv 2.1 ["memory",[[["w",0,1]],[]
 
 #[test]
 fn program_order_alone_always_has_certificates(rt: HostRuntime) -> Result<(), Fail> {
-    let failed = failures(&rt, Question::MakeByProgramOrder, PIECES_BY_PROGRAM_ORDER)?;
-    assert_eq!(rt; failed.as_str(), "");
-    Ok(())
+    as_wanted(&rt, Question::MakeByProgramOrder, PIECES_BY_PROGRAM_ORDER)
 }
 
 const UNEXPLAINED: &str = r#"
@@ -65,8 +63,7 @@ read_of_the_start_before_the_writes_are_seen | ccv ["memory",[[["w",2,1],["w",0,
 
 #[test]
 fn made_certificate_may_explain_all_or_not(rt: HostRuntime) -> Result<(), Fail> {
-    assert_eq!(rt; failures(&rt, Question::Explain, UNEXPLAINED)?.as_str(), "");
-    Ok(())
+    as_wanted(&rt, Question::Explain, UNEXPLAINED)
 }
 
 /// The vector and the schedule of an operation in the certificate that is made, where the input has the name of a

@@ -1,9 +1,10 @@
 //! Which texts `judge` refuses.
 
-use crate::cases::{Question, failures};
+use crate::cases::Question;
 use crate::histories::writes;
 use crate::judged::said;
 use crate::running::said_of;
+use crate::tables::as_wanted_of_each;
 use engine::{Order, Workers};
 use std::alloc::AllocError;
 use std::sync::Wait;
@@ -60,9 +61,8 @@ third_element_of_a_counter_that_is_no_list | ["counter",[],0] | 1 refused 2
 
 #[test]
 fn texts_are_refused_with_their_line(rt: HostRuntime) -> Result<(), Fail> {
-    assert_eq!(rt; failures(&rt, Question::Judge(1), REFUSED)?.as_str(), "");
-    assert_eq!(rt; failures(&rt, Question::Judge(2), REFUSED)?.as_str(), "");
-    Ok(())
+    let questions = [Question::Judge(1), Question::Judge(2)];
+    as_wanted_of_each(&rt, &questions, REFUSED)
 }
 
 #[test]

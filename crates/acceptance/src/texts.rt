@@ -1,7 +1,8 @@
 //! How histories are written.
 
-use crate::cases::{Question, failures};
+use crate::cases::Question;
 use crate::histories::memory;
+use crate::tables::as_wanted;
 use objects::{KeyedCall, Memory, RegisterCall, RegisterRet};
 use operations::{History, read_history, write_history};
 use std::alloc::{AllocError, Global};
@@ -26,8 +27,7 @@ pop_of_nothing_before_a_push | ["queue",[[["pop",null],["push",5]]]] | ["queue",
 
 #[test]
 fn histories_are_written_as_they_were_read(rt: HostRuntime) -> Result<(), Fail> {
-    assert_eq!(rt; failures(&rt, Question::Write, WRITTEN)?.as_str(), "");
-    Ok(())
+    as_wanted(&rt, Question::Write, WRITTEN)
 }
 
 const COPIED: &str = r#"
@@ -36,8 +36,7 @@ memory_with_a_table | ["memory",[[["w",0,1],["r",0,"?"]],[],[["r",0,5]]],[[0,5]]
 
 #[test]
 fn copies_are_equal(rt: HostRuntime) -> Result<(), Fail> {
-    assert_eq!(rt; failures(&rt, Question::Copy, COPIED)?.as_str(), "");
-    Ok(())
+    as_wanted(&rt, Question::Copy, COPIED)
 }
 
 /// How the history in a text is written.

@@ -1,14 +1,12 @@
-//! What the world answers to scripts: a line for each step.
+//! What `replay` answers to scripts: a line for each step.
 
 use crate::cases::{Question, failures};
-use objects::{AddRemoveSet, Counter, Counters, Memory, Queue, Queues, Register, Sets};
-use operations::{Named, ObjectName, elements_of, object_named};
-use refutable::Refutable;
-use script::{WrittenStep, read_step, reply_line};
-use serde_json::Value;
+use crate::running::said_of;
+use engine::{Order, answer_to, fault_line};
 use std::alloc::{AllocError, Global};
+use std::sync::Wait;
 use std::test::Fail;
-use world::{Reply, Step, StepOf, Told, World};
+use std::thread::Threads;
 
 const RECORDING_AND_SEALING: &str = r#"
 call_that_is_open_while_it_is_sealed | ["memory",2,[["start"],["look",0],["begin",0,["w",0,1]],["begin",1,["r",0]],["end",1,1],["look",0,5],["show",0]]] | ok 0;none;ok 0.0;ok 1.0;ok 1.0;seen;none;seen;none;none;["memory",[[["w",0,1,"?"]],[["r",0,1]]]];
@@ -79,29 +77,29 @@ fn repeated(
 }
 
 /// The lines of a script, with a step of it so many times.
-fn replied_again(
-    alloc: Global,
+fn replied_again<P: Threads + Wait + Sync + AllocGlobal>(
+    rt: &P,
     before: &str,
     step: &str,
     times: usize,
     behind: &str,
 ) -> Result<String, AllocError> {
-    let script = repeated(alloc, before, step, times, behind)?;
-    replied(alloc, script.as_str())
+    let script = repeated(rt.alloc(), before, step, times, behind)?;
+    replied(rt, script.as_str())
 }
 
 #[test]
 fn session_has_256_operations(rt: HostRuntime) -> Result<(), Fail> {
     let lines = replied_again(
-        rt.alloc(),
-        r#"["counter",1,["#,
-        r#"["begin",0,["inc"]],["end",0,"ok"],"#,
-        256,
-        r#"["begin",0,["inc"]],["start",[256]],["look",0,257]]]"#,
+        &rt,
+        r#"["counter",1,[["begin",0,["inc"]]"#,
+        r#",["end",0,"ok"],["begin",0,["inc"]]"#,
+        255,
+        r#",["begin",0,["inc"]],["end",0,"ok"],["begin",0,["inc"]],["start",[256]],["look",0,257]]]"#,
     )?;
     let wanted = repeated(
         rt.alloc(),
-        "ok 0.255;ok 0.255;refused 11;ok 0;",
+        "ok 0.255;refused 12;ok 0.255;refused 11;ok 0;",
         "seen;",
         256,
         "refused 26;",
@@ -113,7 +111,7 @@ fn session_has_256_operations(rt: HostRuntime) -> Result<(), Fail> {
 #[test]
 fn desk_has_64_cases(rt: HostRuntime) -> Result<(), Fail> {
     let lines = replied_again(
-        rt.alloc(),
+        &rt,
         r#"["counter",1,[["start"],["look",0,2],"#,
         r#"["file",0,"cc"],"#,
         65,
@@ -126,122 +124,30 @@ fn desk_has_64_cases(rt: HostRuntime) -> Result<(), Fail> {
 
 #[test]
 fn each_of_65536_steps_is_answered(rt: HostRuntime) -> Result<(), Fail> {
-    let lines = replied_again(
-        rt.alloc(),
-        r#"["memory",1,[["start"],["look",0,5541]"#,
-        r#",["look",0,9999]"#,
-        6,
-        "]]",
-    )?;
-    let wanted = repeated(rt.alloc(), "ok 0;none;none;", "refused 26;", 65_533, "")?;
-    assert!(rt; lines.as_str() == wanted.as_str());
+    let alloc = rt.alloc();
+    let before = r#"["memory",1,[["start"],["look",0,5541]"#;
+    let script = repeated(alloc, before, r#",["look",0,9999]"#, 6, "]]")?;
+    let said = said_of(&rt, Order::Replay, script.as_bytes())?;
+    let wanted = repeated(alloc, "0 ok 0;none;none;", "refused 26;", 65_533, "")?;
+    assert!(rt; said == wanted);
     Ok(())
 }
 
-/// The lines of the replies to a script, each with a semicolon behind it.
-pub fn replied(alloc: Global, text: &str) -> Result<String, AllocError> {
-    let Ok(script) = Value::from_slice(alloc, text.as_bytes()) else {
-        return String::from_str(alloc, "no JSON");
-    };
-    match parts_of(&script) {
-        Some((name, k, steps, rest)) => lines_in(alloc, name, k, steps, rest),
-        None => String::from_str(alloc, "no script"),
-    }
-}
-
-/// The object, the number of sessions, the steps, and what stands behind them.
-fn parts_of(script: &Value) -> Option<(ObjectName, u64, &[Value], &[Value])> {
-    let elements = elements_of(script)?;
-    if elements.len() < 3 {
-        return None;
-    }
-    let name = object_named(elements[0].as_str()?)?;
-    let k = elements[1].as_u64()?;
-    Some((name, k, elements_of(&elements[2])?, &elements[3..]))
-}
-
-fn lines_in(
-    alloc: Global,
-    name: ObjectName,
-    k: u64,
-    steps: &[Value],
-    rest: &[Value],
-) -> Result<String, AllocError> {
-    match name {
-        ObjectName::Register => lines_of::<Register>(alloc, k, steps, rest),
-        ObjectName::Counter => lines_of::<Counter>(alloc, k, steps, rest),
-        ObjectName::Set => lines_of::<AddRemoveSet>(alloc, k, steps, rest),
-        ObjectName::Queue => lines_of::<Queue>(alloc, k, steps, rest),
-        ObjectName::Memory => lines_of::<Memory>(alloc, k, steps, rest),
-        ObjectName::Counters => lines_of::<Counters>(alloc, k, steps, rest),
-        ObjectName::Sets => lines_of::<Sets>(alloc, k, steps, rest),
-        ObjectName::Queues => lines_of::<Queues>(alloc, k, steps, rest),
-    }
-}
-
-/// The lines of the replies of the world of an object.
-fn lines_of<O: Named + Refutable>(
-    alloc: Global,
-    k: u64,
-    steps: &[Value],
-    rest: &[Value],
-) -> Result<String, AllocError> {
-    let Some(start) = O::read_start(alloc, rest)? else {
-        return String::from_str(alloc, "no start");
-    };
-    let Some(steps) = steps_of::<O>(alloc, k as usize, steps)? else {
-        return String::from_str(alloc, "no step");
-    };
-    if k == 0 || k > 16 {
-        return String::from_str(alloc, "no number of sessions");
-    }
-    let replies = World::<O>::run(alloc, k, &start, steps.as_slice())?;
-    lines_for::<O>(alloc, replies.as_slice())
-}
-
-/// The steps of a script, where each has a form.
-fn steps_of<O: Named>(
-    alloc: Global,
-    k: usize,
-    values: &[Value],
-) -> Result<Option<Vec<Step<O>>>, AllocError> {
-    let mut steps = Vec::new(alloc);
-    for value in values {
-        match read_step::<O>(alloc, k, value)? {
-            Some(step) => push_steps::<O>(&mut steps, alloc, k, step)?,
-            None => return Ok(None),
-        }
-    }
-    Ok(Some(steps))
-}
-
-/// Puts the steps that a written step stands for behind the others.
-fn push_steps<O: Named>(
-    steps: &mut Vec<Step<O>>,
-    alloc: Global,
-    k: usize,
-    written: WrittenStep<O::Call, O::Ret>,
-) -> Result<(), AllocError> {
-    match written {
-        WrittenStep::Once(step) => steps.push(step)?,
-        WrittenStep::StartUntold => {
-            let told = Told::of(vec![in alloc; 0; k]?);
-            steps.push(StepOf::Start(told))?;
-        }
-        WrittenStep::Looks(sealer, times) => {
-            for _ in 0..times {
-                steps.push(StepOf::Look(sealer))?;
-            }
-        }
-    }
+#[test]
+fn script_without_steps_has_no_line(rt: HostRuntime) -> Result<(), Fail> {
+    let said = said_of(&rt, Order::Replay, br#"["memory",1,[]]"#)?;
+    assert_eq!(rt; said.as_str(), "0 ");
     Ok(())
 }
 
-/// The lines of replies, each with a semicolon in the place of its line feed.
-fn lines_for<O: Named>(alloc: Global, replies: &[Reply<O>]) -> Result<String, AllocError> {
-    let mut lines = String::new(alloc);
-    for reply in replies {
-        lines.push_str(reply_line::<O>(alloc, reply)?.as_str())?;
+/// The lines that the program writes for a script, each with a semicolon in the place of its line feed, or the line of its
+/// refusal.
+pub fn replied<P: Threads + Wait + Sync + AllocGlobal>(
+    rt: &P,
+    text: &str,
+) -> Result<String, AllocError> {
+    match answer_to(rt, rt.alloc(), text.as_bytes(), &Order::Replay) {
+        Ok(lines) => lines.as_str().replace(rt.alloc(), "\n", ";"),
+        Err(error) => fault_line(rt.alloc(), &error),
     }
-    lines.as_str().replace(alloc, "\n", ";")
 }
