@@ -1,11 +1,12 @@
 #!/usr/bin/env python3
 """Compares what a program answers to scripts of the world with what the plain program of replay.py answers.
 
-    python3 bench/replayed.py SCRIPTS -- PROGRAM replay
+    python3 bench/replayed.py SCRIPTS [--make SEED COUNT] -- PROGRAM replay
 
-SCRIPTS is a folder that scripts.py made. The program reads a script from its standard input. For each script on which they
-differ, in the status, in what is written, or in the line on standard error, it prints the first lines that differ, and then it
-ends with status 1.
+SCRIPTS is a folder of scripts, each a file named NAME.json. With --make so many random ones of this seed are first written
+there, as scripts.py does. The program reads a script from its standard input. For each script on which they differ, in the
+status, in what is written, or in the line on standard error, it prints the first lines that differ, and then it ends with
+status 1.
 """
 
 import argparse
@@ -15,6 +16,7 @@ import subprocess
 
 import replay
 from command_words import with_program
+from scripts import write_scripts
 
 
 def wanted(data):
@@ -44,7 +46,10 @@ def difference(program, data):
 def main():
     parser = argparse.ArgumentParser(description=__doc__, formatter_class=argparse.RawDescriptionHelpFormatter)
     parser.add_argument("scripts", type=pathlib.Path)
+    parser.add_argument("--make", type=int, nargs=2, metavar=("SEED", "COUNT"))
     given = with_program(parser)
+    if given.make:
+        write_scripts(given.scripts, *given.make)
     files = sorted(given.scripts.glob("*.json"))
     if not files:
         raise SystemExit("no scripts there")

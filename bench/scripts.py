@@ -393,20 +393,26 @@ def reply_kind(reply):
     return " ".join(word for word in words if not word[0].isdigit()) + (" s.i" if "." in words[-1] else "")
 
 
+def write_scripts(outdir, seed, count):
+    """Writes the scripts into a folder, and counts their replies under the words of their steps."""
+    outdir.mkdir(parents=True, exist_ok=True)
+    rng = random.Random(seed)
+    counts = collections.Counter()
+    for place in range(count):
+        text, replies = script_text(rng, place)
+        name = list(OBJECTS)[place % len(OBJECTS)]
+        (outdir / f"{place:04}-{name}.json").write_text(text, encoding="utf-8")
+        counts.update((word, reply_kind(reply)) for word, reply in replies)
+    return counts
+
+
 def main():
     parser = argparse.ArgumentParser(description=__doc__, formatter_class=argparse.RawDescriptionHelpFormatter)
     parser.add_argument("outdir", type=pathlib.Path)
     parser.add_argument("seed", type=int)
     parser.add_argument("count", type=int)
     given = parser.parse_args()
-    given.outdir.mkdir(parents=True, exist_ok=True)
-    rng = random.Random(given.seed)
-    counts = collections.Counter()
-    for place in range(given.count):
-        text, replies = script_text(rng, place)
-        name = list(OBJECTS)[place % len(OBJECTS)]
-        (given.outdir / f"{place:04}-{name}.json").write_text(text, encoding="utf-8")
-        counts.update((word, reply_kind(reply)) for word, reply in replies)
+    counts = write_scripts(given.outdir, given.seed, given.count)
     for (word, kind), many in sorted(counts.items()):
         print(f"{word:24}{kind:24}{many:8}")
     print(f"{given.count} scripts in {given.outdir}")

@@ -1,0 +1,92 @@
+"""Reads the inputs of `judge` and `check` in a plain way, and refuses them in the order in which they are read.
+
+It knows nothing of the program: what it says follows docs/definitions.md and the table of refusals in README.md.
+"""
+
+import recheck
+from objects import KEYED, OBJECTS, UNKNOWN, State, is_call, is_return, is_start, fits, split
+from replay import MOST_BYTES, PLACES, Refused, is_certificate, read_json
+
+MOST_SESSIONS = 16
+
+
+def is_operation(name, form):
+    """Whether the value is a call of the object with a return that fits it, or with one that is not known, behind it."""
+    if type(form) is not list or not form or type(form[0]) is not str or form[0] not in OBJECTS[name].arguments:
+        return False
+    many = 1 + OBJECTS[name].arguments[form[0]] + (name in KEYED)
+    if len(form) not in (many, many + 1) or not is_call(name, form[:many]):
+        return False
+    call, ret = split(name, form)
+    if len(form) == many + 1 and type(ret) is str:
+        return ret == UNKNOWN
+    return is_return(name, ret) and fits(call, ret)
+
+
+def read_session(name, s, forms):
+    """The calls of a session with their returns."""
+    if type(forms) is not list:
+        raise Refused(2)
+    if len(forms) > PLACES:
+        raise Refused(7)
+    operations = []
+    for i, form in enumerate(forms):
+        if not is_operation(name, form):
+            raise Refused(4, f"{s}.{i}")
+        call, ret = split(name, form)
+        if ret != UNKNOWN and operations and operations[-1][1] == UNKNOWN:
+            raise Refused(5, f"{s}.{i}")
+        operations.append((call, ret))
+    return operations
+
+
+def read_history(value):
+    """The object, the table of initial values and the sessions of a history."""
+    if type(value) is not list or len(value) not in (2, 3):
+        raise Refused(2)
+    name, *lists = value
+    if type(name) is not str or not all(type(part) is list for part in lists):
+        raise Refused(2)
+    if name not in OBJECTS:
+        raise Refused(3)
+    if len(lists[0]) > MOST_SESSIONS:
+        raise Refused(6)
+    sessions = [read_session(name, s, forms) for s, forms in enumerate(lists[0])]
+    if lists[1:] and not is_start(name, lists[1]):
+        raise Refused(29)
+    return name, lists[1] if lists[1:] else [], sessions
+
+
+def read_text(data):
+    if len(data) > MOST_BYTES:
+        raise Refused(9)
+    return read_json(data)
+
+
+def read_certified(data):
+    """The history in an input of `check`, and its certificate."""
+    value = read_text(data)
+    if type(value) is not list or len(value) != 2:
+        raise Refused(2)
+    name, start, sessions = read_history(value[0])
+    if not is_certificate(value[1]):
+        raise Refused(20)
+    try:
+        recheck.check_shape(sessions, value[1][1], value[1][0], value[1][2])
+    except recheck.Unexplained:
+        raise Refused(21) from None
+    return name, start, sessions, value[1]
+
+
+def line_of_check(data):
+    """The line that `check` has to write."""
+    name, start, sessions, (kind, vectors, explained) = read_certified(data)
+    if kind == "ccv":
+        explained = recheck.counts_in_order(explained, sessions)
+    for s, session in enumerate(sessions):
+        for i in range(len(session)):
+            try:
+                recheck.check_piece(State(name, start), sessions, vectors, kind, explained, s, i)
+            except recheck.Unexplained:
+                return f"{kind} unknown {s}.{i}\n"
+    return f"{kind} yes\n"
