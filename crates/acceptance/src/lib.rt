@@ -23,8 +23,6 @@ mod desks;
 #[cfg(test)]
 mod devices;
 #[cfg(test)]
-mod drives;
-#[cfg(test)]
 mod examples;
 #[cfg(test)]
 mod failures;

@@ -8,7 +8,3 @@ pub mod NotRefused
 pub mod ScriptOutcomes
 pub mod Outcomes
 pub mod Decided
-pub mod SealedTexts
-pub mod DriveSettings
-pub mod DriveSays
-pub mod DriveOutcomes

@@ -1,6 +1,0 @@
-pub mod Calls
-pub mod Gathered
-pub mod Lists
-pub mod Receiving
-pub mod Recorders
-pub mod Results

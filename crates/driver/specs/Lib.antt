@@ -1,4 +1,0 @@
-pub mod Clients
-pub mod DriveErrors
-pub mod Drives
-pub mod Seats
