@@ -29,10 +29,10 @@ MEMORY_STEPS = 50
 STACK_BYTES = 144 << 10
 
 
-def ended(process):
-    """How a process ended: its status, and what it wrote."""
+def ended(process, data=None):
+    """How a process ended that was given these bytes, or its input otherwise: its status, and what it wrote."""
     try:
-        written, said = process.communicate(timeout=SECONDS)
+        written, said = process.communicate(data, timeout=SECONDS)
     except subprocess.TimeoutExpired:
         process.kill()
         process.communicate()
@@ -150,14 +150,8 @@ def limited(kind, most):
     return lambda: resource.setrlimit(kind, (most, most))
 
 
-def text_of(process_input, program, preexec):
-    process = started(program, stdin=subprocess.PIPE, preexec_fn=preexec)
-    try:
-        written, said = process.communicate(process_input, timeout=SECONDS)
-    except subprocess.TimeoutExpired:
-        process.kill()
-        return "it did not end", b"", b""
-    return process.returncode, written, said
+def answer_to(data, program, preexec):
+    return ended(started(program, stdin=subprocess.PIPE, preexec_fn=preexec), data)
 
 
 def begins(program, most):
@@ -173,7 +167,7 @@ def small_memory(program):
     wrong = []
     for step in range(MEMORY_STEPS):
         most = least + (ample - least) * step // (MEMORY_STEPS - 1)
-        found = text_of(HISTORY, program, limited(resource.RLIMIT_AS, most))
+        found = answer_to(HISTORY, program, limited(resource.RLIMIT_AS, most))
         if found not in (ANSWERED, NO_MEMORY):
             wrong.append((most, found))
     return wrong
@@ -183,7 +177,7 @@ def small_stack(program):
     """The outcomes of lists in lists, as deep as a text may have them, on a small stack."""
     texts = (b"[" * 127 + b"]" * 127, b"[" * 128 + b"]" * 128, b'{"a":' * 127 + b"0" + b"}" * 127, HISTORY)
     dues = ((1, b"", b"refused 2\n"), (1, b"", b"refused 1\n"), (1, b"", b"refused 2\n"), ANSWERED)
-    found = [text_of(text, program, limited(resource.RLIMIT_STACK, STACK_BYTES)) for text in texts]
+    found = [answer_to(text, program, limited(resource.RLIMIT_STACK, STACK_BYTES)) for text in texts]
     return [outcome for outcome, due in zip(found, dues) if outcome != due]
 
 
