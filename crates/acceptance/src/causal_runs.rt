@@ -217,7 +217,7 @@ fn asks<O: SeqObject, P: UpdateOrder>(
     sent: &mut Vec<UpdateOf<O::Call>>,
     random: &mut Random,
 ) -> Result<bool, AllocError> {
-    let Some(call) = call_at(calls, at, random.below(calls.len(at as u64))) else {
+    let Some(call) = call_at(calls, at, random.below(calls.len(at))) else {
         return Ok(false);
     };
     if !begun(&mut site.session, call) {

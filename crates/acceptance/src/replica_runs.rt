@@ -328,7 +328,7 @@ fn asks<O: SeqObject, P: UpdateOrder>(
     stated: Stated,
     session: usize,
 ) -> Result<bool, AllocError> {
-    let index = random.below(history.len(session as u64));
+    let index = random.below(history.len(session));
     let Some(call) = call_at(history, session, index) else {
         return Ok(false);
     };

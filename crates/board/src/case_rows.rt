@@ -36,7 +36,7 @@ impl CaseRows {
     {
         let mut sessions = Vec::new(alloc);
         for session in 0..h.sessions() {
-            sessions.push(CaseSession::new(alloc, h.len(session as u64))?)?;
+            sessions.push(CaseSession::new(alloc, h.len(session))?)?;
         }
         Ok(CaseRows {
             has_certificate: true,

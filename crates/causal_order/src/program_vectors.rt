@@ -37,7 +37,7 @@ fn push_own_vectors<O: SeqObject>(
 {
     let mut counts = vec![in alloc; 0; h.sessions()]?;
     vectors.push_session()?;
-    for index in 0..h.len(session as u64) {
+    for index in 0..h.len(session) {
         counts[session] = index as u16 + 1;
         vectors.push(session, &counts)?;
     }

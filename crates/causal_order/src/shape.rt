@@ -16,7 +16,7 @@ pub fn has_one_each<O: SeqObject, T>(h: &History<O>, lists: &ByOperation<T>) -> 
         return false;
     }
     for session in 0..h.sessions() {
-        if lists.operations(session) != h.len(session as u64) {
+        if lists.operations(session) != h.len(session) {
             return false;
         }
     }

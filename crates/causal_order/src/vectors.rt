@@ -85,7 +85,7 @@ fn counts_existing<O: SeqObject>(h: &History<O>, v: &Vectors, op: OpId) -> bool
     ensures { IsTrue result ↔ ((s : ℕ) → count v.now op s ≤ length (session h.now s)) }
 {
     for (session, count) in v.get(op).iter().enumerate() {
-        if usize::from(*count) > h.len(session as u64) {
+        if usize::from(*count) > h.len(session) {
             return false;
         }
     }

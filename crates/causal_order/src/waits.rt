@@ -84,7 +84,7 @@ fn push_zeros<O: SeqObject>(
 {
     let zeros = vec![in alloc; 0; h.sessions()]?;
     counts.push_session()?;
-    for _index in 0..h.len(session as u64) {
+    for _index in 0..h.len(session) {
         counts.push(session, &zeros)?;
     }
     Ok(())

@@ -109,7 +109,7 @@ fn first_of_session<O: SeqObject>(
         (λ o. (o.session ≡ session) × IsOp h.now o × (¬ IsExplainedPiece O.answer h.now certificate.now o)
         × ((i : ℕ) → i < o.index → IsExplainedPiece O.answer h.now certificate.now (op session i)))) }
 {
-    for index in 0..h.len(session as u64) {
+    for index in 0..h.len(session) {
         let op = OpId::at(session, index);
         if !is_explained(alloc, h, certificate, op)? {
             return Ok(Some(op));

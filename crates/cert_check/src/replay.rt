@@ -48,7 +48,7 @@ impl<O: SeqObject> Replay<O> {
             return None;
         }
         let index = self.counts[place];
-        if usize::from(index) >= h.len(u64::from(session)) {
+        if usize::from(index) >= h.len(place) {
             return None;
         }
         self.counts[place] = index + 1;

@@ -38,7 +38,7 @@ pub fn names_all<O: SeqObject>(h: &History<O>, list: &[u8]) -> bool
         return false;
     }
     for session in 0..h.sessions() {
-        if placed_of(list, session) != h.len(session as u64) {
+        if placed_of(list, session) != h.len(session) {
             return false;
         }
     }

@@ -51,7 +51,7 @@ pub(crate) fn advice_in<'a, O: SeqObject>(
     ensures size { length result.now ≡ length (operations_of h.now session) }
 {
     let start = many_before(h, session);
-    &advice[start..start + h.len(session as u64)]
+    &advice[start..start + h.len(session)]
 }
 
 /// How many operations the first sessions have.
@@ -64,7 +64,7 @@ fn many_before<O: SeqObject>(h: &History<O>, sessions: usize) -> usize
 {
     let mut many = 0;
     for session in 0..sessions {
-        many += h.len(session as u64);
+        many += h.len(session);
     }
     many
 }

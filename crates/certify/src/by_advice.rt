@@ -113,7 +113,7 @@ fn push_told_schedules<O: SeqObject>(
         (AreGatheredBefore h.now (IsToldSchedule O.query h.now advice.now vectors.now ops.now) (session + 1) schedules.new) }
 {
     schedules.push_session()?;
-    for index in 0..h.len(session as u64) {
+    for index in 0..h.len(session) {
         let schedule = told_schedule(alloc, h, advice, vectors, ops, OpId::at(session, index))?;
         schedules.push(session, &schedule)?;
     }

@@ -139,7 +139,7 @@ fn next_update<O: SeqObject>(h: &History<O>, session: usize, from: usize) -> Opt
     ensures short { IfSome result (λ i. i < MAX_OPERATIONS) }
     ensures there { IfSome result (λ _. session < length h.now.1) }
 {
-    for index in from..h.len(session as u64) {
+    for index in from..h.len(session) {
         if !is_query(h, OpId::at(session, index)) {
             return Some(index);
         }

@@ -42,7 +42,7 @@ fn sessions_in_turn<O: SeqObject>(alloc: Global, h: &History<O>) -> Result<Vec<u
 {
     let mut list = Vec::new(alloc);
     for session in 0..h.sessions() {
-        push_repeated(session as u8, h.len(session as u64), &mut list)?;
+        push_repeated(session as u8, h.len(session), &mut list)?;
     }
     Ok(list)
 }

@@ -49,7 +49,7 @@ fn push_stamped<O: SeqObject>(
 {
     let told = advice_in(h, advice, session);
     let mut heard = Heard::nothing();
-    for index in 0..h.len(session as u64) {
+    for index in 0..h.len(session) {
         heard.hear(OpId::at(session, index), &told[index]);
         ops.push((heard.stamp(), session as u8, index as u16))?;
     }

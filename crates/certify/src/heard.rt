@@ -106,7 +106,7 @@ fn push_told_vectors<O: SeqObject>(
     let told = advice_in(h, advice, session);
     let mut heard = Heard::nothing();
     vectors.push_session()?;
-    for index in 0..h.len(session as u64) {
+    for index in 0..h.len(session) {
         heard.hear(OpId::at(session, index), &told[index]);
         vectors.push(session, heard.counts(h.sessions()))?;
     }

@@ -39,7 +39,7 @@ fn push_own_schedules<O: SeqObject>(
 {
     let mut schedule = Vec::new(alloc);
     schedules.push_session()?;
-    for _index in 0..h.len(session as u64) {
+    for _index in 0..h.len(session) {
         schedule.push(session as u8)?;
         schedules.push(session, &schedule)?;
     }

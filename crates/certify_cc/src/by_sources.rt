@@ -96,7 +96,7 @@ fn push_schedules(
     ensures { OnOk result (AreGatheredBefore order.now (IsScheduleFor order.now vectors.now) (session + 1) schedules.new) }
 {
     schedules.push_session()?;
-    for index in 0..order.memory().history().len(session as u64) {
+    for index in 0..order.memory().history().len(session) {
         let op = OpId {
             session: session as u64,
             index: index as u64,

@@ -113,7 +113,7 @@ fn push_schedules(
     let h = order.history();
     let mut happened = HappenedBefore::of(alloc, order, session, Some(MAX_PAIRS))?;
     schedules.push_session()?;
-    for index in 0..h.len(session as u64) {
+    for index in 0..h.len(session) {
         happened = happened.take_next(order)?;
         match happened.saturation() {
             Saturation::Saturated => {}

@@ -48,7 +48,7 @@ fn is_session_shown(
     ensures { IfOk result (λ yes. IsTrue yes → IsExplainedSession order.now vectors.now session) }
 {
     let h = order.history();
-    let count = h.len(session as u64);
+    let count = h.len(session);
     if count == 0 {
         return Ok(true);
     }

@@ -37,7 +37,7 @@ fn operations_in<O: SeqObject>(h: &History<O>) -> u32
 {
     let mut operations = 0;
     for session in 0..h.sessions() {
-        operations += h.len(session as u64) as u32;
+        operations += h.len(session) as u32;
     }
     operations
 }

@@ -84,7 +84,7 @@ impl<O: Refutable, K: ShelfName> Desk<O, K> {
         requires { IsSome ticket.now.file.2 }
         ensures { IfErr result (λ e. e ≡ DeskError.Memory) }
     {
-        let operations = ticket.file(self).history().len(session as u64);
+        let operations = ticket.file(self).history().len(session);
         for index in 0..operations {
             let op = OpId::at(session, index);
             if self.is_open(rt, ticket, op) {

@@ -70,12 +70,12 @@ impl<O: SeqObject> History<O> {
     }
 
     /// How many operations a session has: at most 256, and 0 where there is no such session.
-    pub fn len(&self, s: u64) -> usize
+    pub fn len(&self, s: usize) -> usize
         ensures count { result ≡ length (session self.now s) }
         ensures short { result ≤ MAX_OPERATIONS }
     {
-        if s < self.sessions() as u64 {
-            self.session(s as usize).len()
+        if s < self.sessions() {
+            self.session(s).len()
         } else {
             0
         }
@@ -85,7 +85,7 @@ impl<O: SeqObject> History<O> {
     pub fn contains(&self, op: OpId) -> bool
         ensures { IsTrue result ↔ IsOp self.now op }
     {
-        op.index < self.len(op.session) as u64
+        op.index < self.len(op.session as usize) as u64
     }
 
     /// The call of an operation.

@@ -49,7 +49,7 @@ fn sources_of_session(
     ensures { IfOk result (λ sources. ListsIfAnyBelow h.now session (length (operations_of h.now session)) sources.items) }
 {
     let mut sources = Vec::new(alloc);
-    for index in 0..h.len(session) as u64 {
+    for index in 0..h.len(session as usize) as u64 {
         sources.push(found_source(h, writes, OpId { session, index }))?;
     }
     Ok(sources)

@@ -41,7 +41,7 @@ fn leave_out_own(h: &History<Memory>, session: usize, strict: &mut Vectors)
         → AreStrictBefore h.now v (operation (session + 1) 0) strict.new }
     ensures short { length (operations_of h.now session) ≤ MAX_OPERATIONS }
 {
-    for index in 0..h.len(session as u64) {
+    for index in 0..h.len(session) {
         let op = OpId::at(session, index);
         strict.set(op, session, index as u16);
     }

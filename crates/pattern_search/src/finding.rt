@@ -182,7 +182,7 @@ fn first_thin_air_read_of(h: &History<Memory>, writes: &[Write], session: u64) -
     requires sorted { IsSorted writes.now }
     ensures { MatchOption result ((i : ℕ) → ¬ IsThinAirRead h.now (op session i)) (IsFirstOf h.now session) }
 {
-    for index in 0..h.len(session) as u64 {
+    for index in 0..h.len(session as usize) as u64 {
         let read = OpId { session, index };
         if is_thin_air_read(h, writes, read) {
             return Some(read);

@@ -96,7 +96,7 @@ fn search_session(
     let h = order.history();
     match Relation::of_last(alloc, order, session, most)? {
         Some(relation) => search_relation(alloc, order, &relation, so_far),
-        None if h.len(session as u64) == 0 => Ok(so_far),
+        None if h.len(session) == 0 => Ok(so_far),
         None => Ok(so_far.or(Searched::Open)),
     }
 }

@@ -107,7 +107,7 @@ fn least_before_itself_of(order: &CausalOrder, relation: &Relation, session: u64
     ensures { MatchOption result ((i : ℕ) → ¬ HB order.now relation.now.0 (operation session i) (operation session i))
         (λ a. HB order.now relation.now.0 a a) }
 {
-    for index in 0..order.memory().history().len(session) as u64 {
+    for index in 0..order.memory().history().len(session as usize) as u64 {
         let op = OpId { session, index };
         if is_before_itself(order, relation, op) {
             return Some(op);

@@ -48,7 +48,7 @@ impl Relation {
         ensures { IfOk result (λ made. MatchOption made (HasNoRelation order.now most session) (IsMadeForLast order.now most session)) }
     {
         let mut happened = HappenedBefore::of(alloc, order, session, most)?;
-        let operations = order.history().len(session as u64);
+        let operations = order.history().len(session);
         for index in 0..operations {
             happened = happened.take_next(order)?;
             match happened.saturation() {
