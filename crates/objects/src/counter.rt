@@ -1,7 +1,8 @@
 ghost use Rattle.std.specs.Prelude.{◌≡◌, ◌≤◌, ℕ, List, Bool, refl};
 ghost use Rattle.objects.specs.Counter.{GREATEST, increments, count_of, answer as counter_answer, is_get};
-ghost use Rattle.objects.specs.Counter.{matches as counter_matches, answer_fits, query_changes_nothing};
-ghost use Rattle.objects.specs.Counter.{variant_of_call, variant_of_ret, same_values};
+ghost use Rattle.objects.specs.Counter.{matches as counter_matches};
+ghost use Rattle.objects.specs.CounterLaws.{answer_fits, query_changes_nothing, variant_of_call, variant_of_ret};
+ghost use Rattle.objects.specs.CounterLaws.{same_values};
 ghost use Rattle.objects.specs.Equal.{alike, apart, same_units};
 ghost use Rattle.objects.specs.declared.counter.CounterCall.{CounterCall};
 ghost use Rattle.objects.specs.declared.counter.CounterCall.TheVariants.{Increment, Get};

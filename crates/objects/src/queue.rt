@@ -1,7 +1,7 @@
 ghost use Rattle.std.specs.Prelude.{◌≡◌, ℕ, List, Bool, refl};
-ghost use Rattle.objects.specs.Queue.{left, answer as queue_answer, is_query, matches as queue_matches, answer_fits};
-ghost use Rattle.objects.specs.Queue.{query_changes_nothing, variant_of_call, variant_of_ret, same_pushes};
-ghost use Rattle.objects.specs.Queue.{same_popped};
+ghost use Rattle.objects.specs.Queue.{left, answer as queue_answer, is_query, matches as queue_matches};
+ghost use Rattle.objects.specs.QueueLaws.{answer_fits, query_changes_nothing, variant_of_call, variant_of_ret};
+ghost use Rattle.objects.specs.QueueLaws.{same_pushes, same_popped};
 ghost use Rattle.objects.specs.Equal.{alike, apart, same_units};
 ghost use Rattle.objects.specs.declared.queue.QueueCall.TheVariants.{Push, Pop};
 ghost use Rattle.objects.specs.declared.queue.QueueRet.TheVariants.{Done, Popped};

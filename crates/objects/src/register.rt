@@ -1,8 +1,9 @@
 ghost use Rattle.std.specs.Prelude.{◌≡◌, ◌⊎◌, ℕ, List, Bool};
 ghost use Rattle.std.proofs.Common.{rules};
 ghost use Rattle.objects.specs.Register.{answer as register_answer, is_read, matches as register_matches};
-ghost use Rattle.objects.specs.Register.{last_written, answer_fits, query_changes_nothing, same_writes};
-ghost use Rattle.objects.specs.Register.{write_and_read, read_and_write, same_values, done_and_value, value_and_done};
+ghost use Rattle.objects.specs.Register.{last_written};
+ghost use Rattle.objects.specs.RegisterLaws.{answer_fits, query_changes_nothing, same_writes, write_and_read};
+ghost use Rattle.objects.specs.RegisterLaws.{read_and_write, same_values, done_and_value, value_and_done};
 ghost use Rattle.objects.specs.Equal.{alike, same_numbers};
 ghost use Rattle.objects.specs.declared.register.RegisterCall.TheVariants.{Write, Read};
 ghost use Rattle.objects.specs.declared.register.RegisterRet.TheVariants.{Done, Value};
