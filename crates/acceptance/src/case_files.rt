@@ -4,8 +4,6 @@ use crate::histories::{criterion_first, memory};
 use bad_patterns::{Pattern, read_pattern};
 use cert_check::{CaseFile, Certificate, Criterion, read_certificate};
 use objects::Memory;
-use operations::History;
-use refutable::Refutable;
 use serde_json::Value;
 use std::alloc::{AllocError, Global};
 
@@ -22,20 +20,8 @@ value_that_nobody_wrote | cc ["memory",[[["r",0,7],["r",0,8]]]] ["cc",[[[1],[2]]
 overwritten_value_by_program_order | cc ["memory",[[["w",0,1],["w",1,1]],[["r",1,1],["w",0,2]],[["r",0,2],["r",0,1]]]] ["cc",[[[1,0,0],[2,0,0]],[[0,1,0],[0,2,0]],[[0,0,1],[0,0,2]]],[[[0],[0,0]],[[1],[1,1]],[[2],[2,2]]]]
 "#;
 
-/// An object whose histories are read from texts.
-pub trait FromText: Refutable {
-    /// The history in a text, where it is one of this object.
-    fn history(alloc: Global, text: &str) -> Option<History<Self>>;
-}
-
-impl FromText for Memory {
-    fn history(alloc: Global, text: &str) -> Option<History<Memory>> {
-        memory(alloc, text)
-    }
-}
-
 /// The case file of a name.
-pub fn file_named<O: FromText>(alloc: Global, name: &str) -> Option<CaseFile<O>> {
+pub fn file_named(alloc: Global, name: &str) -> Option<CaseFile<Memory>> {
     file_of(alloc, text_named(name)?)
 }
 
@@ -52,23 +38,23 @@ fn text_named(name: &str) -> Option<&'static str> {
 }
 
 /// The case file in a text.
-pub fn file_of<O: FromText>(alloc: Global, text: &str) -> Option<CaseFile<O>> {
+pub fn file_of(alloc: Global, text: &str) -> Option<CaseFile<Memory>> {
     let (criterion, rest) = criterion_first(text)?;
     match rest.split_once(' ') {
-        None => CaseFile::new(O::history(alloc, rest)?, criterion, None).ok(),
+        None => CaseFile::new(memory(alloc, rest)?, criterion, None).ok(),
         Some((history, certificate)) => {
             let certificate = certificate_of(alloc, certificate)?;
-            CaseFile::new(O::history(alloc, history)?, criterion, Some(certificate)).ok()
+            CaseFile::new(memory(alloc, history)?, criterion, Some(certificate)).ok()
         }
     }
 }
 
 /// The case file of a history in a text, with a certificate of causal consistency by program order.
-pub fn file_by_program_order<O: FromText>(
+pub fn file_by_program_order(
     alloc: Global,
     text: &str,
-) -> Result<Option<CaseFile<O>>, AllocError> {
-    match O::history(alloc, text) {
+) -> Result<Option<CaseFile<Memory>>, AllocError> {
+    match memory(alloc, text) {
         Some(history) => {
             let certificate = certify_cc::make(alloc, &history, &[])?;
             Ok(CaseFile::new(history, Criterion::Cc, certificate).ok())

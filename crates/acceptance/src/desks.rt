@@ -2,7 +2,7 @@
 
 ghost use Rattle.std.specs.Prelude.{◌≡◌};
 
-use crate::case_files::{FromText, file_named, pattern_of};
+use crate::case_files::{file_named, pattern_of};
 use crate::cases::Question;
 use crate::histories::op_of;
 use crate::tables::as_wanted;
@@ -65,37 +65,29 @@ fn abandoned(rt: HostRuntime) -> Result<(), Fail> {
 
 /// What a desk of memory cases answers to the steps in a text.
 pub fn answered<P: Wait + AllocGlobal>(rt: &P, steps: &str) -> Result<String, AllocError> {
-    answered_for::<Memory, P>(rt, steps)
-}
-
-/// The same of cases of any object.
-fn answered_for<O: FromText, P: Wait + AllocGlobal>(
-    rt: &P,
-    steps: &str,
-) -> Result<String, AllocError> {
     let steps = String::from_str(rt.alloc(), steps)?;
     let shelf = Shelf::new(rt.alloc())?;
-    answered_on::<O, Brand, P>(rt, shelf, steps)
+    answered_on::<Brand, P>(rt, shelf, steps)
 }
 
 /// The same on a shelf that is named.
-fn answered_on<O: FromText, K: ShelfName, P: Wait + AllocGlobal>(
+fn answered_on<K: ShelfName, P: Wait + AllocGlobal>(
     rt: &P,
-    shelf: Shelf<O>,
+    shelf: Shelf<Memory>,
     steps: String,
 ) -> Result<String, AllocError>
     requires { shelf ≡ K.shelf }
 {
-    let desk = Desk::<O, K>::on(rt.alloc(), shelf)?;
+    let desk = Desk::<Memory, K>::on(rt.alloc(), shelf)?;
     let mut given = Given::none(rt.alloc());
     answers_at(rt, &desk, &mut given, steps.as_str())
 }
 
 /// What a desk answers to steps.
-fn answers_at<O: FromText, K: ShelfName, P: Wait + AllocGlobal>(
+fn answers_at<K: ShelfName, P: Wait + AllocGlobal>(
     rt: &P,
-    desk: &Desk<O, K>,
-    given: &mut Given<O, K>,
+    desk: &Desk<Memory, K>,
+    given: &mut Given<K>,
     steps: &str,
 ) -> Result<String, AllocError> {
     let mut answers = String::new(rt.alloc());
@@ -114,32 +106,32 @@ fn push_answer(answers: &mut String, answer: &str) -> Result<(), AllocError> {
 }
 
 /// What a desk answers to steps, of which another desk knows nothing: it is asked before and after.
-fn apart_for<O: FromText, P: Wait + AllocGlobal>(rt: &P) -> Result<String, AllocError> {
+fn apart<P: Wait + AllocGlobal>(rt: &P) -> Result<String, AllocError> {
     let shelf = Shelf::new(rt.alloc())?;
-    apart_on::<O, Brand, P>(rt, shelf)
+    apart_on::<Brand, P>(rt, shelf)
 }
 
 /// The same on a shelf that is named.
-fn apart_on<O: FromText, K: ShelfName, P: Wait + AllocGlobal>(
+fn apart_on<K: ShelfName, P: Wait + AllocGlobal>(
     rt: &P,
-    shelf: Shelf<O>,
+    shelf: Shelf<Memory>,
 ) -> Result<String, AllocError>
     requires { shelf ≡ K.shelf }
 {
-    let desk = Desk::<O, K>::on(rt.alloc(), shelf)?;
+    let desk = Desk::<Memory, K>::on(rt.alloc(), shelf)?;
     let mut given = Given::none(rt.alloc());
     apart_at(rt, &desk, &mut given)
 }
 
 /// The same at a desk.
-fn apart_at<O: FromText, K: ShelfName, P: Wait + AllocGlobal>(
+fn apart_at<K: ShelfName, P: Wait + AllocGlobal>(
     rt: &P,
-    desk: &Desk<O, K>,
-    given: &mut Given<O, K>,
+    desk: &Desk<Memory, K>,
+    given: &mut Given<K>,
 ) -> Result<String, AllocError> {
     let mut answers = answers_at(rt, desk, given, "file read_after_its_write; ask 0")?;
     let steps = "file value_that_nobody_wrote; work; ask 0; ask 1";
-    push_answer(&mut answers, answered_for::<O, P>(rt, steps)?.as_str())?;
+    push_answer(&mut answers, answered(rt, steps)?.as_str())?;
     push_answer(
         &mut answers,
         answers_at(rt, desk, given, "ask 0; work; ask 0")?.as_str(),
@@ -151,20 +143,20 @@ fn apart_at<O: FromText, K: ShelfName, P: Wait + AllocGlobal>(
 fn two_desks_are_apart(rt: HostRuntime) -> Result<(), Fail> {
     let wanted =
         "0; Open(2); 0; 2; Unknown(Some(OpId { session: 0, index: 0 })); no case; Open(2); 2; Yes";
-    assert_eq!(rt; apart_for::<Memory, _>(&rt)?.as_str(), wanted);
+    assert_eq!(rt; apart(&rt)?.as_str(), wanted);
     Ok(())
 }
 
 /// The tickets and the verdicts that a desk has given.
 #[derive(Drop)]
-struct Given<O: FromText, K: ShelfName> {
-    tickets: Vec<Ticket<O, K>>,
-    verdicts: Vec<Verdict<O, K>>,
+struct Given<K: ShelfName> {
+    tickets: Vec<Ticket<Memory, K>>,
+    verdicts: Vec<Verdict<Memory, K>>,
 }
 
-impl<O: FromText, K: ShelfName> Given<O, K> {
+impl<K: ShelfName> Given<K> {
     /// None yet.
-    fn none(alloc: Global) -> Given<O, K> {
+    fn none(alloc: Global) -> Given<K> {
         Given {
             tickets: Vec::new(alloc),
             verdicts: Vec::new(alloc),
@@ -173,10 +165,10 @@ impl<O: FromText, K: ShelfName> Given<O, K> {
 }
 
 /// The answer to a step: its word, and what stands behind it.
-fn answer_to<O: FromText, K: ShelfName, P: Wait + AllocGlobal>(
+fn answer_to<K: ShelfName, P: Wait + AllocGlobal>(
     rt: &P,
-    desk: &Desk<O, K>,
-    given: &mut Given<O, K>,
+    desk: &Desk<Memory, K>,
+    given: &mut Given<K>,
     step: &str,
 ) -> Result<String, AllocError> {
     let (word, rest) = word_first(step);
@@ -196,10 +188,10 @@ fn word_first(text: &str) -> (&str, &str) {
 }
 
 /// The answer to a step on a case: its word, the number of the case, and what stands behind it.
-fn answer_on_case<O: FromText, K: ShelfName, P: Wait + AllocGlobal>(
+fn answer_on_case<K: ShelfName, P: Wait + AllocGlobal>(
     rt: &P,
-    desk: &Desk<O, K>,
-    given: &mut Given<O, K>,
+    desk: &Desk<Memory, K>,
+    given: &mut Given<K>,
     step: &str,
 ) -> Result<String, AllocError> {
     let (word, rest) = word_first(step);
@@ -220,16 +212,16 @@ fn answer_on_case<O: FromText, K: ShelfName, P: Wait + AllocGlobal>(
 }
 
 /// The ticket of a case, once more.
-fn ticket_of<O: FromText, K: ShelfName>(given: &Given<O, K>, number: &str) -> Option<Ticket<O, K>> {
+fn ticket_of<K: ShelfName>(given: &Given<K>, number: &str) -> Option<Ticket<Memory, K>> {
     let number: usize = number.parse().ok()?;
     Some(given.tickets.get(number)?.again())
 }
 
 /// Files a case: its number.
-fn filed<O: FromText, K: ShelfName, P: Wait + AllocGlobal>(
+fn filed<K: ShelfName, P: Wait + AllocGlobal>(
     rt: &P,
-    desk: &Desk<O, K>,
-    given: &mut Given<O, K>,
+    desk: &Desk<Memory, K>,
+    given: &mut Given<K>,
     name: &str,
 ) -> Result<String, AllocError> {
     match file_named(rt.alloc(), name) {
@@ -239,10 +231,10 @@ fn filed<O: FromText, K: ShelfName, P: Wait + AllocGlobal>(
 }
 
 /// Files a case 64 times: the last number.
-fn filled<O: FromText, K: ShelfName, P: Wait + AllocGlobal>(
+fn filled<K: ShelfName, P: Wait + AllocGlobal>(
     rt: &P,
-    desk: &Desk<O, K>,
-    given: &mut Given<O, K>,
+    desk: &Desk<Memory, K>,
+    given: &mut Given<K>,
     name: &str,
 ) -> Result<String, AllocError> {
     let mut last = String::new(rt.alloc());
@@ -253,10 +245,10 @@ fn filled<O: FromText, K: ShelfName, P: Wait + AllocGlobal>(
 }
 
 /// Keeps a ticket: its number.
-fn with_ticket<O: FromText, K: ShelfName>(
+fn with_ticket<K: ShelfName>(
     alloc: Global,
-    given: &mut Given<O, K>,
-    filed: Result<Ticket<O, K>, DeskError>,
+    given: &mut Given<K>,
+    filed: Result<Ticket<Memory, K>, DeskError>,
 ) -> Result<String, AllocError> {
     match filed {
         Ok(ticket) => {
@@ -269,10 +261,10 @@ fn with_ticket<O: FromText, K: ShelfName>(
 }
 
 /// Files a case: its number, or the file that comes back.
-fn filed_or_back<O: FromText, K: ShelfName, P: Wait + AllocGlobal>(
+fn filed_or_back<K: ShelfName, P: Wait + AllocGlobal>(
     rt: &P,
-    desk: &Desk<O, K>,
-    given: &mut Given<O, K>,
+    desk: &Desk<Memory, K>,
+    given: &mut Given<K>,
     name: &str,
 ) -> Result<String, AllocError> {
     let Some(file) = file_named(rt.alloc(), name) else {
@@ -286,7 +278,7 @@ fn filed_or_back<O: FromText, K: ShelfName, P: Wait + AllocGlobal>(
 }
 
 /// The criterion of a case file, whether it has a certificate, and how many sessions its history has.
-fn seen<O: FromText>(alloc: Global, file: &CaseFile<O>) -> Result<String, AllocError> {
+fn seen(alloc: Global, file: &CaseFile<Memory>) -> Result<String, AllocError> {
     let criterion = file.criterion();
     let certified = file.certificate().is_some();
     let sessions = file.history().sessions();
@@ -294,9 +286,9 @@ fn seen<O: FromText>(alloc: Global, file: &CaseFile<O>) -> Result<String, AllocE
 }
 
 /// Takes a piece: the number of its case, which the ticket has, and the operation.
-fn taken<O: FromText, K: ShelfName, P: Wait + AllocGlobal>(
+fn taken<K: ShelfName, P: Wait + AllocGlobal>(
     rt: &P,
-    desk: &Desk<O, K>,
+    desk: &Desk<Memory, K>,
 ) -> Result<String, AllocError> {
     match desk.take(rt) {
         Some((ticket, op)) => piece(rt.alloc(), ticket.number(), op),
@@ -311,9 +303,9 @@ fn piece(alloc: Global, number: usize, op: OpId) -> Result<String, AllocError> {
 }
 
 /// Works: how many verdicts are put.
-fn worked<O: FromText, K: ShelfName, P: Wait + AllocGlobal>(
+fn worked<K: ShelfName, P: Wait + AllocGlobal>(
     rt: &P,
-    desk: &Desk<O, K>,
+    desk: &Desk<Memory, K>,
 ) -> Result<String, AllocError> {
     match desk.work(rt, &OpenGate) {
         Ok(put) => told(rt.alloc(), &put),
@@ -322,11 +314,11 @@ fn worked<O: FromText, K: ShelfName, P: Wait + AllocGlobal>(
 }
 
 /// Keeps a verdict on an operation: its case, its operation and its outcome.
-fn checked<O: FromText, K: ShelfName>(
+fn checked<K: ShelfName>(
     alloc: Global,
-    desk: &Desk<O, K>,
-    given: &mut Given<O, K>,
-    ticket: &Ticket<O, K>,
+    desk: &Desk<Memory, K>,
+    given: &mut Given<K>,
+    ticket: &Ticket<Memory, K>,
     op: &str,
 ) -> Result<String, AllocError> {
     let Some(op) = op_of(op) else {
@@ -339,10 +331,10 @@ fn checked<O: FromText, K: ShelfName>(
 }
 
 /// Keeps a verdict: its case, its operation and its outcome.
-fn with_verdict<O: FromText, K: ShelfName>(
+fn with_verdict<K: ShelfName>(
     alloc: Global,
-    given: &mut Given<O, K>,
-    verdict: Verdict<O, K>,
+    given: &mut Given<K>,
+    verdict: Verdict<Memory, K>,
 ) -> Result<String, AllocError> {
     let outcome = verdict.outcome();
     let piece = piece(alloc, verdict.case(), verdict.op())?;
@@ -351,11 +343,11 @@ fn with_verdict<O: FromText, K: ShelfName>(
 }
 
 /// Puts a verdict once more to a case.
-fn put<O: FromText, K: ShelfName, P: Wait + AllocGlobal>(
+fn put<K: ShelfName, P: Wait + AllocGlobal>(
     rt: &P,
-    desk: &Desk<O, K>,
-    given: &Given<O, K>,
-    ticket: &Ticket<O, K>,
+    desk: &Desk<Memory, K>,
+    given: &Given<K>,
+    ticket: &Ticket<Memory, K>,
     number: &str,
 ) -> Result<String, AllocError> {
     match verdict_of(given, number) {
@@ -365,19 +357,16 @@ fn put<O: FromText, K: ShelfName, P: Wait + AllocGlobal>(
 }
 
 /// A verdict, once more.
-fn verdict_of<O: FromText, K: ShelfName>(
-    given: &Given<O, K>,
-    number: &str,
-) -> Option<Verdict<O, K>> {
+fn verdict_of<K: ShelfName>(given: &Given<K>, number: &str) -> Option<Verdict<Memory, K>> {
     let number: usize = number.parse().ok()?;
     Some(given.verdicts.get(number)?.again())
 }
 
 /// Puts a pattern to a case.
-fn refuted<O: FromText, K: ShelfName, P: Wait + AllocGlobal>(
+fn refuted<K: ShelfName, P: Wait + AllocGlobal>(
     rt: &P,
-    desk: &Desk<O, K>,
-    ticket: &Ticket<O, K>,
+    desk: &Desk<Memory, K>,
+    ticket: &Ticket<Memory, K>,
     pattern: &str,
 ) -> Result<String, AllocError> {
     match pattern_of(rt.alloc(), pattern) {
@@ -387,10 +376,10 @@ fn refuted<O: FromText, K: ShelfName, P: Wait + AllocGlobal>(
 }
 
 /// The pattern that a case keeps.
-fn kept<O: FromText, K: ShelfName, P: Wait + AllocGlobal>(
+fn kept<K: ShelfName, P: Wait + AllocGlobal>(
     rt: &P,
-    desk: &Desk<O, K>,
-    ticket: &Ticket<O, K>,
+    desk: &Desk<Memory, K>,
+    ticket: &Ticket<Memory, K>,
 ) -> Result<String, AllocError> {
     told(rt.alloc(), &desk.pattern(rt, ticket)?)
 }

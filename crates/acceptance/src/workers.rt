@@ -2,10 +2,10 @@
 
 ghost use Rattle.std.specs.Prelude.{◌≡◌};
 
-use crate::case_files::{FromText, file_by_program_order, file_named, pattern_of};
+use crate::case_files::{file_by_program_order, file_named, pattern_of};
 use crate::histories::writes;
 use cert_check::{CaseFile, DeskError};
-use collector::{Judged, judge_with};
+use collector::judge_with;
 use desk::{Desk, Gate, Shelf, ShelfName, Ticket};
 use objects::Memory;
 use operations::OpId;
@@ -20,12 +20,14 @@ use std::thread::Threads;
 /// Turns of waiting, after which a thread goes on alone.
 const TURNS: u64 = 1_000_000;
 
-const FIRST: OpId = OpId {
+/// The first operation of the first session.
+pub const FIRST: OpId = OpId {
     session: 0,
     index: 0,
 };
 
-const SECOND: OpId = OpId {
+/// The first operation of the second session.
+pub const SECOND: OpId = OpId {
     session: 1,
     index: 0,
 };
@@ -75,7 +77,7 @@ impl Gate for Hold {
 }
 
 /// Waits for a flag: whether it was set within so many turns.
-fn is_set_in_time(flag: &AtomicBool) -> bool {
+pub fn is_set_in_time(flag: &AtomicBool) -> bool {
     for _turn in 0..TURNS {
         if flag.load(Ordering::SeqCst) {
             return true;
@@ -86,11 +88,11 @@ fn is_set_in_time(flag: &AtomicBool) -> bool {
 }
 
 /// What two workers say of a case file, and whether the first piece was held until the second had left.
-fn said_by_two<O: FromText + Judged + Send + Sync, P: Threads + Wait + Sync + AllocGlobal>(
+fn said_by_two<P: Threads + Wait + Sync + AllocGlobal>(
     rt: &P,
     name: &str,
 ) -> Result<String, DeskError> {
-    let Some(file) = file_named::<O>(rt.alloc(), name) else {
+    let Some(file) = file_named(rt.alloc(), name) else {
         return Err(DeskError::NoSuch);
     };
     let hold = Hold::new();
@@ -101,7 +103,7 @@ fn said_by_two<O: FromText + Judged + Send + Sync, P: Threads + Wait + Sync + Al
 
 #[test]
 fn gate_two(rt: HostRuntime) -> Result<(), Fail> {
-    let said = said_by_two::<Memory, _>(&rt, "read_after_its_write")?;
+    let said = said_by_two(&rt, "read_after_its_write")?;
     assert_eq!(rt; said.as_str(), "Yes true");
     Ok(())
 }
@@ -134,26 +136,26 @@ const REFUTED: &str = "1 true No(WriteCORead) Some(WriteCORead(\
 #[test]
 fn two_threads_share_a_case(rt: HostRuntime) -> Result<(), Fail> {
     for (parts, wanted) in TOGETHER {
-        let answer = together_for::<Memory, _>(&rt, parts)?;
+        let answer = together(&rt, parts)?;
         assert_eq!(rt; answer.as_str(), wanted, "{parts:?}");
     }
     Ok(())
 }
 
 /// What comes of a case that two threads share.
-fn together_for<O: FromText + Send + Sync, P: Threads + Wait + Sync + AllocGlobal>(
+fn together<P: Threads + Wait + Sync + AllocGlobal>(
     rt: &P,
     parts: Parts,
 ) -> Result<String, DeskError> {
     let shelf = Shelf::new(rt.alloc())?;
-    match file_for::<O>(rt.alloc(), parts)? {
-        Some(file) => together_on::<O, Brand, P>(rt, shelf, file, parts),
+    match file_for(rt.alloc(), parts)? {
+        Some(file) => together_on::<Brand, P>(rt, shelf, file, parts),
         None => Err(DeskError::NoSuch),
     }
 }
 
 /// The case file of the parts.
-fn file_for<O: FromText>(alloc: Global, parts: Parts) -> Result<Option<CaseFile<O>>, AllocError> {
+fn file_for(alloc: Global, parts: Parts) -> Result<Option<CaseFile<Memory>>, AllocError> {
     match parts {
         Parts::Work => file_by_program_order(alloc, writes(alloc, 4, 64)?.as_str()),
         Parts::PutOneEach => Ok(file_named(alloc, "read_after_its_write")),
@@ -162,14 +164,15 @@ fn file_for<O: FromText>(alloc: Global, parts: Parts) -> Result<Option<CaseFile<
 }
 
 /// The same on a shelf that is named.
-fn together_on<
-    O: FromText + Send + Sync,
-    K: ShelfName + Send + Sync,
-    P: Threads + Wait + Sync + AllocGlobal,
->(rt: &P, shelf: Shelf<O>, file: CaseFile<O>, parts: Parts) -> Result<String, DeskError>
+fn together_on<K: ShelfName + Send + Sync, P: Threads + Wait + Sync + AllocGlobal>(
+    rt: &P,
+    shelf: Shelf<Memory>,
+    file: CaseFile<Memory>,
+    parts: Parts,
+) -> Result<String, DeskError>
     requires { shelf ≡ K.shelf }
 {
-    let desk = Desk::<O, K>::on(rt.alloc(), shelf)?;
+    let desk = Desk::<Memory, K>::on(rt.alloc(), shelf)?;
     let ticket = desk.file(rt, file)?;
     let hold = Hold::new();
     let ended = thread::map_indices(
@@ -183,10 +186,10 @@ fn together_on<
 }
 
 /// What a thread puts.
-fn play<O: FromText, K: ShelfName, P: Wait + AllocGlobal>(
+fn play<K: ShelfName, P: Wait + AllocGlobal>(
     rt: &P,
-    desk: &Desk<O, K>,
-    ticket: &Ticket<O, K>,
+    desk: &Desk<Memory, K>,
+    ticket: &Ticket<Memory, K>,
     hold: &Hold,
     parts: Parts,
     thread: usize,
@@ -199,10 +202,10 @@ fn play<O: FromText, K: ShelfName, P: Wait + AllocGlobal>(
 }
 
 /// Checks an operation and puts its verdict.
-fn put_one<O: FromText, K: ShelfName, P: Wait>(
+fn put_one<K: ShelfName, P: Wait>(
     rt: &P,
-    desk: &Desk<O, K>,
-    ticket: &Ticket<O, K>,
+    desk: &Desk<Memory, K>,
+    ticket: &Ticket<Memory, K>,
     op: OpId,
 ) -> Result<u32, DeskError> {
     let verdict = desk.check(ticket, op)?;
@@ -214,10 +217,10 @@ fn put_one<O: FromText, K: ShelfName, P: Wait>(
 const OVERWRITTEN: &str = r#"["WriteCORead",[[0,0],[0,1],[1,0],[1,1]],[[1,1],[2,0],[2,1]]]"#;
 
 /// Puts a pattern while the first piece is held, and lets it go then.
-fn refute_held<O: FromText, K: ShelfName, P: Wait + AllocGlobal>(
+fn refute_held<K: ShelfName, P: Wait + AllocGlobal>(
     rt: &P,
-    desk: &Desk<O, K>,
-    ticket: &Ticket<O, K>,
+    desk: &Desk<Memory, K>,
+    ticket: &Ticket<Memory, K>,
     hold: &Hold,
 ) -> Result<u32, DeskError> {
     is_set_in_time(&hold.entered);
@@ -241,10 +244,10 @@ fn sum(parts: Vec<Result<u32, DeskError>>) -> Result<u32, DeskError> {
 
 /// What the threads left: what they put and whether they held in time, how the case stands, its pattern, and whether a piece
 /// is left.
-fn left<O: FromText, K: ShelfName, P: Wait + AllocGlobal>(
+fn left<K: ShelfName, P: Wait + AllocGlobal>(
     rt: &P,
-    desk: &Desk<O, K>,
-    ticket: &Ticket<O, K>,
+    desk: &Desk<Memory, K>,
+    ticket: &Ticket<Memory, K>,
     put: u32,
     in_time: bool,
 ) -> Result<String, DeskError> {

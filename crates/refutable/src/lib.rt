@@ -5,5 +5,4 @@ mod memory;
 mod patternless;
 mod refutable;
 
-pub use patternless::Patternless;
 pub use refutable::Refutable;

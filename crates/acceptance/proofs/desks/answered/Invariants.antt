@@ -1,4 +1,4 @@
-use Rattle.acceptance.proofs.desks.answered_for.Given as goal
+use Rattle.acceptance.proofs.desks.answered.Given as goal
 
 abbrev pub ghosts-answered_on : goal.ghosts-answered_on
 ghosts-answered_on g a = record { shelf = a.shelf }
