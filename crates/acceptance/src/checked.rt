@@ -21,6 +21,7 @@ count_above_the_length_of_the_session | [["memory",[[["w",0,1]],[["r",0,1]]]],["
 schedule_that_names_what_is_not_there | [["memory",[[["w",0,1]],[["r",0,1]]]],["cc",[[[1,0]],[[1,1]]],[[[0,0]],[[0,1]]]]] | 0 cc unknown 0.0;
 schedule_without_the_source | [["memory",[[["w",0,1]],[["r",0,1]]]],["cc",[[[1,0]],[[1,1]]],[[[0]],[[1]]]]] | 0 cc unknown 1.0;
 each_counts_the_other_for_convergence | [["memory",[[["w",0,1]],[["r",0,1]]]],["ccv",[[[1,1]],[[1,1]]],[1,0]]] | 0 ccv unknown 0.0;
+vector_that_counts_less_than_what_it_counts | [["memory",[[["w",0,1]],[["r",0,1],["w",1,2]],[["r",1,2]]]],["ccv",[[[1,0,0]],[[1,1,0],[1,2,0]],[[0,2,1]]],[0,1,1,2]]] | 0 ccv unknown 2.0;
 list_in_which_the_get_stands_before_the_increment | [["counter",[[["inc"]],[["get",1]]]],["ccv",[[[1,0]],[[1,1]]],[1,0]]] | 0 ccv unknown 1.0;
 "#;
 
