@@ -1,12 +1,15 @@
 pub mod AnyForms
 pub mod AnyHistories
 pub mod AnyReading
+pub mod CutReading
+pub mod CutRefusals
 pub mod EntriesReading
 pub mod FirstRefusal
 pub mod FormDepth
 pub mod HistoryForm
 pub mod HistoryReading
 pub mod JsonLists
+pub mod KeptForms
 pub mod LoneForms
 pub mod PartsForm
 pub mod PartsWritten

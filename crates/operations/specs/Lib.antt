@@ -8,6 +8,7 @@ pub mod JsonLaws
 pub mod KeyedFormLaws
 pub mod LoneForm
 pub mod ObjectNames
+pub mod Places
 pub mod PlainFormLaws
 pub mod QueueForm
 pub mod QueueFormLaws

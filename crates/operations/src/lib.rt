@@ -3,6 +3,7 @@
 
 mod any_history;
 mod counters;
+mod history_place;
 mod json;
 mod keyed_form;
 mod keys;

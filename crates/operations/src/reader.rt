@@ -10,12 +10,14 @@ ghost use Rattle.operations.specs.ObjectNames.{text_of};
 ghost use Rattle.operations.specs.Refusals.{IsFirst};
 
 use crate::any_history::AnyHistory;
+use crate::history_place::HistoryPlace;
 use crate::object_name::{ObjectName, object_named};
 use crate::parts::parts_of;
 use crate::plain_history::PlainHistory;
 use crate::read_error::ReadError;
 use crate::reading::read_parts;
 use crate::writing::write_parts;
+use bounded_json::{TextError, read_bounded};
 use serde_json::Value;
 use std::alloc::{AllocError, Global};
 
@@ -78,7 +80,7 @@ pub fn history_of(alloc: Global, value: &Value) -> Result<AnyHistory, ReadError>
 /// The history whose form the text is, as JSON.
 ///
 /// `NotJson` where `serde_json` refuses the text, else the first refusal of its value in the order of reading. `Memory`
-/// only where an allocation was refused. O(n) for a text of n bytes.
+/// only where an allocation was refused. O(n) for a text of n bytes, and what no history has takes no memory.
 pub fn read_history(alloc: Global, text: &[u8]) -> Result<AnyHistory, ReadError>
     ensures is_history { IfOk result IsAnyHistory }
     ensures form { IfOk result (λ h. IsJson text.now (form_of h)) }
@@ -88,15 +90,10 @@ pub fn read_history(alloc: Global, text: &[u8]) -> Result<AnyHistory, ReadError>
         → MatchResult result (λ g. g ≡ h) (λ e. e ≡ ReadError.Memory) }
     ensures refused { IfErr result (IsRefusedFor text.now) }
 {
-    match Value::from_slice(alloc, text) {
+    match read_bounded(alloc, text, HistoryPlace::Whole) {
         Ok(value) => history_of(alloc, &value),
-        Err(refused) => {
-            if refused.is_memory() {
-                Err(ReadError::Memory)
-            } else {
-                Err(ReadError::NotJson)
-            }
-        }
+        Err(TextError::NotJson) => Err(ReadError::NotJson),
+        Err(TextError::Memory) => Err(ReadError::Memory),
     }
 }
 

@@ -1,0 +1,27 @@
+-- Why reading stops, passed on from a part to the whole.
+use Rattle.std.proofs.Common.{◌≡◌, ℕ, ◌-◌, ◌<◌, List, ◌∷◌, None, ap, ◌∙◌}
+use Rattle.json.specs.Json.{parse_map}
+use Rattle.json.specs.Token.{Token}
+use Rattle.json.proofs.Grammar.{left_none}
+use Rattle.serde_json.specs.Data.{array, object}
+use Rattle.bounded_json.specs.Steps.Behind.{behind_members}
+use Rattle.bounded_json.specs.Steps.Reading.{AreRefused, IsRefused}
+use Rattle.bounded_json.specs.Text.{StopsFor}
+use Rattle.bounded_json.specs.declared.text_error.TextError.{TextError}
+use Rattle.bounded_json.specs.declared.text_error.TextError.TheVariants.{NotJson, Memory}
+use Rattle.bounded_json.proofs.Tokens.{next, at_begin_array, at_begin_object}
+
+pub stops_for : (p : Type 0) → p → (e : TextError) → StopsFor p e
+stops_for p h NotJson = h
+stops_for p h Memory = tt
+
+pub stops_too : (p q : Type 0) → (p → q) → (e : TextError) → StopsFor p e → StopsFor q e
+stops_too p q then NotJson h = then h
+stops_too p q then Memory h = h
+
+module _ (depth : ℕ) (ts : List Token) (some : 0 < depth) where
+  pub list_refused : (e : TextError) → AreRefused (depth - 1) ts e → IsRefused depth (Token.begin_array ∷ ts) e
+  list_refused = stops_too _ _ (λ none. at_begin_array depth ts some ∙ ap (parse_map array) none)
+
+  pub object_refused : behind_members (depth - 1) ts ≡ None → next depth (Token.begin_object ∷ ts) ≡ None
+  object_refused none = at_begin_object depth ts some ∙ ap (parse_map object) (left_none _ none)

@@ -1,0 +1,28 @@
+-- The places in the form of a history: where the elements of a list stand, and how many of them are read, one more than the
+-- form can have.
+use Rattle.std.specs.Prelude.{ℕ, ◌+◌, ◌==◌, if◌then◌else◌}
+use Rattle.history.specs.declared.limits.TheConstants.{MAX_OPERATIONS, MAX_SESSIONS}
+use Rattle.objects.specs.declared.table.TheConstants.{MAX_ENTRIES}
+use Rattle.operations.specs.declared.history_place.TheConstants.{MAX_PARTS, MAX_WORDS, ENTRY_PARTS}
+use Rattle.operations.specs.declared.history_place.HistoryPlace.{HistoryPlace}
+use Rattle.operations.specs.declared.history_place.HistoryPlace.TheVariants.{Whole, Sessions, Session, Operation, Start, Entry, Scalar}
+
+-- a text or a number has no elements
+abbrev pub limit_of : HistoryPlace → ℕ
+limit_of Whole = MAX_PARTS + 1
+limit_of Sessions = MAX_SESSIONS + 1
+limit_of Session = MAX_OPERATIONS + 1
+limit_of Operation = MAX_WORDS + 1
+limit_of Start = MAX_ENTRIES + 1
+limit_of Entry = ENTRY_PARTS + 1
+limit_of Scalar = 0
+
+-- a history has its name, its sessions and its start
+abbrev pub inside_of : HistoryPlace → ℕ → HistoryPlace
+inside_of Whole index = if index == 1 then Sessions else (if index == 2 then Start else Scalar)
+inside_of Sessions index = Session
+inside_of Session index = Operation
+inside_of Operation index = Scalar
+inside_of Start index = Entry
+inside_of Entry index = Scalar
+inside_of Scalar index = Scalar

@@ -1,0 +1,61 @@
+ghost use Rattle.operations.specs.Places.{inside_of, limit_of};
+
+use bounded_json::Place;
+use history::{MAX_OPERATIONS, MAX_SESSIONS};
+use objects::MAX_ENTRIES;
+
+/// The parts of a history: the name of its object, its sessions, and its start where it has one.
+const MAX_PARTS: usize = 3;
+
+/// The parts of an operation: its word, its key, its argument and its return.
+const MAX_WORDS: usize = 4;
+
+/// The parts of an entry of a start: a key and what is there.
+const ENTRY_PARTS: usize = 2;
+
+/// A place in the form of a history.
+#[derive(Clone, Copy, Drop)]
+pub(crate) enum HistoryPlace {
+    Whole,
+    Sessions,
+    Session,
+    Operation,
+    Start,
+    Entry,
+    Scalar,
+}
+
+impl Place for HistoryPlace {
+    ghost limit = { limit_of };
+
+    ghost inside = { inside_of };
+
+    fn limit(self) -> usize {
+        match self {
+            HistoryPlace::Whole => MAX_PARTS + 1,
+            HistoryPlace::Sessions => MAX_SESSIONS + 1,
+            HistoryPlace::Session => MAX_OPERATIONS + 1,
+            HistoryPlace::Operation => MAX_WORDS + 1,
+            HistoryPlace::Start => MAX_ENTRIES + 1,
+            HistoryPlace::Entry => ENTRY_PARTS + 1,
+            HistoryPlace::Scalar => 0,
+        }
+    }
+
+    fn inside(self, index: usize) -> HistoryPlace {
+        match self {
+            HistoryPlace::Whole => if index == 1 {
+                HistoryPlace::Sessions
+            } else if index == 2 {
+                HistoryPlace::Start
+            } else {
+                HistoryPlace::Scalar
+            },
+            HistoryPlace::Sessions => HistoryPlace::Session,
+            HistoryPlace::Session => HistoryPlace::Operation,
+            HistoryPlace::Start => HistoryPlace::Entry,
+            HistoryPlace::Operation | HistoryPlace::Entry | HistoryPlace::Scalar =>
+                HistoryPlace::Scalar,
+        }
+    }
+}
