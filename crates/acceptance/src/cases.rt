@@ -1,8 +1,8 @@
 //! Cases as lines of text, `name | input | wanted answer`.
 
 use crate::{
-    advised, applied_calls, checked, command_lines, desks, found_patterns, judged, judgements,
-    made_certificates, patterns, replica_runs, replicas, texts, worlds,
+    advised, applied_calls, checked, command_lines, desks, drives, found_patterns, judged,
+    judgements, made_certificates, patterns, replica_runs, replicas, texts, worlds,
 };
 use std::alloc::AllocError;
 use std::sync::Wait;
@@ -19,6 +19,8 @@ pub enum Question {
     JudgeBy(usize),
     /// Which order its words give.
     Order,
+    /// What a run of `drive` with its options says of its history.
+    Drive,
     /// Which kinds of patterns are found in its history.
     Find,
     /// Whether its pattern is shown in its history.
@@ -92,6 +94,7 @@ fn answer_to<P: Threads + Wait + Sync + AllocGlobal>(
         Question::Check(workers) => checked::said(rt, workers, input),
         Question::JudgeBy(workers) => judgements::said(rt, workers, input),
         Question::Order => command_lines::ordered(rt.alloc(), input),
+        Question::Drive => drives::said(rt, input),
         Question::Find => found_patterns::found(rt.alloc(), input),
         Question::Show => patterns::shown(rt.alloc(), input),
         Question::Make => made_certificates::made(rt.alloc(), input),

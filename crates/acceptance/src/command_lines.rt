@@ -2,7 +2,7 @@
 
 use crate::cases::Question;
 use crate::tables::as_wanted;
-use engine::{Order, Usage, command_of};
+use engine::{Drive, Order, Usage, command_of};
 use std::alloc::{AllocError, Global};
 use std::test::Fail;
 
@@ -16,6 +16,25 @@ check_by_16_workers_in_one_word | causal_judge check --workers=16 | check 16
 replay | causal_judge replay | replay
 replay_by_workers | causal_judge replay --workers 2 | fault
 further_word_behind_replay | causal_judge replay judge | fault
+drive_causal | causal_judge drive causal | drive Causal Causal 0 2 None
+drive_lamport | causal_judge drive lamport | drive Lamport Causal 0 2 None
+drive_with_all_options | causal_judge drive lamport --eager --seals 8 --workers 16 --stop 15 | drive Lamport Eager 8 16 Some(15)
+drive_with_options_in_one_word | causal_judge drive causal --stop=0 --workers=1 --seals=0 --eager | drive Causal Eager 0 1 Some(0)
+drive_with_the_store_behind_options | causal_judge drive --eager --seals 3 causal | drive Causal Eager 3 2 None
+drive_without_a_store | causal_judge drive | fault
+drive_without_a_store_but_with_options | causal_judge drive --eager --seals 1 | fault
+drive_of_an_unknown_store | causal_judge drive eager | fault
+drive_of_two_stores | causal_judge drive causal lamport | fault
+drive_of_a_store_twice | causal_judge drive causal causal | fault
+drive_eager_twice | causal_judge drive causal --eager --eager | fault
+drive_with_seals_twice | causal_judge drive causal --seals 1 --seals=1 | fault
+drive_with_too_many_seals | causal_judge drive causal --seals 9 | fault
+drive_with_seals_without_a_number | causal_judge drive causal --seals | fault
+drive_with_eager_and_a_number | causal_judge drive causal --eager=1 | fault
+drive_with_too_late_a_session | causal_judge drive causal --stop 16 | fault
+drive_with_too_many_workers | causal_judge drive causal --workers 17 | fault
+drive_with_an_unknown_option | causal_judge drive causal --speed 2 | fault
+option_for_help_behind_drive | causal_judge drive --help | help
 number_behind_a_plus_and_zeros | causal_judge judge --workers=+004 | judge 4
 name_alone | causal_judge | fault
 two_commands | causal_judge check judge | fault
@@ -69,6 +88,20 @@ fn text_of(alloc: Global, order: Order) -> Result<String, AllocError> {
         Order::Judge(workers) => ("judge", workers.count()),
         Order::Check(workers) => ("check", workers.count()),
         Order::Replay => return String::from_str(alloc, "replay"),
+        Order::Drive(drive) => return text_of_drive(alloc, drive),
     };
     format!(in alloc; "{word} {workers}")
+}
+
+/// The word of an order to drive, its store, when updates are taken in, how many seals and workers there are, and who stops.
+fn text_of_drive(alloc: Global, drive: Drive) -> Result<String, AllocError> {
+    let Drive {
+        store,
+        delivery,
+        seals,
+        workers,
+        stop,
+    } = drive;
+    let workers = workers.count();
+    format!(in alloc; "drive {store:?} {delivery:?} {seals} {workers} {stop:?}")
 }

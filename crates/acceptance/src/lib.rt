@@ -23,6 +23,8 @@ mod desks;
 #[cfg(test)]
 mod devices;
 #[cfg(test)]
+mod drives;
+#[cfg(test)]
 mod examples;
 #[cfg(test)]
 mod failures;

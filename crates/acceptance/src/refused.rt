@@ -1,7 +1,7 @@
 //! Which texts `judge` refuses.
 
 use crate::cases::Question;
-use crate::histories::writes;
+use crate::histories::{entries, writes};
 use crate::judged::said;
 use crate::running::said_of;
 use crate::tables::as_wanted_of_each;
@@ -15,6 +15,20 @@ const REFUSED: &str = r#"
 nothing |  | 1 refused 1
 list_without_its_end | ["memory",[[["w",0,1]],[["r",0,1]]] | 1 refused 1
 lists_in_200_levels | [[[[[[[[[[[[[[[[[[[[[[[[[[[[[[[[[[[[[[[[[[[[[[[[[[[[[[[[[[[[[[[[[[[[[[[[[[[[[[[[[[[[[[[[[[[[[[[[[[[[[[[[[[[[[[[[[[[[[[[[[[[[[[[[[[[[[[[[[[[[[[[[[[[[[[[[[[[[[[[[[[[[[[[[[[[[[[[[[[[[[[[[[[[[[[[[[[[[[[[[ | 1 refused 1
+lists_in_127_levels | [[[[[[[[[[[[[[[[[[[[[[[[[[[[[[[[[[[[[[[[[[[[[[[[[[[[[[[[[[[[[[[[[[[[[[[[[[[[[[[[[[[[[[[[[[[[[[[[[[[[[[[[[[[[[[[[[[[[[[[[[[[[[[[]]]]]]]]]]]]]]]]]]]]]]]]]]]]]]]]]]]]]]]]]]]]]]]]]]]]]]]]]]]]]]]]]]]]]]]]]]]]]]]]]]]]]]]]]]]]]]]]]]]]]]]]]]]]]]]]]]]]]]]]]]]]]]] | 1 refused 2
+lists_in_128_levels | [[[[[[[[[[[[[[[[[[[[[[[[[[[[[[[[[[[[[[[[[[[[[[[[[[[[[[[[[[[[[[[[[[[[[[[[[[[[[[[[[[[[[[[[[[[[[[[[[[[[[[[[[[[[[[[[[[[[[[[[[[[[[[[[]]]]]]]]]]]]]]]]]]]]]]]]]]]]]]]]]]]]]]]]]]]]]]]]]]]]]]]]]]]]]]]]]]]]]]]]]]]]]]]]]]]]]]]]]]]]]]]]]]]]]]]]]]]]]]]]]]]]]]]]]]]]]]]] | 1 refused 1
+operation_of_lists_in_124_levels | ["memory",[[[[[[[[[[[[[[[[[[[[[[[[[[[[[[[[[[[[[[[[[[[[[[[[[[[[[[[[[[[[[[[[[[[[[[[[[[[[[[[[[[[[[[[[[[[[[[[[[[[[[[[[[[[[[[[[[[[[[[[[[[[[[[]]]]]]]]]]]]]]]]]]]]]]]]]]]]]]]]]]]]]]]]]]]]]]]]]]]]]]]]]]]]]]]]]]]]]]]]]]]]]]]]]]]]]]]]]]]]]]]]]]]]]]]]]]]]]]]]]]]]]]]]]]]]]]] | 1 refused 4 0.0
+operation_of_lists_in_125_levels | ["memory",[[[[[[[[[[[[[[[[[[[[[[[[[[[[[[[[[[[[[[[[[[[[[[[[[[[[[[[[[[[[[[[[[[[[[[[[[[[[[[[[[[[[[[[[[[[[[[[[[[[[[[[[[[[[[[[[[[[[[[[[[[[[[[[]]]]]]]]]]]]]]]]]]]]]]]]]]]]]]]]]]]]]]]]]]]]]]]]]]]]]]]]]]]]]]]]]]]]]]]]]]]]]]]]]]]]]]]]]]]]]]]]]]]]]]]]]]]]]]]]]]]]]]]]]]]]]]]] | 1 refused 1
+object_of_many_keys | {"memory":[],"a":1,"b":[[2]],"c":{"d":null},"e":"f","e":-1.5} | 1 refused 2
+object_for_an_operation | ["memory",[[{"w":0,"r":[1,2],"a":{}}]]] | 1 refused 4 0.0
+number_out_of_range_in_an_object | ["memory",[[["w",0,{"a":1e400}]]]] | 1 refused 1
+number_that_is_not_written_whole | ["memory",[[["w",0,1e2]]]] | 1 refused 4 0.0
+fifth_element_of_an_operation | ["memory",[[["w",0,1,"?","?"]]]] | 1 refused 4 0.0
+number_out_of_range_behind_the_fifth_element | ["memory",[[["w",0,1,"?","?",1e400]]]] | 1 refused 1
+number_out_of_range_behind_the_fourth_part | ["memory",[],[[0,5]],[],1e400] | 1 refused 1
+sessions_are_counted_before_they_are_read | ["register",[[0],[],[],[],[],[],[],[],[],[],[],[],[],[],[],[],[]]] | 1 refused 6
+number_out_of_range_behind_the_17th_session | ["register",[[],[],[],[],[],[],[],[],[],[],[],[],[],[],[],[],[],[1e400]]] | 1 refused 1
+table_with_an_entry_of_three | ["memory",[],[[0,5,5]]] | 1 refused 29
 sessions_that_are_no_list | ["memory",{}] | 1 refused 2
 shape_is_asked_before_the_name | ["foo",[],0] | 1 refused 2
 name_alone | ["memory"] | 1 refused 2
@@ -94,5 +108,17 @@ fn as_many_sessions_and_operations_as_may_be(rt: HostRuntime) -> Result<(), Fail
     );
     assert_eq!(rt; said_of_writes(&rt, 17, 1)?.as_str(), "1 refused 6");
     assert_eq!(rt; said_of_writes(&rt, 1, 257)?.as_str(), "1 refused 7");
+    Ok(())
+}
+
+#[test]
+fn as_many_entries_of_a_table_as_may_be(rt: HostRuntime) -> Result<(), Fail> {
+    let most = entries(rt.alloc(), 4096)?;
+    assert_eq!(rt;
+        said(&rt, 2, most.as_str())?.as_str(),
+        "0 cc yes;cm yes;ccv yes;"
+    );
+    let one_more = entries(rt.alloc(), 4097)?;
+    assert_eq!(rt; said(&rt, 2, one_more.as_str())?.as_str(), "1 refused 29");
     Ok(())
 }

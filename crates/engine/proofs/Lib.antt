@@ -8,3 +8,7 @@ pub mod NotRefused
 pub mod ScriptOutcomes
 pub mod Outcomes
 pub mod Decided
+pub mod SealedTexts
+pub mod DriveSettings
+pub mod DriveSays
+pub mod DriveOutcomes

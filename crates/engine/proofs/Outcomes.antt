@@ -1,5 +1,5 @@
 -- What can come of one input, and what cannot come of it beside that.
-use Rattle.std.proofs.Common.{◌≡◌, ◌<◌, ◌⊎◌, ℕ, List, [], ◌∷◌, Option, Some, None, length, refl, sym, ap, subst, ◌∙◌, arith, inl, inr, ⊎_elim}
+use Rattle.std.proofs.Common.{◌≡◌, ◌<◌, ◌≤◌, ◌⊎◌, ℕ, List, [], ◌∷◌, Option, Some, None, length, refl, sym, ap, subst, ◌∙◌, arith, inl, inr, ⊎_elim}
 use Rattle.std.proofs.lemmas.Option.{same_Some}
 use Rattle.serde_json.specs.Data.{Data}
 use Rattle.operations.specs.declared.any_history.AnyHistory.{AnyHistory}
@@ -14,9 +14,11 @@ use Rattle.cert_check.specs.declared.certificate.Certificate.{Certificate}
 use Rattle.cert_check.specs.CertificateForm.{IsCertificate, form_of as certificate_form}
 use Rattle.cert_check.proofs.CertificateForms.{one_certificate}
 use Rattle.engine.specs.declared.command_line.Order.{Order}
-use Rattle.engine.specs.declared.command_line.Order.TheVariants.{Judge, Check, Replay}
+use Rattle.engine.specs.declared.command_line.Order.TheVariants.{Judge, Check, Replay, Drive}
+use Rattle.engine.specs.declared.drive.Drive.{Drive as Drives}
+use Rattle.engine.specs.Driving.{IsDriveError, IsDriveReport, IsUndriven, sessions_in}
 use Rattle.engine.specs.declared.failure.RunError.{RunError}
-use Rattle.engine.specs.declared.failure.RunError.TheVariants.{History, Script, BadCertificate, ShapeMismatch, TooLong, Memory, ReadFault, WriteFault}
+use Rattle.engine.specs.declared.failure.RunError.TheVariants.{History, Script, BadCertificate, ShapeMismatch, BadLimits, NoSuch, TooLong, Memory, ReadFault, WriteFault}
 use Rattle.engine.specs.declared.input.TheConstants.{MAX_INPUT_BYTES}
 use Rattle.engine.specs.Checking.{HasOtherShape, HasShape, IsCheckReport, IsPair, IsPairError, pair_form, pair_refusal}
 use Rattle.engine.specs.Failure.{failure_status, refusal_status, script_status}
@@ -123,6 +125,8 @@ judge_once workers text BadCertificate f is_e is_f one two = absurd is_e
 judge_once workers text ShapeMismatch f is_e is_f one two = absurd is_e
 judge_once workers text (Script p) f is_e is_f one two = absurd is_e
 judge_once workers text TooLong f is_e is_f one two = absurd is_e
+judge_once workers text BadLimits f is_e is_f one two = absurd is_e
+judge_once workers text NoSuch f is_e is_f one two = absurd is_e
 judge_once workers text Memory f is_e is_f one two = absurd (omega arith)
 judge_once workers text ReadFault f is_e is_f one two = absurd is_e
 judge_once workers text WriteFault f is_e is_f one two = absurd is_e
@@ -130,6 +134,8 @@ judge_once workers text e BadCertificate is_e is_f one two = absurd is_f
 judge_once workers text e ShapeMismatch is_e is_f one two = absurd is_f
 judge_once workers text e (Script q) is_e is_f one two = absurd is_f
 judge_once workers text e TooLong is_e is_f one two = absurd is_f
+judge_once workers text e BadLimits is_e is_f one two = absurd is_f
+judge_once workers text e NoSuch is_e is_f one two = absurd is_f
 judge_once workers text e Memory is_e is_f one two = absurd (omega arith)
 judge_once workers text e ReadFault is_e is_f one two = absurd is_f
 judge_once workers text e WriteFault is_e is_f one two = absurd is_f
@@ -147,11 +153,15 @@ check_once workers text ShapeMismatch BadCertificate is_e is_f one two = absurd 
 check_once workers text ShapeMismatch ShapeMismatch is_e is_f one two = refl
 check_once workers text (Script p) f is_e is_f one two = absurd is_e
 check_once workers text TooLong f is_e is_f one two = absurd is_e
+check_once workers text BadLimits f is_e is_f one two = absurd is_e
+check_once workers text NoSuch f is_e is_f one two = absurd is_e
 check_once workers text Memory f is_e is_f one two = absurd (omega arith)
 check_once workers text ReadFault f is_e is_f one two = absurd is_e
 check_once workers text WriteFault f is_e is_f one two = absurd is_e
 check_once workers text e (Script q) is_e is_f one two = absurd is_f
 check_once workers text e TooLong is_e is_f one two = absurd is_f
+check_once workers text e BadLimits is_e is_f one two = absurd is_f
+check_once workers text e NoSuch is_e is_f one two = absurd is_f
 check_once workers text e Memory is_e is_f one two = absurd (omega arith)
 check_once workers text e ReadFault is_e is_f one two = absurd is_f
 check_once workers text e WriteFault is_e is_f one two = absurd is_f
@@ -162,6 +172,8 @@ replay_once text (History p) f is_e is_f one two = absurd is_e
 replay_once text BadCertificate f is_e is_f one two = absurd is_e
 replay_once text ShapeMismatch f is_e is_f one two = absurd is_e
 replay_once text TooLong f is_e is_f one two = absurd is_e
+replay_once text BadLimits f is_e is_f one two = absurd is_e
+replay_once text NoSuch f is_e is_f one two = absurd is_e
 replay_once text Memory f is_e is_f one two = absurd (omega arith)
 replay_once text ReadFault f is_e is_f one two = absurd is_e
 replay_once text WriteFault f is_e is_f one two = absurd is_e
@@ -169,15 +181,54 @@ replay_once text e (History q) is_e is_f one two = absurd is_f
 replay_once text e BadCertificate is_e is_f one two = absurd is_f
 replay_once text e ShapeMismatch is_e is_f one two = absurd is_f
 replay_once text e TooLong is_e is_f one two = absurd is_f
+replay_once text e BadLimits is_e is_f one two = absurd is_f
+replay_once text e NoSuch is_e is_f one two = absurd is_f
 replay_once text e Memory is_e is_f one two = absurd (omega arith)
 replay_once text e ReadFault is_e is_f one two = absurd is_f
 replay_once text e WriteFault is_e is_f one two = absurd is_f
+
+-- a history is driven or not by what it is: it has no session, it lacks the one that stops, or neither
+one_drive_error : (stop : Option ℕ) (m n : ℕ) → m ≡ n → IsDriveError stop m BadLimits → IsDriveError stop n NoSuch → ⊥
+one_drive_error stop m n same none lacks = let no_session : m ≡ 0 = none in let some : 0 < n = lacks.0 in absurd (omega arith)
+
+drive_refused_alone : (drive : Drives) (text : List ℕ) (e : ReadError) (f : RunError) → IsRefusedFor text e → refusal_status e ≡ 1 → IsUndriven drive text f → ⊥
+drive_refused_alone drive text e f refused one undriven =
+    not_refused first_refusal text e (form_of undriven.0) (judge_refused text e refused one) undriven.2 (form_is_fine undriven.0 undriven.1)
+
+drive_once : (drive : Drives) (text : List ℕ) (e f : RunError) → IsAnswerError (Drive drive) text e → IsAnswerError (Drive drive) text f → failure_status e ≡ 1 → failure_status f ≡ 1 → e ≡ f
+drive_once drive text (History p) (History q) is_e is_f one two =
+    ap History (one_refusal first_refusal text p q (judge_refused text p is_e one) (judge_refused text q is_f two))
+drive_once drive text (History p) BadLimits is_e is_f one two = absurd (drive_refused_alone drive text p BadLimits is_e one is_f)
+drive_once drive text (History p) NoSuch is_e is_f one two = absurd (drive_refused_alone drive text p NoSuch is_e one is_f)
+drive_once drive text BadLimits (History q) is_e is_f one two = absurd (drive_refused_alone drive text q BadLimits is_f two is_e)
+drive_once drive text NoSuch (History q) is_e is_f one two = absurd (drive_refused_alone drive text q NoSuch is_f two is_e)
+drive_once drive text BadLimits BadLimits is_e is_f one two = refl
+drive_once drive text BadLimits NoSuch is_e is_f one two =
+    absurd (one_drive_error drive.stop _ _ (ap sessions_in (one_history text is_e.0 is_f.0 is_e.1 is_f.1 is_e.2 is_f.2)) is_e.3 is_f.3)
+drive_once drive text NoSuch BadLimits is_e is_f one two =
+    absurd (one_drive_error drive.stop _ _ (ap sessions_in (one_history text is_f.0 is_e.0 is_f.1 is_e.1 is_f.2 is_e.2)) is_f.3 is_e.3)
+drive_once drive text NoSuch NoSuch is_e is_f one two = refl
+drive_once drive text Memory f is_e is_f one two = absurd (omega arith)
+drive_once drive text (Script p) f is_e is_f one two = absurd is_e
+drive_once drive text BadCertificate f is_e is_f one two = absurd is_e
+drive_once drive text ShapeMismatch f is_e is_f one two = absurd is_e
+drive_once drive text TooLong f is_e is_f one two = absurd is_e
+drive_once drive text ReadFault f is_e is_f one two = absurd is_e
+drive_once drive text WriteFault f is_e is_f one two = absurd is_e
+drive_once drive text e Memory is_e is_f one two = absurd (omega arith)
+drive_once drive text e (Script q) is_e is_f one two = absurd is_f
+drive_once drive text e BadCertificate is_e is_f one two = absurd is_f
+drive_once drive text e ShapeMismatch is_e is_f one two = absurd is_f
+drive_once drive text e TooLong is_e is_f one two = absurd is_f
+drive_once drive text e ReadFault is_e is_f one two = absurd is_f
+drive_once drive text e WriteFault is_e is_f one two = absurd is_f
 
 pub refused_in_one_way : (order : Order) (text : List ℕ) (e f : RunError) → IsAnswerError order text e → IsAnswerError order text f
     → failure_status e ≡ 1 → failure_status f ≡ 1 → e ≡ f
 refused_in_one_way (Judge workers) text e f is_e is_f one two = judge_once workers text e f is_e is_f one two
 refused_in_one_way (Check workers) text e f is_e is_f one two = check_once workers text e f is_e is_f one two
 refused_in_one_way Replay text e f is_e is_f one two = replay_once text e f is_e is_f one two
+refused_in_one_way (Drive drive) text e f is_e is_f one two = drive_once drive text e f is_e is_f one two
 
 -- what is answered is not refused
 judge_not_refused : (workers : ℕ) (text answer : List ℕ) (e : RunError) → IsReport text answer → IsAnswerError (Judge workers) text e → failure_status e ≡ 4
@@ -189,6 +240,8 @@ judge_not_refused workers text answer BadCertificate report is_e = absurd is_e
 judge_not_refused workers text answer ShapeMismatch report is_e = absurd is_e
 judge_not_refused workers text answer (Script p) report is_e = absurd is_e
 judge_not_refused workers text answer TooLong report is_e = absurd is_e
+judge_not_refused workers text answer BadLimits report is_e = absurd is_e
+judge_not_refused workers text answer NoSuch report is_e = absurd is_e
 judge_not_refused workers text answer Memory report is_e = refl
 judge_not_refused workers text answer ReadFault report is_e = absurd is_e
 judge_not_refused workers text answer WriteFault report is_e = absurd is_e
@@ -208,6 +261,8 @@ check_not_refused workers text answer ShapeMismatch report is_e =
     absurd (is_e.5 (subst (λ (h : AnyHistory). HasShape h is_e.1) history (subst (λ (c : Certificate). HasShape report.history c) certificate report.shape)))
 check_not_refused workers text answer (Script p) report is_e = absurd is_e
 check_not_refused workers text answer TooLong report is_e = absurd is_e
+check_not_refused workers text answer BadLimits report is_e = absurd is_e
+check_not_refused workers text answer NoSuch report is_e = absurd is_e
 check_not_refused workers text answer Memory report is_e = refl
 check_not_refused workers text answer ReadFault report is_e = absurd is_e
 check_not_refused workers text answer WriteFault report is_e = absurd is_e
@@ -221,14 +276,43 @@ replay_not_refused text answer (History p) report is_e = absurd is_e
 replay_not_refused text answer BadCertificate report is_e = absurd is_e
 replay_not_refused text answer ShapeMismatch report is_e = absurd is_e
 replay_not_refused text answer TooLong report is_e = absurd is_e
+replay_not_refused text answer BadLimits report is_e = absurd is_e
+replay_not_refused text answer NoSuch report is_e = absurd is_e
 replay_not_refused text answer Memory report is_e = refl
 replay_not_refused text answer ReadFault report is_e = absurd is_e
 replay_not_refused text answer WriteFault report is_e = absurd is_e
+
+can_be_driven : (drive : Drives) (text answer : List ℕ) (e : RunError) → (report : IsDriveReport drive text answer) → (undriven : IsUndriven drive text e)
+    → IsDriveError drive.stop (sessions_in report.history) e
+can_be_driven drive text answer e report undriven =
+    subst (λ (h : AnyHistory). IsDriveError drive.stop (sessions_in h) e)
+    (one_history text undriven.0 report.history undriven.1 report.is_history undriven.2 report.read) undriven.3
+
+drive_not_refused : (drive : Drives) (text answer : List ℕ) (e : RunError) → IsDriveReport drive text answer → IsAnswerError (Drive drive) text e → failure_status e ≡ 4
+drive_not_refused drive text answer (History p) report is_e =
+    ⊎_elim (λ (four : refusal_status p ≡ 4). four)
+    (λ (one : refusal_status p ≡ 1). absurd (not_refused first_refusal text p (form_of report.history) (judge_refused text p is_e one) report.read (form_is_fine report.history report.is_history)))
+    (statuses p)
+drive_not_refused drive text answer BadLimits report is_e =
+    let none : sessions_in report.history ≡ 0 = can_be_driven drive text answer BadLimits report is_e in
+    let some : 0 < sessions_in report.history = report.driven.can.some_session in absurd (omega arith)
+drive_not_refused drive text answer NoSuch report is_e =
+    let lacks = can_be_driven drive text answer NoSuch report is_e in
+    let there : lacks.1.0 < sessions_in report.history = report.driven.can.stopping lacks.1.0 lacks.1.1 in
+    let away : sessions_in report.history ≤ lacks.1.0 = lacks.1.2 in absurd (omega arith)
+drive_not_refused drive text answer (Script p) report is_e = absurd is_e
+drive_not_refused drive text answer BadCertificate report is_e = absurd is_e
+drive_not_refused drive text answer ShapeMismatch report is_e = absurd is_e
+drive_not_refused drive text answer TooLong report is_e = absurd is_e
+drive_not_refused drive text answer Memory report is_e = refl
+drive_not_refused drive text answer ReadFault report is_e = absurd is_e
+drive_not_refused drive text answer WriteFault report is_e = absurd is_e
 
 pub answered_is_not_refused : (order : Order) (text answer : List ℕ) (e : RunError) → IsAnswer order text answer → IsAnswerError order text e → failure_status e ≡ 4
 answered_is_not_refused (Judge workers) text answer e report is_e = judge_not_refused workers text answer e report is_e
 answered_is_not_refused (Check workers) text answer e report is_e = check_not_refused workers text answer e report is_e
 answered_is_not_refused Replay text answer e report is_e = replay_not_refused text answer e report is_e
+answered_is_not_refused (Drive drive) text answer e report is_e = drive_not_refused drive text answer e report is_e
 
 -- a report is on the history of its input
 pub reported_history : (text answer : List ℕ) (h : AnyHistory) → IsAnyHistory h → IsJson text (form_of h) → (report : IsReport text answer) → report.history ≡ h
@@ -243,6 +327,8 @@ too_long-fails order bytes (History p) long fails = let same : length fails.0 �
 too_long-fails order bytes (Script p) long fails = let same : length fails.0 ≡ length bytes = ap length fails.1 in let within = fails.2 in absurd (omega arith)
 too_long-fails order bytes BadCertificate long fails = let same : length fails.0 ≡ length bytes = ap length fails.1 in let within = fails.2 in absurd (omega arith)
 too_long-fails order bytes ShapeMismatch long fails = let same : length fails.0 ≡ length bytes = ap length fails.1 in let within = fails.2 in absurd (omega arith)
+too_long-fails order bytes BadLimits long fails = let same : length fails.0 ≡ length bytes = ap length fails.1 in let within = fails.2 in absurd (omega arith)
+too_long-fails order bytes NoSuch long fails = let same : length fails.0 ≡ length bytes = ap length fails.1 in let within = fails.2 in absurd (omega arith)
 too_long-fails order bytes TooLong long fails = inl refl
 too_long-fails order bytes Memory long fails = inr (inl refl)
 too_long-fails order bytes ReadFault long fails = inr (inr refl)

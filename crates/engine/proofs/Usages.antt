@@ -1,6 +1,6 @@
 -- What is said of a fault is said of it among those that `clap` finds.
 use Rattle.std.proofs.Common.{◌≡◌, [], inl, inr}
-use Rattle.std.specs.Prelude.{IfOk, Result, Ok, Err}
+use Rattle.std.specs.Prelude.{IfErr, IfOk, Result, Ok, Err}
 use Rattle.clap.specs.Words.{FailsBy, HasKind, Kinds, kind_of}
 use Rattle.clap.specs.declared.Error.{Error}
 use Rattle.engine.specs.declared.command_line.Usage.{Usage}
@@ -18,3 +18,8 @@ usage_among kinds e Memory has any = tt
 pub taken_without_fault : {T : Type 0} (kinds : Kinds) (r : Result T Error) → FailsBy kinds r → IfOk r (λ _. kinds ≡ [])
 taken_without_fault kinds (Ok m) fails = fails
 taken_without_fault kinds (Err e) fails = tt
+
+-- what is not taken has a kind of fault
+pub refused_by_a_kind : {T : Type 0} (kinds : Kinds) (r : Result T Error) → FailsBy kinds r → IfErr r (HasKind kinds)
+refused_by_a_kind kinds (Ok m) fails = tt
+refused_by_a_kind kinds (Err e) fails = fails

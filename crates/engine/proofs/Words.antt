@@ -5,7 +5,9 @@ use Rattle.std.specs.Cmp.Lexicographic.{pointwise}
 use Rattle.clap.specs.Words.{Text}
 use Rattle.collector.specs.Judgements.{AreWorkers}
 use Rattle.engine.specs.declared.command_line.Order.{Order}
-use Rattle.engine.specs.declared.command_line.Order.TheVariants.{Judge, Check, Replay}
+use Rattle.engine.specs.declared.drive.Drive.{Drive as Asked}
+use Rattle.engine.specs.DriveWords.{AskToDrive}
+use Rattle.engine.specs.declared.command_line.Order.TheVariants.{Judge, Check, Replay, Drive}
 use Rattle.engine.specs.CommandLine.{AskFor, GivesNoOrder, IsCommandLine, IsOrder}
 
 pub one_word : {A : Type 0} (f : A → Text) (xs : List A) (a : A) → 1 ≤ length xs → length xs < 2 → a ≡ get_or xs 0 a → map f xs ≡ f a ∷ []
@@ -25,17 +27,20 @@ module _ (word : Text) (words : List Text) where
   pub no_judge : word ≡ codes "judge" → ((n : ℕ) → AreWorkers n → ¬ AskFor n words) → (order : Order) → ¬ IsOrder order word words
   no_judge is none (Judge n) order = none n order.1.0 order.1.1
   no_judge is none (Check n) order = let e : ◌≡◌ {A = Bool} true false = ap (pointwise nat_eq (codes "judge")) (sym is ∙ order.0) in absurd cc
+  no_judge is none (Drive drive) order = let e : ◌≡◌ {A = Bool} true false = ap (pointwise nat_eq (codes "judge")) (sym is ∙ order.0) in absurd cc
   no_judge is none Replay order = let e : ◌≡◌ {A = Bool} true false = ap (pointwise nat_eq (codes "judge")) (sym is ∙ order.0) in absurd cc
 
   pub no_check : word ≡ codes "check" → ((n : ℕ) → AreWorkers n → ¬ AskFor n words) → (order : Order) → ¬ IsOrder order word words
   no_check is none (Judge n) order = let e : ◌≡◌ {A = Bool} true false = ap (pointwise nat_eq (codes "check")) (sym is ∙ order.0) in absurd cc
   no_check is none (Check n) order = none n order.1.0 order.1.1
+  no_check is none (Drive drive) order = let e : ◌≡◌ {A = Bool} true false = ap (pointwise nat_eq (codes "check")) (sym is ∙ order.0) in absurd cc
   no_check is none Replay order = let e : ◌≡◌ {A = Bool} true false = ap (pointwise nat_eq (codes "check")) (sym is ∙ order.0) in absurd cc
 
-  pub no_order : word ≢ codes "judge" → word ≢ codes "check" → (word ≡ codes "replay" → words ≢ []) → (order : Order) → ¬ IsOrder order word words
-  no_order judge check replay (Judge n) order = judge order.0
-  no_order judge check replay (Check n) order = check order.0
-  no_order judge check replay Replay order = replay order.0 order.1
+  pub no_drive_order : word ≡ codes "drive" → ((drive : Asked) → ¬ AskToDrive drive words) → (order : Order) → ¬ IsOrder order word words
+  no_drive_order is none (Judge n) order = let e : ◌≡◌ {A = Bool} true false = ap (pointwise nat_eq (codes "drive")) (sym is ∙ order.0) in absurd cc
+  no_drive_order is none (Check n) order = let e : ◌≡◌ {A = Bool} true false = ap (pointwise nat_eq (codes "drive")) (sym is ∙ order.0) in absurd cc
+  no_drive_order is none Replay order = let e : ◌≡◌ {A = Bool} true false = ap (pointwise nat_eq (codes "drive")) (sym is ∙ order.0) in absurd cc
+  no_drive_order is none (Drive drive) order = none drive order.1
 
 -- the words of a command line are the program's name, the word of a command, and the words behind it
 pub whole_order : {A : Type 0} (f : A → Text) (xs : List A) (word : A) (r : Option Order) → 2 ≤ length xs → word ≡ get_or xs 1 word

@@ -1,16 +1,19 @@
 -- The command lines that the program takes, and what is said of other words. Text is bytes, and the first word is the
 -- program's name. What is wrong with other words is `clap`'s to say: `fault_of` tells which kinds of fault it finds.
-use Rattle.std.specs.Prelude.{◌≡◌, ◌≢◌, ◌⊎◌, ℕ, List, [], ◌∷◌, ◌++◌, Some, true, codes}
-use Rattle.std.specs.Str.Parse.{IsNumeral, digits_value, without_leading_plus}
+use Rattle.std.specs.Prelude.{◌≡◌, ◌≢◌, ◌⊎◌, ℕ, List, [], ◌∷◌, ◌++◌, ◌-◌, Some, true, codes}
 use Rattle.clap.specs.Words.{App, IsAmong, Kinds, Rule, Text, new_app, new_rule, with_rule, with_subcommand}
-use Rattle.clap.specs.declared.builder.action.ArgAction.TheVariants.{Set}
+use Rattle.clap.specs.declared.builder.action.ArgAction.TheVariants.{Set, SetTrue}
 use Rattle.clap.specs.declared.builder.value_parser.ValueParser.TheVariants.{Unsigned}
 use Rattle.clap.specs.declared.error.kind.ErrorKind.{ErrorKind}
 use Rattle.clap.specs.declared.error.kind.ErrorKind.TheVariants.{DisplayHelp, OutOfMemory}
 use Rattle.collector.specs.declared.judging.TheConstants.{MAX_WORKERS}
 use Rattle.collector.specs.Judgements.{AreWorkers}
+use Rattle.engine.specs.DriveWords.{AskToDrive}
+use Rattle.engine.specs.Numerals.{Writes}
+use Rattle.engine.specs.declared.drive.TheConstants.{MAX_SEALS}
+use Rattle.history.specs.declared.limits.TheConstants.{MAX_SESSIONS}
 use Rattle.engine.specs.declared.command_line.Order.{Order}
-use Rattle.engine.specs.declared.command_line.Order.TheVariants.{Judge, Check, Replay}
+use Rattle.engine.specs.declared.command_line.Order.TheVariants.{Judge, Check, Replay, Drive}
 use Rattle.engine.specs.declared.command_line.Usage.{Usage}
 use Rattle.engine.specs.declared.command_line.Usage.TheVariants.{Fault, Help, Memory}
 
@@ -19,10 +22,7 @@ abbrev pub command_word : Order → Text
 command_word (Judge workers) = codes "judge"
 command_word (Check workers) = codes "check"
 command_word Replay = codes "replay"
-
--- a text writes a number: decimal digits, and perhaps a plus before them
-abbrev pub Writes : Text → ℕ → Type 0
-Writes text n = IsNumeral 10 (without_leading_plus text) × (digits_value 10 (without_leading_plus text) ≡ n)
+command_word (Drive drive) = codes "drive"
 
 -- one word asks for so many workers, as `--workers=N` does, or two words do, as `--workers N`
 abbrev pub AsksFor : ℕ → Text → Type 0
@@ -38,11 +38,12 @@ AskFor n (word ∷ []) = AsksFor n word
 AskFor n (word ∷ number ∷ []) = AskTogetherFor n word number
 AskFor n (word ∷ number ∷ further ∷ words) = ⊥
 
--- the words behind a command's word ask for the number of workers of an order, and are none where it has none
+-- the words behind a command's word ask for what an order says beside its command
 abbrev pub AreOptions : Order → List Text → Type 0
 AreOptions (Judge workers) words = AreWorkers workers × AskFor workers words
 AreOptions (Check workers) words = AreWorkers workers × AskFor workers words
 AreOptions Replay words = words ≡ []
+AreOptions (Drive drive) words = AskToDrive drive words
 
 -- the word of an order's command, and the words behind it
 abbrev pub IsOrder : Order → Text → List Text → Type 0
@@ -64,7 +65,8 @@ top =
     let app = new_app (codes "causal_judge") in
     record app { top = record app.top { subcommand_required = true } }
 
--- the commands `judge` and `check` take the option `--workers N`, and `replay` takes none
+-- the commands `judge` and `check` take the option `--workers N`, `replay` takes none, and `drive` takes the name of a store and
+-- four options
 abbrev pub workers : Rule
 workers = record (new_rule (codes "workers")) {
   long = Some (codes "workers");
@@ -82,11 +84,35 @@ check = with_rule (new_app (codes "check")) workers
 abbrev pub replay : App
 replay = new_app (codes "replay")
 
+abbrev pub store : Rule
+store = record (new_rule (codes "store")) { action = Some Set; value_names = 1; required = true }
+
+abbrev pub eager : Rule
+eager = record (new_rule (codes "eager")) { long = Some (codes "eager"); action = Some SetTrue }
+
+abbrev pub number_option : Text → ℕ → Rule
+number_option name most = record (new_rule name) {
+  long = Some name;
+  action = Some Set;
+  parser = Some (Unsigned 0 most);
+  value_names = 1;
+}
+
+-- the command `drive` with the store and when updates are taken in; with the seals and the workers besides; and whole
+abbrev pub storing : App
+storing = with_rule (with_rule (new_app (codes "drive")) store) eager
+
+abbrev pub sealing : App
+sealing = with_rule (with_rule storing (number_option (codes "seals") MAX_SEALS)) workers
+
+abbrev pub drive : App
+drive = with_rule sealing (number_option (codes "stop") (MAX_SESSIONS - 1))
+
 abbrev pub judging : App
 judging = with_subcommand (with_subcommand top judge.top) check.top
 
 abbrev pub command_line : App
-command_line = with_subcommand judging replay.top
+command_line = with_subcommand (with_subcommand judging replay.top) drive.top
 
 -- what is said of one fault, or in its place that memory ran out: help is no fault but a request
 abbrev pub IsUsageOf : ErrorKind → Usage → Type 0

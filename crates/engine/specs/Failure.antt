@@ -1,13 +1,15 @@
 -- What the program says of a run: its exit status, and its line on standard error.
 use Rattle.std.specs.Prelude.{ℕ, List, ◌++◌, codes, decimal, Result, Ok, Err}
 use Rattle.engine.specs.declared.failure.RunError.{RunError}
-use Rattle.engine.specs.declared.failure.RunError.TheVariants.{History, Script, BadCertificate, ShapeMismatch, TooLong, Memory, ReadFault, WriteFault}
+use Rattle.engine.specs.declared.failure.RunError.TheVariants.{History, Script, BadCertificate, ShapeMismatch, BadLimits, NoSuch, TooLong, Memory, ReadFault, WriteFault}
 use Rattle.history.specs.declared.op_id.OpId.{OpId}
 use Rattle.operations.specs.declared.read_error.ReadError.{ReadError}
 use Rattle.operations.specs.declared.read_error.ReadError.TheVariants.{BadOp, ReturnAfterUnknown, Memory as NoMemory}
 use Rattle.operations.specs.Refusals.{number_of}
 use Rattle.cert_check.specs.declared.cert_error.CertError.{CertError}
 use Rattle.cert_check.specs.declared.cert_error.CertError.TheVariants as certificates
+use Rattle.driver.specs.declared.drive_error.DriveError.{DriveError}
+use Rattle.driver.specs.declared.drive_error.DriveError.TheVariants as drives
 use Rattle.script.specs.declared.script_error.ScriptError.{ScriptError}
 use Rattle.script.specs.declared.script_error.ScriptError.TheVariants as scripts
 use Rattle.script.specs.Refusals.{number_of as script_number}
@@ -27,6 +29,12 @@ abbrev pub script_failure : ScriptError → RunError
 script_failure scripts.Memory = Memory
 script_failure refusal = Script refusal
 
+-- how a run fails whose store is not driven: what else than these two can come ends as want of memory does
+abbrev pub drive_failure : DriveError → RunError
+drive_failure drives.BadLimits = BadLimits
+drive_failure drives.NoSuch = NoSuch
+drive_failure _ = Memory
+
 -- the exit status of a refused history: 4 where memory ran out, and else 1
 abbrev pub refusal_status : ReadError → ℕ
 refusal_status NoMemory = 4
@@ -43,6 +51,8 @@ failure_status (History refusal) = refusal_status refusal
 failure_status (Script refusal) = script_status refusal
 failure_status BadCertificate = 1
 failure_status ShapeMismatch = 1
+failure_status BadLimits = 1
+failure_status NoSuch = 1
 failure_status TooLong = 1
 failure_status Memory = 4
 failure_status ReadFault = 3
@@ -80,6 +90,8 @@ line_for (History refusal) = refusal_line refusal
 line_for (Script refusal) = script_line refusal
 line_for BadCertificate = codes "refused 20"
 line_for ShapeMismatch = codes "refused 21"
+line_for BadLimits = codes "refused 10"
+line_for NoSuch = codes "refused 26"
 line_for TooLong = codes "refused 9"
 line_for Memory = codes "no memory"
 line_for ReadFault = codes "read fault"

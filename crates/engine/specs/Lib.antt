@@ -1,7 +1,10 @@
+pub mod Numerals
+pub mod DriveWords
 pub mod CommandLine
 pub mod Failure
 pub mod Report
 pub mod Checking
+pub mod Driving
 pub mod Running
 pub mod ReadCalls
 pub mod Steps

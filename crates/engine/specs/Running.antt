@@ -3,13 +3,14 @@ use Rattle.std.specs.Prelude.{◌≡◌, ◌<◌, ◌≤◌, ℕ, List, Option, 
 use Rattle.std.specs.Io.KnownBytes.{Appends}
 use Rattle.engine.specs.declared.command_line.Order.{Order}
 use Rattle.engine.specs.declared.failure.RunError.{RunError}
-use Rattle.engine.specs.declared.failure.RunError.TheVariants.{History, Script, BadCertificate, ShapeMismatch, TooLong, Memory, ReadFault, WriteFault}
+use Rattle.engine.specs.declared.failure.RunError.TheVariants.{History, Script, BadCertificate, ShapeMismatch, BadLimits, NoSuch, TooLong, Memory, ReadFault, WriteFault}
 use Rattle.operations.specs.declared.any_history.AnyHistory.{AnyHistory}
 use Rattle.operations.specs.AnyForm.{form_of, IsAnyHistory, IsJson, IsRefusedFor}
 use Rattle.engine.specs.declared.report.Report.{Report}
-use Rattle.engine.specs.declared.command_line.Order.TheVariants.{Judge, Check, Replay}
+use Rattle.engine.specs.declared.command_line.Order.TheVariants.{Judge, Check, Replay, Drive}
 use Rattle.engine.specs.Report.{EachIsTrueOf, EachNamesUnexplained, EachIsKnownOnDistinctValues, text_for}
 use Rattle.engine.specs.Checking.{IsCheckReport, IsPairError, HasOtherShape}
+use Rattle.engine.specs.Driving.{IsDriveReport, IsUndriven}
 use Rattle.engine.specs.declared.input.TheConstants.{MAX_INPUT_BYTES}
 use Rattle.script.specs.declared.any_script.AnyScript.{AnyScript}
 use Rattle.script.specs.AnyScriptForm.{IsAnyScript, IsRefusedFor as IsScriptRefusedFor, form_of as script_form}
@@ -38,6 +39,7 @@ abbrev pub IsAnswer : Order → List ℕ → List ℕ → Type 0
 IsAnswer (Judge workers) input text = IsReport input text
 IsAnswer (Check workers) input text = IsCheckReport input text
 IsAnswer Replay input text = IsReplayReport input text
+IsAnswer (Drive drive) input text = IsDriveReport drive input text
 
 -- what can come of making an answer, in its place: the input is refused, or memory ran out
 abbrev pub IsAnswerError : Order → List ℕ → RunError → Type 0
@@ -47,6 +49,9 @@ IsAnswerError (Check workers) input (History refusal) = IsPairError input (Histo
 IsAnswerError (Check workers) input BadCertificate = IsPairError input BadCertificate
 IsAnswerError (Check workers) input ShapeMismatch = HasOtherShape input
 IsAnswerError Replay input (Script refusal) = IsScriptRefusedFor input refusal
+IsAnswerError (Drive drive) input (History refusal) = IsRefusedFor input refusal
+IsAnswerError (Drive drive) input BadLimits = IsUndriven drive input BadLimits
+IsAnswerError (Drive drive) input NoSuch = IsUndriven drive input NoSuch
 IsAnswerError order input _ = ⊥
 
 -- an input was read whole, and an answer to it was written whole: what the reader had, where it tells its bytes, and
@@ -71,6 +76,8 @@ Fails order reader (History refusal) = IsOfInput reader (λ input. IsAnswerError
 Fails order reader (Script refusal) = IsOfInput reader (λ input. IsAnswerError order input (Script refusal))
 Fails order reader BadCertificate = IsOfInput reader (λ input. IsAnswerError order input BadCertificate)
 Fails order reader ShapeMismatch = IsOfInput reader (λ input. IsAnswerError order input ShapeMismatch)
+Fails order reader BadLimits = IsOfInput reader (λ input. IsAnswerError order input BadLimits)
+Fails order reader NoSuch = IsOfInput reader (λ input. IsAnswerError order input NoSuch)
 Fails order reader WriteFault = IsOfInput reader (λ input. (text : List ℕ) × IsAnswer order input text)
 Fails order reader Memory = Unit {0}
 Fails order reader ReadFault = Unit {0}

@@ -1,16 +1,21 @@
 //! The command line.
-ghost use Rattle.std.specs.Prelude.{◌≡◌, ℕ, [], false, IfErr, IfOk, MatchOption, MatchResult, map};
+ghost use Rattle.std.specs.Prelude.{◌≡◌, ◌-◌, ℕ, [], codes, false, IfErr, IfOk, MatchOption, MatchResult, map};
 ghost use Rattle.clap.specs.Words.{HasKind, app_of, fault_of, kind_of, rule_of};
 ghost use Rattle.clap.specs.declared.builder.Command.TheViews.{out-Command};
 ghost use Rattle.engine.specs.CommandLine.{AskFor, AskTogetherFor, AsksFor, GivesNoOrder, IsCommandLine, IsOrder, IsUsageFor};
-ghost use Rattle.engine.specs.CommandLine.{IsUsageOf, Writes, check, command_line, judge, judging, replay, workers};
+ghost use Rattle.engine.specs.CommandLine.{IsUsageOf, check, command_line, drive, eager, judge, judging, number_option, replay};
+ghost use Rattle.engine.specs.CommandLine.{sealing, store, storing, workers};
 ghost use Rattle.collector.specs.Judgements.{AreWorkers};
 
+use crate::drive::{Drive, MAX_SEALS};
+use crate::drive_words::drive_in;
+use crate::numerals;
 use crate::workers::Workers;
 use clap::builder::ValueParser;
 use clap::error::ErrorKind;
 use clap::{Arg, ArgAction, ArgMatches, Command, Error};
 use collector::MAX_WORKERS;
+use history::MAX_SESSIONS;
 use std::alloc::{AllocError, Global};
 use std::convert::AsStr;
 
@@ -23,6 +28,8 @@ pub enum Order {
     Check(Workers),
     /// Runs the script in the input.
     Replay,
+    /// Drives a store with the calls of the history in the input.
+    Drive(Drive),
 }
 
 /// Why a command line gives no order.
@@ -36,8 +43,10 @@ pub enum Usage {
     Memory,
 }
 
-/// The order that a command line gives: the program's name and the word `replay`, or the program's name, the word `judge` or
-/// `check`, and behind it `--workers N` or `--workers=N` for a number from 1 to 16, or nothing for 2.
+/// The order that a command line gives: the program's name and the word `replay`; or the program's name, the word `judge` or
+/// `check`, and behind it `--workers N` or `--workers=N` for a number from 1 to 16, or nothing for 2; or the program's name, the
+/// word `drive`, and behind it in any order `causal` or `lamport` and at most one each of `--eager`, `--seals N` for a number from
+/// 0 to 8, or nothing for 0, `--workers N` as above, and `--stop S` for a number from 0 to 15.
 ///
 /// Any other words give none. `Help` answers those in which `clap` finds a request for help, and `Fault` all others: an
 /// unknown command, option or further word, no command, another number or none. `Memory` comes in the place of either where
@@ -72,6 +81,7 @@ fn order_of<S: AsStr>(word: &str, words: &[S]) -> Option<Order>
         "judge" => Some(Order::Judge(workers_in(words)?)),
         "check" => Some(Order::Check(workers_in(words)?)),
         "replay" if words.is_empty() => Some(Order::Replay),
+        "drive" => Some(Order::Drive(drive_in(words)?)),
         _ => None,
     }
 }
@@ -94,7 +104,7 @@ fn workers_of_word(word: &str) -> Option<Workers>
     ensures { MatchOption result ((n : ℕ) → AreWorkers n → ¬ AsksFor n word.now) (λ n. AsksFor n word.now) }
 {
     match word.strip_prefix("--workers=") {
-        Some(number) => number_in(number),
+        Some(number) => numerals::workers_in(number),
         None => None,
     }
 }
@@ -105,19 +115,9 @@ fn workers_of_words(word: &str, number: &str) -> Option<Workers>
         (λ n. AskTogetherFor n word.now number.now) }
 {
     if word == "--workers" {
-        number_in(number)
+        numerals::workers_in(number)
     } else {
         None
-    }
-}
-
-// The number of workers that a text writes.
-fn number_in(text: &str) -> Option<Workers>
-    ensures { MatchOption result ((n : ℕ) → AreWorkers n → ¬ Writes text.now n) (Writes text.now) }
-{
-    match text.parse::<usize>() {
-        Ok(count) => Workers::of(count),
-        Err(_) => None,
     }
 }
 
@@ -156,10 +156,12 @@ fn matches_of<'a, S: AsStr>(alloc: Global, words: &'a [S]) -> Result<ArgMatches<
 fn program<'a>(alloc: Global) -> Result<Command<'a>, AllocError>
     ensures { IfOk result (λ command. app_of command ≡ command_line) }
 {
-    judging_program(alloc)?.subcommand(replay_command(alloc)?)
+    judging_program(alloc)?
+        .subcommand(replay_command(alloc)?)?
+        .subcommand(drive_command(alloc)?)
 }
 
-// The same without `replay`.
+// The same without `replay` and `drive`.
 fn judging_program<'a>(alloc: Global) -> Result<Command<'a>, AllocError>
     ensures { IfOk result (λ command. app_of command ≡ judging) }
 {
@@ -197,6 +199,81 @@ fn replay_command<'a>(alloc: Global) -> Result<Command<'a>, AllocError>
     Ok(Command::new(alloc, "replay").about(
         "Reads a script of sessions, sealers and workers, and runs it",
     ))
+}
+
+fn drive_command<'a>(alloc: Global) -> Result<Command<'a>, AllocError>
+    ensures app { IfOk result (λ command. app_of command ≡ drive) }
+    ensures local { IfOk result (λ command. (out-Command command).has_globals ≡ false) }
+{
+    sealing_command(alloc)?.arg(stop_option(alloc))
+}
+
+// The same without `--stop`.
+fn sealing_command<'a>(alloc: Global) -> Result<Command<'a>, AllocError>
+    ensures app { IfOk result (λ command. app_of command ≡ sealing) }
+    ensures local { IfOk result (λ command. (out-Command command).has_globals ≡ false) }
+{
+    storing_command(alloc)?
+        .arg(seals_option(alloc))?
+        .arg(workers_option(alloc))
+}
+
+// The same without `--seals` and `--workers`.
+fn storing_command<'a>(alloc: Global) -> Result<Command<'a>, AllocError>
+    ensures app { IfOk result (λ command. app_of command ≡ storing) }
+    ensures local { IfOk result (λ command. (out-Command command).has_globals ≡ false) }
+{
+    Command::new(alloc, "drive")
+        .about("Drives a store with the calls of a history, and judges what was recorded")
+        .arg(store_argument(alloc))?
+        .arg(eager_option(alloc))
+}
+
+fn store_argument<'a>(alloc: Global) -> Arg<'a>
+    ensures rule { rule_of result ≡ store }
+    ensures local { result.global ≡ false }
+{
+    Arg::new(alloc, "store")
+        .value_name("STORE")
+        .required(true)
+        .action(ArgAction::Set)
+        .help("The store: causal or lamport")
+}
+
+fn eager_option<'a>(alloc: Global) -> Arg<'a>
+    ensures rule { rule_of result ≡ eager }
+    ensures local { result.global ≡ false }
+{
+    Arg::new(alloc, "eager")
+        .long("eager")
+        .action(ArgAction::SetTrue)
+        .help("Replicas take updates in at once, whatever they depend on")
+}
+
+fn seals_option<'a>(alloc: Global) -> Arg<'a>
+    ensures rule { rule_of result ≡ number_option (codes "seals") MAX_SEALS }
+    ensures local { result.global ≡ false }
+{
+    Arg::new(alloc, "seals")
+        .long("seals")
+        .value_name("N")
+        .action(ArgAction::Set)
+        .value_parser(ValueParser::unsigned(0, MAX_SEALS as u64))
+        .help("How many histories are sealed while clients run, from 0 to 8; 0 where none is given")
+}
+
+fn stop_option<'a>(alloc: Global) -> Arg<'a>
+    ensures rule { rule_of result ≡ number_option (codes "stop") (MAX_SESSIONS - 1) }
+    ensures local { result.global ≡ false }
+{
+    Arg::new(alloc, "stop")
+        .long("stop")
+        .value_name("S")
+        .action(ArgAction::Set)
+        .value_parser(ValueParser::unsigned(0, MAX_SESSIONS as u64 - 1))
+        .help(
+            "The session whose client never ends its last call, from 0 to 15; none where none is given",
+        )
 }
 
 fn workers_option<'a>(alloc: Global) -> Arg<'a>

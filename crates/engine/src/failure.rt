@@ -3,6 +3,7 @@ ghost use Rattle.std.specs.Prelude.{◌≡◌, IfOk, string_bytes};
 ghost use Rattle.engine.specs.Failure.{line_for, refusal_line, refused_at, script_line as line_for_script, status_for};
 
 use cert_check::CertError;
+use driver::DriveError;
 use operations::{OpId, ReadError};
 use script::ScriptError;
 use std::alloc::{AllocError, AllocFailed, Global};
@@ -23,6 +24,12 @@ pub enum RunError {
     /// The certificate in the input does not have the shape of the history.
     #[error("the certificate does not have the shape of the history")]
     ShapeMismatch,
+    /// The history in the input has no session, so nothing can be driven.
+    #[error("the history has no session")]
+    BadLimits,
+    /// The history in the input does not have the session that is to stop.
+    #[error("the history does not have the session that is to stop")]
+    NoSuch,
     /// The input has more bytes than are read.
     #[error("the input has more than {most} bytes", most = crate::input::MAX_INPUT_BYTES)]
     TooLong,
@@ -87,6 +94,24 @@ impl From<ReadError> for RunError {
     }
 }
 
+// `ClockFull` and `CellGaveBack` come in no run.
+impl From<DriveError> for RunError {
+    ghost use Rattle.std.specs.Prelude.{◌≡◌};
+    ghost use Rattle.engine.specs.Failure.{drive_failure};
+
+    ghost from_gives = { λ refusal e. e ≡ drive_failure refusal };
+
+    fn from(refusal: DriveError) -> RunError {
+        match refusal {
+            DriveError::BadLimits => RunError::BadLimits,
+            DriveError::NoSuch => RunError::NoSuch,
+            DriveError::Memory | DriveError::ClockFull | DriveError::CellGaveBack => {
+                RunError::Memory
+            }
+        }
+    }
+}
+
 impl From<ScriptError> for RunError {
     ghost use Rattle.std.specs.Prelude.{◌≡◌};
     ghost use Rattle.engine.specs.Failure.{script_failure};
@@ -119,6 +144,8 @@ pub fn status_of(outcome: &Result<(), RunError>) -> u8
             | RunError::Script(_)
             | RunError::BadCertificate
             | RunError::ShapeMismatch
+            | RunError::BadLimits
+            | RunError::NoSuch
             | RunError::TooLong,
         ) => 1,
     }
@@ -135,6 +162,8 @@ pub fn fault_line(alloc: Global, error: &RunError) -> Result<String, AllocError>
         RunError::TooLong => String::from_str(alloc, "refused 9"),
         RunError::BadCertificate => String::from_str(alloc, "refused 20"),
         RunError::ShapeMismatch => String::from_str(alloc, "refused 21"),
+        RunError::BadLimits => String::from_str(alloc, "refused 10"),
+        RunError::NoSuch => String::from_str(alloc, "refused 26"),
         RunError::Memory => String::from_str(alloc, "no memory"),
         RunError::ReadFault => String::from_str(alloc, "read fault"),
         RunError::WriteFault => String::from_str(alloc, "write fault"),

@@ -6,6 +6,7 @@ ghost use Rattle.engine.specs.Running.{Answers, Fails, IsAnswer, IsAnswerError};
 
 use crate::checking::check;
 use crate::command_line::Order;
+use crate::driving::drive_input;
 use crate::failure::RunError;
 use crate::input::{MAX_READ_CALLS, read_input};
 use crate::judging::report_on;
@@ -65,6 +66,7 @@ pub fn answer_to<T: Threads + Wait + Sync>(
         Order::Judge(workers) => judge(rt, alloc, input, *workers),
         Order::Check(workers) => check(rt, alloc, input, *workers),
         Order::Replay => replay(alloc, input),
+        Order::Drive(drive) => drive_input(rt, alloc, input, *drive),
     }
 }
 

@@ -1,5 +1,5 @@
 use Rattle.std.proofs.Common.{map}
-use Rattle.engine.proofs.Words.{no_check, no_judge}
+use Rattle.engine.proofs.Words.{no_check, no_drive_order, no_judge}
 use Rattle.engine.proofs.command_line.order_of.Goals as goal
 
 pub returns-in_err-workers_in-in-judge : goal.returns-in_err-workers_in-in-judge
@@ -9,3 +9,7 @@ returns-in_err-workers_in-in-judge g c =
 pub returns-in_err-workers_in-in-check : goal.returns-in_err-workers_in-in-check
 returns-in_err-workers_in-in-check g c =
     rw c.from_residual-in_err-workers_in-in-check.ensures (no_check c.args.word.now (map g.S.AsStr.text c.args.words.now) c.in-check.is c.in_err-workers_in-in-check.ensures)
+
+pub returns-in_err-drive_in-in-drive : goal.returns-in_err-drive_in-in-drive
+returns-in_err-drive_in-in-drive g c =
+    rw c.from_residual-in_err-drive_in-in-drive.ensures (no_drive_order c.args.word.now (map g.S.AsStr.text c.args.words.now) c.in-drive.is c.in_err-drive_in-in-drive.ensures)

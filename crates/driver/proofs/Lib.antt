@@ -1,0 +1,6 @@
+pub mod Calls
+pub mod Gathered
+pub mod Lists
+pub mod Receiving
+pub mod Recorders
+pub mod Results

@@ -1,0 +1,11 @@
+use Rattle.driver.proofs.Calls.{one_more_seal}
+use Rattle.driver.proofs.Gathered.{last_repeats}
+use Rattle.driver.proofs.sealing.seals_of.Goals as goal
+
+pub returns-clause-seals : goal.returns-clause-seals
+returns-clause-seals g c = one_more_seal c.args.run.now.lanes.now c.in_ok-sealed.sealed.items c.push.new.self.items c.in_ok-last.last c.in_ok-push.ensures.items c.in_ok-last.ensures.seal c.in_ok-sealed.ensures.seals
+
+pub returns-clause-last : goal.returns-clause-last
+returns-clause-last g c =
+    let run = c.args.run.now in
+    last_repeats run.plan.stop run.input.now c.in_ok-sealed.sealed.items c.push.new.self.items c.in_ok-last.last run.plan.seals c.in_ok-sealed.ensures.many c.in_ok-push.ensures.items c.in_ok-last.ensures.calls

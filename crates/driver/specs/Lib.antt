@@ -1,0 +1,4 @@
+pub mod Clients
+pub mod DriveErrors
+pub mod Drives
+pub mod Seats

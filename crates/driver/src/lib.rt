@@ -1,0 +1,34 @@
+//! Clients that call a replicated store, recorded and sealed while they run.
+#![tactic(auto)]
+
+mod client;
+mod drive_error;
+mod driving;
+mod gathering;
+mod input;
+mod mailboxes;
+mod plan;
+mod played;
+mod playing;
+mod recording;
+mod run;
+mod run_name;
+mod sealing;
+mod sealing_progress;
+mod seat;
+mod seated;
+mod seating;
+mod steps;
+mod taking_in;
+
+pub use drive_error::DriveError;
+pub use driving::drive;
+pub use input::{calls_in, check_input};
+pub use mailboxes::Mailboxes;
+pub use plan::DrivePlan;
+pub use played::Played;
+pub use playing::play;
+pub use recording::recorder_for;
+pub use run::Run;
+pub use sealing::seals_of;
+pub use sealing_progress::SealingProgress;

@@ -1,0 +1,12 @@
+use replica::Delivery;
+
+/// How the clients of a store are driven.
+#[derive(Clone, Copy, Debug, PartialEq, Eq)]
+pub struct DrivePlan {
+    /// When a replica takes in what other clients tell it.
+    pub delivery: Delivery,
+    /// How many seals are taken while clients run.
+    pub seals: u8,
+    /// The session whose client never ends its last call, if there is one.
+    pub stop: Option<usize>,
+}

@@ -1,0 +1,18 @@
+use crate::mailboxes::Mailboxes;
+use crate::plan::DrivePlan;
+use crate::sealing_progress::SealingProgress;
+use history::History;
+use object_trait::SeqObject;
+use recorder::Lanes;
+use std::alloc::Global;
+
+/// What the clients of one run share.
+#[derive(Drop)]
+pub struct Run<'a, O: SeqObject> {
+    pub alloc: Global,
+    pub input: &'a History<O>,
+    pub plan: DrivePlan,
+    pub lanes: &'a Lanes<O>,
+    pub mailboxes: &'a Mailboxes<O::Call>,
+    pub progress: &'a SealingProgress,
+}

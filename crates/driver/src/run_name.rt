@@ -1,0 +1,23 @@
+ghost use Rattle.std.specs.Prelude.{ℕ, Result};
+ghost use Rattle.recorder.specs.Sessions.{SessionState};
+ghost use Rattle.driver.specs.Clients.{PlayedState};
+ghost use Rattle.driver.specs.declared.drive_error.DriveError.{DriveError};
+
+use std::marker::Brand;
+
+/// Says which run the sessions that are handed to clients, and what the clients leave, are of.
+///
+/// It has no calls. Whoever makes a run passes `Brand` where the name is asked for, and picks the run there.
+pub(crate) trait RunName<S, C, R> {
+    /// A session that a client may take.
+    ghost ready: { SessionState C R → Type 0 };
+
+    /// What the client of a session may leave.
+    ghost left: { ℕ → Result (PlayedState S C R) DriveError → Type 0 };
+}
+
+impl<S, C, R> RunName<S, C, R> for Brand {
+    ghost ready = { λ _. Unit {0} };
+
+    ghost left = { λ _ _. Unit {0} };
+}

@@ -1,0 +1,110 @@
+ghost use Rattle.std.specs.Prelude.{IfSome, MatchResult, Result, ℕ};
+ghost use Rattle.recorder.specs.Sessions.{SessionState};
+ghost use Rattle.driver.specs.Clients.{IsFresh, IsGivenUp, IsPlayed, PlayedState};
+ghost use Rattle.driver.specs.declared.drive_error.DriveError.{DriveError};
+
+use crate::drive_error::DriveError;
+use crate::played::Played;
+use crate::playing::play;
+use crate::run::Run;
+use crate::run_name::RunName;
+use crate::seat::Seat;
+use desk::Gate;
+use object_trait::SeqObject;
+use recorder::Session;
+use replica::UpdateOrder;
+use std::alloc::AllocError;
+use std::marker::PhantomData;
+use std::sync::{Mutex, Wait};
+use std::thread;
+use std::thread::Threads;
+
+/// Takes the session that waits at a seat.
+fn take_own<O: SeqObject, K: RunName<O::Start, O::Call, O::Ret>, R: Wait>(
+    rt: &R,
+    seat: &Mutex<Seat<O, K>>,
+) -> Option<Session<O>>
+    ensures { IfSome result K.ready }
+{
+    seat.lock(rt).take()
+}
+
+impl<O: SeqObject, K: RunName<O::Start, O::Call, O::Ret>> Seat<O, K> {
+    fn take(&mut self) -> Option<Session<O>>
+        ensures { IfSome result K.ready }
+    {
+        self.own.take()
+    }
+
+    fn leave(&mut self, s: usize, played: Result<Played<O>, DriveError>)
+        requires { K.left s played }
+    {
+        self.left = Some((s, played));
+    }
+}
+
+/// Plays the session that waits at a seat, and leaves there what was played.
+fn play_at<O: SeqObject, K: RunName<O::Start, O::Call, O::Ret>, P: UpdateOrder, R: Wait, G: Gate>(
+    rt: &R,
+    run: &Run<O>,
+    gate: &G,
+    seat: &Mutex<Seat<O, K>>,
+)
+    requires ready { (own : SessionState O.Call O.Ret) → K.ready own → IsFresh run.now.lanes.now run.now.input.now own }
+    requires left { (s : ℕ) (p : Result (PlayedState O.Start O.Call O.Ret) DriveError)
+        → MatchResult p (IsPlayed run.now.lanes.now run.now.plan.stop run.now.input.now s) IsGivenUp → K.left s p }
+{
+    if let Some(own) = take_own(rt, seat) {
+        let s = own.lane() as usize;
+        let played = play::<O, P, R, G>(rt, run, gate, s, own);
+        seat.lock(rt).leave(s, played);
+    }
+}
+
+/// The same at one of the seats.
+fn play_index<
+    O: SeqObject,
+    K: RunName<O::Start, O::Call, O::Ret>,
+    P: UpdateOrder,
+    R: Wait,
+    G: Gate,
+>(rt: &R, run: &Run<O>, gate: &G, seats: &Vec<Mutex<Seat<O, K>>>, _order: &PhantomData<P>, s: usize)
+    requires ready { (own : SessionState O.Call O.Ret) → K.ready own → IsFresh run.now.lanes.now run.now.input.now own }
+    requires left { (s : ℕ) (p : Result (PlayedState O.Start O.Call O.Ret) DriveError)
+        → MatchResult p (IsPlayed run.now.lanes.now run.now.plan.stop run.now.input.now s) IsGivenUp → K.left s p }
+{
+    if let Some(seat) = seats.get(s) {
+        play_at::<O, K, P, R, G>(rt, run, gate, seat);
+    }
+}
+
+/// The clients of all seats, each in a thread of its own where one can be made.
+pub(crate) fn play_seats<
+    O: SeqObject + Send + Sync,
+    K: RunName<O::Start, O::Call, O::Ret> + Send + Sync,
+    P: UpdateOrder + Send + Sync,
+    R: Threads + Wait + Sync,
+    G: Gate,
+>(
+    rt: &R,
+    run: &Run<O>,
+    gate: &G,
+    seats: &Vec<Mutex<Seat<O, K>>>,
+    order: &PhantomData<P>,
+) -> Result<(), AllocError>
+    requires ready { (own : SessionState O.Call O.Ret) → K.ready own → IsFresh run.now.lanes.now run.now.input.now own }
+    requires left { (s : ℕ) (p : Result (PlayedState O.Start O.Call O.Ret) DriveError)
+        → MatchResult p (IsPlayed run.now.lanes.now run.now.plan.stop run.now.input.now s) IsGivenUp → K.left s p }
+{
+    let _played = thread::map_indices(
+        rt,
+        run.alloc,
+        seats.len(),
+        &|s: usize| -> ()
+            requires { ((own : SessionState O.Call O.Ret) → K.ready own → IsFresh run.now.lanes.now run.now.input.now own)
+                × ((s : ℕ) (p : Result (PlayedState O.Start O.Call O.Ret) DriveError)
+                → MatchResult p (IsPlayed run.now.lanes.now run.now.plan.stop run.now.input.now s) IsGivenUp → K.left s p) }
+        { play_index::<O, K, P, R, G>(rt, run, gate, seats, order, s) },
+    )?;
+    Ok(())
+}
