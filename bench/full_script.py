@@ -36,13 +36,17 @@ def pieces():
         yield from (["take"], ["work", c, s, i], ["put", c, verdict])
 
 
-def main():
+def script():
     looks = SESSIONS * OPERATIONS
     steps = [*recorded(), ["start", [OPERATIONS // 2] * SESSIONS], ["look", 0, looks]]
     steps += [["file", 0, certificate()]] * CASES
     left = STEPS - (len(steps) - 1 + looks)
     steps += [step for step, _ in zip(pieces(), range(left))]
-    json.dump(["memory", SESSIONS, steps], sys.stdout, separators=(",", ":"))
+    return ["memory", SESSIONS, steps]
+
+
+def main():
+    json.dump(script(), sys.stdout, separators=(",", ":"))
 
 
 if __name__ == "__main__":

@@ -4,9 +4,10 @@
     python3 bench/mangled.py SEED MINUTES -- PROGRAM
 
 A history, a history with a certificate, or a script is made at random, and then its value or its text is spoilt in one to three
-places: a part is replaced, taken out, doubled or put elsewhere, a number is put at a limit, a byte is changed. The status, what
-is written and the line on standard error have to be those of the plain reader; of `judge` the lines have to be three lines of a
-report. Where they are not, the input is written to a file and named, and the end is status 1.
+places: a part is replaced, taken out, doubled or put elsewhere, a number is put at a limit, a byte is changed. The words of the
+command line are spoilt too, now and then. The status, what is written and the line on standard error have to be those of the plain
+reader; of `judge` the lines have to be three lines of a report, of `drive` what driven.py asks for, and words that are no command
+line have to be told of as an error. Where they are not, the input is written to a file and named, and the end is status 1.
 """
 
 import argparse
@@ -14,24 +15,22 @@ import collections
 import json
 import pathlib
 import random
-import re
 import subprocess
 import tempfile
 import time
 
+import driven
 import reading
 import replay
-from command_words import with_program
+from command_words import OPTIONS, RANGES, STORES, order_of, with_program
 from objects import DONE, KEYED, MOST_NUMBER, OBJECTS, UNKNOWN, State, operation
 from patterns import CRITERIA
 from scripts import script_text
 
-KINDS = "CyclicCO|ThinAirRead|WriteCOInitRead|WriteCORead|WriteHBInitRead|CyclicHB|CyclicCF"
-ANSWER = rf"(yes|no ({KINDS})|unknown( \d+\.\d+)?)"
-REPORT = re.compile(rf"cc {ANSWER}\ncm {ANSWER}\nccv {ANSWER}\n")
 NUMBERS = (0, 1, 2, 15, 16, 17, 255, 256, 257, 65_535, 65_536, 2**32 - 1, 2**32, 2**63, MOST_NUMBER, MOST_NUMBER + 1, -1, 1.0, 1.5)
 JUNK = (None, True, False, "", UNKNOWN, DONE, "w", [], [[]], {}, {"w": 1}, *NUMBERS)
 WORDS = (b"-0", b"1e2", b"1e400", b"1.0", b"01", b"+1", b"NaN", b"\\u0077", b"\\ud800", b"\xff", b"\xef\xbb\xbf", b"\x00", b"null", b"[" * 130)
+OPTION_WORDS = ("", "-", "--", "judge", *STORES, "--eager", "--eager=1", "--seals", "--stop=16", "--workers=0", "--speed", "9", "17")
 
 
 def random_history(rng):
@@ -115,7 +114,27 @@ def input_of(rng, command):
     if command == "replay":
         return json.loads(script_text(rng, rng.randrange(8))[0] or "[]", strict=False)
     history = random_history(rng)
-    return history if command == "judge" else [history, program_order(rng, history[1])]
+    return [history, program_order(rng, history[1])] if command == "check" else history
+
+
+def option_words(rng, option):
+    """An option with a number, where it takes one, as two words or as one."""
+    if option not in RANGES:
+        return [option]
+    number = rng.choice(("", "", "+", "0")) + str(rng.choice(RANGES[option]))
+    return [option, number] if rng.random() < 0.5 else [f"{option}={number}"]
+
+
+def random_words(rng, command):
+    """The words of a command line, spoilt now and then."""
+    parts = [option_words(rng, option) for option in OPTIONS[command] if rng.random() < 0.3]
+    parts += [[rng.choice(STORES)]] if command == "drive" else []
+    rng.shuffle(parts)
+    words = [command, *sum(parts, [])]
+    if rng.random() < 0.05:
+        at = rng.randrange(len(words) + 1)
+        words[at : at + rng.randrange(2)] = rng.choice(([], [rng.choice(OPTION_WORDS)], words[1:2]))
+    return words
 
 
 def mangled(rng, command):
@@ -133,29 +152,54 @@ def mangled(rng, command):
     return text
 
 
-def wanted(command, data):
-    """The status, what is written, where that is known, and the line on standard error."""
-    try:
-        if command == "replay":
-            return 0, "".join(f"{line}\n" for line in replay.replies(data)), ""
-        if command == "check":
-            return 0, reading.line_of_check(data), ""
+def answer_due(order, data):
+    """What is due to an input, where one thing alone is."""
+    if order["command"] == "replay":
+        return "".join(f"{line}\n" for line in replay.replies(data))
+    if order["command"] == "check":
+        return reading.line_of_check(data)
+    if order["command"] == "drive":
+        reading.read_driven(data, order.get("--stop"))
+    else:
         reading.read_history(reading.read_text(data))
-        return 0, None, ""
+    return None
+
+
+def wanted(order, data):
+    """The status, what is written, where one thing alone may be, and the line on standard error, where it is known."""
+    if order is None:
+        return 2, "", None
+    try:
+        return 0, answer_due(order, data), ""
     except replay.Refused as refusal:
         return 1, "", "refused " + " ".join(map(str, refusal.args)) + "\n"
 
 
-def is_right(found, due):
-    """Whether an outcome is the one that is due."""
+def is_answer(program, order, data, text):
+    """Whether a text answers an input to which several texts may."""
+    if order["command"] == "judge":
+        return reading.REPORT.fullmatch(text) is not None
+    return not driven.faults(program, order, reading.read_driven(data), text)
+
+
+def is_right(program, order, data, found, due):
+    """Whether an outcome is one that is due."""
+    if due[2] is None:
+        return found[:2] == due[:2] and found[2].startswith("error: ")
     if due[1] is None:
-        return found[0] == due[0] and found[2] == due[2] and REPORT.fullmatch(found[1]) is not None
+        return (found[0], found[2]) == (due[0], due[2]) and is_answer(program, order, data, found[1])
     return found == due
 
 
-def outcome(program, command, data):
-    done = subprocess.run([*program, command], input=data, capture_output=True, check=False, timeout=120)
+def outcome(program, words, data):
+    done = subprocess.run([*program, *words], input=data, capture_output=True, check=False, timeout=120)
     return done.returncode, done.stdout.decode(), done.stderr.decode()
+
+
+def kind_of(due):
+    """What is due, in short: the number of a refusal without its place."""
+    status, _, line = due
+    return {0: "answered", 2: "no command line"}[status] if status != 1 else " ".join(line.split()[:2])
 
 
 def main():
@@ -168,15 +212,16 @@ def main():
     end = time.monotonic() + 60 * given.minutes
     seen, wrong = collections.Counter(), 0
     while time.monotonic() < end:
-        command = rng.choice(("judge", "check", "replay"))
-        data = mangled(rng, command)
-        due, found = wanted(command, data), outcome(given.program, command, data)
-        seen[command, due[2].rsplit(" ", 1)[0] if due[2].count(" ") == 2 else due[2].strip() or "answered"] += 1
-        if not is_right(found, due):
+        command = rng.choice(list(OPTIONS))
+        words, data = random_words(rng, command), mangled(rng, command)
+        order = order_of(words)
+        due, found = wanted(order, data), outcome(given.program, words, data)
+        seen[order["command"] if order else command, kind_of(due)] += 1
+        if not is_right(given.program, order, data, found, due):
             wrong += 1
             path = folder / f"{command}-{wrong}.json"
             path.write_bytes(data)
-            print(f"{path}: {found!r}, due {due!r}", flush=True)
+            print(f"{' '.join(words)} < {path}: {found!r}, due {due!r}", flush=True)
     for (command, kind), many in sorted(seen.items()):
         print(f"{many:8} {command} {kind}")
     print(f"{sum(seen.values())} inputs, {wrong} with another outcome")

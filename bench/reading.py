@@ -1,13 +1,19 @@
-"""Reads the inputs of `judge` and `check` in a plain way, and refuses them in the order in which they are read.
+"""Reads the inputs of `judge`, `check` and `drive` in a plain way, and refuses them in the order in which they are read.
 
-It knows nothing of the program: what it says follows docs/definitions.md and the table of refusals in README.md.
+It knows the form of a report too, and nothing of the program: what it says follows docs/definitions.md and the table of refusals in
+README.md.
 """
+
+import re
 
 import recheck
 from objects import KEYED, OBJECTS, UNKNOWN, State, is_call, is_return, is_start, fits, split
+from patterns import AGAINST
 from replay import MOST_BYTES, PLACES, Refused, is_certificate, read_json
 
 MOST_SESSIONS = 16
+ANSWER = rf"(yes|no ({'|'.join(AGAINST)})|unknown( \d+\.\d+)?)"
+REPORT = re.compile(rf"cc {ANSWER}\ncm {ANSWER}\nccv {ANSWER}\n")
 
 
 def is_operation(name, form):
@@ -61,6 +67,16 @@ def read_text(data):
     if len(data) > MOST_BYTES:
         raise Refused(9)
     return read_json(data)
+
+
+def read_driven(data, stop=None):
+    """The history in an input of `drive`, in which a session may be to stop."""
+    name, start, sessions = read_history(read_text(data))
+    if not sessions:
+        raise Refused(10)
+    if stop is not None and stop >= len(sessions):
+        raise Refused(26)
+    return name, start, sessions
 
 
 def read_certified(data):

@@ -4,8 +4,9 @@
     python3 bench/refused_memory.py -- PROGRAM
 
 A run on each input below is repeated with its first allocation refused, then its second, and so on until one asks for no more.
-It has to end with its usual answer, or with status 4, `no memory` on standard error and nothing written. The allocations are
-those of the C library, which a small library that `cc` makes stands before: malloc, calloc, realloc and their aligned kin.
+It has to end with its usual answer, of `drive` with one that driven.py finds no fault in, or with status 4, `no memory` on standard
+error and nothing written. The allocations are those of the C library, which a small library that `cc` makes stands before: malloc,
+calloc, realloc and their aligned kin.
 """
 
 import argparse
@@ -15,7 +16,9 @@ import pathlib
 import subprocess
 import tempfile
 
-from command_words import with_program
+import driven
+from command_words import OPTIONS, order_of, with_program
+from reading import read_driven
 
 INPUTS = (
     ("judge", '["memory",[[["w",0,1]],[["r",0,1]]]]'),
@@ -30,8 +33,12 @@ INPUTS = (
     ("replay", '["memory",2,[["start"],["look",0],["begin",0,["w",0,1]],["begin",1,["r",0]],["end",1,1],["look",0,5],["show",0]]]'),
     ("replay", '["memory",2,[["begin",0,["w",0,1]],["end",0,"ok"],["begin",1,["r",0]],["end",1,1],["start"],["look",0,6],'
      '["file",0,["cc",[[[1,0]],[[1,1]]],[[[0]],[[0,1]]]]],["work",0,0,0],["put",0,0],["ask",0]]]'),
+    ("drive causal", '["memory",[[["w",0,1],["r",0,"?"]]]]'),
+    ("drive causal --seals 1", '["memory",[[["w",0,1],["r",0,"?"]],[["r",0,"?"],["w",0,2,"?"]]],[[0,5]]]'),
+    ("drive lamport --eager --stop 1", '["queue",[[["push",5],["pop","?"]],[["pop","?"],["push",6,"?"]]]]'),
 )
 WORKERS = ("1", "2")
+NO_MEMORY = (4, b"", b"no memory\n")
 
 LIBRARY = r"""
 #define _GNU_SOURCE
@@ -97,6 +104,28 @@ def outcomes(words, data, refusing, mark):
         yield number, found
 
 
+def command_lines(command):
+    """The words of a command by each number of workers, where it has any."""
+    words = command.split()
+    if "--workers" not in OPTIONS[words[0]]:
+        return [words]
+    return [[*words, "--workers", workers] for workers in WORKERS]
+
+
+def is_right(program, words, data, usual, found):
+    """Whether a run may end so: as usual, or for want of memory; what clients write may differ from run to run."""
+    if words[0] != "drive" or found == NO_MEMORY:
+        return found in (usual, NO_MEMORY)
+    return (found[0], found[2]) == (0, b"") and not driven.faults(program, order_of(words), read_driven(data), found[1].decode())
+
+
+def wrong_ends(program, words, data, refusing, mark):
+    """How many allocations a run makes, and those whose refusal does not end as it is due."""
+    usual = outcome([*program, *words], data)
+    ends = list(outcomes([*program, *words], data, refusing, mark))
+    return len(ends), [end for end in ends if not is_right(program, words, data, usual, end[1])]
+
+
 def main():
     parser = argparse.ArgumentParser(description=__doc__, formatter_class=argparse.RawDescriptionHelpFormatter)
     program = with_program(parser).program
@@ -104,16 +133,12 @@ def main():
     with tempfile.TemporaryDirectory() as name:
         folder = pathlib.Path(name)
         refusing = library(folder)
-        for command, text in INPUTS:
-            for workers in WORKERS if command != "replay" else (None,):
-                words = [*program, command, *(["--workers", workers] if workers else [])]
-                rights = (outcome(words, text.encode()), (4, b"", b"no memory\n"))
-                ends = list(outcomes(words, text.encode(), refusing, folder / "mark"))
-                wrong = [(number, found) for number, found in ends if found not in rights]
-                bad += len(wrong)
-                print(f"{len(ends):5} refused, {len(wrong)} not right: {' '.join(words[len(program):])} {text[:60]}", flush=True)
-                for number, found in wrong[:3]:
-                    print(f"      allocation {number}: {found!r}")
+        for words, text in [(words, text) for command, text in INPUTS for words in command_lines(command)]:
+            many, wrong = wrong_ends(program, words, text.encode(), refusing, folder / "mark")
+            bad += len(wrong)
+            print(f"{many:5} refused, {len(wrong)} not right: {' '.join(words)} {text[:60]}", flush=True)
+            for number, found in wrong[:3]:
+                print(f"      allocation {number}: {found!r}")
     raise SystemExit(1 if bad else 0)
 
 

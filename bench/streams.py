@@ -3,24 +3,43 @@
 
     python3 bench/streams.py -- PROGRAM
 
-Each trouble is met with the right answer, or with the status and the line of README.md's table: never another text, a part of an
-answer before a fault is known, a crash or a hang. It ends with status 1 where one is not.
+Each of the program's commands is run so, `drive` with one client, whose answer is always the same. Each trouble is met with the
+right answer, or with the status and the line of README.md's table: never another text, a part of an answer before a fault is known,
+a crash or a hang. It ends with status 1 where one is not.
 """
 
 import argparse
-import fcntl
 import os
 import resource
 import signal
 import subprocess
 import threading
 import time
+from typing import NamedTuple
 
 from command_words import with_program
 
-HISTORY = b'["memory",[[["w",0,1]],[["r",0,1]]]]'
+
+class Run(NamedTuple):
+    """A run: the program, the words behind it, what stands on its standard input, and what it answers."""
+
+    program: list
+    words: list
+    data: bytes
+    text: bytes
+
+    def answered(self):
+        return 0, self.text, b""
+
+
 REPORT = b"cc yes\ncm yes\nccv yes\n"
-ANSWERED = (0, REPORT, b"")
+COMMANDS = (
+    (["judge"], b'["memory",[[["w",0,1]],[["r",0,1]]]]', REPORT),
+    (["check"], b'[["counter",[[["inc"]],[["get",1]]]],["ccv",[[[1,0]],[[1,1]]],[0,1]]]', b"ccv yes\n"),
+    (["replay"], b'["memory",1,[["begin",0,["w",0,7]],["start"],["look",0,3]]]', b"ok 0.0\nok 0\nnone\nseen\nnone\n"),
+    (["drive", "causal"], b'["memory",[[["w",0,1],["r",0,"?"]]]]', b'["memory",[[["w",0,1],["r",0,1]]]]\n' + REPORT),
+)
+ANSWERED = "the answer"
 READ_FAULT = (3, b"", b"read fault\n")
 WRITE_FAULT = (3, b"", b"write fault\n")
 NO_MEMORY = (4, b"", b"no memory\n")
@@ -40,41 +59,42 @@ def ended(process, data=None):
     return process.returncode, written or b"", said or b""
 
 
-def started(program, **streams):
+def started(run, **streams):
     streams.setdefault("stdout", subprocess.PIPE)
-    return subprocess.Popen([*program, "judge"], stderr=subprocess.PIPE, **streams)
+    return subprocess.Popen([*run.program, *run.words], stderr=subprocess.PIPE, **streams)
 
 
-def fed(program, feed, **streams):
-    """How the program ends whose standard input is a pipe that a function feeds and closes."""
+def fed(run, feed, blocking=True, **streams):
+    """How a run ends whose standard input is a pipe that a function feeds and closes."""
     reading, writing = os.pipe()
-    process = started(program, stdin=reading, **streams)
+    os.set_blocking(reading, blocking)
+    process = started(run, stdin=reading, **streams)
     os.close(reading)
-    feeder = threading.Thread(target=feed, args=(writing, process))
+    feeder = threading.Thread(target=feed, args=(run.data, writing, process))
     feeder.start()
     outcome = ended(process)
     feeder.join()
     return outcome
 
 
-def whole(writing, _):
+def whole(data, writing, _):
     try:
-        os.write(writing, HISTORY)
+        os.write(writing, data)
     except BrokenPipeError:
         pass
     os.close(writing)
 
 
-def by_bytes(writing, _):
-    for byte in HISTORY:
+def by_bytes(data, writing, _):
+    for byte in data:
         os.write(writing, bytes([byte]))
         time.sleep(0.001)
     os.close(writing)
 
 
-def with_signals(writing, process):
+def with_signals(data, writing, process):
     """Signals that stop it, let it go on, or say nothing, between the bytes."""
-    for at, byte in enumerate(HISTORY):
+    for at, byte in enumerate(data):
         os.write(writing, bytes([byte]))
         process.send_signal((signal.SIGSTOP, signal.SIGCONT, signal.SIGWINCH, signal.SIGCHLD)[at % 4])
         time.sleep(0.002)
@@ -82,66 +102,58 @@ def with_signals(writing, process):
     os.close(writing)
 
 
-def late(writing, _):
+def late(data, writing, _):
     time.sleep(0.3)
-    whole(writing, None)
+    whole(data, writing, None)
 
 
 def closed(number):
     return lambda: os.close(number)
 
 
-def closed_input(program):
-    return ended(started(program, preexec_fn=closed(0)))
+def closed_input(run):
+    return ended(started(run, preexec_fn=closed(0)))
 
 
-def directory_as_input(program):
+def directory_as_input(run):
     folder = os.open("/", os.O_RDONLY)
     try:
-        return ended(started(program, stdin=folder))
+        return ended(started(run, stdin=folder))
     finally:
         os.close(folder)
 
 
-def bytes_one_at_a_time(program):
-    return fed(program, by_bytes)
+def bytes_one_at_a_time(run):
+    return fed(run, by_bytes)
 
 
-def signals_between_bytes(program):
-    return fed(program, with_signals)
+def signals_between_bytes(run):
+    return fed(run, with_signals)
 
 
-def input_that_comes_late(program):
-    return fed(program, late)
+def input_that_comes_late(run):
+    return fed(run, late)
 
 
-def input_that_would_block(program):
+def input_that_would_block(run):
     """The reading end answers at once that nothing is there yet."""
-    reading, writing = os.pipe()
-    fcntl.fcntl(reading, fcntl.F_SETFL, fcntl.fcntl(reading, fcntl.F_GETFL) | os.O_NONBLOCK)
-    process = started(program, stdin=reading)
-    os.close(reading)
-    feeder = threading.Thread(target=late, args=(writing, process))
-    feeder.start()
-    outcome = ended(process)
-    feeder.join()
-    return outcome
+    return fed(run, late, blocking=False)
 
 
-def closed_output(program):
-    return fed(program, whole, stdout=None, preexec_fn=closed(1))
+def closed_output(run):
+    return fed(run, whole, stdout=None, preexec_fn=closed(1))
 
 
-def full_output(program):
+def full_output(run):
     with open("/dev/full", "wb") as full:
-        return fed(program, whole, stdout=full)
+        return fed(run, whole, stdout=full)
 
 
-def output_that_nobody_reads(program):
+def output_that_nobody_reads(run):
     reading, writing = os.pipe()
     os.close(reading)
     try:
-        return fed(program, whole, stdout=writing)
+        return fed(run, whole, stdout=writing)
     finally:
         os.close(writing)
 
@@ -150,8 +162,8 @@ def limited(kind, most):
     return lambda: resource.setrlimit(kind, (most, most))
 
 
-def answer_to(data, program, preexec):
-    return ended(started(program, stdin=subprocess.PIPE, preexec_fn=preexec), data)
+def answer_to(run, preexec):
+    return ended(started(run, stdin=subprocess.PIPE, preexec_fn=preexec), run.data)
 
 
 def begins(program, most):
@@ -160,24 +172,24 @@ def begins(program, most):
     return done.returncode == 0
 
 
-def small_memory(program):
+def small_memory(run):
     """The outcomes that are not right, as the address space grows from too little to ample."""
     ample = 64 << 20
-    least = next(most for most in range(1 << 19, ample, 1 << 17) if begins(program, most))
+    least = next(most for most in range(1 << 19, ample, 1 << 17) if begins(run.program, most))
     wrong = []
     for step in range(MEMORY_STEPS):
         most = least + (ample - least) * step // (MEMORY_STEPS - 1)
-        found = answer_to(HISTORY, program, limited(resource.RLIMIT_AS, most))
-        if found not in (ANSWERED, NO_MEMORY):
+        found = answer_to(run, limited(resource.RLIMIT_AS, most))
+        if found not in (run.answered(), NO_MEMORY):
             wrong.append((most, found))
     return wrong
 
 
-def small_stack(program):
-    """The outcomes of lists in lists, as deep as a text may have them, on a small stack."""
-    texts = (b"[" * 127 + b"]" * 127, b"[" * 128 + b"]" * 128, b'{"a":' * 127 + b"0" + b"}" * 127, HISTORY)
-    dues = ((1, b"", b"refused 2\n"), (1, b"", b"refused 1\n"), (1, b"", b"refused 2\n"), ANSWERED)
-    found = [answer_to(text, program, limited(resource.RLIMIT_STACK, STACK_BYTES)) for text in texts]
+def small_stack(run):
+    """The outcomes that are not right of lists in lists, as deep as a text may have them, on a small stack."""
+    texts = (b"[" * 127 + b"]" * 127, b"[" * 128 + b"]" * 128, b'{"a":' * 127 + b"0" + b"}" * 127, run.data)
+    dues = ((1, b"", b"refused 2\n"), (1, b"", b"refused 1\n"), (1, b"", b"refused 2\n"), run.answered())
+    found = [answer_to(run._replace(data=text), limited(resource.RLIMIT_STACK, STACK_BYTES)) for text in texts]
     return [outcome for outcome, due in zip(found, dues) if outcome != due]
 
 
@@ -194,18 +206,32 @@ SINGLE = (
 )
 
 
+def single_troubles(run):
+    """How many of the troubles that come once are not met as they are due; each is told."""
+    wrong = 0
+    for trouble, dues in SINGLE:
+        outcome = trouble(run)
+        dues = [run.answered() if due == ANSWERED else due for due in dues]
+        wrong += outcome not in dues
+        print(run.words[0], trouble.__name__, outcome, "" if outcome in dues else f"NOT ONE OF {dues}", flush=True)
+    return wrong
+
+
+def sized_troubles(run):
+    """How many runs of little memory or stack do not end as they are due; those are told."""
+    wrong = 0
+    for trouble in (small_memory, small_stack):
+        outcomes = trouble(run)
+        wrong += len(outcomes)
+        print(run.words[0], trouble.__name__, outcomes or "right", flush=True)
+    return wrong
+
+
 def main():
     parser = argparse.ArgumentParser(description=__doc__, formatter_class=argparse.RawDescriptionHelpFormatter)
     program = with_program(parser).program
-    wrong = 0
-    for trouble, dues in SINGLE:
-        outcome = trouble(program)
-        wrong += outcome not in dues
-        print(trouble.__name__, outcome, "" if outcome in dues else f"NOT ONE OF {dues}")
-    for trouble in (small_memory, small_stack):
-        outcomes = trouble(program)
-        wrong += len(outcomes)
-        print(trouble.__name__, outcomes or "right")
+    runs = [Run(program, *command) for command in COMMANDS]
+    wrong = sum(single_troubles(run) + sized_troubles(run) for run in runs)
     raise SystemExit(1 if wrong else 0)
 
 

@@ -1,0 +1,174 @@
+#!/usr/bin/env python3
+"""Runs clients over the stores by a program's command `drive`, checks what is written, and counts the verdicts.
+
+    python3 bench/driven.py SEED RUNS [--full] [--object NAME] [--store STORE] [--delivery DELIVERY] -- PROGRAM
+
+Each run drives a random history of an object, with random options; with `--full` each has 16 sessions of 256 operations. What is
+written has to be the histories of the seals that were asked for and one more, each with three lines of a report. Each session of
+the last one has to be the input's calls, in order and with known returns, but for the last call of a session that stops. No seal
+may have more than the last. Of a memory with distinct values the lines have to be those that `judge` writes for the history. With
+causal delivery a `no` is a fault in the lines that the store's order explains: causal consistency, and causal memory for the causal
+store, causal convergence for Lamport's. It ends with status 1 where something is wrong.
+"""
+
+import argparse
+import collections
+import json
+import random
+import subprocess
+import time
+
+from command_words import STORES, order_of, with_program
+from objects import KEYED, OBJECTS, UNKNOWN
+from patterns import MemoryHistory
+from reading import REPORT, read_driven
+from replay import Refused
+
+SHOWN = {"causal": ("cc", "cm"), "lamport": ("cc", "ccv")}
+
+
+def random_input(rng, name, full):
+    """A history whose returns are not known."""
+    sessions = []
+    fresh = 0
+    many = 16 if full else rng.choice((1, 2, 3, 3, 4, 16))
+    keys = rng.choice((1, 2, 8))
+    for _ in range(many):
+        session = []
+        for _ in range(256 if full else rng.choice((0, 1, 4, 12))):
+            word, arguments = rng.choice(sorted(OBJECTS[name].arguments.items()))
+            fresh += 1
+            key = [rng.randrange(keys)] if name in KEYED else []
+            value = [fresh if word in ("w", "push") else rng.randrange(3)] if arguments else []
+            session.append([word, *key, *value, UNKNOWN])
+        sessions.append(session)
+    table = [[0, 1 << 40]] if name == "memory" and rng.random() < 0.3 else []
+    return [name, sessions, *([table] if table else [])]
+
+
+def random_words(rng, store, eager, sessions):
+    """The words of a command line that drives so many sessions."""
+    words = ["drive", store, *(["--eager"] if eager else []), "--seals", str(rng.choice((0, 0, 1, 4, 8)))]
+    return [*words, "--stop", str(rng.randrange(sessions))] if rng.random() < 0.25 else words
+
+
+def compact(history):
+    return json.dumps(history, separators=(",", ":"))
+
+
+def taken_apart(text, seals):
+    """The texts of the histories that were written, each with its lines; nothing where the text is not of that form."""
+    lines = text.split("\n")
+    if lines.pop() != "" or len(lines) != 4 * (seals + 1):
+        return None
+    reports = ["".join(f"{line}\n" for line in lines[at + 1 : at + 4]) for at in range(0, len(lines), 4)]
+    return list(zip(lines[::4], reports)) if all(map(REPORT.fullmatch, reports)) else None
+
+
+def read_written(text):
+    """The history in a text that was written; nothing where it is not the compact text of one."""
+    try:
+        history = read_driven(text.encode())
+    except Refused:
+        return None
+    return history if compact(json.loads(text)) == text else None
+
+
+def repeats(asked, sealed, stop):
+    """Whether each session of a history is the input's calls, with known returns but for the one that stays open."""
+    for s, (wanted, found) in enumerate(zip(asked[2], sealed[2])):
+        if [call for call, _ in wanted] != [call for call, _ in found]:
+            return False
+        if any((ret == UNKNOWN) != (s == stop and i + 1 == len(found)) for i, (_, ret) in enumerate(found)):
+            return False
+    return True
+
+
+def is_last_greatest(histories):
+    """Whether no seal has more of a session than the last: of two others, taken at the same time, each may have more than the other."""
+    *lengths, last = [[len(session) for session in history[2]] for history in histories]
+    return all(all(map(int.__le__, early, last)) for early in lengths)
+
+
+def has_distinct_values(history):
+    """Whether the history is one of a memory whose values are distinct."""
+    name, start, sessions = history
+    return name == "memory" and MemoryHistory(sessions, start).is_differentiated()
+
+
+def judged(program, text):
+    return subprocess.run([*program, "judge"], input=text, capture_output=True, check=True, text=True).stdout
+
+
+def is_excluded(order, report):
+    """Whether a line is a `no` that causal delivery rules out."""
+    verdicts = dict(line.split(" ", 1) for line in report.splitlines())
+    return "--eager" not in order and any(verdicts[criterion].startswith("no") for criterion in SHOWN[order["store"]])
+
+
+def faults_of_histories(order, asked, histories):
+    """What is wrong with the histories that were written for an input."""
+    if None in histories:
+        return ["what is written is no history"]
+    wrong = []
+    if any((one[0], one[1], len(one[2])) != (asked[0], asked[1], len(asked[2])) for one in histories):
+        wrong.append("another object or start, or another number of sessions")
+    elif not repeats(asked, histories[-1], order.get("--stop")):
+        wrong.append("the last history is not the input's calls")
+    if not is_last_greatest(histories):
+        wrong.append("a seal has more than the last")
+    return wrong
+
+
+def faults(program, order, asked, text):
+    """What is wrong with what a drive wrote for a history, which is given as it is read."""
+    found = taken_apart(text, order.get("--seals", 0))
+    if found is None:
+        return ["what is written is not of the form"]
+    histories = [read_written(history) for history, _ in found]
+    wrong = faults_of_histories(order, asked, histories)
+    for history, (written, report) in zip(histories, found):
+        if is_excluded(order, report):
+            wrong.append(f"a no for causal delivery: {report!r}")
+        if history and has_distinct_values(history) and report != judged(program, written):
+            wrong.append("judge writes other lines")
+    return wrong
+
+
+def main():
+    parser = argparse.ArgumentParser(description=__doc__, formatter_class=argparse.RawDescriptionHelpFormatter)
+    parser.add_argument("seed", type=int)
+    parser.add_argument("runs", type=int)
+    parser.add_argument("--full", action="store_true")
+    parser.add_argument("--object", choices=list(OBJECTS))
+    parser.add_argument("--store", choices=STORES)
+    parser.add_argument("--delivery", choices=("causal", "eager"))
+    given = with_program(parser)
+    rng = random.Random(given.seed)
+    seen, wrong, seconds, calls = collections.Counter(), 0, 0.0, 0
+    for _ in range(given.runs):
+        name = given.object or rng.choice(list(OBJECTS))
+        store = given.store or rng.choice(STORES)
+        eager = (given.delivery or rng.choice(("causal", "eager"))) == "eager"
+        history = random_input(rng, name, given.full)
+        words = random_words(rng, store, eager, len(history[1]))
+        begun = time.monotonic()
+        done = subprocess.run([*given.program, *words], input=json.dumps(history), capture_output=True, check=False, text=True)
+        seconds += time.monotonic() - begun
+        calls += sum(map(len, history[1]))
+        asked = read_driven(json.dumps(history).encode())
+        found = faults(given.program, order_of(words), asked, done.stdout) if done.returncode == 0 else [done.stderr]
+        for fault in found:
+            wrong += 1
+            print(f"{' '.join(words)} < {json.dumps(history)[:200]}: {fault}", flush=True)
+        for line in done.stdout.splitlines()[-3:]:
+            criterion, verdict = line.split(" ")[:2]
+            seen[store, "eager" if eager else "causal", name, criterion, verdict] += 1
+    for kind, many in sorted(seen.items()):
+        print(f"{many:7} {' '.join(kind)}")
+    print(f"{given.runs} runs, {calls} calls, {seconds:.1f} seconds, {wrong} faults")
+    raise SystemExit(1 if wrong else 0)
+
+
+if __name__ == "__main__":
+    main()
