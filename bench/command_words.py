@@ -4,7 +4,13 @@ import sys
 
 STORES = ("causal", "lamport")
 RANGES = {"--workers": range(1, 17), "--seals": range(9), "--stop": range(16)}
-OPTIONS = {"judge": ("--workers",), "check": ("--workers",), "replay": (), "drive": ("--eager", "--seals", "--workers", "--stop")}
+OPTIONS = {
+    "judge": ("--workers",),
+    "check": ("--workers",),
+    "refute": (),
+    "replay": (),
+    "drive": ("--eager", "--seals", "--workers", "--stop"),
+}
 
 
 def with_program(parser):

@@ -3,7 +3,7 @@
 
     python3 bench/mangled.py SEED MINUTES -- PROGRAM
 
-A history, a history with a certificate, or a script is made at random, and then its value or its text is spoilt in one to three
+A history, a history with a certificate or with a pattern, or a script is made at random, and then its value or its text is spoilt in one to three
 places: a part is replaced, taken out, doubled or put elsewhere, a number is put at a limit, a byte is changed. The words of the
 command line are spoilt too, now and then. The status, what is written and the line on standard error have to be those of the plain
 reader; of `judge` the lines have to be three lines of a report, of `drive` what driven.py asks for, and words that are no command
@@ -24,8 +24,9 @@ import reading
 import replay
 from command_words import OPTIONS, RANGES, STORES, order_of, with_program
 from objects import DONE, KEYED, MOST_NUMBER, OBJECTS, UNKNOWN, State, operation
-from patterns import CRITERIA
+from patterns import AGAINST, CRITERIA, MemoryHistory
 from scripts import script_text
+from shown_patterns import found
 
 NUMBERS = (0, 1, 2, 15, 16, 17, 255, 256, 257, 65_535, 65_536, 2**32 - 1, 2**32, 2**63, MOST_NUMBER, MOST_NUMBER + 1, -1, 1.0, 1.5)
 JUNK = (None, True, False, "", UNKNOWN, DONE, "w", [], [[]], {}, {"w": 1}, *NUMBERS)
@@ -109,10 +110,35 @@ def spoilt_text(rng, text):
     return text[:at] + rng.choice((b"[", b"]", b",", b'"', b" ", b"\n", b"0", b"9")) + text[at:]
 
 
+def shown_in(history):
+    """Some patterns that a history shows."""
+    try:
+        name, start, sessions = reading.read_history(history)
+    except replay.Refused:
+        return []
+    if name != "memory":
+        return []
+    known = MemoryHistory(sessions, start)
+    return found(known) if known.is_differentiated() and len(known.operations) <= 20 else []
+
+
+def claim(rng):
+    """A history, a criterion, and a pattern that the history shows, where one is found that shows any."""
+    for _ in range(20):
+        history = random_history(rng)
+        shown = shown_in(history)
+        if shown:
+            break
+    pattern = rng.choice(shown or [["ThinAirRead", [0, 0]]])
+    return [history, rng.choice(AGAINST[pattern[0]]), pattern]
+
+
 def input_of(rng, command):
     """An input of the command, before it is spoilt."""
     if command == "replay":
         return json.loads(script_text(rng, rng.randrange(8))[0] or "[]", strict=False)
+    if command == "refute":
+        return claim(rng)
     history = random_history(rng)
     return [history, program_order(rng, history[1])] if command == "check" else history
 
@@ -158,6 +184,8 @@ def answer_due(order, data):
         return "".join(f"{line}\n" for line in replay.replies(data))
     if order["command"] == "check":
         return reading.line_of_check(data)
+    if order["command"] == "refute":
+        return reading.line_of_refute(data)
     if order["command"] == "drive":
         reading.read_driven(data, order.get("--stop"))
     else:

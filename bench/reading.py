@@ -1,4 +1,4 @@
-"""Reads the inputs of `judge`, `check` and `drive` in a plain way, and refuses them in the order in which they are read.
+"""Reads the inputs of `judge`, `check`, `refute` and `drive` in a plain way, and refuses them in the order in which they are read.
 
 It knows the form of a report too, and nothing of the program: what it says follows docs/definitions.md and the table of refusals in
 README.md.
@@ -8,7 +8,7 @@ import re
 
 import recheck
 from objects import KEYED, OBJECTS, UNKNOWN, State, is_call, is_return, is_start, fits, split
-from patterns import AGAINST
+from patterns import AGAINST, CRITERIA, MemoryHistory, is_pattern, shows
 from replay import MOST_BYTES, PLACES, Refused, is_certificate, read_json
 
 MOST_SESSIONS = 16
@@ -106,3 +106,17 @@ def line_of_check(data):
             except recheck.Unexplained:
                 return f"{kind} unknown {s}.{i}\n"
     return f"{kind} yes\n"
+
+
+def line_of_refute(data):
+    """The line that `refute` has to write."""
+    value = read_text(data)
+    if type(value) is not list or len(value) != 3:
+        raise Refused(2)
+    name, start, sessions = read_history(value[0])
+    _, criterion, pattern = value
+    if criterion not in CRITERIA or not is_pattern(pattern) or name != "memory":
+        raise Refused(23)
+    if not shows(MemoryHistory(sessions, start), criterion, pattern):
+        raise Refused(23)
+    return f"{criterion} no {pattern[0]}\n"

@@ -2,7 +2,7 @@
 
 use crate::{
     advised, applied_calls, checked, command_lines, desks, drives, found_patterns, judged,
-    judgements, made_certificates, patterns, replica_runs, replicas, texts, worlds,
+    judgements, made_certificates, patterns, refuted, replica_runs, replicas, texts, worlds,
 };
 use std::alloc::AllocError;
 use std::sync::Wait;
@@ -23,6 +23,8 @@ pub enum Question {
     Drive,
     /// Which kinds of patterns are found in its history.
     Find,
+    /// What a run of `refute` says of it.
+    Refute,
     /// Whether its pattern is shown in its history.
     Show,
     /// Which piece of an operation is made for its history.
@@ -96,6 +98,7 @@ fn answer_to<P: Threads + Wait + Sync + AllocGlobal>(
         Question::Order => command_lines::ordered(rt.alloc(), input),
         Question::Drive => drives::said(rt, input),
         Question::Find => found_patterns::found(rt.alloc(), input),
+        Question::Refute => refuted::said(rt, input),
         Question::Show => patterns::shown(rt.alloc(), input),
         Question::Make => made_certificates::made(rt.alloc(), input),
         Question::MakeByProgramOrder => made_certificates::made_by_program_order(rt.alloc(), input),

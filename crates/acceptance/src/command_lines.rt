@@ -13,6 +13,8 @@ judge_by_one_worker | causal_judge judge --workers 1 | judge 1
 judge_by_16_workers | causal_judge judge --workers 16 | judge 16
 check_by_one_worker | causal_judge check --workers 1 | check 1
 check_by_16_workers_in_one_word | causal_judge check --workers=16 | check 16
+refute | causal_judge refute | refute
+refute_by_workers | causal_judge refute --workers 2 | fault
 replay | causal_judge replay | replay
 replay_by_workers | causal_judge replay --workers 2 | fault
 further_word_behind_replay | causal_judge replay judge | fault
@@ -87,6 +89,7 @@ fn text_of(alloc: Global, order: Order) -> Result<String, AllocError> {
     let (word, workers) = match order {
         Order::Judge(workers) => ("judge", workers.count()),
         Order::Check(workers) => ("check", workers.count()),
+        Order::Refute => return String::from_str(alloc, "refute"),
         Order::Replay => return String::from_str(alloc, "replay"),
         Order::Drive(drive) => return text_of_drive(alloc, drive),
     };

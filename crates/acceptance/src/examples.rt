@@ -2,7 +2,7 @@
 
 use crate::cases::Question;
 use crate::tables::as_wanted;
-use crate::{checked, worlds};
+use crate::{checked, refuted, worlds};
 use std::test::Fail;
 
 /// `healthy_run.json`, `diverging_replicas.json`, `lost_write.json`, `stale_read.json` and `thin_air_read.json`.
@@ -18,6 +18,14 @@ thin_air_read | ["memory",[[["w",0,1]],[["r",0,1],["r",0,7]]]] | 0 cc no ThinAir
 const CHECKED_RUN: &str = r#"[
   ["queue", [[["push",5]], [["pop",5]], [["pop",5]]]],
   ["cc", [[[1,0,0]], [[1,1,0]], [[1,0,1]]], [[[0]], [[0,1]], [[0,2]]]]
+]
+"#;
+
+/// `refuted_run.json`: the pattern that shows what is wrong with `stale_read.json`.
+const REFUTED_RUN: &str = r#"[
+  ["memory", [[["w",0,1],["w",1,1]], [["r",1,1],["w",0,2]], [["r",0,2],["r",0,1]]]],
+  "cc",
+  ["WriteCORead", [[0,0],[0,1],[1,0],[1,1]], [[1,1],[2,0],[2,1]]]
 ]
 "#;
 
@@ -78,6 +86,15 @@ fn histories_of_the_examples_are_judged(rt: HostRuntime) -> Result<(), Fail> {
 #[test]
 fn certificate_of_the_examples_is_checked(rt: HostRuntime) -> Result<(), Fail> {
     assert_eq!(rt; checked::said(&rt, 2, CHECKED_RUN)?.as_str(), "0 cc yes;");
+    Ok(())
+}
+
+#[test]
+fn pattern_of_the_examples_refutes(rt: HostRuntime) -> Result<(), Fail> {
+    assert_eq!(rt;
+        refuted::said(&rt, REFUTED_RUN)?.as_str(),
+        "0 cc no WriteCORead;"
+    );
     Ok(())
 }
 

@@ -55,6 +55,8 @@ mod refused;
 #[cfg(test)]
 mod refused_scripts;
 #[cfg(test)]
+mod refuted;
+#[cfg(test)]
 mod replica_runs;
 #[cfg(test)]
 mod replicas;

@@ -1,6 +1,8 @@
 pub mod Usages
 pub mod Words
 pub mod Pairs
+pub mod PatternForms
+pub mod Claims
 pub mod Founded
 pub mod JudgeErrors
 pub mod ReadCallLaws

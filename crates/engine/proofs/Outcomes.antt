@@ -1,29 +1,33 @@
 -- What can come of one input, and what cannot come of it beside that.
 use Rattle.std.proofs.Common.{◌≡◌, ◌<◌, ◌≤◌, ◌⊎◌, ℕ, List, [], ◌∷◌, Option, Some, None, length, refl, sym, ap, subst, ◌∙◌, arith, inl, inr, ⊎_elim}
 use Rattle.std.proofs.lemmas.Option.{same_Some}
-use Rattle.serde_json.specs.Data.{Data}
+use Rattle.serde_json.specs.Data.{Data, string}
 use Rattle.operations.specs.declared.any_history.AnyHistory.{AnyHistory}
 use Rattle.operations.specs.declared.read_error.ReadError.{ReadError}
 use Rattle.operations.specs.declared.read_error.ReadError.TheVariants as errors
 use Rattle.operations.specs.AnyForm.{IsAnyHistory, IsJson, IsRefusedFor, first_refusal, form_of}
-use Rattle.operations.specs.Json.{elements}
+use Rattle.operations.specs.Json.{elements, list}
 use Rattle.operations.specs.JsonLaws.{elements-list}
 use Rattle.operations.specs.Refusals.{IsFirst}
 use Rattle.operations.proofs.AnyForms.{any_forms_are_distinct}
 use Rattle.cert_check.specs.declared.certificate.Certificate.{Certificate}
 use Rattle.cert_check.specs.CertificateForm.{IsCertificate, form_of as certificate_form}
 use Rattle.cert_check.proofs.CertificateForms.{one_certificate}
+use Rattle.cert_check.specs.CriterionNames.{name_of}
+use Rattle.bad_patterns.specs.PatternForm.{form_of as pattern_form}
 use Rattle.engine.specs.declared.command_line.Order.{Order}
-use Rattle.engine.specs.declared.command_line.Order.TheVariants.{Judge, Check, Replay, Drive}
+use Rattle.engine.specs.declared.command_line.Order.TheVariants.{Judge, Check, Refute, Replay, Drive}
 use Rattle.engine.specs.declared.drive.Drive.{Drive as Drives}
 use Rattle.engine.specs.Driving.{IsDriveError, IsDriveReport, IsUndriven, sessions_in}
 use Rattle.engine.specs.declared.failure.RunError.{RunError}
-use Rattle.engine.specs.declared.failure.RunError.TheVariants.{History, Script, BadCertificate, ShapeMismatch, BadLimits, NoSuch, TooLong, Memory, ReadFault, WriteFault}
+use Rattle.engine.specs.declared.failure.RunError.TheVariants.{History, Script, BadCertificate, ShapeMismatch, NotThatPattern, BadLimits, NoSuch, TooLong, Memory, ReadFault, WriteFault}
 use Rattle.engine.specs.declared.input.TheConstants.{MAX_INPUT_BYTES}
 use Rattle.engine.specs.Checking.{HasOtherShape, HasShape, IsCheckReport, IsPair, IsPairError, pair_form, pair_refusal}
+use Rattle.engine.specs.Refuting.{claim_form, claim_refusal, IsClaimError, IsPatternOf, IsRefutation}
 use Rattle.engine.specs.Failure.{failure_status, refusal_status, script_status}
 use Rattle.engine.specs.Running.{Answers, Fails, IsAnswer, IsAnswerError, IsReplayReport, IsReport}
 use Rattle.engine.proofs.NotRefused.{form_is_fine}
+use Rattle.engine.proofs.Claims.{refusal-claim}
 use Rattle.engine.proofs.Pairs.{refusal-pair}
 use Rattle.engine.proofs.ScriptOutcomes.{script_is_fine, script_refused_once, script_statuses}
 
@@ -40,6 +44,11 @@ two_elements a b x y same = let first : a ≡ b = cc in let second : x ≡ y = c
 one_pair : (a b x y : Data) → pair_form a x ≡ pair_form b y → (a ≡ b) × (x ≡ y)
 one_pair a b x y same =
     two_elements a b x y (same_Some _ _ (sym (elements-list (a ∷ x ∷ [])) ∙ ap elements same ∙ elements-list (b ∷ y ∷ [])))
+
+three_elements : (a b c d e f : Data) → list (a ∷ c ∷ e ∷ []) ≡ list (b ∷ d ∷ f ∷ []) → (a ≡ b) × (c ≡ d) × (e ≡ f)
+three_elements a b c d e f same =
+    let lists : a ∷ c ∷ e ∷ [] ≡ b ∷ d ∷ f ∷ [] = same_Some _ _ (sym (elements-list (a ∷ c ∷ e ∷ [])) ∙ ap elements same ∙ elements-list (b ∷ d ∷ f ∷ [])) in
+    let first : a ≡ b = cc in let second : c ≡ d = cc in let third : e ≡ f = cc in (first, second, third)
 
 -- a pair whose first element is the form of a history has no first refusal
 pair_is_fine : (d x : Data) (h : AnyHistory) → IsAnyHistory h → d ≡ pair_form (form_of h) x → pair_refusal (elements d) ≡ None
@@ -125,6 +134,7 @@ judge_once workers text BadCertificate f is_e is_f one two = absurd is_e
 judge_once workers text ShapeMismatch f is_e is_f one two = absurd is_e
 judge_once workers text (Script p) f is_e is_f one two = absurd is_e
 judge_once workers text TooLong f is_e is_f one two = absurd is_e
+judge_once workers text NotThatPattern f is_e is_f one two = absurd is_e
 judge_once workers text BadLimits f is_e is_f one two = absurd is_e
 judge_once workers text NoSuch f is_e is_f one two = absurd is_e
 judge_once workers text Memory f is_e is_f one two = absurd (omega arith)
@@ -134,6 +144,7 @@ judge_once workers text e BadCertificate is_e is_f one two = absurd is_f
 judge_once workers text e ShapeMismatch is_e is_f one two = absurd is_f
 judge_once workers text e (Script q) is_e is_f one two = absurd is_f
 judge_once workers text e TooLong is_e is_f one two = absurd is_f
+judge_once workers text e NotThatPattern is_e is_f one two = absurd is_f
 judge_once workers text e BadLimits is_e is_f one two = absurd is_f
 judge_once workers text e NoSuch is_e is_f one two = absurd is_f
 judge_once workers text e Memory is_e is_f one two = absurd (omega arith)
@@ -153,6 +164,7 @@ check_once workers text ShapeMismatch BadCertificate is_e is_f one two = absurd 
 check_once workers text ShapeMismatch ShapeMismatch is_e is_f one two = refl
 check_once workers text (Script p) f is_e is_f one two = absurd is_e
 check_once workers text TooLong f is_e is_f one two = absurd is_e
+check_once workers text NotThatPattern f is_e is_f one two = absurd is_e
 check_once workers text BadLimits f is_e is_f one two = absurd is_e
 check_once workers text NoSuch f is_e is_f one two = absurd is_e
 check_once workers text Memory f is_e is_f one two = absurd (omega arith)
@@ -160,11 +172,50 @@ check_once workers text ReadFault f is_e is_f one two = absurd is_e
 check_once workers text WriteFault f is_e is_f one two = absurd is_e
 check_once workers text e (Script q) is_e is_f one two = absurd is_f
 check_once workers text e TooLong is_e is_f one two = absurd is_f
+check_once workers text e NotThatPattern is_e is_f one two = absurd is_f
 check_once workers text e BadLimits is_e is_f one two = absurd is_f
 check_once workers text e NoSuch is_e is_f one two = absurd is_f
 check_once workers text e Memory is_e is_f one two = absurd (omega arith)
 check_once workers text e ReadFault is_e is_f one two = absurd is_f
 check_once workers text e WriteFault is_e is_f one two = absurd is_f
+
+-- a claim that is refused for its history has no refused pattern
+claim_refused_as : (text : List ℕ) (e : ReadError) → IsClaimError text (History e) → refusal_status e ≡ 1 → Refused (λ d. claim_refusal (elements d)) text e
+claim_refused_as text e (inl is) one = inl is
+claim_refused_as text e (inr is) one = inr (is.0, is.1, first_is (claim_refusal (elements is.0)) e is.2 one)
+
+claim_is_fine : (d c p : Data) (h : AnyHistory) → IsAnyHistory h → d ≡ list (form_of h ∷ c ∷ p ∷ []) → claim_refusal (elements d) ≡ None
+claim_is_fine d c p h is same = refusal-claim d (form_of h) c p same ∙ form_is_fine h is
+
+no_refused_pattern : (text : List ℕ) (e : ReadError) → IsClaimError text (History e) → IsClaimError text NotThatPattern → refusal_status e ≡ 1 → ⊥
+no_refused_pattern text e refused bad one =
+    not_refused (λ d. claim_refusal (elements d)) text e bad.0 (claim_refused_as text e refused one) bad.1
+    (claim_is_fine bad.0 bad.2.1 bad.2.2 bad.2.0 bad.2.3 bad.2.4)
+
+refute_once : (text : List ℕ) (e f : RunError) → IsAnswerError Refute text e → IsAnswerError Refute text f → failure_status e ≡ 1 → failure_status f ≡ 1 → e ≡ f
+refute_once text (History p) (History q) is_e is_f one two =
+    ap History (one_refusal (λ d. claim_refusal (elements d)) text p q (claim_refused_as text p is_e one) (claim_refused_as text q is_f two))
+refute_once text (History p) NotThatPattern is_e is_f one two = absurd (no_refused_pattern text p is_e is_f one)
+refute_once text NotThatPattern (History q) is_e is_f one two = absurd (no_refused_pattern text q is_f is_e two)
+refute_once text NotThatPattern NotThatPattern is_e is_f one two = refl
+refute_once text (Script p) f is_e is_f one two = absurd is_e
+refute_once text BadCertificate f is_e is_f one two = absurd is_e
+refute_once text ShapeMismatch f is_e is_f one two = absurd is_e
+refute_once text TooLong f is_e is_f one two = absurd is_e
+refute_once text BadLimits f is_e is_f one two = absurd is_e
+refute_once text NoSuch f is_e is_f one two = absurd is_e
+refute_once text Memory f is_e is_f one two = absurd (omega arith)
+refute_once text ReadFault f is_e is_f one two = absurd is_e
+refute_once text WriteFault f is_e is_f one two = absurd is_e
+refute_once text e (Script q) is_e is_f one two = absurd is_f
+refute_once text e BadCertificate is_e is_f one two = absurd is_f
+refute_once text e ShapeMismatch is_e is_f one two = absurd is_f
+refute_once text e TooLong is_e is_f one two = absurd is_f
+refute_once text e BadLimits is_e is_f one two = absurd is_f
+refute_once text e NoSuch is_e is_f one two = absurd is_f
+refute_once text e Memory is_e is_f one two = absurd (omega arith)
+refute_once text e ReadFault is_e is_f one two = absurd is_f
+refute_once text e WriteFault is_e is_f one two = absurd is_f
 
 replay_once : (text : List ℕ) (e f : RunError) → IsAnswerError Replay text e → IsAnswerError Replay text f → failure_status e ≡ 1 → failure_status f ≡ 1 → e ≡ f
 replay_once text (Script p) (Script q) is_e is_f one two = ap Script (script_refused_once text p q is_e is_f one two)
@@ -172,6 +223,7 @@ replay_once text (History p) f is_e is_f one two = absurd is_e
 replay_once text BadCertificate f is_e is_f one two = absurd is_e
 replay_once text ShapeMismatch f is_e is_f one two = absurd is_e
 replay_once text TooLong f is_e is_f one two = absurd is_e
+replay_once text NotThatPattern f is_e is_f one two = absurd is_e
 replay_once text BadLimits f is_e is_f one two = absurd is_e
 replay_once text NoSuch f is_e is_f one two = absurd is_e
 replay_once text Memory f is_e is_f one two = absurd (omega arith)
@@ -181,6 +233,7 @@ replay_once text e (History q) is_e is_f one two = absurd is_f
 replay_once text e BadCertificate is_e is_f one two = absurd is_f
 replay_once text e ShapeMismatch is_e is_f one two = absurd is_f
 replay_once text e TooLong is_e is_f one two = absurd is_f
+replay_once text e NotThatPattern is_e is_f one two = absurd is_f
 replay_once text e BadLimits is_e is_f one two = absurd is_f
 replay_once text e NoSuch is_e is_f one two = absurd is_f
 replay_once text e Memory is_e is_f one two = absurd (omega arith)
@@ -212,6 +265,7 @@ drive_once drive text Memory f is_e is_f one two = absurd (omega arith)
 drive_once drive text (Script p) f is_e is_f one two = absurd is_e
 drive_once drive text BadCertificate f is_e is_f one two = absurd is_e
 drive_once drive text ShapeMismatch f is_e is_f one two = absurd is_e
+drive_once drive text NotThatPattern f is_e is_f one two = absurd is_e
 drive_once drive text TooLong f is_e is_f one two = absurd is_e
 drive_once drive text ReadFault f is_e is_f one two = absurd is_e
 drive_once drive text WriteFault f is_e is_f one two = absurd is_e
@@ -219,6 +273,7 @@ drive_once drive text e Memory is_e is_f one two = absurd (omega arith)
 drive_once drive text e (Script q) is_e is_f one two = absurd is_f
 drive_once drive text e BadCertificate is_e is_f one two = absurd is_f
 drive_once drive text e ShapeMismatch is_e is_f one two = absurd is_f
+drive_once drive text e NotThatPattern is_e is_f one two = absurd is_f
 drive_once drive text e TooLong is_e is_f one two = absurd is_f
 drive_once drive text e ReadFault is_e is_f one two = absurd is_f
 drive_once drive text e WriteFault is_e is_f one two = absurd is_f
@@ -227,6 +282,7 @@ pub refused_in_one_way : (order : Order) (text : List ℕ) (e f : RunError) → 
     → failure_status e ≡ 1 → failure_status f ≡ 1 → e ≡ f
 refused_in_one_way (Judge workers) text e f is_e is_f one two = judge_once workers text e f is_e is_f one two
 refused_in_one_way (Check workers) text e f is_e is_f one two = check_once workers text e f is_e is_f one two
+refused_in_one_way Refute text e f is_e is_f one two = refute_once text e f is_e is_f one two
 refused_in_one_way Replay text e f is_e is_f one two = replay_once text e f is_e is_f one two
 refused_in_one_way (Drive drive) text e f is_e is_f one two = drive_once drive text e f is_e is_f one two
 
@@ -239,6 +295,7 @@ judge_not_refused workers text answer (History p) report is_e =
 judge_not_refused workers text answer BadCertificate report is_e = absurd is_e
 judge_not_refused workers text answer ShapeMismatch report is_e = absurd is_e
 judge_not_refused workers text answer (Script p) report is_e = absurd is_e
+judge_not_refused workers text answer NotThatPattern report is_e = absurd is_e
 judge_not_refused workers text answer TooLong report is_e = absurd is_e
 judge_not_refused workers text answer BadLimits report is_e = absurd is_e
 judge_not_refused workers text answer NoSuch report is_e = absurd is_e
@@ -260,12 +317,37 @@ check_not_refused workers text answer ShapeMismatch report is_e =
     let certificate : report.certificate ≡ is_e.1 = sym (one_certificate is_e.1 report.certificate same.1) in
     absurd (is_e.5 (subst (λ (h : AnyHistory). HasShape h is_e.1) history (subst (λ (c : Certificate). HasShape report.history c) certificate report.shape)))
 check_not_refused workers text answer (Script p) report is_e = absurd is_e
+check_not_refused workers text answer NotThatPattern report is_e = absurd is_e
 check_not_refused workers text answer TooLong report is_e = absurd is_e
 check_not_refused workers text answer BadLimits report is_e = absurd is_e
 check_not_refused workers text answer NoSuch report is_e = absurd is_e
 check_not_refused workers text answer Memory report is_e = refl
 check_not_refused workers text answer ReadFault report is_e = absurd is_e
 check_not_refused workers text answer WriteFault report is_e = absurd is_e
+
+-- a claim that is answered has a history, and behind it what shows that it does not meet the criterion
+refute_not_refused : (text answer : List ℕ) (e : RunError) → IsRefutation text answer → IsAnswerError Refute text e → failure_status e ≡ 4
+refute_not_refused text answer (History p) report is_e =
+    ⊎_elim (λ (four : refusal_status p ≡ 4). four)
+    (λ (one : refusal_status p ≡ 1). absurd (not_refused (λ d. claim_refusal (elements d)) text p (claim_form report.history report.criterion report.pattern)
+    (claim_refused_as text p is_e one) report.read
+    (claim_is_fine _ (string (name_of report.criterion)) (pattern_form report.pattern) report.history report.is_history refl)))
+    (statuses p)
+refute_not_refused text answer NotThatPattern report is_e =
+    let same =
+    three_elements (form_of is_e.2.0) (form_of report.history) is_e.2.1 (string (name_of report.criterion)) is_e.2.2 (pattern_form report.pattern)
+    (sym is_e.2.4 ∙ one_value text is_e.0 (claim_form report.history report.criterion report.pattern) is_e.1 report.read) in
+    let history : report.history ≡ is_e.2.0 = sym (any_forms_are_distinct is_e.2.0 report.history is_e.2.3 report.is_history same.0) in
+    absurd (is_e.2.5 report.criterion report.pattern same.1 same.2 (subst (λ (h : AnyHistory). IsPatternOf h report.criterion report.pattern) history report.shown))
+refute_not_refused text answer (Script p) report is_e = absurd is_e
+refute_not_refused text answer BadCertificate report is_e = absurd is_e
+refute_not_refused text answer ShapeMismatch report is_e = absurd is_e
+refute_not_refused text answer TooLong report is_e = absurd is_e
+refute_not_refused text answer BadLimits report is_e = absurd is_e
+refute_not_refused text answer NoSuch report is_e = absurd is_e
+refute_not_refused text answer Memory report is_e = refl
+refute_not_refused text answer ReadFault report is_e = absurd is_e
+refute_not_refused text answer WriteFault report is_e = absurd is_e
 
 replay_not_refused : (text answer : List ℕ) (e : RunError) → IsReplayReport text answer → IsAnswerError Replay text e → failure_status e ≡ 4
 replay_not_refused text answer (Script p) report is_e =
@@ -275,6 +357,7 @@ replay_not_refused text answer (Script p) report is_e =
 replay_not_refused text answer (History p) report is_e = absurd is_e
 replay_not_refused text answer BadCertificate report is_e = absurd is_e
 replay_not_refused text answer ShapeMismatch report is_e = absurd is_e
+replay_not_refused text answer NotThatPattern report is_e = absurd is_e
 replay_not_refused text answer TooLong report is_e = absurd is_e
 replay_not_refused text answer BadLimits report is_e = absurd is_e
 replay_not_refused text answer NoSuch report is_e = absurd is_e
@@ -303,6 +386,7 @@ drive_not_refused drive text answer NoSuch report is_e =
 drive_not_refused drive text answer (Script p) report is_e = absurd is_e
 drive_not_refused drive text answer BadCertificate report is_e = absurd is_e
 drive_not_refused drive text answer ShapeMismatch report is_e = absurd is_e
+drive_not_refused drive text answer NotThatPattern report is_e = absurd is_e
 drive_not_refused drive text answer TooLong report is_e = absurd is_e
 drive_not_refused drive text answer Memory report is_e = refl
 drive_not_refused drive text answer ReadFault report is_e = absurd is_e
@@ -311,6 +395,7 @@ drive_not_refused drive text answer WriteFault report is_e = absurd is_e
 pub answered_is_not_refused : (order : Order) (text answer : List ℕ) (e : RunError) → IsAnswer order text answer → IsAnswerError order text e → failure_status e ≡ 4
 answered_is_not_refused (Judge workers) text answer e report is_e = judge_not_refused workers text answer e report is_e
 answered_is_not_refused (Check workers) text answer e report is_e = check_not_refused workers text answer e report is_e
+answered_is_not_refused Refute text answer e report is_e = refute_not_refused text answer e report is_e
 answered_is_not_refused Replay text answer e report is_e = replay_not_refused text answer e report is_e
 answered_is_not_refused (Drive drive) text answer e report is_e = drive_not_refused drive text answer e report is_e
 
@@ -327,6 +412,7 @@ too_long-fails order bytes (History p) long fails = let same : length fails.0 �
 too_long-fails order bytes (Script p) long fails = let same : length fails.0 ≡ length bytes = ap length fails.1 in let within = fails.2 in absurd (omega arith)
 too_long-fails order bytes BadCertificate long fails = let same : length fails.0 ≡ length bytes = ap length fails.1 in let within = fails.2 in absurd (omega arith)
 too_long-fails order bytes ShapeMismatch long fails = let same : length fails.0 ≡ length bytes = ap length fails.1 in let within = fails.2 in absurd (omega arith)
+too_long-fails order bytes NotThatPattern long fails = let same : length fails.0 ≡ length bytes = ap length fails.1 in let within = fails.2 in absurd (omega arith)
 too_long-fails order bytes BadLimits long fails = let same : length fails.0 ≡ length bytes = ap length fails.1 in let within = fails.2 in absurd (omega arith)
 too_long-fails order bytes NoSuch long fails = let same : length fails.0 ≡ length bytes = ap length fails.1 in let within = fails.2 in absurd (omega arith)
 too_long-fails order bytes TooLong long fails = inl refl

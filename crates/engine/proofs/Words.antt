@@ -7,7 +7,7 @@ use Rattle.collector.specs.Judgements.{AreWorkers}
 use Rattle.engine.specs.declared.command_line.Order.{Order}
 use Rattle.engine.specs.declared.drive.Drive.{Drive as Asked}
 use Rattle.engine.specs.DriveWords.{AskToDrive}
-use Rattle.engine.specs.declared.command_line.Order.TheVariants.{Judge, Check, Replay, Drive}
+use Rattle.engine.specs.declared.command_line.Order.TheVariants.{Judge, Check, Refute, Replay, Drive}
 use Rattle.engine.specs.CommandLine.{AskFor, GivesNoOrder, IsCommandLine, IsOrder}
 
 pub one_word : {A : Type 0} (f : A → Text) (xs : List A) (a : A) → 1 ≤ length xs → length xs < 2 → a ≡ get_or xs 0 a → map f xs ≡ f a ∷ []
@@ -28,17 +28,20 @@ module _ (word : Text) (words : List Text) where
   no_judge is none (Judge n) order = none n order.1.0 order.1.1
   no_judge is none (Check n) order = let e : ◌≡◌ {A = Bool} true false = ap (pointwise nat_eq (codes "judge")) (sym is ∙ order.0) in absurd cc
   no_judge is none (Drive drive) order = let e : ◌≡◌ {A = Bool} true false = ap (pointwise nat_eq (codes "judge")) (sym is ∙ order.0) in absurd cc
+  no_judge is none Refute order = let e : ◌≡◌ {A = Bool} true false = ap (pointwise nat_eq (codes "judge")) (sym is ∙ order.0) in absurd cc
   no_judge is none Replay order = let e : ◌≡◌ {A = Bool} true false = ap (pointwise nat_eq (codes "judge")) (sym is ∙ order.0) in absurd cc
 
   pub no_check : word ≡ codes "check" → ((n : ℕ) → AreWorkers n → ¬ AskFor n words) → (order : Order) → ¬ IsOrder order word words
   no_check is none (Judge n) order = let e : ◌≡◌ {A = Bool} true false = ap (pointwise nat_eq (codes "check")) (sym is ∙ order.0) in absurd cc
   no_check is none (Check n) order = none n order.1.0 order.1.1
   no_check is none (Drive drive) order = let e : ◌≡◌ {A = Bool} true false = ap (pointwise nat_eq (codes "check")) (sym is ∙ order.0) in absurd cc
+  no_check is none Refute order = let e : ◌≡◌ {A = Bool} true false = ap (pointwise nat_eq (codes "check")) (sym is ∙ order.0) in absurd cc
   no_check is none Replay order = let e : ◌≡◌ {A = Bool} true false = ap (pointwise nat_eq (codes "check")) (sym is ∙ order.0) in absurd cc
 
   pub no_drive_order : word ≡ codes "drive" → ((drive : Asked) → ¬ AskToDrive drive words) → (order : Order) → ¬ IsOrder order word words
   no_drive_order is none (Judge n) order = let e : ◌≡◌ {A = Bool} true false = ap (pointwise nat_eq (codes "drive")) (sym is ∙ order.0) in absurd cc
   no_drive_order is none (Check n) order = let e : ◌≡◌ {A = Bool} true false = ap (pointwise nat_eq (codes "drive")) (sym is ∙ order.0) in absurd cc
+  no_drive_order is none Refute order = let e : ◌≡◌ {A = Bool} true false = ap (pointwise nat_eq (codes "drive")) (sym is ∙ order.0) in absurd cc
   no_drive_order is none Replay order = let e : ◌≡◌ {A = Bool} true false = ap (pointwise nat_eq (codes "drive")) (sym is ∙ order.0) in absurd cc
   no_drive_order is none (Drive drive) order = none drive order.1
 

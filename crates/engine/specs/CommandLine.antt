@@ -13,7 +13,7 @@ use Rattle.engine.specs.Numerals.{Writes}
 use Rattle.engine.specs.declared.drive.TheConstants.{MAX_SEALS}
 use Rattle.history.specs.declared.limits.TheConstants.{MAX_SESSIONS}
 use Rattle.engine.specs.declared.command_line.Order.{Order}
-use Rattle.engine.specs.declared.command_line.Order.TheVariants.{Judge, Check, Replay, Drive}
+use Rattle.engine.specs.declared.command_line.Order.TheVariants.{Judge, Check, Refute, Replay, Drive}
 use Rattle.engine.specs.declared.command_line.Usage.{Usage}
 use Rattle.engine.specs.declared.command_line.Usage.TheVariants.{Fault, Help, Memory}
 
@@ -21,6 +21,7 @@ use Rattle.engine.specs.declared.command_line.Usage.TheVariants.{Fault, Help, Me
 abbrev pub command_word : Order → Text
 command_word (Judge workers) = codes "judge"
 command_word (Check workers) = codes "check"
+command_word Refute = codes "refute"
 command_word Replay = codes "replay"
 command_word (Drive drive) = codes "drive"
 
@@ -42,6 +43,7 @@ AskFor n (word ∷ number ∷ further ∷ words) = ⊥
 abbrev pub AreOptions : Order → List Text → Type 0
 AreOptions (Judge workers) words = AreWorkers workers × AskFor workers words
 AreOptions (Check workers) words = AreWorkers workers × AskFor workers words
+AreOptions Refute words = words ≡ []
 AreOptions Replay words = words ≡ []
 AreOptions (Drive drive) words = AskToDrive drive words
 
@@ -65,7 +67,7 @@ top =
     let app = new_app (codes "causal_judge") in
     record app { top = record app.top { subcommand_required = true } }
 
--- the commands `judge` and `check` take the option `--workers N`, `replay` takes none, and `drive` takes the name of a store and
+-- the commands `judge` and `check` take the option `--workers N`, `refute` and `replay` take none, and `drive` takes the name of a store and
 -- four options
 abbrev pub workers : Rule
 workers = record (new_rule (codes "workers")) {
@@ -80,6 +82,9 @@ judge = with_rule (new_app (codes "judge")) workers
 
 abbrev pub check : App
 check = with_rule (new_app (codes "check")) workers
+
+abbrev pub refute : App
+refute = new_app (codes "refute")
 
 abbrev pub replay : App
 replay = new_app (codes "replay")
@@ -112,7 +117,7 @@ abbrev pub judging : App
 judging = with_subcommand (with_subcommand top judge.top) check.top
 
 abbrev pub command_line : App
-command_line = with_subcommand (with_subcommand judging replay.top) drive.top
+command_line = with_subcommand (with_subcommand (with_subcommand judging refute.top) replay.top) drive.top
 
 -- what is said of one fault, or in its place that memory ran out: help is no fault but a request
 abbrev pub IsUsageOf : ErrorKind → Usage → Type 0

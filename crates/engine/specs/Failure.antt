@@ -1,7 +1,7 @@
 -- What the program says of a run: its exit status, and its line on standard error.
 use Rattle.std.specs.Prelude.{ℕ, List, ◌++◌, codes, decimal, Result, Ok, Err}
 use Rattle.engine.specs.declared.failure.RunError.{RunError}
-use Rattle.engine.specs.declared.failure.RunError.TheVariants.{History, Script, BadCertificate, ShapeMismatch, BadLimits, NoSuch, TooLong, Memory, ReadFault, WriteFault}
+use Rattle.engine.specs.declared.failure.RunError.TheVariants.{History, Script, BadCertificate, ShapeMismatch, NotThatPattern, BadLimits, NoSuch, TooLong, Memory, ReadFault, WriteFault}
 use Rattle.history.specs.declared.op_id.OpId.{OpId}
 use Rattle.operations.specs.declared.read_error.ReadError.{ReadError}
 use Rattle.operations.specs.declared.read_error.ReadError.TheVariants.{BadOp, ReturnAfterUnknown, Memory as NoMemory}
@@ -51,6 +51,7 @@ failure_status (History refusal) = refusal_status refusal
 failure_status (Script refusal) = script_status refusal
 failure_status BadCertificate = 1
 failure_status ShapeMismatch = 1
+failure_status NotThatPattern = 1
 failure_status BadLimits = 1
 failure_status NoSuch = 1
 failure_status TooLong = 1
@@ -90,6 +91,7 @@ line_for (History refusal) = refusal_line refusal
 line_for (Script refusal) = script_line refusal
 line_for BadCertificate = codes "refused 20"
 line_for ShapeMismatch = codes "refused 21"
+line_for NotThatPattern = codes "refused 23"
 line_for BadLimits = codes "refused 10"
 line_for NoSuch = codes "refused 26"
 line_for TooLong = codes "refused 9"

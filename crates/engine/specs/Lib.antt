@@ -4,6 +4,7 @@ pub mod CommandLine
 pub mod Failure
 pub mod Report
 pub mod Checking
+pub mod Refuting
 pub mod Driving
 pub mod Running
 pub mod ReadCalls

@@ -3,13 +3,14 @@ use Rattle.std.specs.Prelude.{◌≡◌, ◌<◌, ◌≤◌, ℕ, List, Option, 
 use Rattle.std.specs.Io.KnownBytes.{Appends}
 use Rattle.engine.specs.declared.command_line.Order.{Order}
 use Rattle.engine.specs.declared.failure.RunError.{RunError}
-use Rattle.engine.specs.declared.failure.RunError.TheVariants.{History, Script, BadCertificate, ShapeMismatch, BadLimits, NoSuch, TooLong, Memory, ReadFault, WriteFault}
+use Rattle.engine.specs.declared.failure.RunError.TheVariants.{History, Script, BadCertificate, ShapeMismatch, NotThatPattern, BadLimits, NoSuch, TooLong, Memory, ReadFault, WriteFault}
 use Rattle.operations.specs.declared.any_history.AnyHistory.{AnyHistory}
 use Rattle.operations.specs.AnyForm.{form_of, IsAnyHistory, IsJson, IsRefusedFor}
 use Rattle.engine.specs.declared.report.Report.{Report}
-use Rattle.engine.specs.declared.command_line.Order.TheVariants.{Judge, Check, Replay, Drive}
+use Rattle.engine.specs.declared.command_line.Order.TheVariants.{Judge, Check, Refute, Replay, Drive}
 use Rattle.engine.specs.Report.{EachIsTrueOf, EachNamesUnexplained, EachIsKnownOnDistinctValues, text_for}
 use Rattle.engine.specs.Checking.{IsCheckReport, IsPairError, HasOtherShape}
+use Rattle.engine.specs.Refuting.{IsClaimError, IsRefutation}
 use Rattle.engine.specs.Driving.{IsDriveReport, IsUndriven}
 use Rattle.engine.specs.declared.input.TheConstants.{MAX_INPUT_BYTES}
 use Rattle.script.specs.declared.any_script.AnyScript.{AnyScript}
@@ -38,6 +39,7 @@ pub record IsReplayReport (input text : List ℕ) : Type 0 where
 abbrev pub IsAnswer : Order → List ℕ → List ℕ → Type 0
 IsAnswer (Judge workers) input text = IsReport input text
 IsAnswer (Check workers) input text = IsCheckReport input text
+IsAnswer Refute input text = IsRefutation input text
 IsAnswer Replay input text = IsReplayReport input text
 IsAnswer (Drive drive) input text = IsDriveReport drive input text
 
@@ -48,6 +50,8 @@ IsAnswerError (Judge workers) input (History refusal) = IsRefusedFor input refus
 IsAnswerError (Check workers) input (History refusal) = IsPairError input (History refusal)
 IsAnswerError (Check workers) input BadCertificate = IsPairError input BadCertificate
 IsAnswerError (Check workers) input ShapeMismatch = HasOtherShape input
+IsAnswerError Refute input (History refusal) = IsClaimError input (History refusal)
+IsAnswerError Refute input NotThatPattern = IsClaimError input NotThatPattern
 IsAnswerError Replay input (Script refusal) = IsScriptRefusedFor input refusal
 IsAnswerError (Drive drive) input (History refusal) = IsRefusedFor input refusal
 IsAnswerError (Drive drive) input BadLimits = IsUndriven drive input BadLimits
@@ -76,6 +80,7 @@ Fails order reader (History refusal) = IsOfInput reader (λ input. IsAnswerError
 Fails order reader (Script refusal) = IsOfInput reader (λ input. IsAnswerError order input (Script refusal))
 Fails order reader BadCertificate = IsOfInput reader (λ input. IsAnswerError order input BadCertificate)
 Fails order reader ShapeMismatch = IsOfInput reader (λ input. IsAnswerError order input ShapeMismatch)
+Fails order reader NotThatPattern = IsOfInput reader (λ input. IsAnswerError order input NotThatPattern)
 Fails order reader BadLimits = IsOfInput reader (λ input. IsAnswerError order input BadLimits)
 Fails order reader NoSuch = IsOfInput reader (λ input. IsAnswerError order input NoSuch)
 Fails order reader WriteFault = IsOfInput reader (λ input. (text : List ℕ) × IsAnswer order input text)

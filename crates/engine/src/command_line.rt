@@ -3,7 +3,7 @@ ghost use Rattle.std.specs.Prelude.{◌≡◌, ◌-◌, ℕ, [], codes, false, I
 ghost use Rattle.clap.specs.Words.{HasKind, app_of, fault_of, kind_of, rule_of};
 ghost use Rattle.clap.specs.declared.builder.Command.TheViews.{out-Command};
 ghost use Rattle.engine.specs.CommandLine.{AskFor, AskTogetherFor, AsksFor, GivesNoOrder, IsCommandLine, IsOrder, IsUsageFor};
-ghost use Rattle.engine.specs.CommandLine.{IsUsageOf, check, command_line, drive, eager, judge, judging, number_option, replay};
+ghost use Rattle.engine.specs.CommandLine.{IsUsageOf, check, command_line, drive, eager, judge, judging, number_option, refute, replay};
 ghost use Rattle.engine.specs.CommandLine.{sealing, store, storing, workers};
 ghost use Rattle.collector.specs.Judgements.{AreWorkers};
 
@@ -26,6 +26,8 @@ pub enum Order {
     Judge(Workers),
     /// Checks the certificate in the input against the history in it, by so many workers.
     Check(Workers),
+    /// Checks that the pattern in the input shows that the history in it does not meet a criterion.
+    Refute,
     /// Runs the script in the input.
     Replay,
     /// Drives a store with the calls of the history in the input.
@@ -43,7 +45,7 @@ pub enum Usage {
     Memory,
 }
 
-/// The order that a command line gives: the program's name and the word `replay`; or the program's name, the word `judge` or
+/// The order that a command line gives: the program's name and the word `refute` or `replay`; or the program's name, the word `judge` or
 /// `check`, and behind it `--workers N` or `--workers=N` for a number from 1 to 16, or nothing for 2; or the program's name, the
 /// word `drive`, and behind it in any order `causal` or `lamport` and at most one each of `--eager`, `--seals N` for a number from
 /// 0 to 8, or nothing for 0, `--workers N` as above, and `--stop S` for a number from 0 to 15.
@@ -80,6 +82,7 @@ fn order_of<S: AsStr>(word: &str, words: &[S]) -> Option<Order>
     match word {
         "judge" => Some(Order::Judge(workers_in(words)?)),
         "check" => Some(Order::Check(workers_in(words)?)),
+        "refute" if words.is_empty() => Some(Order::Refute),
         "replay" if words.is_empty() => Some(Order::Replay),
         "drive" => Some(Order::Drive(drive_in(words)?)),
         _ => None,
@@ -157,11 +160,12 @@ fn program<'a>(alloc: Global) -> Result<Command<'a>, AllocError>
     ensures { IfOk result (λ command. app_of command ≡ command_line) }
 {
     judging_program(alloc)?
+        .subcommand(refute_command(alloc)?)?
         .subcommand(replay_command(alloc)?)?
         .subcommand(drive_command(alloc)?)
 }
 
-// The same without `replay` and `drive`.
+// The same without `refute`, `replay` and `drive`.
 fn judging_program<'a>(alloc: Global) -> Result<Command<'a>, AllocError>
     ensures { IfOk result (λ command. app_of command ≡ judging) }
 {
@@ -190,6 +194,15 @@ fn check_command<'a>(alloc: Global) -> Result<Command<'a>, AllocError>
     Command::new(alloc, "check")
         .about("Reads a history and a certificate of it, and checks it")
         .arg(workers_option(alloc))
+}
+
+fn refute_command<'a>(alloc: Global) -> Result<Command<'a>, AllocError>
+    ensures app { IfOk result (λ command. app_of command ≡ refute) }
+    ensures local { IfOk result (λ command. (out-Command command).has_globals ≡ false) }
+{
+    Ok(Command::new(alloc, "refute").about(
+        "Reads a history, the name of a criterion and a pattern, and checks it",
+    ))
 }
 
 fn replay_command<'a>(alloc: Global) -> Result<Command<'a>, AllocError>

@@ -47,7 +47,7 @@ pub fn drive_with<T: Threads + Wait + Sync, G: Gate>(
 {
     match order {
         Order::Drive(drive) => drive_store(rt, alloc, history, *drive, gate),
-        Order::Judge(_) | Order::Check(_) | Order::Replay => unreachable!(),
+        Order::Judge(_) | Order::Check(_) | Order::Refute | Order::Replay => unreachable!(),
     }
 }
 

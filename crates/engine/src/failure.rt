@@ -24,6 +24,10 @@ pub enum RunError {
     /// The certificate in the input does not have the shape of the history.
     #[error("the certificate does not have the shape of the history")]
     ShapeMismatch,
+    /// What stands behind the history in the input is not the name of a criterion and a pattern that shows that the history does
+    /// not meet it.
+    #[error("the pattern does not show that the history does not meet the criterion")]
+    NotThatPattern,
     /// The history in the input has no session, so nothing can be driven.
     #[error("the history has no session")]
     BadLimits,
@@ -144,6 +148,7 @@ pub fn status_of(outcome: &Result<(), RunError>) -> u8
             | RunError::Script(_)
             | RunError::BadCertificate
             | RunError::ShapeMismatch
+            | RunError::NotThatPattern
             | RunError::BadLimits
             | RunError::NoSuch
             | RunError::TooLong,
@@ -162,6 +167,7 @@ pub fn fault_line(alloc: Global, error: &RunError) -> Result<String, AllocError>
         RunError::TooLong => String::from_str(alloc, "refused 9"),
         RunError::BadCertificate => String::from_str(alloc, "refused 20"),
         RunError::ShapeMismatch => String::from_str(alloc, "refused 21"),
+        RunError::NotThatPattern => String::from_str(alloc, "refused 23"),
         RunError::BadLimits => String::from_str(alloc, "refused 10"),
         RunError::NoSuch => String::from_str(alloc, "refused 26"),
         RunError::Memory => String::from_str(alloc, "no memory"),

@@ -15,6 +15,7 @@ pub mod laws;
 mod numerals;
 mod output;
 mod program;
+mod refuting;
 mod replaying;
 mod report;
 mod running;

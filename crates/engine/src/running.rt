@@ -11,6 +11,7 @@ use crate::failure::RunError;
 use crate::input::{MAX_READ_CALLS, read_input};
 use crate::judging::report_on;
 use crate::output::write_answer;
+use crate::refuting::refute;
 use crate::replaying::replay;
 use crate::report::report_text;
 use crate::source::Source;
@@ -65,6 +66,7 @@ pub fn answer_to<T: Threads + Wait + Sync>(
     match order {
         Order::Judge(workers) => judge(rt, alloc, input, *workers),
         Order::Check(workers) => check(rt, alloc, input, *workers),
+        Order::Refute => refute(alloc, input),
         Order::Replay => replay(alloc, input),
         Order::Drive(drive) => drive_input(rt, alloc, input, *drive),
     }

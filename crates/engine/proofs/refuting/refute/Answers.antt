@@ -1,0 +1,13 @@
+use Rattle.std.specs.Prelude.{IsTrue}
+use Rattle.engine.specs.Refuting.{claim_form}
+use Rattle.engine.proofs.Claims.{claim_not_shown}
+use Rattle.engine.proofs.refuting.refute.Goals as goal
+
+pub returns-clause-error : goal.returns-clause-error
+returns-clause-error c =
+    let claim = c.in_ok-claim.claim in (
+      claim_form claim.history claim.criterion claim.pattern,
+      c.in_ok-claim.ensures.read,
+      claim_not_shown claim.history claim.criterion claim.pattern c.in_ok-claim.ensures.history
+          (λ shown. let yes : IsTrue c.in_ok-is_pattern_of.field-0 = c.in_ok-is_pattern_of.ensures.exact.1 shown in let no = c.if-branch.false in absurd cc),
+    )
