@@ -2,7 +2,6 @@
 #![tactic(auto)]
 
 mod checking;
-mod copying;
 mod cycle;
 mod derivation;
 mod derived_pairs;

@@ -2,6 +2,7 @@
 //! an answer.
 #![tactic(auto)]
 
+mod check_place;
 mod checking;
 mod command_line;
 mod drivable;
