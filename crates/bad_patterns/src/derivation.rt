@@ -8,7 +8,7 @@ use std::marker::Model;
 /// second.
 ///
 /// Lines are numbered from 0, and a line refers to smaller numbers only.
-#[derive(Clone, Debug, Drop)]
+#[derive(Debug, Drop)]
 pub enum Line {
     /// The causal order. The first path, which has an edge, goes from one operation of the pair to the other, and the second
     /// path goes from there to the operation of the derivation.
@@ -22,7 +22,7 @@ pub enum Line {
 }
 
 /// Lines, each of which rests on lines before it: at least 1 and at most 100,000, where they derive something.
-#[derive(Clone, Debug, Drop)]
+#[derive(Debug, Drop)]
 pub struct Derivation {
     lines: Vec<Line>,
 }

@@ -2,6 +2,7 @@
 #![tactic(auto)]
 
 mod checking;
+mod copying;
 mod cycle;
 mod derivation;
 mod derived_pairs;

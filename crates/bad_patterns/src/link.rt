@@ -6,7 +6,7 @@ use history::OpId;
 use std::marker::Model;
 
 /// One step of a cycle of the causal order and the conflicts of writes.
-#[derive(Clone, Debug, Drop)]
+#[derive(Debug, Drop)]
 pub enum Link {
     /// An edge of the causal order, from the first operation to the second.
     Co(OpId, OpId),
@@ -38,7 +38,7 @@ impl Link {
 }
 
 /// Links, one after the other.
-#[derive(Clone, Debug, Drop)]
+#[derive(Debug, Drop)]
 pub struct Links {
     links: Vec<Link>,
 }

@@ -7,7 +7,7 @@ use std::marker::Model;
 /// stand in one session in this order, or the next one reads from it.
 ///
 /// It goes from its first operation to its last. One operation alone is a path with no edge.
-#[derive(Clone, Debug, Drop)]
+#[derive(Debug, Drop)]
 pub struct Path {
     ops: Vec<OpId>,
 }

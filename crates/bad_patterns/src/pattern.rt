@@ -8,7 +8,7 @@ use crate::path::Path;
 use history::OpId;
 
 /// A bad pattern, with the operations that show it.
-#[derive(Clone, Debug, Drop)]
+#[derive(Debug, Drop)]
 pub enum Pattern {
     /// A path with an edge that ends where it begins.
     CyclicCO(Path),

@@ -1,6 +1,5 @@
 pub mod CutLaws
 pub mod CutLists
-pub mod CutPlaces
 mod Keeping
 mod Stopping
 mod Tokens

@@ -1,6 +1,5 @@
 pub mod Orders
 pub mod Vectors
-pub mod BySession
 pub mod ProgramOrder
 pub mod Schedules
 pub mod Topological

@@ -14,4 +14,3 @@ pub mod ListReading
 pub mod CertificateForms
 pub mod ConvergentLaws
 pub mod FilteredLaws
-pub mod CutCertificates

@@ -1,9 +1,8 @@
-ghost use Rattle.std.specs.Prelude.{◌<◌, ◌≤◌, length, IfOk};
-ghost use Rattle.causal_order.specs.Steps.Gathered.{AreListsOf};
+ghost use Rattle.std.specs.Prelude.{◌+◌, ◌<◌, ◌≤◌, length, IfOk, OnOk};
+ghost use Rattle.causal_order.specs.Steps.Gathered.{AreGatheredBefore};
 ghost use Rattle.causal_order.specs.Vectors.{HasOneEach};
 ghost use Rattle.certify.specs.ByProgramOrder.{AreOwnSchedules, IsOwnSchedule};
 
-use causal_order::Rows;
 use cert_check::Schedules;
 use history::{History, MAX_SESSIONS};
 use object_trait::SeqObject;
@@ -19,31 +18,30 @@ pub(crate) fn own_schedules<O: SeqObject>(
     ensures shape { IfOk result (HasOneEach h.now) }
     ensures exact { IfOk result (AreOwnSchedules h.now) }
 {
-    Schedules::from_sessions(
-        alloc,
-        h.sessions(),
-        |session|
-            requires few { length h.now.1 ≤ MAX_SESSIONS }
-            requires exists { session < length h.now.1 }
-        { schedules_of(alloc, h, session) },
-    )
+    let mut schedules = Schedules::new(alloc);
+    for session in 0..h.sessions() {
+        push_own_schedules(alloc, h, session, &mut schedules)?;
+    }
+    Ok(schedules)
 }
 
-/// The schedules of the operations of a session.
-fn schedules_of<O: SeqObject>(
+/// Puts the schedules of a session behind those of the sessions before it.
+fn push_own_schedules<O: SeqObject>(
     alloc: Global,
     h: &History<O>,
     session: usize,
-) -> Result<Rows<u8>, AllocError>
+    schedules: &mut Schedules,
+) -> Result<(), AllocError>
     requires few { length h.now.1 ≤ MAX_SESSIONS }
     requires exists { session < length h.now.1 }
-    ensures { IfOk result (AreListsOf h.now IsOwnSchedule session) }
+    requires so_far { AreGatheredBefore h.now IsOwnSchedule session schedules.old }
+    ensures { OnOk result (AreGatheredBefore h.now IsOwnSchedule (session + 1) schedules.new) }
 {
     let mut schedule = Vec::new(alloc);
-    let mut schedules = Rows::new(alloc);
+    schedules.push_session()?;
     for _index in 0..h.len(session) {
         schedule.push(session as u8)?;
-        schedules.push(&schedule)?;
+        schedules.push(session, &schedule)?;
     }
-    Ok(schedules)
+    Ok(())
 }

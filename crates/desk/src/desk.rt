@@ -219,7 +219,7 @@ impl<O: Refutable, K: ShelfName> Desk<O, K> {
     {
         let cases = self.cases.lock(rt);
         match cases.pattern(&self.shelf, ticket) {
-            Ok(Some(pattern)) => Ok(Some(pattern.clone()?)),
+            Ok(Some(pattern)) => Ok(Some(pattern.copy(self.alloc)?)),
             Ok(None) | Err(_) => Ok(None),
         }
     }

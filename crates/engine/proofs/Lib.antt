@@ -3,7 +3,6 @@ pub mod Words
 pub mod Pairs
 pub mod PatternForms
 pub mod Claims
-pub mod CutPairs
 pub mod Founded
 pub mod JudgeErrors
 pub mod ReadCallLaws

@@ -3,7 +3,6 @@ pub mod DriveWords
 pub mod CommandLine
 pub mod Failure
 pub mod Report
-pub mod CheckPlaces
 pub mod Checking
 pub mod Refuting
 pub mod Driving

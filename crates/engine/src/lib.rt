@@ -2,7 +2,6 @@
 //! an answer.
 #![tactic(auto)]
 
-mod check_place;
 mod checking;
 mod command_line;
 mod drivable;

@@ -237,7 +237,7 @@ impl<O: Refutable> Cases<O> {
         match why {
             Some(refusal) => Ok(ReplyOf::Refused(refusal)),
             None => {
-                let kept = pattern.clone()?;
+                let kept = pattern.copy(alloc)?;
                 self.keep(c, kept);
                 Ok(ReplyOf::Accepted)
             }
