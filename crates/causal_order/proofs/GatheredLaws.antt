@@ -1,13 +1,15 @@
 -- Lists by operation, gathered one after another.
-use Rattle.std.specs.Prelude.{◌≡◌, ◌≢◌, ℕ, ◌+◌, ◌<◌, ◌≤◌, List, [], ◌∷◌, ◌++◌, length}
-use Rattle.std.proofs.Common.{arith, get_or, sym, ap, subst, ◌∙◌, ⊎_elim, refl}
+use Rattle.std.specs.Prelude.{◌≡◌, ◌≢◌, ℕ, ◌+◌, ◌<◌, ◌≤◌, List, [], ◌∷◌, ◌++◌, length, IfOk}
+use Rattle.std.proofs.Common.{arith, get_or, sym, ap, subst, ◌∙◌, ⊎_elim, refl, Result, Ok, Err}
 use Rattle.std.proofs.lemmas.Bool.{cases_eq, cases_lt}
 use Rattle.std.proofs.lemmas.List.{get_or_append_left, get_or_past, length_push, get_or_push, length-set}
+use Rattle.std.proofs.lemmas.Result.{IfOk-weaker}
 use Rattle.history.specs.declared.op_id.OpId.{OpId}
 use Rattle.history.specs.History.{HistoryValue, IsOp, session}
 use Rattle.causal_order.specs.Orders.{op}
-use Rattle.causal_order.specs.Vectors.{IsListed, ByOperation, list_of, HasOneEach}
-use Rattle.causal_order.specs.Steps.Gathered.{AreGatheredBefore, AreGatheredUpTo}
+use Rattle.causal_order.specs.Vectors.{IsListed, ByOperation, Counts, list_of, AreVectorsOf, HasOneEach}
+use Rattle.causal_order.specs.BySession.{AreMadeBy}
+use Rattle.causal_order.specs.Steps.Gathered.{AreGatheredBefore, AreGatheredUpTo, AreListsOf, AreListsUpTo}
 use Rattle.causal_order.proofs.PushedLaws.{pushed, listed-length, pushed-other, pushed-length, pushed-cases, pushed-value_old, pushed-value_next}
 
 module _ {S C R A : Type 0} (h : HistoryValue S C R) (holds : OpId → List A → Type 0) where
@@ -102,3 +104,63 @@ module _ {S C R A : Type 0} (h : HistoryValue S C R) (holds : OpId → List A �
   gathered-each s lists ended before o is_op =
       let same = (gathered-shape s lists ended before).operations o.session in
       before.each o (omega arith)
+
+module _ {A : Type 0} (holds : OpId → List A → Type 0) (s : ℕ) where
+  -- no list at all
+  pub lists-none : AreListsUpTo holds s 0 []
+  lists-none = record { operations = refl; each = λ j below. absurd (omega arith) }
+
+  -- a list more
+  pub lists-push : (i : ℕ) (lists : List (List A)) (x : List A) → AreListsUpTo holds s i lists → holds (op s i) x
+      → AreListsUpTo holds s (i + 1) (lists ++ x ∷ [])
+  lists-push i lists x before new = record {
+    operations = length_push lists x ∙ ap (λ n. n + 1) before.operations;
+    each = λ j below. ⊎_elim
+        (λ (same : j ≡ i).
+        let value = get_or_push lists x [] j (before.operations ∙ sym same) in
+        subst (λ (n : ℕ). holds (op s n) (get_or (lists ++ x ∷ []) j [])) (sym same) (subst (λ (xs : List A). holds (op s i) xs) (sym value) new))
+        (λ (apart : j ≢ i).
+        let inside : j < length lists = let same = before.operations in omega arith in
+        subst (λ (xs : List A). holds (op s j) xs) (sym (get_or_append_left lists (x ∷ []) [] j inside)) (before.each j (omega arith)))
+        (cases_eq j i);
+  }
+
+module _ {S C R A : Type 0} (h : HistoryValue S C R) (holds : OpId → List A → Type 0) (lists : ByOperation A) (sessions : length lists ≡ length h.1)
+    (each : (s : ℕ) → s < length h.1 → AreListsOf h holds s (get_or lists s [])) where
+  pub sessions-shape : HasOneEach h lists
+  sessions-shape = record {
+    sessions = sessions;
+    operations = λ t. ⊎_elim
+        (λ (below : t < length h.1). (each t below).operations)
+        (λ (above : length h.1 ≤ t).
+        let none = ap (λ (xs : List (List A)). length xs) (get_or_past lists t [] (omega arith)) in
+        let no_session = ap (λ (es : _). length es) (get_or_past h.1 t [] above) in
+        none ∙ sym no_session)
+        (cases_lt t (length h.1));
+  }
+
+  pub sessions-each : (o : OpId) → IsOp h o → holds o (list_of lists o)
+  sessions-each o is_op = (each o.session (listed-length h.1 o.session o.index is_op)).each o.index is_op
+
+-- lists that were made session by session
+module _ {S C R A E : Type 0} (h : HistoryValue S C R) (holds : OpId → List A → Type 0) (gives : ℕ → Result (List (List A)) E → Type 0) (n : ℕ)
+    (every : n ≡ length h.1) (made : Result (ByOperation A) E) (by : IfOk made (AreMadeBy gives n))
+    (given : (s : ℕ) (lists : List (List A)) → s < n → gives s (Ok lists) → AreListsOf h holds s lists) where
+  made-lists : (lists : ByOperation A) → AreMadeBy gives n lists → (s : ℕ) → s < length h.1 → AreListsOf h holds s (get_or lists s [])
+  made-lists lists so s below = let inside : s < n = omega arith in given s (get_or lists s []) inside (so.each s inside)
+
+  pub made-shape : IfOk made (HasOneEach h)
+  made-shape = IfOk-weaker made (AreMadeBy gives n) (HasOneEach h)
+      (λ lists so. sessions-shape h holds lists (so.sessions ∙ every) (made-lists lists so)) by
+
+  pub made-each : IfOk made (λ lists. (o : OpId) → IsOp h o → holds o (list_of lists o))
+  made-each = IfOk-weaker made (AreMadeBy gives n) (λ lists. (o : OpId) → IsOp h o → holds o (list_of lists o))
+      (λ lists so. sessions-each h holds lists (so.sessions ∙ every) (made-lists lists so)) by
+
+module _ {S C R E : Type 0} (h : HistoryValue S C R) (holds : OpId → List ℕ → Type 0)
+    (size : (o : OpId) (counts : List ℕ) → holds o counts → length counts ≡ length h.1) where
+  -- vectors
+  pub made-vectors : (made : Result Counts E) → IfOk made (HasOneEach h)
+      → IfOk made (λ lists. (o : OpId) → IsOp h o → holds o (list_of lists o)) → IfOk made (AreVectorsOf h)
+  made-vectors (Ok v) one_each each = record { one_each = one_each; counts = λ o is_op. size o (list_of v o) (each o is_op) }
+  made-vectors (Err e) one_each each = one_each

@@ -1,5 +1,6 @@
 pub mod Orders
 pub mod Vectors
+pub mod BySession
 pub mod ProgramOrder
 pub mod Schedules
 pub mod Topological

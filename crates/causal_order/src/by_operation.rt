@@ -1,4 +1,5 @@
-ghost use Rattle.std.specs.Prelude.{◌≡◌, ◌∷◌, ◌++◌, ◌<◌, ◌↔◌, List, [], length, slice_set, IfOk, IsTrue, OnOk, OnErr, slice_index_or};
+ghost use Rattle.std.specs.Prelude.{◌≡◌, ◌∷◌, ◌++◌, ◌<◌, ◌↔◌, ℕ, List, [], length, slice_set, IfOk, IsTrue, OnOk, OnErr, slice_index_or};
+ghost use Rattle.causal_order.specs.BySession.{AreMadeBy};
 ghost use Rattle.causal_order.specs.Vectors.{IsListed, list_of, with_item};
 
 use crate::rows::Rows;
@@ -68,6 +69,24 @@ impl<T> ByOperation<T> {
 }
 
 impl<T: Copy> ByOperation<T> {
+    /// The lists of so many sessions, each session's lists as a function of its number makes them.
+    ///
+    /// Fails for want of memory, and where the lists of a session can't be made. Besides making them O(k) for k sessions.
+    pub fn from_sessions<F: Fn(usize) -> Result<Rows<T>, AllocError>>(
+        alloc: Global,
+        sessions: usize,
+        rows_of: F,
+    ) -> Result<ByOperation<T>, AllocError>
+        requires { (s : ℕ) → s < sessions → F.pre rows_of s }
+        ensures { IfOk result (AreMadeBy (F.post rows_of) sessions) }
+    {
+        let mut lists = ByOperation::new(alloc);
+        for session in 0..sessions {
+            lists.push_rows(rows_of(session)?)?;
+        }
+        Ok(lists)
+    }
+
     /// Puts a session with no operations behind the others.
     ///
     /// Fails for want of memory alone, and the sessions are then as they were.

@@ -1,9 +1,9 @@
 //! Certificates from what a store told of each operation.
 
-ghost use Rattle.std.specs.Prelude.{◌≡◌, ◌+◌, ◌<◌, ◌≤◌, length, IfOk, OnOk};
+ghost use Rattle.std.specs.Prelude.{◌≡◌, ◌<◌, ◌≤◌, length, IfOk};
 ghost use Rattle.history.specs.History.{IsOp};
 ghost use Rattle.history.specs.declared.op_id.OpId.{OpId as Operation};
-ghost use Rattle.causal_order.specs.Steps.Gathered.{AreGatheredBefore};
+ghost use Rattle.causal_order.specs.Steps.Gathered.{AreListsOf};
 ghost use Rattle.causal_order.specs.Vectors.{HasOneEach, list_of};
 ghost use Rattle.cert_check.specs.Certificates.{criterion_of, HasShapeOf};
 ghost use Rattle.certify.specs.Advice.{IsAdvised};
@@ -14,7 +14,7 @@ use crate::by_order::{order_at, schedule_by_order};
 use crate::by_program_order::make_by_program_order;
 use crate::by_stamp::{Stamped, counted_sessions, operations_by_stamp, sessions_of};
 use crate::heard::told_vectors;
-use causal_order::Vectors;
+use causal_order::{Rows, Vectors};
 use cert_check::{Arbitration, Certificate, Criterion, Schedules};
 use history::{Advice, History, MAX_OPERATIONS, MAX_SESSIONS, OpId};
 use object_trait::SeqObject;
@@ -88,36 +88,37 @@ fn told_schedules<O: SeqObject>(
     ensures exact { IfOk result (λ schedules. (o : Operation) → IsOp h.now o
         → IsToldSchedule O.query h.now advice.now vectors.now ops.now o (list_of schedules o)) }
 {
-    let mut schedules = Schedules::new(alloc);
-    for session in 0..h.sessions() {
-        push_told_schedules(alloc, h, advice, vectors, ops, session, &mut schedules)?;
-    }
-    Ok(schedules)
+    Schedules::from_sessions(
+        alloc,
+        h.sessions(),
+        |session|
+            requires advised { IsAdvised h.now advice.now }
+            requires few { length h.now.1 ≤ MAX_SESSIONS }
+            requires exists { session < length h.now.1 }
+        { told_schedules_of(alloc, h, advice, vectors, ops, session) },
+    )
 }
 
-/// Puts the schedules of a session behind those of the sessions before it.
-fn push_told_schedules<O: SeqObject>(
+/// The schedules of the operations of a session.
+fn told_schedules_of<O: SeqObject>(
     alloc: Global,
     h: &History<O>,
     advice: &[Option<Advice>],
     vectors: &Vectors,
     ops: &[Stamped],
     session: usize,
-    schedules: &mut Schedules,
-) -> Result<(), AllocError>
+) -> Result<Rows<u8>, AllocError>
     requires advised { IsAdvised h.now advice.now }
     requires few { length h.now.1 ≤ MAX_SESSIONS }
     requires exists { session < length h.now.1 }
-    requires so_far { AreGatheredBefore h.now (IsToldSchedule O.query h.now advice.now vectors.now ops.now) session schedules.old }
-    ensures { OnOk result
-        (AreGatheredBefore h.now (IsToldSchedule O.query h.now advice.now vectors.now ops.now) (session + 1) schedules.new) }
+    ensures { IfOk result (AreListsOf h.now (IsToldSchedule O.query h.now advice.now vectors.now ops.now) session) }
 {
-    schedules.push_session()?;
+    let mut schedules = Rows::new(alloc);
     for index in 0..h.len(session) {
         let schedule = told_schedule(alloc, h, advice, vectors, ops, OpId::at(session, index))?;
-        schedules.push(session, &schedule)?;
+        schedules.push(&schedule)?;
     }
-    Ok(())
+    Ok(schedules)
 }
 
 /// The schedule of an operation.

@@ -1,13 +1,13 @@
 //! Vectors as a store told them.
 
-ghost use Rattle.std.specs.Prelude.{◌≡◌, ◌+◌, ◌<◌, ◌≤◌, [], length, take, IfOk, OnOk};
+ghost use Rattle.std.specs.Prelude.{◌≡◌, ◌<◌, ◌≤◌, [], length, take, IfOk};
 ghost use Rattle.history.specs.declared.limits.TheConstants.{MAX_OPERATIONS as most_operations};
-ghost use Rattle.causal_order.specs.Steps.Gathered.{AreGatheredBefore};
+ghost use Rattle.causal_order.specs.Steps.Gathered.{AreListsOf};
 ghost use Rattle.causal_order.specs.Vectors.{AreVectorsOf};
 ghost use Rattle.certify.specs.Advice.{AreToldVectors, IsAdvised, IsToldVector, hear, heard_before};
 
 use crate::advice::advice_in;
-use causal_order::Vectors;
+use causal_order::{Rows, Vectors};
 use history::{Advice, History, MAX_SESSIONS, OpId};
 use object_trait::SeqObject;
 use std::alloc::{AllocError, Global};
@@ -83,32 +83,35 @@ pub(crate) fn told_vectors<O: SeqObject>(
     ensures shape { IfOk result (AreVectorsOf h.now) }
     ensures exact { IfOk result (AreToldVectors h.now advice.now) }
 {
-    let mut vectors = Vectors::new(alloc);
-    for session in 0..h.sessions() {
-        push_told_vectors(h, advice, session, &mut vectors)?;
-    }
-    Ok(vectors)
+    Vectors::from_sessions(
+        alloc,
+        h.sessions(),
+        |session|
+            requires advised { IsAdvised h.now advice.now }
+            requires few { length h.now.1 ≤ MAX_SESSIONS }
+            requires exists { session < length h.now.1 }
+        { vectors_of(alloc, h, advice, session) },
+    )
 }
 
-/// Puts the vectors of a session behind those of the sessions before it.
-fn push_told_vectors<O: SeqObject>(
+/// The vectors of the operations of a session.
+fn vectors_of<O: SeqObject>(
+    alloc: Global,
     h: &History<O>,
     advice: &[Option<Advice>],
     session: usize,
-    vectors: &mut Vectors,
-) -> Result<(), AllocError>
+) -> Result<Rows<u16>, AllocError>
     requires advised { IsAdvised h.now advice.now }
     requires few { length h.now.1 ≤ MAX_SESSIONS }
     requires exists { session < length h.now.1 }
-    requires so_far { AreGatheredBefore h.now (IsToldVector h.now advice.now) session vectors.old }
-    ensures { OnOk result (AreGatheredBefore h.now (IsToldVector h.now advice.now) (session + 1) vectors.new) }
+    ensures { IfOk result (AreListsOf h.now (IsToldVector h.now advice.now) session) }
 {
     let told = advice_in(h, advice, session);
     let mut heard = Heard::nothing();
-    vectors.push_session()?;
+    let mut vectors = Rows::new(alloc);
     for index in 0..h.len(session) {
         heard.hear(OpId::at(session, index), &told[index]);
-        vectors.push(session, heard.counts(h.sessions()))?;
+        vectors.push(heard.counts(h.sessions()))?;
     }
-    Ok(())
+    Ok(vectors)
 }

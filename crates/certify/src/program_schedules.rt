@@ -1,8 +1,9 @@
-ghost use Rattle.std.specs.Prelude.{◌+◌, ◌<◌, ◌≤◌, length, IfOk, OnOk};
-ghost use Rattle.causal_order.specs.Steps.Gathered.{AreGatheredBefore};
+ghost use Rattle.std.specs.Prelude.{◌<◌, ◌≤◌, length, IfOk};
+ghost use Rattle.causal_order.specs.Steps.Gathered.{AreListsOf};
 ghost use Rattle.causal_order.specs.Vectors.{HasOneEach};
 ghost use Rattle.certify.specs.ByProgramOrder.{AreOwnSchedules, IsOwnSchedule};
 
+use causal_order::Rows;
 use cert_check::Schedules;
 use history::{History, MAX_SESSIONS};
 use object_trait::SeqObject;
@@ -18,30 +19,31 @@ pub(crate) fn own_schedules<O: SeqObject>(
     ensures shape { IfOk result (HasOneEach h.now) }
     ensures exact { IfOk result (AreOwnSchedules h.now) }
 {
-    let mut schedules = Schedules::new(alloc);
-    for session in 0..h.sessions() {
-        push_own_schedules(alloc, h, session, &mut schedules)?;
-    }
-    Ok(schedules)
+    Schedules::from_sessions(
+        alloc,
+        h.sessions(),
+        |session|
+            requires few { length h.now.1 ≤ MAX_SESSIONS }
+            requires exists { session < length h.now.1 }
+        { schedules_of(alloc, h, session) },
+    )
 }
 
-/// Puts the schedules of a session behind those of the sessions before it.
-fn push_own_schedules<O: SeqObject>(
+/// The schedules of the operations of a session.
+fn schedules_of<O: SeqObject>(
     alloc: Global,
     h: &History<O>,
     session: usize,
-    schedules: &mut Schedules,
-) -> Result<(), AllocError>
+) -> Result<Rows<u8>, AllocError>
     requires few { length h.now.1 ≤ MAX_SESSIONS }
     requires exists { session < length h.now.1 }
-    requires so_far { AreGatheredBefore h.now IsOwnSchedule session schedules.old }
-    ensures { OnOk result (AreGatheredBefore h.now IsOwnSchedule (session + 1) schedules.new) }
+    ensures { IfOk result (AreListsOf h.now IsOwnSchedule session) }
 {
     let mut schedule = Vec::new(alloc);
-    schedules.push_session()?;
+    let mut schedules = Rows::new(alloc);
     for _index in 0..h.len(session) {
         schedule.push(session as u8)?;
-        schedules.push(session, &schedule)?;
+        schedules.push(&schedule)?;
     }
-    Ok(())
+    Ok(schedules)
 }

@@ -1,9 +1,9 @@
 //! Certificates of memory histories by the writes that their reads read from.
 
-ghost use Rattle.std.specs.Prelude.{◌≡◌, ◌⊎◌, ◌+◌, ◌<◌, ◌≤◌, length, IfNone, IfOk, IfSome, IsSome, OnOk};
+ghost use Rattle.std.specs.Prelude.{◌≡◌, ◌⊎◌, ◌<◌, ◌≤◌, length, IfNone, IfOk, IfSome, IsSome};
 ghost use Rattle.history.specs.History.{IsOp};
 ghost use Rattle.history.specs.declared.op_id.OpId.{OpId as Operation};
-ghost use Rattle.causal_order.specs.Steps.Gathered.{AreGatheredBefore};
+ghost use Rattle.causal_order.specs.Steps.Gathered.{AreListsOf};
 ghost use Rattle.memory_order.specs.Memory.{memory_answer};
 ghost use Rattle.memory_order.specs.OverwrittenReads.{HasOverwrittenRead, HasOverwrittenStart};
 ghost use Rattle.memory_order.specs.SourceOrder.{CountsSourceOrder, IsCyclic, LacksSource, SourceOrder};
@@ -12,7 +12,7 @@ ghost use Rattle.cert_check.specs.Certificates.{criterion_of, HasShapeOf, IsExpl
 ghost use Rattle.certify_cc.specs.BySources.{IsBySources, IsScheduleFor};
 
 use crate::schedule::schedule_of;
-use causal_order::Vectors;
+use causal_order::{Rows, Vectors};
 use cert_check::{Certificate, Criterion, Schedules};
 use history::{History, MAX_SESSIONS, OpId};
 use memory_order::{CausalOrder, IndexedMemory};
@@ -74,35 +74,37 @@ fn schedules_by_sources(
     ensures exact { IfOk result (λ schedules. (o : Operation) → IsOp order.now o
         → IsScheduleFor order.now vectors.now o (list_of schedules o)) }
 {
-    let mut schedules = Schedules::new(alloc);
-    for session in 0..order.memory().history().sessions() {
-        push_schedules(alloc, order, vectors, session, &mut schedules)?;
-    }
-    Ok(schedules)
+    Schedules::from_sessions(
+        alloc,
+        order.memory().history().sessions(),
+        |session|
+            requires counts { CountsSourceOrder order.now vectors.now }
+            requires few { length order.now.1 ≤ MAX_SESSIONS }
+            requires exists { session < length order.now.1 }
+        { schedules_of(alloc, order, vectors, session) },
+    )
 }
 
-/// Puts the schedules of a session behind those of the sessions before it.
-fn push_schedules(
+/// The schedules of the operations of a session.
+fn schedules_of(
     alloc: Global,
     order: &CausalOrder,
     vectors: &Vectors,
     session: usize,
-    schedules: &mut Schedules,
-) -> Result<(), AllocError>
+) -> Result<Rows<u8>, AllocError>
     requires counts { CountsSourceOrder order.now vectors.now }
     requires few { length order.now.1 ≤ MAX_SESSIONS }
     requires exists { session < length order.now.1 }
-    requires so_far { AreGatheredBefore order.now (IsScheduleFor order.now vectors.now) session schedules.old }
-    ensures { OnOk result (AreGatheredBefore order.now (IsScheduleFor order.now vectors.now) (session + 1) schedules.new) }
+    ensures { IfOk result (AreListsOf order.now (IsScheduleFor order.now vectors.now) session) }
 {
-    schedules.push_session()?;
+    let mut schedules = Rows::new(alloc);
     for index in 0..order.memory().history().len(session) {
         let op = OpId {
             session: session as u64,
             index: index as u64,
         };
         let walk = schedule_of(alloc, vectors, op, order.source(op))?;
-        schedules.push(session, walk.schedule())?;
+        schedules.push(walk.schedule())?;
     }
-    Ok(())
+    Ok(schedules)
 }

@@ -22,7 +22,7 @@ pub fn source_order_is_causal_order()
 /// The happened-before relation of an operation relates operations of its past in the causal order alone, and is the same
 /// where the orders of its definition may relate no others.
 ///
-/// This is so where values are distinct and vectors count the causal order, as those of `memory_order` do.
+/// This is so where values are distinct and vectors count the causal order, as those of `CausalOrder::vectors` do.
 pub fn happened_before_is_on_the_past()
     ensures past { (h : MemoryHistory) (v : Counts) (o a b : Operation) → IsDifferentiated h → CountsSourceOrder h v
         → HB h o a b → IsPast h o a × IsPast h o b }
@@ -32,7 +32,7 @@ pub fn happened_before_is_on_the_past()
 
 /// Each operation has vectors that count its happened-before relation.
 ///
-/// This is so where values are distinct and vectors count the causal order, as those of `memory_order` do.
+/// This is so where values are distinct and vectors count the causal order, as those of `CausalOrder::vectors` do.
 pub fn happened_before_has_vectors()
     ensures { (h : MemoryHistory) (v : Counts) (o : Operation) → IsDifferentiated h → CountsSourceOrder h v → IsOp h o
         → (now : Counts) × IsHBVectors h o now }

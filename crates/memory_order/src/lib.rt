@@ -26,7 +26,6 @@ pub use growing_order::{Cause, Raise};
 pub use happened_before::{HappenedBefore, MAX_PAIRS, Saturation};
 pub use indexed::IndexedMemory;
 pub use known_reads::KnownRead;
-pub use order::memory_order;
 pub use placing::Sources;
 pub use reads::{initial_value, known_read};
 pub use source_waits::waits_for_sources;

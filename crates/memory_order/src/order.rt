@@ -2,10 +2,8 @@ ghost use Rattle.std.specs.Prelude.{IfOk, MatchOption};
 ghost use Rattle.memory_order.specs.SourceOrder.{CountsSourceOrder};
 ghost use Rattle.memory_order.specs.Steps.Indexed.{IsUnordered, ListsReads, ListsSourcesIfAny};
 
-use crate::found_sources::found_sources;
-use crate::known_reads::{KnownRead, known_reads, lacks_source};
+use crate::known_reads::{KnownRead, lacks_source};
 use crate::placing::{Sources, order_of};
-use crate::writes::sorted_writes;
 use causal_order::Vectors;
 use history::History;
 use objects::Memory;
@@ -16,17 +14,7 @@ use std::alloc::{AllocError, Global};
 ///
 /// `None` where that order is cyclic, or where a known read returned a value that is not the initial one and that nobody
 /// writes. What this means on distinct values a law says (`laws::source_order_is_causal_order`). Fails for want of memory
-/// alone. O(n (log n + k)) for n operations of k sessions.
-pub fn memory_order(alloc: Global, h: &History<Memory>) -> Result<Option<Vectors>, AllocError>
-    ensures { IfOk result (λ order. MatchOption order (IsUnordered h.now) (CountsSourceOrder h.now)) }
-{
-    let writes = sorted_writes(alloc, h)?;
-    let sources = found_sources(alloc, h, &writes)?;
-    let reads = known_reads(alloc, h, &sources)?;
-    order_by_sources(alloc, h, &sources, &reads)
-}
-
-/// The same, where the sources of the operations and the known reads are at hand.
+/// alone. O(n k) for n operations of k sessions.
 pub(crate) fn order_by_sources(
     alloc: Global,
     h: &History<Memory>,

@@ -1,18 +1,16 @@
-use Rattle.std.proofs.Common.{◌≡◌, length, arith}
+use Rattle.std.proofs.Common.{rules, length}
 use Rattle.causal_order.specs.ProgramOrder.{IsOwnVector}
-use Rattle.causal_order.proofs.GatheredLaws.{gathered-shape, gathered-each}
+use Rattle.causal_order.proofs.GatheredLaws.{made-each, made-shape, made-vectors}
 use Rattle.causal_order.proofs.program_vectors.program_order.Goals as goal
-
-pub returns-clause-shape : goal.returns-clause-shape
-returns-clause-shape g c =
-    let ended : c.loop-session.session ≡ length c.args.h.now.1 = omega arith in
-    let own = IsOwnVector (length c.args.h.now.1) in
-    record {
-      one_each = gathered-shape c.args.h.now own c.loop-session.session c.loop-session.vectors ended c.loop-session.invariant;
-      counts = λ o is_op. (gathered-each c.args.h.now own c.loop-session.session c.loop-session.vectors ended c.loop-session.invariant o is_op).size;
-    }
 
 pub returns-clause-exact : goal.returns-clause-exact
 returns-clause-exact g c =
-    let ended : c.loop-session.session ≡ length c.args.h.now.1 = omega arith in
-    gathered-each c.args.h.now (IsOwnVector (length c.args.h.now.1)) c.loop-session.session c.loop-session.vectors ended c.loop-session.invariant
+    made-each c.args.h.now (IsOwnVector (length c.args.h.now.1)) _ c.sessions.result c.sessions.ensures.count c.from_sessions.result c.from_sessions.ensures
+    (λ s lists below given. search rules)
+
+pub returns-clause-shape : goal.returns-clause-shape
+returns-clause-shape g c =
+    let own = IsOwnVector (length c.args.h.now.1) in
+    let shape = made-shape c.args.h.now own _ c.sessions.result c.sessions.ensures.count c.from_sessions.result c.from_sessions.ensures
+    (λ s lists below given. search rules) in
+    made-vectors c.args.h.now own (λ o counts is_own. is_own.size) c.from_sessions.result shape (returns-clause-exact g c)

@@ -1,11 +1,19 @@
-use Rattle.std.proofs.Common.{ℕ, ◌+◌, List, arith, ap, ◌∙◌, length, take}
+use Rattle.std.proofs.Common.{◌≡◌, ℕ, ◌+◌, List, arith, ap, ◌∙◌, length, subst, take}
 use Rattle.std.specs.Prelude.{Option, None}
 use Rattle.std.proofs.lemmas.List.{get_or_default}
 use Rattle.history.specs.declared.advice.Advice.{Advice}
-use Rattle.causal_order.proofs.GatheredLaws.{gathered-push}
+use Rattle.history.specs.History.{session}
+use Rattle.causal_order.specs.Steps.Gathered.{AreListsUpTo}
+use Rattle.causal_order.proofs.GatheredLaws.{lists-none, lists-push}
 use Rattle.certify.specs.Advice.{Heard, IsToldVector, heard_before}
 use Rattle.certify.proofs.Advices.{hear_next}
-use Rattle.certify.proofs.heard.push_told_vectors.Goals as goal
+use Rattle.certify.proofs.heard.vectors_of.Goals as goal
+
+pub loop-index-init : goal.loop-index-init
+loop-index-init g c = record {
+  so_far = rw c.new-vectors.ensures (lists-none (IsToldVector c.args.h.now c.args.advice.now) c.args.session);
+  known = c.nothing-heard.ensures;
+}
 
 pub loop-index-preserved : goal.loop-index-preserved
 loop-index-preserved g c =
@@ -20,7 +28,7 @@ loop-index-preserved g c =
     let own = known ∙ ap (λ (t : List (Option Advice)). heard_before t s (i + 1)) c.advice_in-told.ensures.entries in
     record {
       so_far = rw c.in_ok-push.ensures.ok
-          (gathered-push h (IsToldVector h c.args.advice.now) s i c.loop-index.vectors c.counts.result.now c.loop-index.invariant.so_far
+          (lists-push (IsToldVector h c.args.advice.now) s i c.loop-index.vectors c.counts.result.now c.loop-index.invariant.so_far
           (record {
             size = c.counts.ensures.size ∙ c.sessions.ensures.count;
             told = c.counts.ensures.counts
@@ -29,3 +37,8 @@ loop-index-preserved g c =
           }));
       known = known;
     }
+
+pub returns : goal.returns
+returns g c =
+    let ended : c.loop-index.index ≡ length (session c.args.h.now c.args.session) = omega arith in
+    subst (λ (i : ℕ). AreListsUpTo (IsToldVector c.args.h.now c.args.advice.now) c.args.session i c.loop-index.vectors) ended c.loop-index.invariant.so_far

@@ -1,11 +1,11 @@
 use Rattle.std.proofs.Common.{◌≡◌, replicate}
-use Rattle.causal_order.specs.Steps.Gathered.{AreGatheredUpTo}
+use Rattle.causal_order.specs.Steps.Gathered.{AreListsUpTo}
 use Rattle.certify.specs.ByProgramOrder.{IsOwnSchedule}
-use Rattle.certify.proofs.program_schedules.push_own_schedules.Given as goal
+use Rattle.certify.proofs.program_schedules.schedules_of.Given as goal
 
 -- the operations so far have their schedules, and the schedule is that of the last of them
 abbrev pub invariant-loop-index : goal.invariant-loop-index
 invariant-loop-index g l = record {
-  so_far : AreGatheredUpTo l.h IsOwnSchedule l.session l._index l.schedules;
+  so_far : AreListsUpTo IsOwnSchedule l.session l._index l.schedules;
   schedule : l.schedule.items ≡ replicate l._index l.session;
 }

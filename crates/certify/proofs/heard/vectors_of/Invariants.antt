@@ -1,11 +1,11 @@
 use Rattle.std.specs.Prelude.{◌≡◌}
-use Rattle.causal_order.specs.Steps.Gathered.{AreGatheredUpTo}
+use Rattle.causal_order.specs.Steps.Gathered.{AreListsUpTo}
 use Rattle.certify.specs.Advice.{IsToldVector, heard_before}
-use Rattle.certify.proofs.heard.push_told_vectors.Given as goal
+use Rattle.certify.proofs.heard.vectors_of.Given as goal
 
 -- the operations so far have their vectors, and what is known is that of the last of them
 abbrev pub invariant-loop-index : goal.invariant-loop-index
 invariant-loop-index g l = record {
-  so_far : AreGatheredUpTo l.h (IsToldVector l.h l.advice) l.session l.index l.vectors;
+  so_far : AreListsUpTo (IsToldVector l.h l.advice) l.session l.index l.vectors;
   known : l.heard ≡ heard_before l.told l.session l.index;
 }

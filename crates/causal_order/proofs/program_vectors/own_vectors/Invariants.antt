@@ -1,12 +1,12 @@
 use Rattle.std.proofs.Common.{◌≡◌, ◌≢◌, ℕ, length, get_or}
-use Rattle.causal_order.specs.Steps.Gathered.{AreGatheredUpTo}
+use Rattle.causal_order.specs.Steps.Gathered.{AreListsUpTo}
 use Rattle.causal_order.specs.ProgramOrder.{IsOwnVector}
-use Rattle.causal_order.proofs.program_vectors.push_own_vectors.Given as goal
+use Rattle.causal_order.proofs.program_vectors.own_vectors.Given as goal
 
 -- the operations so far have their vectors, and the counts are those of the last of them
 abbrev pub invariant-loop-index : goal.invariant-loop-index
 invariant-loop-index g l = record {
-  so_far : AreGatheredUpTo l.h (IsOwnVector (length l.h.1)) l.session l.index l.vectors;
+  so_far : AreListsUpTo (IsOwnVector (length l.h.1)) l.session l.index l.vectors;
   size : length l.counts.items ≡ length l.h.1;
   others : (s : ℕ) → s ≢ l.session → get_or l.counts.items s 0 ≡ 0;
 }

@@ -1,10 +1,10 @@
 use Rattle.std.proofs.Common.{List, ℕ, sym, subst, arith}
 use Rattle.causal_order.specs.Orders.{op}
-use Rattle.causal_order.proofs.GatheredLaws.{gathered-push}
+use Rattle.causal_order.proofs.GatheredLaws.{lists-push}
 use Rattle.memory_order.proofs.IndexedLaws.{if_any-source}
 use Rattle.memory_order.proofs.SourcedLaws.{listed-source}
 use Rattle.certify_cc.specs.BySources.{IsScheduleFor}
-use Rattle.certify_cc.proofs.by_sources.push_schedules.Goals as goal
+use Rattle.certify_cc.proofs.by_sources.schedules_of.Goals as goal
 
 pub schedule_of-requires-clause-few : goal.schedule_of-requires-clause-few
 schedule_of-requires-clause-few c = let sessions = c.requires.counts.vectors.one_each.sessions in omega arith
@@ -25,5 +25,5 @@ loop-index-preserved c =
       walk = c.in_ok-walk.ensures;
     } in
     rw c.in_ok-push.ensures.ok
-    (gathered-push c.args.order.now holds c.args.session c.loop-index.index c.loop-index.schedules c.schedule.result.now c.loop-index.invariant
+    (lists-push holds c.args.session c.loop-index.index c.loop-index.schedules c.schedule.result.now c.loop-index.invariant
     (subst (λ (xs : List ℕ). holds o xs) (sym c.schedule.ensures) made))

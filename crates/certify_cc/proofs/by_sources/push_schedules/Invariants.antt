@@ -1,7 +1,0 @@
-use Rattle.causal_order.specs.Steps.Gathered.{AreGatheredUpTo}
-use Rattle.certify_cc.specs.BySources.{IsScheduleFor}
-use Rattle.certify_cc.proofs.by_sources.push_schedules.Given as goal
-
--- the operations so far have their schedules
-abbrev pub invariant-loop-index : goal.invariant-loop-index
-invariant-loop-index l = AreGatheredUpTo l.order (IsScheduleFor l.order l.vectors) l.session l.index l.schedules
