@@ -21,7 +21,7 @@ abbrev others : Items → Items
 others no_items = no_items
 others (item d ds) = ds
 
-module _ {P : Type 0} (limit : P → ℕ) (inside : P → ℕ → P) where
+module _ {P : Type 0} (limit : P → Option ℕ) (inside : P → ℕ → P) where
   mutual
     -- of what is kept whole nothing is cut off
     pub kept : (place : P) (d : Data) → IsKept limit inside place d → cut limit inside place d ≡ d
@@ -32,10 +32,12 @@ module _ {P : Type 0} (limit : P → ℕ) (inside : P → ℕ → P) where
     kept place (array ds) k = ap array (all_kept place 0 (limit place) ds k)
     kept place (object ms) k = absurd k
 
-    all_kept : (place : P) (index room : ℕ) (ds : Items) → AreKept limit inside place index room ds → cut_items limit inside place index room ds ≡ ds
-    all_kept place index zero ds k = absurd k
-    all_kept place index (suc room) no_items k = refl
-    all_kept place index (suc room) (item d ds) k = ap₂ item (kept (inside place index) d k.0) (all_kept place (suc index) room ds k.1)
+    all_kept : (place : P) (index : ℕ) (room : Option ℕ) (ds : Items) → AreKept limit inside place index room ds → cut_items limit inside place index room ds ≡ ds
+    all_kept place index None no_items k = refl
+    all_kept place index None (item d ds) k = ap₂ item (kept (inside place index) d k.0) (all_kept place (suc index) None ds k.1)
+    all_kept place index (Some zero) ds k = absurd k
+    all_kept place index (Some (suc room)) no_items k = refl
+    all_kept place index (Some (suc room)) (item d ds) k = ap₂ item (kept (inside place index) d k.0) (all_kept place (suc index) (Some room) ds k.1)
 
   mutual
     -- and only it is cut to it
@@ -52,12 +54,16 @@ module _ {P : Type 0} (limit : P → ℕ) (inside : P → ℕ → P) where
     alone place (array ds) (object ms) k same = absurd k
     alone place (object ms) e k same = absurd (subst (IsKept limit inside place) (sym same) k)
 
-    all_alone : (place : P) (index room : ℕ) (ds es : Items) → AreKept limit inside place index room es → cut_items limit inside place index room ds ≡ es → ds ≡ es
-    all_alone place index zero ds es k same = absurd k
-    all_alone place index (suc room) no_items es k same = same
-    all_alone place index (suc room) (item d ds) no_items k same = absurd cc
-    all_alone place index (suc room) (item d ds) (item e es) k same =
-        ap₂ item (alone (inside place index) d e k.0 (ap first_of_items same)) (all_alone place (suc index) room ds es k.1 (ap others same))
+    all_alone : (place : P) (index : ℕ) (room : Option ℕ) (ds es : Items) → AreKept limit inside place index room es → cut_items limit inside place index room ds ≡ es → ds ≡ es
+    all_alone place index None no_items es k same = same
+    all_alone place index None (item d ds) no_items k same = absurd cc
+    all_alone place index None (item d ds) (item e es) k same =
+        ap₂ item (alone (inside place index) d e k.0 (ap first_of_items same)) (all_alone place (suc index) None ds es k.1 (ap others same))
+    all_alone place index (Some zero) ds es k same = absurd k
+    all_alone place index (Some (suc room)) no_items es k same = same
+    all_alone place index (Some (suc room)) (item d ds) no_items k same = absurd cc
+    all_alone place index (Some (suc room)) (item d ds) (item e es) k same =
+        ap₂ item (alone (inside place index) d e k.0 (ap first_of_items same)) (all_alone place (suc index) (Some room) ds es k.1 (ap others same))
 
   module _ {A : Type 0} (place : P) (read : Data → Option A) (reads : (d : Data) (a : A) → read d ≡ Some a → IsKept limit inside place d) where
     unread : (d : Data) (o : Option A) → read d ≡ None → read (cut limit inside place d) ≡ o → read (cut limit inside place d) ≡ None

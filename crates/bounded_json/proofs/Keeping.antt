@@ -1,5 +1,5 @@
 -- Reading a list of which the first elements are kept, a turn at a time.
-use Rattle.std.proofs.Common.{◌≡◌, ◌≢◌, ℕ, zero, suc, ◌+◌, ◌-◌, ◌<◌, ◌≤◌, List, [], ◌∷◌, ◌++◌, length, Option, Some, None, option_and_then, refl, sym, ap, ap₂, ◌∙◌, arith}
+use Rattle.std.proofs.Common.{◌≡◌, ◌≢◌, ℕ, zero, suc, ◌+◌, ◌-◌, ◌<◌, ◌≤◌, List, [], ◌∷◌, ◌++◌, length, Option, Some, None, option_and_then, refl, sym, ap, ap₂, subst, ◌∙◌, arith}
 use Rattle.std.proofs.lemmas.List.{length_push}
 use Rattle.json.specs.Json as json
 use Rattle.json.specs.Json.{Parse, parse_map, after_end_array, items_step, items, value}
@@ -11,7 +11,7 @@ use Rattle.serde_json.specs.View.{items_of}
 use Rattle.bounded_json.specs.Cut.{cut, cut_items}
 use Rattle.bounded_json.specs.Steps.Behind.{behind_items}
 use Rattle.bounded_json.specs.Steps.Reading.{AreCut, IsCut}
-use Rattle.bounded_json.proofs.CutLists.{before, before_one_more, cut_each, length-cut_each, cut_one_more, cut_all, cut_full}
+use Rattle.bounded_json.proofs.CutLists.{before, before_one_more, cut_each, length-cut_each, cut_one_more, cut_all, cut_full, IsWithin, none_within, within_one_more}
 use Rattle.bounded_json.proofs.Turns.{item_read, item_refused, items_over}
 
 -- ---- the number that bounds the turns plays no part
@@ -58,7 +58,7 @@ before_more : (ds : List Data) (d : Data) (o : Option (Items × List Token)) →
 before_more ds d None = refl
 before_more ds d (Some p) = ap (λ es. Some (es, p.1)) (before_one_more ds d p.0)
 
-module _ {P : Type 0} (limit : P → ℕ) (inside : P → ℕ → P) (place : P) (depth : ℕ) where
+module _ {P : Type 0} (limit : P → Option ℕ) (inside : P → ℕ → P) (place : P) (depth : ℕ) where
   -- these are kept of the elements so far
   pub record IsKeeping (old now : List Token) (kept : List Data) : Type 0 where
     pub turns : ℕ
@@ -67,7 +67,7 @@ module _ {P : Type 0} (limit : P → ℕ) (inside : P → ℕ → P) (place : P)
     pub shorter : length now ≤ length old
     pub read : converted of_items (items (value depth) (length old) old) ≡ parse_map (before elements) (converted of_items (items (value depth) turns now))
     pub each : kept ≡ cut_each limit inside place 0 elements
-    pub within : length kept ≤ limit place
+    pub within : IsWithin (length kept) (limit place)
 
   pub keeping_none : (ts : List Token) → IsKeeping ts ts []
   keeping_none ts =
@@ -78,7 +78,7 @@ module _ {P : Type 0} (limit : P → ℕ) (inside : P → ℕ → P) (place : P)
         shorter = omega arith;
         read = before_nothing (converted of_items (items (value depth) (length ts) ts));
         each = refl;
-        within = omega arith;
+        within = none_within (limit place);
       }
 
   module _ (old now : List Token) (kept : List Data) (keeping : IsKeeping old now kept) where
@@ -91,7 +91,7 @@ module _ {P : Type 0} (limit : P → ℕ) (inside : P → ℕ → P) (place : P)
         let here : length kept ≡ 0 + length keeping.elements = omega (arith, as_many) in
         ap₂ (λ (ds es : List Data). ds ++ es) keeping.each (ap (λ c. c ∷ []) (e ∙ ap (λ n. cut limit inside (inside place n) d) here)) ∙ sym (cut_one_more limit inside place 0 keeping.elements d)
 
-    pub keeping_element : (r : List Token) (v : Data) → length kept ≢ limit place → after_end_array now ≡ None → IsCut limit inside (inside place (length kept)) depth now r v → length r < length now
+    pub keeping_element : (r : List Token) (v : Data) → limit place ≢ Some (length kept) → after_end_array now ≡ None → IsCut limit inside (inside place (length kept)) depth now r v → length r < length now
         → IsKeeping old r (kept ++ v ∷ [])
     keeping_element r v room going element less =
         let n = keeping.turns in
@@ -106,27 +106,27 @@ module _ {P : Type 0} (limit : P → ℕ) (inside : P → ℕ → P) (place : P)
           shorter = omega (arith, keeping.shorter);
           read = keeping.read ∙ ap (parse_map (before keeping.elements)) turn ∙ before_more keeping.elements d rest;
           each = one_more d v element.2;
-          within = omega (arith, keeping.within, length_push kept v);
+          within = subst (λ n. IsWithin n (limit place)) (sym (length_push kept v)) (within_one_more (length kept) (limit place) keeping.within room);
         }
 
     pub keeping_over : (r : List Token) → after_end_array now ≡ Some r → AreCut limit inside place depth old r (items_of kept)
     keeping_over r e =
         let ds = keeping.elements in
         let read = keeping.read ∙ ap (parse_map (before ds)) (items_over (value depth) keeping.turns now r keeping.enough e) in
-        let fits : length ds ≤ limit place = omega (arith, as_many, keeping.within) in
+        let fits : IsWithin (length ds) (limit place) = subst (λ n. IsWithin n (limit place)) as_many keeping.within in
         (before ds no_items, read, ap items_of keeping.each ∙ sym (cut_all limit inside place 0 (limit place) ds fits))
 
     -- the rest of a list of which enough is kept
     the_rest : converted of_items (items (value depth) keeping.turns now) ≡ converted of_items (items (value depth) (length now) now)
     the_rest = ap (converted of_items) (items_enough (value depth) (skip_value-shorter depth) keeping.turns (length now) now keeping.enough (omega arith))
 
-    pub keeping_full : (r : List Token) → length kept ≡ limit place → behind_items depth now ≡ Some r → AreCut limit inside place depth old r (items_of kept)
+    pub keeping_full : (r : List Token) → limit place ≡ Some (length kept) → behind_items depth now ≡ Some r → AreCut limit inside place depth old r (items_of kept)
     keeping_full r full e =
         let ds = keeping.elements in
         let more = left_some (converted of_items (items (value depth) (length now) now)) r e in
         let read = keeping.read ∙ ap (parse_map (before ds)) (the_rest ∙ more.1) in
-        let fills : limit place ≡ length ds = sym full ∙ as_many in
-        (before ds more.0, read, ap items_of keeping.each ∙ sym (ap (λ n. cut_items limit inside place 0 n (before ds more.0)) fills ∙ cut_full limit inside place 0 ds more.0))
+        let fills : limit place ≡ Some (length ds) = full ∙ ap Some as_many in
+        (before ds more.0, read, ap items_of keeping.each ∙ sym (ap (λ room. cut_items limit inside place 0 room (before ds more.0)) fills ∙ cut_full limit inside place 0 ds more.0))
 
     pub keeping_refused : after_end_array now ≡ None → converted of_json (value depth now) ≡ None → converted of_items (items (value depth) (length old) old) ≡ None
     keeping_refused going e = keeping.read ∙ ap (parse_map (before keeping.elements)) (item_refused (value depth) keeping.turns now going e)

@@ -1,5 +1,6 @@
 pub mod CutLaws
 pub mod CutLists
+pub mod CutPlaces
 mod Keeping
 mod Stopping
 mod Tokens

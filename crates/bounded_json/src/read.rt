@@ -71,7 +71,7 @@ fn read_items<P: Place>(
     let limit = place.limit();
     let mut kept = Vec::new(alloc);
     'items: while !reader.take_end_array() {
-        if kept.len() == limit {
+        if limit == Some(kept.len()) {
             walk_items(reader, depth)?;
             return Ok(kept);
         }

@@ -14,3 +14,4 @@ pub mod ListReading
 pub mod CertificateForms
 pub mod ConvergentLaws
 pub mod FilteredLaws
+pub mod CutCertificates

@@ -6,4 +6,5 @@ pub mod CertErrors
 pub mod DeskErrors
 pub mod CriterionNames
 pub mod CertificateForm
+pub mod Places
 pub mod Steps

@@ -10,7 +10,7 @@ use Rattle.serde_json.specs.Data.{Data, null, boolean, number, string, array, ob
 use Rattle.serde_json.specs.Find.{as_str}
 use Rattle.bounded_json.specs.Cut.{cut}
 use Rattle.bounded_json.proofs.CutLaws.{unseen}
-use Rattle.bounded_json.proofs.CutLists.{cut_list}
+use Rattle.bounded_json.proofs.CutLists.{cut_list, first}
 use Rattle.objects.specs.declared.keyed.KeyedCall.{KeyedCall}
 use Rattle.operations.specs.declared.history_place.HistoryPlace.{HistoryPlace}
 use Rattle.operations.specs.declared.history_place.HistoryPlace.TheVariants.{Whole, Sessions, Session, Operation, Start, Entry, Scalar}
@@ -46,7 +46,7 @@ cut_at = cut limit_of inside_of
 -- ---- the elements of a list that is cut
 
 elements_cut : (place element : HistoryPlace) → ((i : ℕ) → inside_of place i ≡ element) → (d : Data)
-    → elements (cut_at place d) ≡ option_map (λ (ds : List Data). map (cut_at element) (take (limit_of place) ds)) (elements d)
+    → elements (cut_at place d) ≡ option_map (λ (ds : List Data). map (cut_at element) (first (limit_of place) ds)) (elements d)
 elements_cut place element one_place null = refl
 elements_cut place element one_place (boolean b) = refl
 elements_cut place element one_place (number n) = refl
@@ -54,7 +54,7 @@ elements_cut place element one_place (string s) = refl
 elements_cut place element one_place (array ds) =
     ap (λ (es : Items). elements (cut_at place (array es))) (sym (items_of-listed ds))
     ∙ ap elements (cut_list limit_of inside_of place element one_place (listed ds))
-    ∙ elements-list (map (cut_at element) (take (limit_of place) (listed ds)))
+    ∙ elements-list (map (cut_at element) (first (limit_of place) (listed ds)))
 elements_cut place element one_place (object ms) = refl
 
 -- ---- too many, or the first refusal of one

@@ -58,7 +58,7 @@ one_and_one (d ∷ []) (e ∷ f ∷ es) first second = absurd second.1
 one_and_one (d ∷ c ∷ ds) es first second = absurd first.1
 
 -- they fit into an operation
-scalars_kept : (most index room : ℕ) (ds : List Data) → most < room → AreScalars most ds → AreKept limit_of inside_of Operation index room (items_of ds)
+scalars_kept : (most index room : ℕ) (ds : List Data) → most < room → AreScalars most ds → AreKept limit_of inside_of Operation index (Some room) (items_of ds)
 scalars_kept most index zero ds fits scalars = let never : ⊥ = omega arith in absurd never
 scalars_kept most index (suc room) [] fits scalars = tt
 scalars_kept zero index (suc room) (d ∷ ds) fits scalars = absurd scalars
@@ -92,7 +92,7 @@ module _ {C R : Type 0} (operation_form : C → Option R → Data) (operation_ke
       session_kept es (subst (λ (x : List (C × Option R)). length x ≤ 256) same ((each i).short)))
 
   pub form_kept : {S : Type 0} (name : List ℕ) (is_start : S → Type 0) (fits : C → R → Bool) (h : HistoryValue S C R) (rest : List Data) → IsHistory is_start fits h
-      → AreKept limit_of inside_of Whole 2 2 (items_of rest) → IsWholeAt Whole (formed (name, map (session_form operation_form) h.1, rest))
+      → AreKept limit_of inside_of Whole 2 (Some 2) (items_of rest) → IsWholeAt Whole (formed (name, map (session_form operation_form) h.1, rest))
   form_kept name is_start fits h rest is behind = (tt, (sessions_kept fits h.1 is.few is.each, behind))
 
 module _ {S : Type 0} (start_form : S → Data) (start_is_scalar : (s : S) → IsWholeAt Scalar (start_form s)) where
@@ -100,7 +100,7 @@ module _ {S : Type 0} (start_form : S → Data) (start_is_scalar : (s : S) → I
   entries_kept es short =
       forms_kept limit_of inside_of Start Entry (λ i. refl) (entry_form start_form) es (omega arith) (λ i e here. (tt, (start_is_scalar e.1, tt)))
 
-  table_kept : (es : List (ℕ × S)) → length es ≤ 4096 → AreKept limit_of inside_of Whole 2 2 (items_of (table_form start_form es))
+  table_kept : (es : List (ℕ × S)) → length es ≤ 4096 → AreKept limit_of inside_of Whole 2 (Some 2) (items_of (table_form start_form es))
   table_kept [] short = tt
   table_kept (e ∷ es) short = (entries_kept (e ∷ es) short, tt)
 

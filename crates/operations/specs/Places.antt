@@ -1,6 +1,6 @@
 -- The places in the form of a history: where the elements of a list stand, and how many of them are read, one more than the
 -- form can have.
-use Rattle.std.specs.Prelude.{ℕ, ◌+◌, ◌==◌, if◌then◌else◌}
+use Rattle.std.specs.Prelude.{ℕ, ◌+◌, ◌==◌, if◌then◌else◌, Option, Some}
 use Rattle.history.specs.declared.limits.TheConstants.{MAX_OPERATIONS, MAX_SESSIONS}
 use Rattle.objects.specs.declared.table.TheConstants.{MAX_ENTRIES}
 use Rattle.operations.specs.declared.history_place.TheConstants.{MAX_PARTS, MAX_WORDS, ENTRY_PARTS}
@@ -8,14 +8,14 @@ use Rattle.operations.specs.declared.history_place.HistoryPlace.{HistoryPlace}
 use Rattle.operations.specs.declared.history_place.HistoryPlace.TheVariants.{Whole, Sessions, Session, Operation, Start, Entry, Scalar}
 
 -- a text or a number has no elements
-abbrev pub limit_of : HistoryPlace → ℕ
-limit_of Whole = MAX_PARTS + 1
-limit_of Sessions = MAX_SESSIONS + 1
-limit_of Session = MAX_OPERATIONS + 1
-limit_of Operation = MAX_WORDS + 1
-limit_of Start = MAX_ENTRIES + 1
-limit_of Entry = ENTRY_PARTS + 1
-limit_of Scalar = 0
+abbrev pub limit_of : HistoryPlace → Option ℕ
+limit_of Whole = Some (MAX_PARTS + 1)
+limit_of Sessions = Some (MAX_SESSIONS + 1)
+limit_of Session = Some (MAX_OPERATIONS + 1)
+limit_of Operation = Some (MAX_WORDS + 1)
+limit_of Start = Some (MAX_ENTRIES + 1)
+limit_of Entry = Some (ENTRY_PARTS + 1)
+limit_of Scalar = Some 0
 
 -- a history has its name, its sessions and its start
 abbrev pub inside_of : HistoryPlace → ℕ → HistoryPlace

@@ -15,13 +15,20 @@ const ENTRY_PARTS: usize = 2;
 
 /// A place in the form of a history.
 #[derive(Clone, Copy, Drop)]
-pub(crate) enum HistoryPlace {
+pub enum HistoryPlace {
+    /// The history.
     Whole,
+    /// Its sessions.
     Sessions,
+    /// A session.
     Session,
+    /// An operation.
     Operation,
+    /// Its start.
     Start,
+    /// An entry of its start.
     Entry,
+    /// A text or a number.
     Scalar,
 }
 
@@ -30,15 +37,15 @@ impl Place for HistoryPlace {
 
     ghost inside = { inside_of };
 
-    fn limit(self) -> usize {
+    fn limit(self) -> Option<usize> {
         match self {
-            HistoryPlace::Whole => MAX_PARTS + 1,
-            HistoryPlace::Sessions => MAX_SESSIONS + 1,
-            HistoryPlace::Session => MAX_OPERATIONS + 1,
-            HistoryPlace::Operation => MAX_WORDS + 1,
-            HistoryPlace::Start => MAX_ENTRIES + 1,
-            HistoryPlace::Entry => ENTRY_PARTS + 1,
-            HistoryPlace::Scalar => 0,
+            HistoryPlace::Whole => Some(MAX_PARTS + 1),
+            HistoryPlace::Sessions => Some(MAX_SESSIONS + 1),
+            HistoryPlace::Session => Some(MAX_OPERATIONS + 1),
+            HistoryPlace::Operation => Some(MAX_WORDS + 1),
+            HistoryPlace::Start => Some(MAX_ENTRIES + 1),
+            HistoryPlace::Entry => Some(ENTRY_PARTS + 1),
+            HistoryPlace::Scalar => Some(0),
         }
     }
 

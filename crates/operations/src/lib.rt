@@ -27,6 +27,7 @@ mod writing;
 
 pub use any_history::AnyHistory;
 pub use history::{Advice, History, OpId, TakenIn};
+pub use history_place::HistoryPlace;
 pub use json::elements_of;
 pub use named::Named;
 pub use object_name::{ObjectName, object_named};

@@ -1,5 +1,5 @@
 -- What is read of the tokens of a text.
-use Rattle.std.specs.Prelude.{◌≡◌, ℕ, List, length, Some, None}
+use Rattle.std.specs.Prelude.{◌≡◌, ℕ, List, length, Option, Some, None}
 use Rattle.json.specs.Json.{items, value}
 use Rattle.json.specs.Token.{Token}
 use Rattle.serde_json.specs.Data.{Data, Items}
@@ -8,7 +8,7 @@ use Rattle.bounded_json.specs.Cut.{cut, cut_items}
 use Rattle.bounded_json.specs.Text.{StopsFor}
 use Rattle.bounded_json.specs.declared.text_error.TextError.{TextError}
 
-module _ {P : Type 0} (limit : P → ℕ) (inside : P → ℕ → P) (place : P) where
+module _ {P : Type 0} (limit : P → Option ℕ) (inside : P → ℕ → P) (place : P) where
   -- of one value this is kept
   abbrev pub IsCut : ℕ → List Token → List Token → Data → Type 0
   IsCut depth old new kept = (d : Data) × (converted of_json (value depth old) ≡ Some (d, new)) × (kept ≡ cut limit inside place d)

@@ -1,4 +1,4 @@
-use Rattle.std.proofs.Common.{◌≡◌, ◌≢◌, ◌-◌, [], ◌∷◌, ◌++◌, length, map, None, ap, ◌∙◌, arith, rules}
+use Rattle.std.proofs.Common.{◌≡◌, ◌≢◌, ◌-◌, [], ◌∷◌, ◌++◌, length, map, Some, None, sym, ap, ◌∙◌, arith, rules}
 use Rattle.std.proofs.lemmas.List.{length-map, map_push}
 use Rattle.std.proofs.lemmas.Result.{err_from_is_err_and}
 use Rattle.json.specs.Json.{parse_map, after_end_array, members, value}
@@ -115,12 +115,12 @@ read_items-returns-in_err-walk_items-clause-refused g t c =
     let p = err_from_is_err_and c.from_residual.result c.from_residual.ensures.1 in
     rw (p.1, p.2) none
 
-pub read_items-returns-then-len-limit-clause-read : goal.read_items-returns-then-len-limit-clause-read
-read_items-returns-then-len-limit-clause-read g t c =
+pub read_items-returns-then-eq-clause-read : goal.read_items-returns-then-eq-clause-read
+read_items-returns-then-eq-clause-read g t c =
     let now = c.items.reader in
     let going : (after_end_array now ≡ None) × (c.take_end_array.new.self ≡ now) = grind arith in
-    let many : length c.items.kept.items ≡ g.P.Place.limit c.args.place = grind arith in
-    let full = length-map c.items.kept.items view ∙ many in
+    let many : g.P.Place.limit c.args.place ≡ Some (length c.items.kept.items) = grind arith in
+    let full = many ∙ ap Some (sym (length-map c.items.kept.items view)) in
     keeping_full g.P.Place.limit g.P.Place.inside c.args.place c.args.depth c.args.reader.now now (map view c.items.kept.items) c.items.invariant c.walk_items.new.reader full (rw (← going.1) c.in_ok-walk_items.ensures.value)
 
 pub read_items-returns-in_err-element-clause-refused : goal.read_items-returns-in_err-element-clause-refused
@@ -138,7 +138,7 @@ read_items-items-preserved g t c =
     let going : (after_end_array now ≡ None) × (c.take_end_array.new.self ≡ now) = grind arith in
     let many : length (map view kept) ≡ length kept = length-map kept view in
     let here : c.inside.result ≡ g.P.Place.inside c.args.place (length (map view kept)) = grind arith in
-    let room : length (map view kept) ≢ g.P.Place.limit c.args.place = λ e. absurd (c.if-len-limit.false (grind arith)) in
+    let room : g.P.Place.limit c.args.place ≢ Some (length (map view kept)) = λ e. grind arith in
     let done = c.in_ok-element.ensures in
     let more : map view c.push.new.self.items ≡ map view kept ++ view c.in_ok-element.element ∷ [] = ap (map view) c.in_ok-push.ensures.items ∙ map_push view kept c.in_ok-element.element in
     rw more (keeping_element g.P.Place.limit g.P.Place.inside c.args.place c.args.depth c.args.reader.now now (map view kept) c.items.invariant c.read.new.reader (view c.in_ok-element.element) room going.0 (rw (← here, ← going.1) done.read) (rw (← going.1) done.shorter))
