@@ -1,0 +1,149 @@
+//! What of a pattern a picture draws out.
+
+use crate::marks::{Marks, Relation};
+use bad_patterns::{Derivation, Line, Link, Links, Pair, Path, Pattern};
+use history::OpId;
+use memory_order::IndexedMemory;
+use std::alloc::{AllocError, Global};
+
+/// The operations of a pattern and what joins them.
+///
+/// Fails for want of memory alone. O(n) for n operations, links and lines of the pattern.
+pub(crate) fn marks_of(
+    alloc: Global,
+    memory: &IndexedMemory,
+    pattern: &Pattern,
+) -> Result<Marks, AllocError> {
+    let mut marks = Marks::none(alloc);
+    match pattern {
+        Pattern::CyclicCO(path) | Pattern::WriteCOInitRead(path) => marks.follow(path)?,
+        Pattern::ThinAirRead(read) => marks.mark(*read)?,
+        Pattern::WriteCORead(first, second) => mark_overwritten(&mut marks, first, second)?,
+        Pattern::WriteHBInitRead(op, derivation) | Pattern::CyclicHB(op, derivation) => {
+            marks.mark(*op)?;
+            mark_derivation(alloc, &mut marks, memory, *op, derivation)?;
+        }
+        Pattern::CyclicCF(links) => mark_links(&mut marks, links)?,
+    }
+    Ok(marks)
+}
+
+// The ends of a path, where it has operations.
+fn ends_of(path: &Path) -> Option<Pair> {
+    match (path.ops().first(), path.ops().last()) {
+        (Some(first), Some(last)) => Some((*first, *last)),
+        _ => None,
+    }
+}
+
+// Marks the paths from a write to another and from there to a read that reads from the first.
+fn mark_overwritten(marks: &mut Marks, first: &Path, second: &Path) -> Result<(), AllocError> {
+    marks.follow(first)?;
+    marks.follow(second)?;
+    match (ends_of(first), ends_of(second)) {
+        (Some((write, _)), Some((_, read))) => marks.join(write, read, Relation::ReadsFrom),
+        _ => Ok(()),
+    }
+}
+
+// Marks the links of a cycle.
+fn mark_links(marks: &mut Marks, links: &Links) -> Result<(), AllocError> {
+    for link in links.links() {
+        mark_link(marks, link)?;
+    }
+    Ok(())
+}
+
+// Marks an edge, or a conflict with what shows it.
+fn mark_link(marks: &mut Marks, link: &Link) -> Result<(), AllocError> {
+    match link {
+        Link::Co(from, to) => marks.step(*from, *to),
+        Link::Cf(path, other) => {
+            marks.follow(path)?;
+            match ends_of(path) {
+                Some((write, read)) => mark_conflict(marks, write, read, *other),
+                None => Ok(()),
+            }
+        }
+    }
+}
+
+// Marks that a write is before another, which a read behind the first reads from.
+fn mark_conflict(
+    marks: &mut Marks,
+    write: OpId,
+    read: OpId,
+    other: OpId,
+) -> Result<(), AllocError> {
+    marks.join(other, read, Relation::ReadsFrom)?;
+    marks.join(write, other, Relation::Conflict)
+}
+
+// Marks what the lines of a derivation rest on, each conflict that they find, and what the last of them gives.
+fn mark_derivation(
+    alloc: Global,
+    marks: &mut Marks,
+    memory: &IndexedMemory,
+    op: OpId,
+    derivation: &Derivation,
+) -> Result<(), AllocError> {
+    let mut pairs = Vec::new(alloc);
+    for line in derivation.lines() {
+        let pair = pair_of(memory, &pairs, line);
+        mark_line(marks, op, line, pair)?;
+        pairs.push(pair)?;
+    }
+    match pairs.last() {
+        Some(Some((from, to))) if from != to => marks.join(*from, *to, Relation::HappenedBefore),
+        _ => Ok(()),
+    }
+}
+
+// Marks the paths of a line, or the read by which one write happened before another.
+fn mark_line(
+    marks: &mut Marks,
+    op: OpId,
+    line: &Line,
+    pair: Option<Pair>,
+) -> Result<(), AllocError> {
+    match (line, pair) {
+        (Line::Co(first, second), Some((_, end))) => {
+            marks.follow(first)?;
+            if end.session == op.session {
+                // It goes to the operation in its session, which everybody sees.
+                return Ok(());
+            }
+            marks.follow(second)
+        }
+        (Line::Rf(_, read), Some((write, other))) => {
+            marks.join(other, *read, Relation::ReadsFrom)?;
+            marks.join(write, other, Relation::HappenedBefore)
+        }
+        _ => Ok(()),
+    }
+}
+
+// The operations of which a line says that the first happened before the second, as the lines before it give theirs.
+fn pair_of(memory: &IndexedMemory, pairs: &[Option<Pair>], line: &Line) -> Option<Pair> {
+    match line {
+        Line::Co(first, _) => ends_of(first),
+        Line::Tr(first, second) => {
+            let (from, _) = pair_at(pairs, *first)?;
+            let (_, to) = pair_at(pairs, *second)?;
+            Some((from, to))
+        }
+        Line::Rf(number, read) => {
+            let (write, _) = pair_at(pairs, *number)?;
+            let other = memory.source(*read)?;
+            Some((write, other))
+        }
+    }
+}
+
+// What the line of a number gave.
+fn pair_at(pairs: &[Option<Pair>], number: u64) -> Option<Pair> {
+    match pairs.get(number as usize) {
+        Some(pair) => *pair,
+        None => None,
+    }
+}

@@ -1,0 +1,178 @@
+//! The sessions that a picture shows, and what of each.
+
+use crate::label::{Labelled, label_of};
+use crate::marks::Marks;
+use history::{History, OpId};
+use std::alloc::{AllocError, Global};
+
+/// The most operations of a history that is shown whole around a pattern.
+const MAX_WHOLE: u64 = 40;
+
+/// How many operations before and behind a marked one are shown, where a history is not shown whole.
+const NEAR: u64 = 1;
+
+/// How much of a history is shown.
+#[derive(Clone, Copy, Debug, PartialEq, Eq)]
+pub(crate) enum Extent {
+    /// All of it.
+    Whole,
+    /// What is near the marked operations, in their sessions.
+    Near,
+}
+
+/// An operation that is shown.
+#[derive(Debug, Drop)]
+pub(crate) struct Shown {
+    pub op: OpId,
+    pub label: String,
+    pub is_marked: bool,
+}
+
+/// What stands in a lane: an operation, or how many are left out.
+#[derive(Debug, Drop)]
+pub(crate) enum Entry {
+    Operation(Shown),
+    Gap(u64),
+}
+
+impl Entry {
+    /// The operation, where it is one.
+    pub fn op(&self) -> Option<OpId> {
+        match self {
+            Entry::Operation(shown) => Some(shown.op),
+            Entry::Gap(_) => None,
+        }
+    }
+}
+
+/// A session with what of it is shown, in order.
+#[derive(Debug, Drop)]
+pub(crate) struct Lane {
+    pub session: u64,
+    pub entries: Vec<Entry>,
+}
+
+impl Lane {
+    // Whether one of its operations is marked.
+    fn is_marked(&self) -> bool {
+        self.entries.iter().any(|entry| match entry {
+            Entry::Operation(shown) => shown.is_marked,
+            Entry::Gap(_) => false,
+        })
+    }
+}
+
+/// How much of a history is shown around its marks: all of a small one.
+pub(crate) fn extent_around<O: Labelled>(history: &History<O>) -> Extent {
+    let mut count: u64 = 0;
+    for session in 0..history.sessions() {
+        count = count.saturating_add(history.len(session) as u64);
+    }
+    if count <= MAX_WHOLE {
+        Extent::Whole
+    } else {
+        Extent::Near
+    }
+}
+
+/// The lanes of a history: of all sessions, or of those with marked operations.
+///
+/// Fails for want of memory alone. O(n m) for n operations and m marks.
+pub(crate) fn lanes_of<O: Labelled>(
+    alloc: Global,
+    history: &History<O>,
+    marks: &Marks,
+    extent: Extent,
+) -> Result<Vec<Lane>, AllocError> {
+    let mut lanes = Vec::new(alloc);
+    for session in 0..history.sessions() {
+        let operations = history.session(session);
+        let lane = lane_of::<O>(alloc, session as u64, operations, marks, extent)?;
+        if extent == Extent::Whole || lane.is_marked() {
+            lanes.push(lane)?;
+        }
+    }
+    Ok(lanes)
+}
+
+// The lane of a session.
+fn lane_of<O: Labelled>(
+    alloc: Global,
+    session: u64,
+    operations: &[(O::Call, Option<O::Ret>)],
+    marks: &Marks,
+    extent: Extent,
+) -> Result<Lane, AllocError> {
+    let count = operations.len() as u64;
+    let mut entries = Vec::new(alloc);
+    let mut left_out: u64 = 0;
+    for (index, operation) in operations.iter().enumerate() {
+        let op = OpId {
+            session,
+            index: index as u64,
+        };
+        if extent == Extent::Whole || is_shown(marks, op, count) {
+            push_gap(&mut entries, left_out)?;
+            left_out = 0;
+            let shown = shown_of::<O>(alloc, op, operation, marks)?;
+            entries.push(Entry::Operation(shown))?;
+        } else {
+            left_out = left_out.saturating_add(1);
+        }
+    }
+    push_gap(&mut entries, left_out)?;
+    Ok(Lane { session, entries })
+}
+
+// An operation with its label.
+fn shown_of<O: Labelled>(
+    alloc: Global,
+    op: OpId,
+    operation: &(O::Call, Option<O::Ret>),
+    marks: &Marks,
+) -> Result<Shown, AllocError> {
+    Ok(Shown {
+        op,
+        label: label_of::<O>(alloc, &operation.0, &operation.1)?,
+        is_marked: marks.contains(op),
+    })
+}
+
+// Puts a gap behind the entries, where operations are left out.
+fn push_gap(entries: &mut Vec<Entry>, left_out: u64) -> Result<(), AllocError> {
+    if left_out > 0 {
+        entries.push(Entry::Gap(left_out))?;
+    }
+    Ok(())
+}
+
+// Whether an operation is near a marked one, or would be left out alone. Its session has `count` operations.
+fn is_shown(marks: &Marks, op: OpId, count: u64) -> bool {
+    is_near(marks, op) || (is_near_before(marks, op) && is_near_behind(marks, op, count))
+}
+
+// Whether an operation of the same session is marked that is near.
+fn is_near(marks: &Marks, op: OpId) -> bool {
+    marks.ops().iter().any(|mark| {
+        mark.session == op.session
+            && mark.index <= op.index.saturating_add(NEAR)
+            && op.index <= mark.index.saturating_add(NEAR)
+    })
+}
+
+// Whether the operation before it is near a marked one, or there is none.
+fn is_near_before(marks: &Marks, op: OpId) -> bool {
+    match op.before() {
+        Some(before) => is_near(marks, before),
+        None => true,
+    }
+}
+
+// Whether the operation behind it is near a marked one, or there is none.
+fn is_near_behind(marks: &Marks, op: OpId, count: u64) -> bool {
+    let behind = OpId {
+        session: op.session,
+        index: op.index.saturating_add(1),
+    };
+    behind.index >= count || is_near(marks, behind)
+}

@@ -1,0 +1,235 @@
+//! Where things stand in a picture, in whole pixels.
+
+use crate::lanes::{Entry, Lane};
+use crate::rows::Rows;
+use std::num::Saturating;
+
+/// A length, which stops at the greatest whole number.
+pub(crate) type Length = Saturating<u64>;
+
+/// The room left of the first lane and of each text.
+pub(crate) const MARGIN: Length = Saturating(40);
+
+/// The room right of the last lane, where edges bend.
+const RIGHT_MARGIN: Length = Saturating(72);
+
+/// The room between two lanes.
+const GUTTER: Length = Saturating(120);
+
+/// The height of a box.
+pub(crate) const BOX_HEIGHT: Length = Saturating(36);
+
+/// The room between two boxes.
+const ROW_GAP: Length = Saturating(34);
+
+/// The height of a line at the head, and of one of the legend.
+pub(crate) const LINE_HEIGHT: Length = Saturating(24);
+
+/// The room within a box beside and between its texts.
+pub(crate) const PADDING: Length = Saturating(10);
+
+/// The width of an entry of the legend.
+const LEGEND_WIDTH: Length = Saturating(330);
+
+/// The least width of a picture, so that the legend and the sentences at the head have room.
+const LEAST_WIDTH: Length = Saturating(720);
+
+/// The width of a wide letter at the head.
+const LETTER: Length = Saturating(8);
+
+/// The measures of a picture, from which all places follow.
+#[derive(Clone, Copy, Debug, PartialEq, Eq)]
+pub(crate) struct Layout {
+    /// Half the width of a box.
+    half: Length,
+    /// The room for the name of an operation in its box.
+    name: Length,
+    /// How many lines stand at the head.
+    lines: Length,
+    lanes: Length,
+    rows: Length,
+    /// How many entries the legend has.
+    legend: Length,
+    /// The width that the lines at the head want.
+    head: Length,
+}
+
+impl Layout {
+    /// The measures of a picture with these rows and these lines at its head.
+    pub fn of(rows: &Rows, lines: &[String], legend: usize) -> Layout {
+        let lanes = rows.lanes();
+        let name = Saturating(7) * longest(lanes, Text::Name);
+        let label = Saturating(5) * longest(lanes, Text::Label);
+        Layout {
+            half: label + Saturating(4) * longest(lanes, Text::Name) + Saturating(18),
+            name,
+            lines: length_of(lines.len()),
+            lanes: length_of(lanes.len()),
+            rows: Saturating(rows.count()),
+            legend: length_of(legend),
+            head: LETTER * longest_line(lines),
+        }
+    }
+
+    /// The width of the picture.
+    pub fn width(&self) -> Length {
+        let lanes = self.left(self.lanes.0) - GUTTER + RIGHT_MARGIN;
+        let head = MARGIN + self.head + MARGIN;
+        greater(LEAST_WIDTH, greater(lanes, head))
+    }
+
+    /// The height of the picture.
+    pub fn height(&self) -> Length {
+        self.legend_top() + LINE_HEIGHT * self.legend_rows() + MARGIN
+    }
+
+    /// Where the names of the lanes stand.
+    pub fn lanes_top(&self) -> Length {
+        MARGIN + LINE_HEIGHT * self.lines + Saturating(28)
+    }
+
+    /// Where the line of a lane ends.
+    pub fn lanes_bottom(&self) -> Length {
+        self.top(self.rows.0) - Saturating(12)
+    }
+
+    // The height of a box and of the room below it.
+    fn row(&self) -> Length {
+        BOX_HEIGHT + ROW_GAP
+    }
+
+    /// The upper edge of the boxes of a row.
+    pub fn top(&self, row: u64) -> Length {
+        self.lanes_top() + Saturating(32) + Saturating(row) * self.row()
+    }
+
+    /// The left edge of the boxes of a lane.
+    pub fn left(&self, lane: u64) -> Length {
+        MARGIN + Saturating(lane) * (self.half + self.half + GUTTER)
+    }
+
+    /// The middle of the boxes of a lane.
+    pub fn middle(&self, lane: u64) -> Length {
+        self.left(lane) + self.half
+    }
+
+    /// The right edge of the boxes of a lane.
+    pub fn right(&self, lane: u64) -> Length {
+        self.middle(lane) + self.half
+    }
+
+    /// The width of a box.
+    pub fn box_width(&self) -> Length {
+        self.half + self.half
+    }
+
+    /// Where the label stands in a box of a lane, behind the name.
+    pub fn label_left(&self, lane: u64) -> Length {
+        self.left(lane) + PADDING + self.name + PADDING
+    }
+
+    // Where the legend begins.
+    fn legend_top(&self) -> Length {
+        self.top(self.rows.0) + Saturating(16)
+    }
+
+    // How many entries of the legend stand in a row: at least one.
+    fn legend_columns(&self) -> u64 {
+        let room = self.width() - MARGIN;
+        if room < LEGEND_WIDTH + LEGEND_WIDTH {
+            1
+        } else if room < LEGEND_WIDTH + LEGEND_WIDTH + LEGEND_WIDTH {
+            2
+        } else {
+            3
+        }
+    }
+
+    // How many rows the legend has.
+    fn legend_rows(&self) -> Length {
+        match self.legend_columns() {
+            1 => self.legend,
+            2 => Saturating(self.legend.0.div_ceil(2)),
+            _ => Saturating(self.legend.0.div_ceil(3)),
+        }
+    }
+
+    /// The left edge and the middle of an entry of the legend.
+    pub fn legend_place(&self, number: u64) -> (Length, Length) {
+        let (column, row) = match self.legend_columns() {
+            1 => (0, number),
+            2 => (number % 2, number / 2),
+            _ => (number % 3, number / 3),
+        };
+        let left = MARGIN + Saturating(column) * LEGEND_WIDTH;
+        let middle = self.legend_top() + Saturating(row) * LINE_HEIGHT + Saturating(12);
+        (left, middle)
+    }
+}
+
+// Which text of an operation is measured.
+#[derive(Clone, Copy, Debug, PartialEq, Eq)]
+enum Text {
+    Name,
+    Label,
+}
+
+// How many letters the longest such text of all operations has.
+fn longest(lanes: &[Lane], text: Text) -> Length {
+    let mut most = Saturating(0);
+    for lane in lanes {
+        most = greater(most, longest_in(&lane.entries, text));
+    }
+    most
+}
+
+// The same of one lane.
+fn longest_in(entries: &[Entry], text: Text) -> Length {
+    let mut most = Saturating(3);
+    for entry in entries {
+        most = greater(most, letters_of(entry, text));
+    }
+    most
+}
+
+// How many letters a text of an entry has.
+fn letters_of(entry: &Entry, text: Text) -> Length {
+    match (entry, text) {
+        (Entry::Gap(_), Text::Name) => Saturating(0),
+        (Entry::Gap(_), Text::Label) => Saturating(12),
+        (Entry::Operation(shown), Text::Label) => length_of(shown.label.chars().count()),
+        (Entry::Operation(shown), Text::Name) => {
+            digits_of(shown.op.session) + Saturating(1) + digits_of(shown.op.index)
+        }
+    }
+}
+
+// How many digits a number of a session or an operation has.
+fn digits_of(number: u64) -> Length {
+    if number < 10 {
+        Saturating(1)
+    } else if number < 100 {
+        Saturating(2)
+    } else {
+        Saturating(3)
+    }
+}
+
+// How many letters the longest line has.
+fn longest_line(lines: &[String]) -> Length {
+    let mut most = Saturating(0);
+    for line in lines {
+        most = greater(most, length_of(line.chars().count()));
+    }
+    most
+}
+
+// A number as a length.
+fn length_of(number: usize) -> Length {
+    Saturating(number as u64)
+}
+
+/// The greater of two lengths.
+pub(crate) fn greater(a: Length, b: Length) -> Length {
+    if a < b { b } else { a }
+}

@@ -1,0 +1,24 @@
+//! Pictures of histories as SVG texts: sessions as lanes side by side, and in colour the operations of a pattern with what
+//! joins them.
+//!
+//! Nobody trusts a picture: what shows that a criterion is not met is the pattern. A picture has no scripts and no fonts of
+//! its own, and all its lengths are whole numbers.
+#![tactic(auto)]
+
+mod drawing;
+mod drawing_edges;
+mod drawing_head;
+mod escaping;
+mod gathering;
+mod label;
+mod lanes;
+pub mod laws;
+mod layout;
+mod marks;
+mod pictures;
+mod rows;
+mod wording;
+
+pub use escaping::escaped;
+pub use label::Labelled;
+pub use pictures::{picture_of_history, picture_of_pattern};

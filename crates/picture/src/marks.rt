@@ -1,0 +1,135 @@
+//! What a picture draws out: operations, and what joins them.
+
+use bad_patterns::Path;
+use history::OpId;
+use std::alloc::{AllocError, Global};
+
+/// The most joints that a picture draws: more of them nobody reads.
+const MAX_JOINTS: usize = 256;
+
+/// How one operation is joined to another.
+#[derive(Clone, Copy, Debug, PartialEq, Eq)]
+pub(crate) enum Relation {
+    /// From an operation to a later one of its session.
+    ProgramOrder,
+    /// From a write to a read that reads from it.
+    ReadsFrom,
+    /// From a write to the other write of its variable that an operation behind it reads from.
+    Conflict,
+    /// From an operation to one that it happened before, as a derivation shows.
+    HappenedBefore,
+}
+
+impl Relation {
+    /// Each relation, in the order of the legend.
+    pub fn all() -> [Relation; 4] {
+        [
+            Relation::ProgramOrder,
+            Relation::ReadsFrom,
+            Relation::Conflict,
+            Relation::HappenedBefore,
+        ]
+    }
+}
+
+/// Two operations that are joined.
+#[derive(Clone, Copy, Debug, PartialEq, Eq)]
+pub(crate) struct Joint {
+    pub from: OpId,
+    pub to: OpId,
+    pub relation: Relation,
+}
+
+/// The operations and the joints that a picture draws out, each once.
+#[derive(Debug, Drop)]
+pub(crate) struct Marks {
+    ops: Vec<OpId>,
+    joints: Vec<Joint>,
+    is_cut: bool,
+}
+
+impl Marks {
+    /// No marks.
+    pub fn none(alloc: Global) -> Marks {
+        Marks {
+            ops: Vec::new(alloc),
+            joints: Vec::new(alloc),
+            is_cut: false,
+        }
+    }
+
+    /// The operations.
+    pub fn ops(&self) -> &[OpId] {
+        self.ops.as_slice()
+    }
+
+    /// The joints, whose ends are among the operations.
+    pub fn joints(&self) -> &[Joint] {
+        self.joints.as_slice()
+    }
+
+    /// Whether there were more joints than a picture draws.
+    pub fn is_cut(&self) -> bool {
+        self.is_cut
+    }
+
+    /// Whether an operation is marked.
+    pub fn contains(&self, op: OpId) -> bool {
+        self.ops.contains(&op)
+    }
+
+    /// Whether some operations are joined so.
+    pub fn shows(&self, relation: Relation) -> bool {
+        self.joints.iter().any(|joint| joint.relation == relation)
+    }
+
+    /// Marks an operation.
+    pub fn mark(&mut self, op: OpId) -> Result<(), AllocError> {
+        if !self.contains(op) {
+            self.ops.push(op)?;
+        }
+        Ok(())
+    }
+
+    /// Joins two operations, and marks both.
+    pub fn join(&mut self, from: OpId, to: OpId, relation: Relation) -> Result<(), AllocError> {
+        let joint = Joint { from, to, relation };
+        if self.joints.contains(&joint) {
+            return Ok(());
+        }
+        if self.joints.len() >= MAX_JOINTS {
+            self.is_cut = true;
+            return Ok(());
+        }
+        self.mark(from)?;
+        self.mark(to)?;
+        Ok(self.joints.push(joint)?)
+    }
+
+    /// Joins two operations by an edge of the causal order: by program order in one session, else as a write and its read.
+    pub fn step(&mut self, from: OpId, to: OpId) -> Result<(), AllocError> {
+        self.join(from, to, edge_between(from, to))
+    }
+
+    /// Joins the operations of a path, each to the next.
+    pub fn follow(&mut self, path: &Path) -> Result<(), AllocError> {
+        let mut before: Option<OpId> = None;
+        for op in path.ops() {
+            match before {
+                Some(before) => self.step(before, *op)?,
+                None => self.mark(*op)?,
+            }
+            before = Some(*op);
+        }
+        Ok(())
+    }
+}
+
+// The edge of the causal order from one operation to another.
+fn edge_between(from: OpId, to: OpId) -> Relation {
+    if from.session == to.session && from.index < to.index {
+        Relation::ProgramOrder
+    } else {
+        Relation::ReadsFrom
+    }
+}

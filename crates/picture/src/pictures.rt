@@ -1,0 +1,102 @@
+//! The pictures of histories.
+
+ghost use Rattle.std.specs.Prelude.{IfOk, string_bytes};
+ghost use Rattle.picture.specs.Markup.{IsSvgElement};
+
+use crate::drawing::{Scene, drawing_of};
+use crate::gathering::marks_of;
+use crate::label::Labelled;
+use crate::lanes::{Extent, Lane, extent_around, lanes_of};
+use crate::marks::Marks;
+use crate::rows::rows_of;
+use crate::wording::lines_of_pattern;
+use bad_patterns::Pattern;
+use cert_check::Criterion;
+use history::{History, OpId};
+use memory_order::IndexedMemory;
+use objects::Memory;
+use std::alloc::{AllocError, Global};
+
+/// The picture of a history of a memory and of a pattern against a criterion, as an SVG text.
+///
+/// A history of at most 40 operations is shown whole, and of a larger one what is near the operations of the pattern: one
+/// operation before and behind each, in their sessions alone. At most 256 edges are drawn. What of the pattern is no operation
+/// of the history is left out.
+///
+/// Fails for want of memory alone. O(n (log n + k) + m) for n operations of k sessions and m operations, links and lines of the
+/// pattern, times what is marked, which is bounded.
+pub fn picture_of_pattern(
+    alloc: Global,
+    history: &History<Memory>,
+    criterion: Criterion,
+    pattern: &Pattern,
+) -> Result<String, AllocError>
+    ensures { IfOk result (λ svg. IsSvgElement (string_bytes svg)) }
+{
+    let memory = IndexedMemory::of(alloc, history)?;
+    let marks = marks_of(alloc, &memory, pattern)?;
+    let lanes = lanes_of(alloc, history, &marks, extent_around(history))?;
+    let mut lines = lines_of_pattern(alloc, criterion, pattern)?;
+    push_left_out(alloc, &mut lines, history.sessions(), &lanes, &marks)?;
+    picture_of(alloc, &lines, &lanes, &marks, "operation of the pattern")
+}
+
+/// The picture of all operations of a history, as an SVG text, with lines at its head, of which the first is its title.
+///
+/// The operation is drawn out, where one is named and is in the history. Fails for want of memory alone. O(n k) for n
+/// operations of k sessions.
+pub fn picture_of_history<O: Labelled>(
+    alloc: Global,
+    history: &History<O>,
+    lines: &[String],
+    marked: Option<OpId>,
+) -> Result<String, AllocError>
+    ensures { IfOk result (λ svg. IsSvgElement (string_bytes svg)) }
+{
+    let mut marks = Marks::none(alloc);
+    if let Some(op) = marked
+        && history.contains(op)
+    {
+        marks.mark(op)?;
+    }
+    let lanes = lanes_of(alloc, history, &marks, Extent::Whole)?;
+    picture_of(alloc, lines, &lanes, &marks, "operation named above")
+}
+
+// The picture of lanes with what is drawn out in them.
+fn picture_of(
+    alloc: Global,
+    lines: &[String],
+    lanes: &[Lane],
+    marks: &Marks,
+    mark_words: &'static str,
+) -> Result<String, AllocError>
+    ensures { IfOk result (λ svg. IsSvgElement (string_bytes svg)) }
+{
+    let rows = rows_of(alloc, lanes, marks.joints())?;
+    let scene = Scene {
+        lines,
+        rows: &rows,
+        marks,
+        mark_words,
+    };
+    drawing_of(alloc, &scene)
+}
+
+// Says at the head what a picture leaves out besides the gaps in its lanes.
+fn push_left_out(
+    alloc: Global,
+    lines: &mut Vec<String>,
+    sessions: usize,
+    lanes: &[Lane],
+    marks: &Marks,
+) -> Result<(), AllocError> {
+    let shown = lanes.len();
+    if shown < sessions {
+        lines.push(format!(in alloc; "Shown: {shown} of {sessions} sessions.")?)?;
+    }
+    if marks.is_cut() {
+        lines.push(String::from_str(alloc, "Not all edges of the pattern are shown.")?)?;
+    }
+    Ok(())
+}

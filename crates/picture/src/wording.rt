@@ -1,0 +1,71 @@
+//! What a picture says in words.
+
+use crate::marks::Relation;
+use bad_patterns::{Kind, Pattern};
+use cert_check::Criterion;
+use history::OpId;
+use std::alloc::{AllocError, Global};
+
+/// The words at the head of a picture of a pattern: the criterion and the kind, and what the kind says.
+pub(crate) fn lines_of_pattern(
+    alloc: Global,
+    criterion: Criterion,
+    pattern: &Pattern,
+) -> Result<Vec<String>, AllocError> {
+    let name = criterion.name();
+    let criterion = words_of_criterion(criterion);
+    let kind = pattern.kind().name();
+    let mut lines = Vec::new(alloc);
+    lines.push(format!(in alloc; "{name} no {kind}")?)?;
+    lines.push(format!(in alloc; "The history does not meet {criterion}:")?)?;
+    lines.push(sentence_of(alloc, pattern)?)?;
+    Ok(lines)
+}
+
+// The name of a criterion, written out.
+fn words_of_criterion(criterion: Criterion) -> &'static str {
+    match criterion {
+        Criterion::Cc => "causal consistency",
+        Criterion::Cm => "causal memory",
+        Criterion::Ccv => "causal convergence",
+    }
+}
+
+// What is wrong.
+fn sentence_of(alloc: Global, pattern: &Pattern) -> Result<String, AllocError> {
+    match pattern {
+        Pattern::WriteHBInitRead(op, _) | Pattern::CyclicHB(op, _) => {
+            sentence_about(alloc, *op, words_of_kind(pattern.kind()))
+        }
+        _ => String::from_str(alloc, words_of_kind(pattern.kind())),
+    }
+}
+
+// What is wrong in the relation of an operation.
+fn sentence_about(alloc: Global, op: OpId, words: &str) -> Result<String, AllocError> {
+    let OpId { session, index } = op;
+    format!(in alloc; "what session {session} has read up to {session}.{index} puts {words}")
+}
+
+// What a kind says; for a happened-before relation, what it puts where.
+fn words_of_kind(kind: Kind) -> &'static str {
+    match kind {
+        Kind::CyclicCO => "an operation comes before itself.",
+        Kind::ThinAirRead => "a read returned a value that nobody wrote.",
+        Kind::WriteCOInitRead => "a read returned the initial value after a write of its variable.",
+        Kind::WriteCORead => "a read returned a value that was overwritten before it.",
+        Kind::WriteHBInitRead => "a write before a read of the initial value.",
+        Kind::CyclicHB => "an operation before itself.",
+        Kind::CyclicCF => "no order of all writes agrees with what was read.",
+    }
+}
+
+/// What the legend says of a relation.
+pub(crate) fn words_of_relation(relation: Relation) -> &'static str {
+    match relation {
+        Relation::ProgramOrder => "program order",
+        Relation::ReadsFrom => "reads-from: a write to its read",
+        Relation::Conflict => "conflict: the overwritten write first",
+        Relation::HappenedBefore => "happened-before",
+    }
+}
