@@ -12,7 +12,8 @@ use Rattle.board.specs.declared.answer.Answer.{Answer}
 use Rattle.board.specs.declared.answer.Answer.TheVariants.{Yes, No, Unknown, Open}
 use Rattle.cert_check.specs.declared.desk_error.DeskError.{DeskError}
 use Rattle.cert_check.specs.declared.desk_error.DeskError.TheVariants.{Memory}
-use Rattle.collector.specs.Judgements.{AreWorkers, IsFounded, IsJudgeError, IsKnown, IsSaidOf, IsSaidOfFile, IsUnexplainedOf}
+use Rattle.history.specs.Workers.{AreWorkers}
+use Rattle.collector.specs.Judgements.{IsFounded, IsJudgeError, IsKnown, IsSaidOf, IsSaidOfFile, IsUnexplainedOf}
 
 -- what follows from what an answer is
 pub ok-follows : {A E : Type 0} {P Q : A → Type 0} (r : Result A E) → ((a : A) → P a → Q a) → IfOk r P → IfOk r Q

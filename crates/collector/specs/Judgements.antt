@@ -1,8 +1,8 @@
 -- What is said of a history and a criterion, and when it is true.
 use Rattle.std.specs.Prelude.{◌≡◌, ⊤, ℕ, ◌≤◌, List, MatchOption, Some, None}
-use Rattle.collector.specs.declared.judging.TheConstants.{MAX_WORKERS}
 use Rattle.history.specs.declared.op_id.OpId.{OpId}
 use Rattle.history.specs.History.{HistoryValue}
+use Rattle.history.specs.Workers.{AreWorkers}
 use Rattle.cert_check.specs.declared.certificate.Certificate.{Certificate}
 use Rattle.cert_check.specs.declared.criterion.Criterion.{Criterion}
 use Rattle.cert_check.specs.declared.desk_error.DeskError.{DeskError}
@@ -46,10 +46,6 @@ IsKnown Yes = ⊤
 IsKnown (No kind) = ⊤
 IsKnown (Unknown place) = ⊥
 IsKnown (Open n) = ⊥
-
--- how many workers there may be
-abbrev pub AreWorkers : ℕ → Type 0
-AreWorkers n = (1 ≤ n) × (n ≤ MAX_WORKERS)
 
 -- why nothing is said: there may not be so many workers, or memory ran out
 abbrev pub IsJudgeError : ℕ → DeskError → Type 0

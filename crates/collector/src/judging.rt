@@ -3,20 +3,18 @@
 ghost use Rattle.std.specs.Prelude.{◌≡◌, ◌↔◌, IfErr, IfOk, IsTrue};
 ghost use Rattle.bad_patterns.specs.declared.kind.Kind.{Kind as AnyKind};
 ghost use Rattle.cert_check.specs.Criteria.{Meets};
-ghost use Rattle.collector.specs.Judgements.{AreWorkers, IsFounded, IsJudgeError, IsKnown, IsSaidOfFile, IsUnexplainedOf};
+ghost use Rattle.history.specs.Workers.{AreWorkers};
+ghost use Rattle.collector.specs.Judgements.{IsFounded, IsJudgeError, IsKnown, IsSaidOfFile, IsUnexplainedOf};
 
 use crate::judged::Judged;
 use crate::working::answer_of_file;
 use cert_check::laws::explained_certificates_show_their_criterion;
 use cert_check::{CaseFile, Criterion, DeskError};
-use desk::{Answer, Gate};
-use history::{Advice, History};
+use desk::Answer;
+use history::{Advice, Gate, History, MAX_WORKERS};
 use std::alloc::Global;
 use std::sync::Wait;
 use std::thread::Threads;
-
-/// How many workers there may be.
-pub const MAX_WORKERS: usize = 16;
 
 /// What is known of a history and a criterion.
 ///

@@ -7,6 +7,7 @@ mod judged;
 mod judging;
 mod working;
 
-pub use desk::{Answer, Gate, OpenGate};
+pub use desk::Answer;
+pub use history::{Gate, MAX_WORKERS, OpenGate};
 pub use judged::Judged;
-pub use judging::{MAX_WORKERS, judge, judge_with};
+pub use judging::{judge, judge_with};

@@ -4,7 +4,8 @@ ghost use Rattle.std.specs.Prelude.{◌≡◌, IfErr, IfOk, IsSome};
 ghost use Rattle.collector.specs.Judgements.{IsSaidOfFile};
 
 use cert_check::{CaseFile, DeskError, first_unexplained};
-use desk::{Answer, Desk, Gate, Shelf, ShelfName, Ticket};
+use desk::{Answer, Desk, Shelf, ShelfName, Ticket};
+use history::Gate;
 use object_trait::SeqObject;
 use refutable::Refutable;
 use std::alloc::Global;

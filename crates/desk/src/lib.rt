@@ -5,7 +5,6 @@
 mod cases;
 mod desk;
 mod file_rows;
-mod gate;
 mod shelf;
 mod shelf_name;
 mod ticket;
@@ -15,7 +14,6 @@ mod working;
 
 pub use board::Answer;
 pub use desk::Desk;
-pub use gate::{Gate, OpenGate};
 pub use shelf::Shelf;
 pub use shelf_name::ShelfName;
 pub use ticket::Ticket;

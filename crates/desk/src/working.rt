@@ -4,12 +4,11 @@ ghost use Rattle.std.specs.Prelude.{◌≡◌, ◌≤◌, IfErr, IfOk, IsSome};
 ghost use Rattle.desk.specs.Files.{HasPiece};
 
 use crate::desk::Desk;
-use crate::gate::Gate;
 use crate::shelf_name::ShelfName;
 use crate::ticket::Ticket;
 use crate::verdict::Verdict;
 use cert_check::DeskError;
-use history::OpId;
+use history::{Gate, OpId};
 use refutable::Refutable;
 use std::sync::Wait;
 

@@ -12,7 +12,7 @@ use crate::input::{call_at, ended_calls};
 use crate::played::{NumberedSeal, Played};
 use crate::run::Run;
 use crate::sealing::seal_now;
-use desk::Gate;
+use history::Gate;
 use object_trait::SeqObject;
 use recorder::{Receipt, Session};
 use replica::{Replica, UpdateOrder};

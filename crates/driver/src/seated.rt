@@ -9,7 +9,7 @@ use crate::playing::play;
 use crate::run::Run;
 use crate::run_name::RunName;
 use crate::seat::Seat;
-use desk::Gate;
+use history::Gate;
 use object_trait::SeqObject;
 use recorder::Session;
 use replica::UpdateOrder;

@@ -2,7 +2,8 @@
 use Rattle.std.proofs.Common.{◌≡◌, ℕ, refl}
 use Rattle.cert_check.specs.declared.desk_error.DeskError.{DeskError}
 use Rattle.cert_check.specs.declared.desk_error.DeskError.TheVariants.{Memory, ShapeMismatch, BadWorkers, Full, NotThatPattern, Doubled, Stranger, NoSuch}
-use Rattle.collector.specs.Judgements.{AreWorkers, IsJudgeError}
+use Rattle.collector.specs.Judgements.{IsJudgeError}
+use Rattle.history.specs.Workers.{AreWorkers}
 
 pub memory_alone : (workers : ℕ) (e : DeskError) → AreWorkers workers → IsJudgeError workers e → e ≡ Memory
 memory_alone workers Memory may error = refl

@@ -1,8 +1,7 @@
-pub mod Usages
-pub mod Words
 pub mod Pairs
 pub mod PatternForms
 pub mod Claims
+pub mod CutPairs
 pub mod Founded
 pub mod JudgeErrors
 pub mod ReadCallLaws
@@ -10,7 +9,7 @@ pub mod NotRefused
 pub mod ScriptOutcomes
 pub mod Outcomes
 pub mod Decided
+pub mod Reasons
+pub mod ExplanationForms
 pub mod SealedTexts
-pub mod DriveSettings
-pub mod DriveSays
 pub mod DriveOutcomes

@@ -15,9 +15,9 @@ use Rattle.cert_check.specs.CertificateForm.{IsCertificate, form_of as certifica
 use Rattle.cert_check.proofs.CertificateForms.{one_certificate}
 use Rattle.cert_check.specs.CriterionNames.{name_of}
 use Rattle.bad_patterns.specs.PatternForm.{form_of as pattern_form}
-use Rattle.engine.specs.declared.command_line.Order.{Order}
-use Rattle.engine.specs.declared.command_line.Order.TheVariants.{Judge, Check, Refute, Replay, Drive}
-use Rattle.engine.specs.declared.drive.Drive.{Drive as Drives}
+use Rattle.command_line.specs.declared.order.Order.{Order}
+use Rattle.command_line.specs.declared.order.Order.TheVariants.{Judge, Check, Explain, Refute, Replay, Drive}
+use Rattle.command_line.specs.declared.drive.Drive.{Drive as Drives}
 use Rattle.engine.specs.Driving.{IsDriveError, IsDriveReport, IsUndriven, sessions_in}
 use Rattle.engine.specs.declared.failure.RunError.{RunError}
 use Rattle.engine.specs.declared.failure.RunError.TheVariants.{History, Script, BadCertificate, ShapeMismatch, NotThatPattern, BadLimits, NoSuch, TooLong, Memory, ReadFault, WriteFault}
@@ -151,6 +151,20 @@ judge_once workers text e Memory is_e is_f one two = absurd (omega arith)
 judge_once workers text e ReadFault is_e is_f one two = absurd is_f
 judge_once workers text e WriteFault is_e is_f one two = absurd is_f
 
+-- a history is refused as `judge` refuses it
+explained_as_judged : (text : List ℕ) (e : RunError) → IsAnswerError Explain text e → IsAnswerError (Judge 1) text e
+explained_as_judged text (History p) is_e = is_e
+explained_as_judged text Memory is_e = is_e
+explained_as_judged text BadCertificate is_e = absurd is_e
+explained_as_judged text ShapeMismatch is_e = absurd is_e
+explained_as_judged text (Script p) is_e = absurd is_e
+explained_as_judged text TooLong is_e = absurd is_e
+explained_as_judged text NotThatPattern is_e = absurd is_e
+explained_as_judged text BadLimits is_e = absurd is_e
+explained_as_judged text NoSuch is_e = absurd is_e
+explained_as_judged text ReadFault is_e = absurd is_e
+explained_as_judged text WriteFault is_e = absurd is_e
+
 check_once : (workers : ℕ) (text : List ℕ) (e f : RunError) → IsAnswerError (Check workers) text e → IsAnswerError (Check workers) text f → failure_status e ≡ 1 → failure_status f ≡ 1 → e ≡ f
 check_once workers text (History p) (History q) is_e is_f one two =
     ap History (one_refusal (λ d. pair_refusal (elements d)) text p q (check_refused text p is_e one) (check_refused text q is_f two))
@@ -282,26 +296,29 @@ pub refused_in_one_way : (order : Order) (text : List ℕ) (e f : RunError) → 
     → failure_status e ≡ 1 → failure_status f ≡ 1 → e ≡ f
 refused_in_one_way (Judge workers) text e f is_e is_f one two = judge_once workers text e f is_e is_f one two
 refused_in_one_way (Check workers) text e f is_e is_f one two = check_once workers text e f is_e is_f one two
+refused_in_one_way Explain text e f is_e is_f one two =
+    judge_once 1 text e f (explained_as_judged text e is_e) (explained_as_judged text f is_f) one two
 refused_in_one_way Refute text e f is_e is_f one two = refute_once text e f is_e is_f one two
 refused_in_one_way Replay text e f is_e is_f one two = replay_once text e f is_e is_f one two
 refused_in_one_way (Drive drive) text e f is_e is_f one two = drive_once drive text e f is_e is_f one two
 
 -- what is answered is not refused
-judge_not_refused : (workers : ℕ) (text answer : List ℕ) (e : RunError) → IsReport text answer → IsAnswerError (Judge workers) text e → failure_status e ≡ 4
-judge_not_refused workers text answer (History p) report is_e =
+judge_not_refused : (workers : ℕ) (text : List ℕ) (e : RunError) (h : AnyHistory) → IsAnyHistory h → IsJson text (form_of h) → IsAnswerError (Judge workers) text e
+    → failure_status e ≡ 4
+judge_not_refused workers text (History p) h is read is_e =
     ⊎_elim (λ (four : refusal_status p ≡ 4). four)
-    (λ (one : refusal_status p ≡ 1). absurd (not_refused first_refusal text p (form_of report.history) (judge_refused text p is_e one) report.read (form_is_fine report.history report.is_history)))
+    (λ (one : refusal_status p ≡ 1). absurd (not_refused first_refusal text p (form_of h) (judge_refused text p is_e one) read (form_is_fine h is)))
     (statuses p)
-judge_not_refused workers text answer BadCertificate report is_e = absurd is_e
-judge_not_refused workers text answer ShapeMismatch report is_e = absurd is_e
-judge_not_refused workers text answer (Script p) report is_e = absurd is_e
-judge_not_refused workers text answer NotThatPattern report is_e = absurd is_e
-judge_not_refused workers text answer TooLong report is_e = absurd is_e
-judge_not_refused workers text answer BadLimits report is_e = absurd is_e
-judge_not_refused workers text answer NoSuch report is_e = absurd is_e
-judge_not_refused workers text answer Memory report is_e = refl
-judge_not_refused workers text answer ReadFault report is_e = absurd is_e
-judge_not_refused workers text answer WriteFault report is_e = absurd is_e
+judge_not_refused workers text BadCertificate h is read is_e = absurd is_e
+judge_not_refused workers text ShapeMismatch h is read is_e = absurd is_e
+judge_not_refused workers text (Script p) h is read is_e = absurd is_e
+judge_not_refused workers text NotThatPattern h is read is_e = absurd is_e
+judge_not_refused workers text TooLong h is read is_e = absurd is_e
+judge_not_refused workers text BadLimits h is read is_e = absurd is_e
+judge_not_refused workers text NoSuch h is read is_e = absurd is_e
+judge_not_refused workers text Memory h is read is_e = refl
+judge_not_refused workers text ReadFault h is read is_e = absurd is_e
+judge_not_refused workers text WriteFault h is read is_e = absurd is_e
 
 check_not_refused : (workers : ℕ) (text answer : List ℕ) (e : RunError) → IsCheckReport text answer → IsAnswerError (Check workers) text e → failure_status e ≡ 4
 check_not_refused workers text answer (History p) report is_e =
@@ -393,8 +410,10 @@ drive_not_refused drive text answer ReadFault report is_e = absurd is_e
 drive_not_refused drive text answer WriteFault report is_e = absurd is_e
 
 pub answered_is_not_refused : (order : Order) (text answer : List ℕ) (e : RunError) → IsAnswer order text answer → IsAnswerError order text e → failure_status e ≡ 4
-answered_is_not_refused (Judge workers) text answer e report is_e = judge_not_refused workers text answer e report is_e
+answered_is_not_refused (Judge workers) text answer e report is_e = judge_not_refused workers text e report.history report.is_history report.read is_e
 answered_is_not_refused (Check workers) text answer e report is_e = check_not_refused workers text answer e report is_e
+answered_is_not_refused Explain text answer e report is_e =
+    judge_not_refused 1 text e report.history report.is_history report.read (explained_as_judged text e is_e)
 answered_is_not_refused Refute text answer e report is_e = refute_not_refused text answer e report is_e
 answered_is_not_refused Replay text answer e report is_e = replay_not_refused text answer e report is_e
 answered_is_not_refused (Drive drive) text answer e report is_e = drive_not_refused drive text answer e report is_e

@@ -11,7 +11,7 @@ use Rattle.operations.specs.declared.any_history.AnyHistory.{AnyHistory}
 use Rattle.operations.specs.AnyForm.{form_of, IsAnyHistory}
 use Rattle.serde_json.specs.Written.{compact_text}
 use Rattle.cert_check.proofs.Named.{take_next}
-use Rattle.engine.specs.declared.drive.Drive.{Drive}
+use Rattle.command_line.specs.declared.drive.Drive.{Drive}
 use Rattle.engine.specs.declared.report.Report.{Report}
 use Rattle.engine.specs.Report.{EachIsTrueOf, EachNamesUnexplained, EachIsKnownOnDistinctValues, text_for}
 use Rattle.engine.specs.Driving.{CanDrive, IsDriven, IsSealedFrom, IsTrueReport, Repeats, SealedReport, sessions_in, text_of}

@@ -7,9 +7,9 @@ use Rattle.driver.specs.Drives.{IsOfInput, RepeatsCalls}
 use Rattle.operations.specs.declared.any_history.AnyHistory.{AnyHistory}
 use Rattle.operations.specs.declared.any_history.AnyHistory.TheVariants as histories
 use Rattle.operations.specs.AnyForm.{form_of, IsAnyHistory, IsJson}
-use Rattle.engine.specs.declared.command_line.Order.{Order}
-use Rattle.engine.specs.declared.command_line.Order.TheVariants as orders
-use Rattle.engine.specs.declared.drive.Drive.{Drive}
+use Rattle.command_line.specs.declared.order.Order.{Order}
+use Rattle.command_line.specs.declared.order.Order.TheVariants as orders
+use Rattle.command_line.specs.declared.drive.Drive.{Drive}
 use Rattle.engine.specs.declared.failure.RunError.{RunError}
 use Rattle.engine.specs.declared.failure.RunError.TheVariants.{BadLimits, NoSuch, Memory}
 use Rattle.engine.specs.declared.report.Report.{Report}

@@ -1,10 +1,9 @@
-pub mod Numerals
-pub mod DriveWords
-pub mod CommandLine
 pub mod Failure
 pub mod Report
+pub mod CheckPlaces
 pub mod Checking
 pub mod Refuting
+pub mod Explaining
 pub mod Driving
 pub mod Running
 pub mod ReadCalls

@@ -1,16 +1,17 @@
 -- What a run answers, and when it fails.
 use Rattle.std.specs.Prelude.{◌≡◌, ◌<◌, ◌≤◌, ℕ, List, Option, IfSome, length}
 use Rattle.std.specs.Io.KnownBytes.{Appends}
-use Rattle.engine.specs.declared.command_line.Order.{Order}
+use Rattle.command_line.specs.declared.order.Order.{Order}
 use Rattle.engine.specs.declared.failure.RunError.{RunError}
 use Rattle.engine.specs.declared.failure.RunError.TheVariants.{History, Script, BadCertificate, ShapeMismatch, NotThatPattern, BadLimits, NoSuch, TooLong, Memory, ReadFault, WriteFault}
 use Rattle.operations.specs.declared.any_history.AnyHistory.{AnyHistory}
 use Rattle.operations.specs.AnyForm.{form_of, IsAnyHistory, IsJson, IsRefusedFor}
 use Rattle.engine.specs.declared.report.Report.{Report}
-use Rattle.engine.specs.declared.command_line.Order.TheVariants.{Judge, Check, Refute, Replay, Drive}
+use Rattle.command_line.specs.declared.order.Order.TheVariants.{Judge, Check, Explain, Refute, Replay, Drive}
 use Rattle.engine.specs.Report.{EachIsTrueOf, EachNamesUnexplained, EachIsKnownOnDistinctValues, text_for}
 use Rattle.engine.specs.Checking.{IsCheckReport, IsPairError, HasOtherShape}
 use Rattle.engine.specs.Refuting.{IsClaimError, IsRefutation}
+use Rattle.engine.specs.Explaining.{IsExplanation}
 use Rattle.engine.specs.Driving.{IsDriveReport, IsUndriven}
 use Rattle.engine.specs.declared.input.TheConstants.{MAX_INPUT_BYTES}
 use Rattle.script.specs.declared.any_script.AnyScript.{AnyScript}
@@ -39,6 +40,7 @@ pub record IsReplayReport (input text : List ℕ) : Type 0 where
 abbrev pub IsAnswer : Order → List ℕ → List ℕ → Type 0
 IsAnswer (Judge workers) input text = IsReport input text
 IsAnswer (Check workers) input text = IsCheckReport input text
+IsAnswer Explain input text = IsExplanation input text
 IsAnswer Refute input text = IsRefutation input text
 IsAnswer Replay input text = IsReplayReport input text
 IsAnswer (Drive drive) input text = IsDriveReport drive input text
@@ -50,6 +52,7 @@ IsAnswerError (Judge workers) input (History refusal) = IsRefusedFor input refus
 IsAnswerError (Check workers) input (History refusal) = IsPairError input (History refusal)
 IsAnswerError (Check workers) input BadCertificate = IsPairError input BadCertificate
 IsAnswerError (Check workers) input ShapeMismatch = HasOtherShape input
+IsAnswerError Explain input (History refusal) = IsRefusedFor input refusal
 IsAnswerError Refute input (History refusal) = IsClaimError input (History refusal)
 IsAnswerError Refute input NotThatPattern = IsClaimError input NotThatPattern
 IsAnswerError Replay input (Script refusal) = IsScriptRefusedFor input refusal

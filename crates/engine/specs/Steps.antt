@@ -2,4 +2,4 @@
 pub mod FoundedAnswers
 pub mod Transfer
 pub mod SealedTexts
-pub mod BareWords
+pub mod Unshown

@@ -12,12 +12,13 @@ ghost use Rattle.engine.specs.Running.{IsAnswer, IsAnswerError};
 ghost use Rattle.collector.specs.Judgements.{IsSaidOf, IsSaidOfFile};
 ghost use Rattle.engine.specs.Checking.{HasShape, IsCheckError, IsPair, IsPairError, IsPairErrorOf, IsShown, pair_form, pair_refusal};
 
-use crate::command_line::Order;
+use crate::check_place::CheckPlace;
 use crate::failure::RunError;
 use crate::report::report_line;
-use crate::workers::Workers;
+use bounded_json::{TextError, read_bounded};
 use cert_check::{CaseFile, Certificate, DeskError, read_certificate};
 use collector::{Answer, Judged, OpenGate, judge_with};
+use command_line::{Order, Workers};
 use operations::{AnyHistory, History, ReadError, elements_of, history_of};
 use serde_json::Value;
 use std::alloc::Global;
@@ -124,15 +125,10 @@ fn read_pair(alloc: Global, input: &[u8]) -> Result<(AnyHistory, Certificate), R
     ensures read { IfOk result (λ pair. IsPair input.now (form_of pair.0) (certificate_form pair.1)) }
     ensures error { IfErr result (IsPairError input.now) }
 {
-    match Value::from_slice(alloc, input) {
+    match read_bounded(alloc, input, CheckPlace::Pair) {
         Ok(value) => pair_of(alloc, &value),
-        Err(refused) => {
-            if refused.is_memory() {
-                Err(RunError::Memory)
-            } else {
-                Err(RunError::History(ReadError::NotJson))
-            }
-        }
+        Err(TextError::NotJson) => Err(RunError::History(ReadError::NotJson)),
+        Err(TextError::Memory) => Err(RunError::Memory),
     }
 }
 

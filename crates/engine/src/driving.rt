@@ -6,15 +6,13 @@ ghost use Rattle.engine.specs.Driving.{IsDriveError, IsDriven, IsDrivenAs, IsDri
 ghost use Rattle.engine.specs.Running.{IsAnswer, IsAnswerError};
 ghost use Rattle.engine.specs.Steps.SealedTexts.{AreSealedFrom, AreTrueTexts, IsTrueText};
 
-use crate::command_line::Order;
 use crate::drivable::Drivable;
-use crate::drive::{Drive, Store};
 use crate::failure::RunError;
 use crate::judging::report_on;
 use crate::report::report_text;
-use crate::workers::Workers;
 use causal_memory::AsTakenIn;
 use collector::{Gate, OpenGate};
+use command_line::{Drive, Order, Store, Workers};
 use driver::{DrivePlan, drive};
 use lamport_store::ByStamp;
 use objects::{AddRemoveSet, Counter, Counters, Memory, Queue, Queues, Register, Sets};
@@ -47,7 +45,9 @@ pub fn drive_with<T: Threads + Wait + Sync, G: Gate>(
 {
     match order {
         Order::Drive(drive) => drive_store(rt, alloc, history, *drive, gate),
-        Order::Judge(_) | Order::Check(_) | Order::Refute | Order::Replay => unreachable!(),
+        Order::Judge(_) | Order::Check(_) | Order::Explain | Order::Refute | Order::Replay => {
+            unreachable!()
+        }
     }
 }
 

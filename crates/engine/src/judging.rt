@@ -12,10 +12,10 @@ ghost use Rattle.engine.specs.Steps.FoundedAnswers.{IsFoundedOn};
 use crate::checking::answer_of_file;
 use crate::failure::RunError;
 use crate::report::Report;
-use crate::workers::Workers;
 use bad_patterns::laws::bad_patterns_exclude_criteria;
 use cert_check::{CaseFile, Certificate, Criterion, DeskError};
 use collector::{Answer, Judged, OpenGate, judge};
+use command_line::Workers;
 use decision::{Decision, decide_all};
 use history::Advice;
 use memory_order::IndexedMemory;
@@ -164,10 +164,10 @@ fn report_on_object<O: Judged + Send + Sync, T: Threads + Wait + Sync>(
     Ok(Report { cc, cm, ccv })
 }
 
-// What is known of a history of a memory and a criterion: what its decision says, and where that is open, what the pieces of
-// a certificate show.
+/// What is known of a history of a memory and a criterion: what its decision says, and where that is open, what the pieces of
+/// a certificate show.
 #[tactic(auto, using(crate::proofs::Founded::founded_is_true, crate::proofs::Founded::founded_names))]
-fn answer_of_memory<T: Threads + Wait + Sync>(
+pub(crate) fn answer_of_memory<T: Threads + Wait + Sync>(
     rt: &T,
     alloc: Global,
     memory: &IndexedMemory,

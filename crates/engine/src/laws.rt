@@ -9,13 +9,13 @@ ghost use Rattle.engine.specs.ReadCalls.{CallsAtMost, Outcome};
 ghost use Rattle.engine.specs.Report.{answer_for};
 ghost use Rattle.engine.specs.Running.{Answers, Fails, IsAnswer, IsAnswerError, IsReport};
 
-use crate::command_line::Order;
 use crate::failure::RunError;
 use crate::input::MAX_INPUT_BYTES;
 use crate::source::Source;
 use bad_patterns::Kind;
 use cert_check::Criterion;
 use collector::Answer;
+use command_line::Order;
 use operations::AnyHistory;
 
 /// A report on the form of a history is a report on that history: no other start can be taken, for instance.

@@ -1,11 +1,11 @@
 //! The process: its words, its streams and its exit status.
 ghost use Rattle.std.specs.Prelude.{◌≡◌, ◌≤◌, ◌⊎◌};
 ghost use Rattle.engine.specs.Failure.{status_for};
-ghost use Rattle.engine.specs.CommandLine.{IsUsageStatus};
+ghost use Rattle.command_line.specs.CommandLine.{IsUsageStatus};
 
-use crate::command_line::{Order, Usage, command_of, fault_with};
 use crate::failure::{RunError, fault_line, status_of};
 use crate::running::run;
+use command_line::{Order, Usage, command_of, fault_with};
 use std::rt::Env;
 use std::sync::Wait;
 use std::thread::Threads;

@@ -12,12 +12,12 @@ ghost use Rattle.engine.specs.Report.{IsExcluded};
 ghost use Rattle.engine.specs.Running.{IsAnswer, IsAnswerError};
 ghost use Rattle.engine.specs.Refuting.{IsClaimError, IsClaimErrorOf, IsPatternOf, claim_form, claim_refusal};
 
-use crate::command_line::Order;
 use crate::failure::RunError;
 use crate::report::report_line;
 use bad_patterns::{Pattern, check_pattern, read_pattern};
 use cert_check::Criterion;
 use collector::Answer;
+use command_line::Order;
 use operations::{AnyHistory, ReadError, elements_of, history_of};
 use serde_json::Value;
 use std::alloc::{AllocError, Global};

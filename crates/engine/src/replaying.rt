@@ -3,8 +3,8 @@
 ghost use Rattle.std.specs.Prelude.{IfErr, IfOk, string_bytes};
 ghost use Rattle.engine.specs.Running.{IsAnswer, IsAnswerError};
 
-use crate::command_line::Order;
 use crate::failure::RunError;
+use command_line::Order;
 use script::read_script;
 use std::alloc::Global;
 

@@ -5,8 +5,8 @@ ghost use Rattle.engine.specs.ReadCalls.{CallsAtMost, FindsNoEnd};
 ghost use Rattle.engine.specs.Running.{Answers, Fails, IsAnswer, IsAnswerError};
 
 use crate::checking::check;
-use crate::command_line::Order;
 use crate::driving::drive_input;
+use crate::explaining::explain;
 use crate::failure::RunError;
 use crate::input::{MAX_READ_CALLS, read_input};
 use crate::judging::report_on;
@@ -15,7 +15,7 @@ use crate::refuting::refute;
 use crate::replaying::replay;
 use crate::report::report_text;
 use crate::source::Source;
-use crate::workers::Workers;
+use command_line::{Order, Workers};
 use operations::read_history;
 use std::alloc::Global;
 use std::io::Write;
@@ -66,6 +66,7 @@ pub fn answer_to<T: Threads + Wait + Sync>(
     match order {
         Order::Judge(workers) => judge(rt, alloc, input, *workers),
         Order::Check(workers) => check(rt, alloc, input, *workers),
+        Order::Explain => explain(rt, alloc, input),
         Order::Refute => refute(alloc, input),
         Order::Replay => replay(alloc, input),
         Order::Drive(drive) => drive_input(rt, alloc, input, *drive),

@@ -3,3 +3,6 @@ pub const MAX_SESSIONS: usize = 16;
 
 /// The most operations that a session has.
 pub const MAX_OPERATIONS: usize = 256;
+
+/// The most workers that check a certificate side by side.
+pub const MAX_WORKERS: usize = 16;

@@ -1,0 +1,134 @@
+-- What words behind `drive` say, one after the other.
+use Rattle.std.proofs.Common.{◌≡◌, ◌≤◌, ◌∙◌, ◌-◌, ◌⊎◌, List, [], ◌∷◌, length, map, drop, take, get_or, arith, refl, sym, ap, subst, Option, Some, None, inl, inr, ⊎_elim, MatchOption}
+use Rattle.std.proofs.lemmas.List.{take_all}
+use Rattle.std.proofs.lemmas.Option.{same_Some}
+use Rattle.clap.specs.Words.{Text}
+use Rattle.command_line.specs.declared.drive.Drive.{Drive}
+use Rattle.command_line.specs.declared.drive_words.Said.{Said}
+use Rattle.command_line.specs.declared.drive_words.Setting.{Setting}
+use Rattle.command_line.specs.DriveWords.{AddsAlone, AddsTogether, AskToDrive, Say, SaysAlone, SaysTogether, and_also, drive_for, unsaid}
+use Rattle.command_line.proofs.DriveSettings.{alone_once, alone_or_together, together_once}
+
+-- a setting is added in one way
+added_once : (before : Said) (s t : Setting) (a b : Said) → s ≡ t → and_also before s ≡ Some a → and_also before t ≡ Some b → a ≡ b
+added_once before s t a b same first second = same_Some a b (sym first ∙ ap (and_also before) same ∙ second)
+
+adds_alone_once : (before : Said) (w : Text) (a b : Said) → AddsAlone before w a → AddsAlone before w b → a ≡ b
+adds_alone_once before w a b first second = added_once before first.0 second.0 a b (alone_once first.0 second.0 w first.1 second.1) first.2 second.2
+
+adds_together_once : (before : Said) (w number : Text) (a b : Said) → AddsTogether before w number a → AddsTogether before w number b → a ≡ b
+adds_together_once before w number a b first second =
+    added_once before first.0 second.0 a b (together_once first.0 second.0 w number first.1 second.1) first.2 second.2
+
+adds_one_way : (before : Said) (w number : Text) (a b : Said) → AddsAlone before w a → AddsTogether before w number b → ⊥
+adds_one_way before w number a b alone together = alone_or_together alone.0 together.0 w number alone.1 together.1
+
+-- what comes of one word or of two, where it is known what they say
+pub added_alone : (before : Said) (s : Setting) (w : Text) (r : Option Said) → SaysAlone s w → r ≡ and_also before s
+    → MatchOption r ((after : Said) → ¬ AddsAlone before w after) (AddsAlone before w)
+added_alone before s w None says is = λ after adds.
+    let bad : None ≡ Some after = is ∙ ap (and_also before) (alone_once s adds.0 w says adds.1) ∙ adds.2 in absurd (cc)
+added_alone before s w (Some said) says is = (s, says, sym is)
+
+pub added_together : (before : Said) (s : Setting) (w number : Text) (r : Option Said) → SaysTogether s w number → r ≡ and_also before s
+    → MatchOption r ((after : Said) → ¬ AddsTogether before w number after) (AddsTogether before w number)
+added_together before s w number None says is = λ after adds.
+    let bad : None ≡ Some after = is ∙ ap (and_also before) (together_once s adds.0 w number says adds.1) ∙ adds.2 in absurd (cc)
+added_together before s w number (Some said) says is = (s, says, sym is)
+
+pub none_alone : (before : Said) (w : Text) → ((s : Setting) → ¬ SaysAlone s w) → (after : Said) → ¬ AddsAlone before w after
+none_alone before w none after adds = none adds.0 adds.1
+
+pub none_together : (before : Said) (w number : Text) → ((s : Setting) → ¬ SaysTogether s w number) → (after : Said) → ¬ AddsTogether before w number after
+none_together before w number none after adds = none adds.0 adds.1
+
+-- a word that says something alone names no option
+not_both : (before said after : Said) (w : Text) (words : List Text) → AddsAlone before w said → Say before (Some w) words after → ⊥
+not_both before said after w [] adds say = say
+not_both before said after w (number ∷ words) adds say = adds_one_way before w number said say.0 adds say.1
+
+-- what comes of more words
+pub say_next : (before said : Said) (w : Text) (words : List Text) (r : Option Said) → AddsAlone before w said
+    → MatchOption r ((after : Said) → ¬ Say said None words after) (Say said None words)
+    → MatchOption r ((after : Said) → ¬ Say before None (w ∷ words) after) (Say before None (w ∷ words))
+say_next before said w words None adds rest = λ after say.
+    ⊎_elim (λ (alone : (x : Said) × AddsAlone before w x × Say x None words after).
+    rest after (subst (λ (x : Said). Say x None words after) (adds_alone_once before w alone.0 said alone.1 adds) alone.2))
+    (λ (behind : Say before (Some w) words after). not_both before said after w words adds behind) say
+say_next before said w words (Some after) adds rest = inl (said, adds, rest)
+
+pub say_later : (before : Said) (w : Text) (words : List Text) (r : Option Said) → ((after : Said) → ¬ AddsAlone before w after)
+    → MatchOption r ((after : Said) → ¬ Say before (Some w) words after) (Say before (Some w) words)
+    → MatchOption r ((after : Said) → ¬ Say before None (w ∷ words) after) (Say before None (w ∷ words))
+say_later before w words None none rest = λ after say.
+    ⊎_elim (λ (alone : (x : Said) × AddsAlone before w x × Say x None words after). none alone.0 alone.1)
+    (λ (behind : Say before (Some w) words after). rest after behind) say
+say_later before w words (Some after) none rest = inr rest
+
+pub say_number : (before said : Said) (w number : Text) (words : List Text) (r : Option Said) → AddsTogether before w number said
+    → MatchOption r ((after : Said) → ¬ Say said None words after) (Say said None words)
+    → MatchOption r ((after : Said) → ¬ Say before (Some w) (number ∷ words) after) (Say before (Some w) (number ∷ words))
+say_number before said w number words None adds rest = λ after behind.
+    rest after (subst (λ (x : Said). Say x None words after) (adds_together_once before w number behind.0 said behind.1 adds) behind.2)
+say_number before said w number words (Some after) adds rest = (said, adds, rest)
+
+pub say_no_number : (before : Said) (w number : Text) (words : List Text) → ((after : Said) → ¬ AddsTogether before w number after)
+    → (after : Said) → ¬ Say before (Some w) (number ∷ words) after
+say_no_number before w number words none after behind = none behind.0 behind.1
+
+-- the first of some words, and those behind it
+abbrev pub behind_first : {A : Type 0} → List A → List A
+behind_first xs = take (length xs - 1) (drop 1 xs)
+
+first_word : {A : Type 0} (f : A → Text) (xs : List A) (a : A) (w : Text) → 1 ≤ length xs → a ≡ get_or xs 0 a → w ≡ f a
+    → map f xs ≡ w ∷ map f (behind_first xs)
+first_word f [] a w least first is = absurd (omega arith)
+first_word f (x ∷ xs) a w least first is =
+    ap (λ v. v ∷ map f xs) (ap f (sym first) ∙ sym is) ∙ ap (λ rest. w ∷ map f rest) (sym (take_all (length (x ∷ xs) - 1) xs (omega arith)))
+
+-- what comes of words, by the first of them
+pub says_next : {A : Type 0} (f : A → Text) (before said : Said) (xs : List A) (a : A) (w : Text) (r : Option Said) → 1 ≤ length xs
+    → a ≡ get_or xs 0 a → w ≡ f a → AddsAlone before w said
+    → MatchOption r ((after : Said) → ¬ Say said None (map f (behind_first xs)) after) (Say said None (map f (behind_first xs)))
+    → MatchOption r ((after : Said) → ¬ Say before None (map f xs) after) (Say before None (map f xs))
+says_next f before said xs a w r least first is adds rest =
+    subst (λ (words : List Text). MatchOption r ((after : Said) → ¬ Say before None words after) (Say before None words))
+    (sym (first_word f xs a w least first is)) (say_next before said w (map f (behind_first xs)) r adds rest)
+
+pub says_later : {A : Type 0} (f : A → Text) (before : Said) (xs : List A) (a : A) (w v : Text) (r : Option Said) → 1 ≤ length xs
+    → a ≡ get_or xs 0 a → w ≡ f a → v ≡ f a → ((after : Said) → ¬ AddsAlone before w after)
+    → MatchOption r ((after : Said) → ¬ Say before (Some v) (map f (behind_first xs)) after) (Say before (Some v) (map f (behind_first xs)))
+    → MatchOption r ((after : Said) → ¬ Say before None (map f xs) after) (Say before None (map f xs))
+says_later f before xs a w v r least first is also none rest =
+    subst (λ (words : List Text). MatchOption r ((after : Said) → ¬ Say before None words after) (Say before None words))
+    (sym (first_word f xs a v least first also))
+    (say_later before v (map f (behind_first xs)) r (subst (λ (u : Text). (after : Said) → ¬ AddsAlone before u after) (is ∙ sym also) none) rest)
+
+pub says_no_number : {A : Type 0} (f : A → Text) (before : Said) (w number : Text) (xs : List A) (a : A) → 1 ≤ length xs
+    → a ≡ get_or xs 0 a → number ≡ f a → ((after : Said) → ¬ AddsTogether before w number after)
+    → (after : Said) → ¬ Say before (Some w) (map f xs) after
+says_no_number f before w number xs a least first is none =
+    subst (λ (words : List Text). (after : Said) → ¬ Say before (Some w) words after)
+    (sym (first_word f xs a number least first is)) (say_no_number before w number (map f (behind_first xs)) none)
+
+-- words say one thing
+say_once : (before : Said) (name : Option Text) (words : List Text) (a b : Said) → Say before name words a → Say before name words b → a ≡ b
+say_once before None [] a b first second = first ∙ sym second
+say_once before (Some name) [] a b first second = absurd first
+say_once before None (w ∷ words) a b (inl x) (inl y) =
+    say_once y.0 None words a b (subst (λ (said : Said). Say said None words a) (adds_alone_once before w x.0 y.0 x.1 y.1) x.2) y.2
+say_once before None (w ∷ words) a b (inl x) (inr y) = absurd (not_both before x.0 b w words x.1 y)
+say_once before None (w ∷ words) a b (inr x) (inl y) = absurd (not_both before y.0 a w words y.1 x)
+say_once before None (w ∷ words) a b (inr x) (inr y) = say_once before (Some w) words a b x y
+say_once before (Some name) (number ∷ words) a b x y =
+    say_once y.0 None words a b (subst (λ (said : Said). Say said None words a) (adds_together_once before name number x.0 y.0 x.1 y.1) x.2) y.2
+
+-- the drive that is asked for
+pub no_drive : (words : List Text) → ((after : Said) → ¬ Say unsaid None words after) → (drive : Drive) → ¬ AskToDrive drive words
+no_drive words none drive asks = none asks.0 asks.1
+
+pub drive_asked : (words : List Text) (said : Said) (r : Option Drive) → Say unsaid None words said → r ≡ drive_for said
+    → MatchOption r ((drive : Drive) → ¬ AskToDrive drive words) (λ drive. AskToDrive drive words)
+drive_asked words said None say is = λ drive asks.
+    let bad : None ≡ Some drive = is ∙ ap drive_for (say_once unsaid None words said asks.0 say asks.1) ∙ asks.2 in absurd (cc)
+drive_asked words said (Some drive) say is = (said, say, sym is)

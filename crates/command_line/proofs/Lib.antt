@@ -1,0 +1,4 @@
+pub mod Usages
+pub mod Words
+pub mod DriveSettings
+pub mod DriveSays

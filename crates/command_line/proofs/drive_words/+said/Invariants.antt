@@ -1,0 +1,9 @@
+-- Each call goes on with the words behind one.
+use Rattle.std.proofs.Common.{length}
+use Rattle.command_line.proofs.drive_words.+said.Given as goal
+
+abbrev pub decreases-said_behind : goal.decreases-said_behind
+decreases-said_behind g l = length l.behind.now
+
+abbrev pub decreases-said_in : goal.decreases-said_in
+decreases-said_in g l = length l.words.now

@@ -1,0 +1,5 @@
+use Rattle.command_line.proofs.Usages.{usage_among}
+use Rattle.command_line.proofs.order.usage_of.Goals as goal
+
+pub returns : goal.returns
+returns g c = usage_among _ c.in-Err.error _ c.in-Err.ensures.refused c.usage_by.ensures

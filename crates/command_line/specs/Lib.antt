@@ -1,0 +1,4 @@
+pub mod Numerals
+pub mod DriveWords
+pub mod CommandLine
+pub mod Steps

@@ -1,0 +1,39 @@
+//! The numbers that words write.
+
+ghost use Rattle.std.specs.Prelude.{◌<◌, ◌≤◌, ℕ, MatchOption};
+ghost use Rattle.history.specs.Workers.{AreWorkers};
+ghost use Rattle.command_line.specs.Numerals.{Writes};
+
+use crate::drive::MAX_SEALS;
+use crate::workers::Workers;
+use history::MAX_SESSIONS;
+
+/// The number of workers that a text writes.
+pub fn workers_in(text: &str) -> Option<Workers>
+    ensures { MatchOption result ((n : ℕ) → AreWorkers n → ¬ Writes text.now n) (Writes text.now) }
+{
+    match text.parse::<usize>() {
+        Ok(count) => Workers::of(count),
+        Err(_) => None,
+    }
+}
+
+/// The number of seals that a text writes.
+pub fn seals_in(text: &str) -> Option<u8>
+    ensures { MatchOption result ((n : ℕ) → n ≤ MAX_SEALS → ¬ Writes text.now n) (λ n. Writes text.now n × (n ≤ MAX_SEALS)) }
+{
+    match text.parse::<u8>() {
+        Ok(seals) if seals <= MAX_SEALS => Some(seals),
+        _ => None,
+    }
+}
+
+/// The number of a session that a text writes.
+pub fn session_in(text: &str) -> Option<usize>
+    ensures { MatchOption result ((s : ℕ) → s < MAX_SESSIONS → ¬ Writes text.now s) (λ s. Writes text.now s × (s < MAX_SESSIONS)) }
+{
+    match text.parse::<usize>() {
+        Ok(session) if session < MAX_SESSIONS => Some(session),
+        _ => None,
+    }
+}

@@ -1,0 +1,52 @@
+//! How many workers there are.
+ghost use Rattle.std.specs.Prelude.{◌≡◌, ◌≤◌, MatchOption};
+ghost use Rattle.history.specs.Workers.{AreWorkers};
+
+use history::MAX_WORKERS;
+use std::marker::Model;
+
+/// A number of workers, from 1 to [`MAX_WORKERS`].
+#[derive(Clone, Copy, Debug, PartialEq, Eq)]
+pub struct Workers {
+    count: usize,
+}
+
+impl Model for Workers {
+    ghost use Rattle.std.specs.Prelude.{ℕ};
+    ghost use Rattle.history.specs.Workers.{AreWorkers};
+
+    ghost Value = { ℕ };
+
+    ghost view = { λ w. w.count };
+
+    ghost inverse = { λ n. record { count = n } };
+
+    ghost invariant = { λ w. AreWorkers w.count };
+}
+
+impl Workers {
+    /// So many workers; none where the number is not from 1 to [`MAX_WORKERS`].
+    pub fn of(count: usize) -> Option<Workers>
+        ensures { MatchOption result (¬ AreWorkers count) (λ workers. (workers ≡ count) × AreWorkers count) }
+    {
+        if count == 0 || count > MAX_WORKERS {
+            return None;
+        }
+        Some(Workers { count })
+    }
+
+    /// As many workers as there are where nobody says how many.
+    pub fn usual() -> Workers
+        ensures { result ≡ 2 }
+    {
+        Workers { count: 2 }
+    }
+
+    /// How many workers there are.
+    pub fn count(self) -> usize
+        ensures count { result ≡ self }
+        ensures number { AreWorkers result }
+    {
+        self.count
+    }
+}

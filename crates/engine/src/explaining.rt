@@ -1,0 +1,138 @@
+//! Why a history meets each criterion, or does not.
+
+ghost use Rattle.std.specs.Prelude.{◌≡◌, ◌++◌, codes, IfErr, IfOk, OnOk, string_bytes};
+ghost use Rattle.serde_json.specs.Written.{compact_text};
+ghost use Rattle.operations.specs.AnyForm.{IsJson};
+ghost use Rattle.decision.specs.Decisions.{IsDecided};
+ghost use Rattle.engine.specs.Explaining.{EachIsReason, IsReason, explanation_form, reason_for};
+ghost use Rattle.engine.specs.Report.{EachIsKnownOnDistinctValues, EachIsTrueOf, EachNamesUnexplained};
+ghost use Rattle.engine.specs.Running.{IsAnswer, IsAnswerError};
+
+use crate::failure::RunError;
+use crate::judging::{answer_of_memory, report_on};
+use crate::reason::{Explanation, Reason};
+use crate::report::Report;
+use cert_check::Criterion;
+use command_line::{Order, Workers};
+use decision::{Decision, decide_all};
+use memory_order::IndexedMemory;
+use objects::Memory;
+use operations::{AnyHistory, History, read_history};
+use std::alloc::{AllocError, Global};
+use std::sync::Wait;
+use std::thread::Threads;
+
+/// The JSON text of the reasons on the history in the input.
+pub fn explain<T: Threads + Wait + Sync>(
+    rt: &T,
+    alloc: Global,
+    input: &[u8],
+) -> Result<String, RunError>
+    ensures answer { IfOk result (λ text. IsAnswer Order.Explain input.now (string_bytes text)) }
+    ensures error { IfErr result (IsAnswerError Order.Explain input.now) }
+{
+    let history = read_history(alloc, input)?;
+    let explanation = explanation_of(rt, alloc, history, Workers::usual())?;
+    Ok(explanation_text(alloc, &explanation)?)
+}
+
+/// Why each criterion is met by a history, or is not, or why that is unknown.
+///
+/// It judges as [`report_on`] does, at the same cost, and keeps the pattern that it finds.
+///
+/// Fails for want of memory alone.
+pub fn explanation_of<T: Threads + Wait + Sync>(
+    rt: &T,
+    alloc: Global,
+    history: AnyHistory,
+    workers: Workers,
+) -> Result<Explanation, RunError>
+    ensures reasons { IfOk result (EachIsReason history) }
+    ensures error { IfErr result (λ e. e ≡ RunError.Memory) }
+{
+    match history {
+        AnyHistory::Memory(history) => explanation_of_memory(rt, alloc, history, workers),
+        other => Ok(unshown(&report_on(rt, alloc, other, &[], workers)?)),
+    }
+}
+
+// The same for the histories of a memory, in which patterns are looked for.
+#[tactic(auto, using(crate::proofs::Reasons::each_reason))]
+fn explanation_of_memory<T: Threads + Wait + Sync>(
+    rt: &T,
+    alloc: Global,
+    history: History<Memory>,
+    workers: Workers,
+) -> Result<Explanation, RunError>
+    ensures reasons { IfOk result (EachIsReason (AnyHistory.Memory history)) }
+    ensures error { IfErr result (λ e. e ≡ RunError.Memory) }
+{
+    let memory = IndexedMemory::of(alloc, &history)?;
+    let decisions = decide_all(alloc, &memory)?;
+    let cc = reason_of_decision(rt, alloc, &memory, Criterion::Cc, decisions.cc, workers)?;
+    let cm = reason_of_decision(rt, alloc, &memory, Criterion::Cm, decisions.cm, workers)?;
+    let ccv = reason_of_decision(rt, alloc, &memory, Criterion::Ccv, decisions.ccv, workers)?;
+    Ok(Explanation { cc, cm, ccv })
+}
+
+// What a decision shows, and where it is open, what the pieces of a certificate show.
+#[tactic(auto, using(crate::proofs::Reasons::answer_is_reason))]
+fn reason_of_decision<T: Threads + Wait + Sync>(
+    rt: &T,
+    alloc: Global,
+    memory: &IndexedMemory,
+    criterion: Criterion,
+    decision: Decision,
+    workers: Workers,
+) -> Result<Reason, RunError>
+    requires decided { IsDecided memory.now criterion decision }
+    ensures reason { IfOk result (IsReason (AnyHistory.Memory memory.now) criterion) }
+    ensures error { IfErr result (λ e. e ≡ RunError.Memory) }
+{
+    match decision {
+        Decision::Meets => Ok(Reason::Explained),
+        Decision::Excluded(pattern) => Ok(Reason::Shown(pattern)),
+        Decision::ExcludedBy(kind) => Ok(Reason::Present(kind)),
+        Decision::Open => {
+            let answer = answer_of_memory(
+                rt,
+                alloc,
+                memory,
+                &[],
+                criterion,
+                Decision::Open,
+                workers,
+            )?;
+            Ok(Reason::of(answer))
+        }
+    }
+}
+
+// The reasons of the answers of a report alone.
+fn unshown(report: &Report) -> Explanation
+    ensures { (history : AnyHistory) → EachIsTrueOf history report.now → EachIsKnownOnDistinctValues history report.now
+        → EachNamesUnexplained history report.now → EachIsReason history result }
+{
+    Explanation {
+        cc: Reason::of(report.cc),
+        cm: Reason::of(report.cm),
+        ccv: Reason::of(report.ccv),
+    }
+}
+
+// The JSON text of an explanation, and a line feed.
+fn explanation_text(alloc: Global, explanation: &Explanation) -> Result<String, AllocError>
+    ensures whole { IfOk result (λ text. string_bytes text ≡ compact_text (explanation_form explanation.now) ++ codes "\n") }
+    ensures json { OnOk result (IsJson (compact_text (explanation_form explanation.now)) (explanation_form explanation.now)) }
+{
+    let json = json_of(alloc, explanation)?;
+    format!(in alloc; "{json}\n")
+}
+
+// The JSON text of an explanation.
+fn json_of(alloc: Global, explanation: &Explanation) -> Result<String, AllocError>
+    ensures text { IfOk result (λ text. string_bytes text ≡ compact_text (explanation_form explanation.now)) }
+    ensures json { IfOk result (λ text. IsJson (string_bytes text) (explanation_form explanation.now)) }
+{
+    explanation.value(alloc)?.to_string(alloc)
+}

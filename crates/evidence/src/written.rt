@@ -1,0 +1,57 @@
+//! Writing lists, and lists that begin with a word, as JSON values.
+
+ghost use Rattle.std.specs.Prelude.{◌≡◌, ◌∷◌, [], IfOk};
+ghost use Rattle.serde_json.specs.Data.{Data};
+ghost use Rattle.serde_json.specs.View.{view};
+ghost use Rattle.operations.specs.Reads.{list_form, worded};
+
+use serde_json::Value;
+use std::alloc::{AllocError, Global};
+
+/// What has a form as a JSON value.
+pub(crate) trait Written: Sized {
+    /// Its form.
+    ghost form: { Self → Data };
+
+    /// Its form, as a value. Fails for want of memory alone.
+    fn value(&self, alloc: Global) -> Result<Value, AllocError>
+        ensures { IfOk result (λ value. view value ≡ form self.now) };
+}
+
+/// The list of the forms of these.
+pub(crate) fn list_value<T: Written>(alloc: Global, items: &[T]) -> Result<Value, AllocError>
+    ensures { IfOk result (λ value. view value ≡ list_form T.form items.now) }
+{
+    let mut values = Vec::new(alloc);
+    for item in items {
+        let value = item.value(alloc)?;
+        values.push(value)?;
+    }
+    Ok(Value::Array(values))
+}
+
+/// The list of a word and one thing.
+pub(crate) fn worded_one(alloc: Global, word: &str, part: Value) -> Result<Value, AllocError>
+    ensures { IfOk result (λ value. view value ≡ worded word.now (view part ∷ [])) }
+{
+    let mut values = Vec::new(alloc);
+    values.push(Value::String(String::from_str(alloc, word)?))?;
+    values.push(part)?;
+    Ok(Value::Array(values))
+}
+
+/// The list of a word and two things.
+pub(crate) fn worded_two(
+    alloc: Global,
+    word: &str,
+    first: Value,
+    second: Value,
+) -> Result<Value, AllocError>
+    ensures { IfOk result (λ value. view value ≡ worded word.now (view first ∷ view second ∷ [])) }
+{
+    let mut values = Vec::new(alloc);
+    values.push(Value::String(String::from_str(alloc, word)?))?;
+    values.push(first)?;
+    values.push(second)?;
+    Ok(Value::Array(values))
+}

@@ -1,0 +1,21 @@
+use crate::op_id::OpId;
+
+/// Is told by a thread of each operation that it comes to: before what it does there, and after. What it does is up to
+/// whoever passes it: a test holds threads here.
+pub trait Gate: Sync {
+    /// The operation is about to be called, or its piece to be checked.
+    fn enter(&self, op: OpId);
+
+    /// The operation was called, or its piece was checked.
+    fn leave(&self, op: OpId);
+}
+
+/// A gate that does nothing.
+#[derive(Clone, Copy, Debug)]
+pub struct OpenGate;
+
+impl Gate for OpenGate {
+    fn enter(&self, _op: OpId) {}
+
+    fn leave(&self, _op: OpId) {}
+}
