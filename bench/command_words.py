@@ -4,9 +4,12 @@ import sys
 
 STORES = ("causal", "lamport")
 RANGES = {"--workers": range(1, 17), "--seals": range(9), "--stop": range(16)}
+FLAGS = ("--eager", "--json")
+NEEDED = {"drive": "store", "explain": "--json"}
 OPTIONS = {
     "judge": ("--workers",),
     "check": ("--workers",),
+    "explain": ("--json",),
     "refute": (),
     "replay": (),
     "drive": ("--eager", "--seals", "--workers", "--stop"),
@@ -38,8 +41,8 @@ def said_first(command, words):
     word, *left = words
     if command == "drive" and word in STORES:
         return "store", word, left
-    if command == "drive" and word == "--eager":
-        return "--eager", True, left
+    if word in FLAGS and word in OPTIONS[command]:
+        return word, True, left
     name, mark, number = word.partition("=")
     if not mark and left:
         number, *left = left
@@ -60,4 +63,4 @@ def order_of(words):
             return None
         order[said[0]] = said[1]
         left = said[2]
-    return None if words[0] == "drive" and "store" not in order else order
+    return order if NEEDED.get(words[0], "command") in order else None

@@ -12,6 +12,7 @@ line have to be told of as an error. Where they are not, the input is written to
 
 import argparse
 import collections
+import copy
 import json
 import pathlib
 import random
@@ -77,12 +78,12 @@ def spoilt_value(rng, value):
     """The value with one part replaced, taken out, doubled, or put in the place of another."""
     places = [path for path in parts(value) if path]
     if not places:
-        return rng.choice(JUNK)
+        return copy.deepcopy(rng.choice(JUNK))
     *above, last = rng.choice(places)
     around = part_at(value, above)
     how = rng.randrange(5)
     if how == 0:
-        around[last] = rng.choice(JUNK)
+        around[last] = copy.deepcopy(rng.choice(JUNK))
     elif how == 1:
         del around[last]
     elif how == 2:
@@ -156,6 +157,7 @@ def random_words(rng, command):
     parts = [option_words(rng, option) for option in OPTIONS[command] if rng.random() < 0.3]
     parts += [[rng.choice(STORES)]] if command == "drive" else []
     rng.shuffle(parts)
+    parts += [["--json"]] if command == "explain" and ["--json"] not in parts else []
     words = [command, *sum(parts, [])]
     if rng.random() < 0.05:
         at = rng.randrange(len(words) + 1)
@@ -207,6 +209,8 @@ def is_answer(program, order, data, text):
     """Whether a text answers an input to which several texts may."""
     if order["command"] == "judge":
         return reading.REPORT.fullmatch(text) is not None
+    if order["command"] == "explain":
+        return [reason[0] for reason in json.loads(text)] == ["cc", "cm", "ccv"]
     return not driven.faults(program, order, reading.read_driven(data), text)
 
 

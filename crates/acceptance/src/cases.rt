@@ -1,8 +1,9 @@
 //! Cases as lines of text, `name | input | wanted answer`.
 
 use crate::{
-    advised, applied_calls, checked, command_lines, desks, drives, found_patterns, judged,
-    judgements, made_certificates, patterns, refuted, replica_runs, replicas, texts, worlds,
+    advised, applied_calls, checked, command_lines, desks, drives, explained, found_patterns,
+    judged, judgements, made_certificates, patterns, refuted, replica_runs, replicas, texts,
+    worlds,
 };
 use std::alloc::AllocError;
 use std::sync::Wait;
@@ -23,6 +24,8 @@ pub enum Question {
     Drive,
     /// Which kinds of patterns are found in its history.
     Find,
+    /// Why, by a run of `explain`, its history meets each criterion or does not.
+    Reasons,
     /// What a run of `refute` says of it.
     Refute,
     /// Whether its pattern is shown in its history.
@@ -98,6 +101,7 @@ fn answer_to<P: Threads + Wait + Sync + AllocGlobal>(
         Question::Order => command_lines::ordered(rt.alloc(), input),
         Question::Drive => drives::said(rt, input),
         Question::Find => found_patterns::found(rt.alloc(), input),
+        Question::Reasons => explained::said(rt, input),
         Question::Refute => refuted::said(rt, input),
         Question::Show => patterns::shown(rt.alloc(), input),
         Question::Make => made_certificates::made(rt.alloc(), input),

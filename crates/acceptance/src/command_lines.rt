@@ -13,6 +13,11 @@ judge_by_one_worker | causal_judge judge --workers 1 | judge 1
 judge_by_16_workers | causal_judge judge --workers 16 | judge 16
 check_by_one_worker | causal_judge check --workers 1 | check 1
 check_by_16_workers_in_one_word | causal_judge check --workers=16 | check 16
+explain | causal_judge explain --json | explain
+explain_without_a_format | causal_judge explain | fault
+explain_twice_as_json | causal_judge explain --json --json | fault
+explain_by_workers | causal_judge explain --json --workers 2 | fault
+option_for_help_behind_explain | causal_judge explain --help | help
 refute | causal_judge refute | refute
 refute_by_workers | causal_judge refute --workers 2 | fault
 replay | causal_judge replay | replay
@@ -89,6 +94,7 @@ fn text_of(alloc: Global, order: Order) -> Result<String, AllocError> {
     let (word, workers) = match order {
         Order::Judge(workers) => ("judge", workers.count()),
         Order::Check(workers) => ("check", workers.count()),
+        Order::Explain => return String::from_str(alloc, "explain"),
         Order::Refute => return String::from_str(alloc, "refute"),
         Order::Replay => return String::from_str(alloc, "replay"),
         Order::Drive(drive) => return text_of_drive(alloc, drive),

@@ -27,6 +27,8 @@ mod drives;
 #[cfg(test)]
 mod examples;
 #[cfg(test)]
+mod explained;
+#[cfg(test)]
 mod failures;
 #[cfg(test)]
 mod found_patterns;

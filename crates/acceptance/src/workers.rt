@@ -6,7 +6,8 @@ use crate::case_files::{file_by_program_order, file_named, pattern_of};
 use crate::histories::writes;
 use cert_check::{CaseFile, DeskError};
 use collector::judge_with;
-use desk::{Desk, Gate, Shelf, ShelfName, Ticket};
+use desk::{Desk, Shelf, ShelfName, Ticket};
+use history::Gate;
 use objects::Memory;
 use operations::OpId;
 use std::alloc::{AllocError, Global};
@@ -18,7 +19,7 @@ use std::thread;
 use std::thread::Threads;
 
 /// Turns of waiting, after which a thread goes on alone.
-const TURNS: u64 = 1_000_000;
+const TURNS: u64 = 20_000_000;
 
 /// The first operation of the first session.
 pub const FIRST: OpId = OpId {
