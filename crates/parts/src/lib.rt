@@ -1,0 +1,12 @@
+//! Parts of histories: some operations of each session in their order. What a history meets, its parts at some keys meet too,
+//! and so do the parts of a memory history of distinct values that keep the sources of their reads.
+#![tactic(auto)]
+
+mod keeps;
+mod kept;
+pub mod laws;
+mod part;
+
+pub use keeps::Keeps;
+pub use kept::{AtKeys, Listed, WithoutKeys};
+pub use part::part_of;
