@@ -1,4 +1,9 @@
 pub mod CaseForms
+pub mod CutScripts
+pub mod CutTexts
+pub mod KeptScripts
+pub mod KeptSteps
 pub mod ScriptForms
 pub mod ScriptReading
 pub mod StepForms
+pub mod WiderPlaces

@@ -54,6 +54,16 @@ parts_among-read (n ∷ k ∷ ss ∷ t ∷ []) p e =
     parts_are n k ss (t ∷ []) p (one_list t (elements t) refl q.0) q.1
 parts_among-read (n ∷ k ∷ ss ∷ t ∷ d ∷ ds) p e = absurd cc
 
+-- the parts of a form are read from it
+pub parts_again : (p : Parts) → AreParts p → parts_at (parts_form p) ≡ Some p
+parts_again p are = again p.rest are
+  where
+    again : (rest : List Data) → IsRest rest
+        → parts_at (list (string p.name ∷ number_form p.sessions ∷ list p.steps ∷ rest)) ≡ Some (record { name = p.name; sessions = p.sessions; steps = p.steps; rest = rest })
+    again [] is = rw (listed-items_of p.steps) refl
+    again (t ∷ []) is = rw (is.1, listed-items_of p.steps) refl
+    again (t ∷ e ∷ ds) is = absurd is
+
 module _ (d : Data) where
   pub parts-read : (p : Parts) → parts_at d ≡ Some p → (d ≡ parts_form p) × AreParts p
   parts-read p e =
@@ -63,13 +73,7 @@ module _ (d : Data) where
 
   pub no_parts : parts_at d ≡ None → (p : Parts) → AreParts p → d ≢ parts_form p
   no_parts none p are same =
-      let e : ◌≡◌ {A = Option Parts} None (Some p) = sym none ∙ ap parts_at same ∙ again p.name p.sessions p.steps p.rest are in absurd cc
-    where
-      again : (name : List ℕ) (k : ℕ) (steps rest : List Data) → IsRest rest
-          → parts_at (list (string name ∷ number_form k ∷ list steps ∷ rest)) ≡ Some (record { name = name; sessions = k; steps = steps; rest = rest })
-      again name k steps [] is = rw (listed-items_of steps) refl
-      again name k steps (t ∷ []) is = rw (is.1, listed-items_of steps) refl
-      again name k steps (t ∷ e ∷ ds) is = absurd is
+      let e : ◌≡◌ {A = Option Parts} None (Some p) = sym none ∙ ap parts_at same ∙ parts_again p are in absurd cc
 
 -- ---- names
 

@@ -1,4 +1,5 @@
 pub mod AnyScriptForm
+pub mod Places
 pub mod Refusals
 pub mod Replays
 pub mod ReplyLines

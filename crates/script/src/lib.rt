@@ -12,6 +12,7 @@ mod replaying;
 mod script;
 mod script_error;
 mod script_parts;
+mod script_place;
 mod step_word;
 mod writing_out;
 mod written_step;

@@ -11,6 +11,8 @@ use crate::any_script::AnyScript;
 use crate::reading_script::read_script_of;
 use crate::script_error::ScriptError;
 use crate::script_parts::script_parts;
+use crate::script_place::ScriptPlace;
+use bounded_json::{TextError, read_bounded};
 use history::MAX_SESSIONS;
 use operations::{ObjectName, object_named};
 use serde_json::Value;
@@ -18,21 +20,17 @@ use std::alloc::Global;
 
 /// The script whose form the text is, as JSON.
 ///
-/// `NotJson` where `serde_json` refuses the text, else as [`script_of`] for its value. O(n) for a text of n bytes.
+/// `NotJson` where `serde_json` refuses the text, else as [`script_of`] for its value. O(n) for a text of n bytes, and what no
+/// script has takes no memory.
 pub fn read_script(alloc: Global, text: &[u8]) -> Result<AnyScript, ScriptError>
     ensures is_script { IfOk result IsAnyScript }
     ensures form { IfOk result (λ script. IsJson text.now (form_of script)) }
     ensures refused { IfErr result (IsRefusedFor text.now) }
 {
-    match Value::from_slice(alloc, text) {
+    match read_bounded(alloc, text, ScriptPlace::Whole) {
         Ok(value) => script_of(alloc, &value),
-        Err(refused) => {
-            if refused.is_memory() {
-                Err(ScriptError::Memory)
-            } else {
-                Err(ScriptError::NotJson)
-            }
-        }
+        Err(TextError::NotJson) => Err(ScriptError::NotJson),
+        Err(TextError::Memory) => Err(ScriptError::Memory),
     }
 }
 
