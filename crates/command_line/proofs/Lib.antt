@@ -1,4 +1,5 @@
 pub mod Usages
 pub mod Words
-pub mod DriveSettings
-pub mod DriveSays
+pub mod Names
+pub mod SettingWords
+pub mod Saying

@@ -8,8 +8,9 @@ use Rattle.command_line.specs.declared.order.Usage.TheVariants.{Fault, Help, Mem
 use Rattle.command_line.specs.CommandLine.{IsUsageFor, IsUsageOf}
 
 pub usage_among : (kinds : Kinds) (e : Error) (u : Usage) → HasKind kinds e → IsUsageOf (kind_of e) u → IsUsageFor kinds u
-usage_among kinds e (Help text) (inl memory) help = absurd (cc)
-usage_among kinds e (Help text) (inr among) help = rw (← help) among
+usage_among kinds e (Help text) (inl memory) (inl help) = absurd (cc)
+usage_among kinds e (Help text) (inl memory) (inr version) = absurd (cc)
+usage_among kinds e (Help text) (inr among) request = (kind_of e, among, request)
 usage_among kinds e (Fault text) (inl memory) fault = absurd (fault.1 memory)
 usage_among kinds e (Fault text) (inr among) fault = inr (kind_of e, among, fault.0)
 usage_among kinds e Memory has any = tt

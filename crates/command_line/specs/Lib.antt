@@ -1,4 +1,5 @@
 pub mod Numerals
-pub mod DriveWords
+pub mod Expected
+pub mod Options
 pub mod CommandLine
 pub mod Steps

@@ -1,13 +1,24 @@
 //! What the words of a command line order, and what is said of other words.
 #![tactic(auto)]
 
+mod arguments;
 mod drive;
-mod drive_words;
+mod expected;
+mod form;
+mod help;
+mod judging;
 mod numerals;
+mod options;
 mod order;
+mod program;
+mod said;
+mod settings;
 mod workers;
 
 pub use drive::{Drive, MAX_SEALS, Store};
+pub use expected::Expected;
+pub use form::Form;
+pub use judging::Judging;
 pub use order::{Order, Usage, command_of, fault_with};
 pub use replica::Delivery;
 pub use workers::Workers;

@@ -1,9 +1,12 @@
--- Words without a number, behind `drive`.
+-- Words without a value, behind a command.
 use Rattle.std.specs.Prelude.{◌≢◌, codes}
 use Rattle.clap.specs.Words.{Text}
 
--- a word is none of those that say something without a number
+-- a word is none of those that say something without a value
 pub record IsNoBareWord (word : Text) : Type 0 where
   pub causal : word ≢ codes "causal"
   pub lamport : word ≢ codes "lamport"
   pub eager : word ≢ codes "--eager"
+  pub json : word ≢ codes "--json"
+  pub certificates : word ≢ codes "--certificates"
+  pub svg : word ≢ codes "--svg"

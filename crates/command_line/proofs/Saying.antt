@@ -1,13 +1,15 @@
--- What words behind `drive` say, one after the other.
-use Rattle.std.proofs.Common.{◌≡◌, ◌≤◌, ◌∙◌, ◌-◌, ◌⊎◌, List, [], ◌∷◌, length, map, drop, take, get_or, arith, refl, sym, ap, subst, Option, Some, None, inl, inr, ⊎_elim, MatchOption}
+-- What the words behind a command say, one after the other, and the order that they give.
+use Rattle.std.proofs.Common.{◌≡◌, ◌≤◌, ◌∙◌, ◌-◌, List, [], ◌∷◌, length, map, drop, take, get_or, arith, sym, ap, subst, Option, Some, None, inl, inr, ⊎_elim, MatchOption}
 use Rattle.std.proofs.lemmas.List.{take_all}
 use Rattle.std.proofs.lemmas.Option.{same_Some}
 use Rattle.clap.specs.Words.{Text}
-use Rattle.command_line.specs.declared.drive.Drive.{Drive}
-use Rattle.command_line.specs.declared.drive_words.Said.{Said}
-use Rattle.command_line.specs.declared.drive_words.Setting.{Setting}
-use Rattle.command_line.specs.DriveWords.{AddsAlone, AddsTogether, AskToDrive, Say, SaysAlone, SaysTogether, and_also, drive_for, unsaid}
-use Rattle.command_line.proofs.DriveSettings.{alone_once, alone_or_together, together_once}
+use Rattle.std.specs.Prelude.{◌≢◌}
+use Rattle.command_line.specs.declared.order.Order.{Order}
+use Rattle.command_line.specs.declared.said.Said.{Said}
+use Rattle.command_line.specs.declared.settings.CommandName.{CommandName}
+use Rattle.command_line.specs.declared.settings.Setting.{Setting}
+use Rattle.command_line.specs.Options.{AddsAlone, AddsTogether, IsOrder, Say, SaysAlone, SaysTogether, and_also, command_word, order_for, unsaid}
+use Rattle.command_line.proofs.SettingWords.{alone_once, alone_or_together, command_once, together_once}
 
 -- a setting is added in one way
 added_once : (before : Said) (s t : Setting) (a b : Said) → s ≡ t → and_also before s ≡ Some a → and_also before t ≡ Some b → a ≡ b
@@ -16,12 +18,12 @@ added_once before s t a b same first second = same_Some a b (sym first ∙ ap (a
 adds_alone_once : (before : Said) (w : Text) (a b : Said) → AddsAlone before w a → AddsAlone before w b → a ≡ b
 adds_alone_once before w a b first second = added_once before first.0 second.0 a b (alone_once first.0 second.0 w first.1 second.1) first.2 second.2
 
-adds_together_once : (before : Said) (w number : Text) (a b : Said) → AddsTogether before w number a → AddsTogether before w number b → a ≡ b
-adds_together_once before w number a b first second =
-    added_once before first.0 second.0 a b (together_once first.0 second.0 w number first.1 second.1) first.2 second.2
+adds_together_once : (before : Said) (w value : Text) (a b : Said) → AddsTogether before w value a → AddsTogether before w value b → a ≡ b
+adds_together_once before w value a b first second =
+    added_once before first.0 second.0 a b (together_once first.0 second.0 w value first.1 second.1) first.2 second.2
 
-adds_one_way : (before : Said) (w number : Text) (a b : Said) → AddsAlone before w a → AddsTogether before w number b → ⊥
-adds_one_way before w number a b alone together = alone_or_together alone.0 together.0 w number alone.1 together.1
+adds_one_way : (before : Said) (w value : Text) (a b : Said) → AddsAlone before w a → AddsTogether before w value b → ⊥
+adds_one_way before w value a b alone together = alone_or_together alone.0 together.0 w value alone.1 together.1
 
 -- what comes of one word or of two, where it is known what they say
 pub added_alone : (before : Said) (s : Setting) (w : Text) (r : Option Said) → SaysAlone s w → r ≡ and_also before s
@@ -30,22 +32,22 @@ added_alone before s w None says is = λ after adds.
     let bad : None ≡ Some after = is ∙ ap (and_also before) (alone_once s adds.0 w says adds.1) ∙ adds.2 in absurd (cc)
 added_alone before s w (Some said) says is = (s, says, sym is)
 
-pub added_together : (before : Said) (s : Setting) (w number : Text) (r : Option Said) → SaysTogether s w number → r ≡ and_also before s
-    → MatchOption r ((after : Said) → ¬ AddsTogether before w number after) (AddsTogether before w number)
-added_together before s w number None says is = λ after adds.
-    let bad : None ≡ Some after = is ∙ ap (and_also before) (together_once s adds.0 w number says adds.1) ∙ adds.2 in absurd (cc)
-added_together before s w number (Some said) says is = (s, says, sym is)
+pub added_together : (before : Said) (s : Setting) (w value : Text) (r : Option Said) → SaysTogether s w value → r ≡ and_also before s
+    → MatchOption r ((after : Said) → ¬ AddsTogether before w value after) (AddsTogether before w value)
+added_together before s w value None says is = λ after adds.
+    let bad : None ≡ Some after = is ∙ ap (and_also before) (together_once s adds.0 w value says adds.1) ∙ adds.2 in absurd (cc)
+added_together before s w value (Some said) says is = (s, says, sym is)
 
 pub none_alone : (before : Said) (w : Text) → ((s : Setting) → ¬ SaysAlone s w) → (after : Said) → ¬ AddsAlone before w after
 none_alone before w none after adds = none adds.0 adds.1
 
-pub none_together : (before : Said) (w number : Text) → ((s : Setting) → ¬ SaysTogether s w number) → (after : Said) → ¬ AddsTogether before w number after
-none_together before w number none after adds = none adds.0 adds.1
+pub none_together : (before : Said) (w value : Text) → ((s : Setting) → ¬ SaysTogether s w value) → (after : Said) → ¬ AddsTogether before w value after
+none_together before w value none after adds = none adds.0 adds.1
 
 -- a word that says something alone names no option
 not_both : (before said after : Said) (w : Text) (words : List Text) → AddsAlone before w said → Say before (Some w) words after → ⊥
 not_both before said after w [] adds say = say
-not_both before said after w (number ∷ words) adds say = adds_one_way before w number said say.0 adds say.1
+not_both before said after w (value ∷ words) adds say = adds_one_way before w value said say.0 adds say.1
 
 -- what comes of more words
 pub say_next : (before said : Said) (w : Text) (words : List Text) (r : Option Said) → AddsAlone before w said
@@ -65,16 +67,16 @@ say_later before w words None none rest = λ after say.
     (λ (behind : Say before (Some w) words after). rest after behind) say
 say_later before w words (Some after) none rest = inr rest
 
-pub say_number : (before said : Said) (w number : Text) (words : List Text) (r : Option Said) → AddsTogether before w number said
+pub say_value : (before said : Said) (w value : Text) (words : List Text) (r : Option Said) → AddsTogether before w value said
     → MatchOption r ((after : Said) → ¬ Say said None words after) (Say said None words)
-    → MatchOption r ((after : Said) → ¬ Say before (Some w) (number ∷ words) after) (Say before (Some w) (number ∷ words))
-say_number before said w number words None adds rest = λ after behind.
-    rest after (subst (λ (x : Said). Say x None words after) (adds_together_once before w number behind.0 said behind.1 adds) behind.2)
-say_number before said w number words (Some after) adds rest = (said, adds, rest)
+    → MatchOption r ((after : Said) → ¬ Say before (Some w) (value ∷ words) after) (Say before (Some w) (value ∷ words))
+say_value before said w value words None adds rest = λ after behind.
+    rest after (subst (λ (x : Said). Say x None words after) (adds_together_once before w value behind.0 said behind.1 adds) behind.2)
+say_value before said w value words (Some after) adds rest = (said, adds, rest)
 
-pub say_no_number : (before : Said) (w number : Text) (words : List Text) → ((after : Said) → ¬ AddsTogether before w number after)
-    → (after : Said) → ¬ Say before (Some w) (number ∷ words) after
-say_no_number before w number words none after behind = none behind.0 behind.1
+pub say_no_value : (before : Said) (w value : Text) (words : List Text) → ((after : Said) → ¬ AddsTogether before w value after)
+    → (after : Said) → ¬ Say before (Some w) (value ∷ words) after
+say_no_value before w value words none after behind = none behind.0 behind.1
 
 -- the first of some words, and those behind it
 abbrev pub behind_first : {A : Type 0} → List A → List A
@@ -104,12 +106,20 @@ says_later f before xs a w v r least first is also none rest =
     (sym (first_word f xs a v least first also))
     (say_later before v (map f (behind_first xs)) r (subst (λ (u : Text). (after : Said) → ¬ AddsAlone before u after) (is ∙ sym also) none) rest)
 
-pub says_no_number : {A : Type 0} (f : A → Text) (before : Said) (w number : Text) (xs : List A) (a : A) → 1 ≤ length xs
-    → a ≡ get_or xs 0 a → number ≡ f a → ((after : Said) → ¬ AddsTogether before w number after)
+pub says_value : {A : Type 0} (f : A → Text) (before said : Said) (w value : Text) (xs : List A) (a : A) (r : Option Said) → 1 ≤ length xs
+    → a ≡ get_or xs 0 a → value ≡ f a → AddsTogether before w value said
+    → MatchOption r ((after : Said) → ¬ Say said None (map f (behind_first xs)) after) (Say said None (map f (behind_first xs)))
+    → MatchOption r ((after : Said) → ¬ Say before (Some w) (map f xs) after) (Say before (Some w) (map f xs))
+says_value f before said w value xs a r least first is adds rest =
+    subst (λ (words : List Text). MatchOption r ((after : Said) → ¬ Say before (Some w) words after) (Say before (Some w) words))
+    (sym (first_word f xs a value least first is)) (say_value before said w value (map f (behind_first xs)) r adds rest)
+
+pub says_no_value : {A : Type 0} (f : A → Text) (before : Said) (w value : Text) (xs : List A) (a : A) → 1 ≤ length xs
+    → a ≡ get_or xs 0 a → value ≡ f a → ((after : Said) → ¬ AddsTogether before w value after)
     → (after : Said) → ¬ Say before (Some w) (map f xs) after
-says_no_number f before w number xs a least first is none =
+says_no_value f before w value xs a least first is none =
     subst (λ (words : List Text). (after : Said) → ¬ Say before (Some w) words after)
-    (sym (first_word f xs a number least first is)) (say_no_number before w number (map f (behind_first xs)) none)
+    (sym (first_word f xs a value least first is)) (say_no_value before w value (map f (behind_first xs)) none)
 
 -- words say one thing
 say_once : (before : Said) (name : Option Text) (words : List Text) (a b : Said) → Say before name words a → Say before name words b → a ≡ b
@@ -120,15 +130,23 @@ say_once before None (w ∷ words) a b (inl x) (inl y) =
 say_once before None (w ∷ words) a b (inl x) (inr y) = absurd (not_both before x.0 b w words x.1 y)
 say_once before None (w ∷ words) a b (inr x) (inl y) = absurd (not_both before y.0 a w words y.1 x)
 say_once before None (w ∷ words) a b (inr x) (inr y) = say_once before (Some w) words a b x y
-say_once before (Some name) (number ∷ words) a b x y =
-    say_once y.0 None words a b (subst (λ (said : Said). Say said None words a) (adds_together_once before name number x.0 y.0 x.1 y.1) x.2) y.2
+say_once before (Some name) (value ∷ words) a b x y =
+    say_once y.0 None words a b (subst (λ (said : Said). Say said None words a) (adds_together_once before name value x.0 y.0 x.1 y.1) x.2) y.2
 
--- the drive that is asked for
-pub no_drive : (words : List Text) → ((after : Said) → ¬ Say unsaid None words after) → (drive : Drive) → ¬ AskToDrive drive words
-no_drive words none drive asks = none asks.0 asks.1
+-- the order that is given
+pub order_given : (word : Text) (words : List Text) (command : CommandName) (said : Said) (r : Option Order) → word ≡ command_word command
+    → Say (unsaid command) None words said → r ≡ order_for said
+    → MatchOption r ((order : Order) → ¬ IsOrder order word words) (λ order. IsOrder order word words)
+order_given word words command said None is say gives = λ order asks.
+    let same : command ≡ asks.0 = command_once command asks.0 (sym is ∙ asks.1) in
+    let one : said ≡ asks.2 = say_once (unsaid asks.0) None words said asks.2 (subst (λ (c : CommandName). Say (unsaid c) None words said) same say) asks.3 in
+    let bad : None ≡ Some order = gives ∙ ap order_for one ∙ asks.4 in absurd (cc)
+order_given word words command said (Some order) is say gives = (command, is, said, say, sym gives)
 
-pub drive_asked : (words : List Text) (said : Said) (r : Option Drive) → Say unsaid None words said → r ≡ drive_for said
-    → MatchOption r ((drive : Drive) → ¬ AskToDrive drive words) (λ drive. AskToDrive drive words)
-drive_asked words said None say is = λ drive asks.
-    let bad : None ≡ Some drive = is ∙ ap drive_for (say_once unsaid None words said asks.0 say asks.1) ∙ asks.2 in absurd (cc)
-drive_asked words said (Some drive) say is = (said, say, sym is)
+pub nothing_said : (word : Text) (words : List Text) (command : CommandName) → word ≡ command_word command
+    → ((after : Said) → ¬ Say (unsaid command) None words after) → (order : Order) → ¬ IsOrder order word words
+nothing_said word words command is none order asks =
+    none asks.2 (subst (λ (c : CommandName). Say (unsaid c) None words asks.2) (command_once asks.0 command (sym asks.1 ∙ is)) asks.3)
+
+pub no_command : (word : Text) (words : List Text) → ((command : CommandName) → word ≢ command_word command) → (order : Order) → ¬ IsOrder order word words
+no_command word words none order asks = none asks.0 asks.1

@@ -1,21 +1,23 @@
 -- What is said of the words is said of the first and of those behind it.
-use Rattle.command_line.proofs.DriveSays.{says_later, says_next, says_no_number}
-use Rattle.command_line.proofs.drive_words.+said.Goals as goal
+use Rattle.command_line.proofs.Saying.{says_later, says_next, says_no_value, says_value}
+use Rattle.command_line.proofs.options.+said.Goals as goal
 
--- src/drive_words.rt:183:1
 pub said_behind-returns-in-None : goal.said_behind-returns-in-None
 said_behind-returns-in-None g t c =
-    says_no_number g.S.AsStr.text c.args.before.now c.args.word.now c.as_str.result.now c.args.behind.now c.number-item.result
-    c.in-len1-up.len_at_least c.number-item.is c.as_str.ensures c.in-None.ensures
+    says_no_value g.S.AsStr.text c.args.before.now c.args.word.now c.as_str.result.now c.args.behind.now c.value-item.result
+    c.in-len1-up.len_at_least c.value-item.is c.as_str.ensures c.in-None.ensures
 
--- src/drive_words.rt:167:1
 pub said_in-returns-in-Some : goal.said_in-returns-in-Some
 said_in-returns-in-Some g t c =
     says_next g.S.AsStr.text c.args.before.now c.in-Some.said c.args.words.now c.word-item.result c.as_str.result.now c.said_in.result
     c.in-len1-up.len_at_least c.word-item.is c.as_str.ensures c.in-Some.ensures c.said_in.ensures
 
--- src/drive_words.rt:167:1
 pub said_in-returns-in-None : goal.said_in-returns-in-None
 said_in-returns-in-None g t c =
     says_later g.S.AsStr.text c.args.before.now c.args.words.now c.word-item.result c.as_str.result.now c.as_str-in-None.result.now c.said_behind.result
     c.in-len1-up.len_at_least c.word-item.is c.as_str.ensures c.as_str-in-None.ensures c.in-None.ensures c.said_behind.ensures
+
+pub said_behind-returns-in-Some : goal.said_behind-returns-in-Some
+said_behind-returns-in-Some g t c =
+    says_value g.S.AsStr.text c.args.before.now c.in-Some.said c.args.word.now c.as_str.result.now c.args.behind.now c.value-item.result c.said_in.result
+    c.in-len1-up.len_at_least c.value-item.is c.as_str.ensures c.in-Some.ensures c.said_in.ensures

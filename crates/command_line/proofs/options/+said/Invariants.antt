@@ -1,6 +1,6 @@
 -- Each call goes on with the words behind one.
 use Rattle.std.proofs.Common.{length}
-use Rattle.command_line.proofs.drive_words.+said.Given as goal
+use Rattle.command_line.proofs.options.+said.Given as goal
 
 abbrev pub decreases-said_behind : goal.decreases-said_behind
 decreases-said_behind g l = length l.behind.now

@@ -1,0 +1,199 @@
+-- What a word says is read off it: no word says two things.
+use Rattle.std.proofs.Common.{◌≡◌, ◌<◌, ◌≤◌, ◌∙◌, ℕ, Bool, true, false, ◌∷◌, ◌++◌, refl, sym, ap, subst, ◌+◌, ◌*◌}
+use Rattle.std.specs.Prelude.{◌≢◌, ◌==◌, ◌||◌, codes, if◌then◌else◌, nat_eq}
+use Rattle.std.specs.Cmp.Lexicographic.{pointwise}
+use Rattle.std.specs.List.{after_first}
+use Rattle.std.specs.Str.Parse.{digits_value, without_leading_plus}
+use Rattle.clap.specs.Words.{Text}
+use Rattle.history.specs.Workers.{AreWorkers}
+use Rattle.history.specs.declared.limits.TheConstants.{MAX_SESSIONS}
+use Rattle.command_line.specs.declared.drive.TheConstants.{MAX_SEALS}
+use Rattle.command_line.specs.declared.drive.Store.TheVariants.{Causal, Lamport}
+use Rattle.command_line.specs.declared.expected.Expected.{Expected}
+use Rattle.command_line.specs.declared.settings.CommandName.{CommandName}
+use Rattle.command_line.specs.declared.settings.CommandName.TheVariants as commands
+use Rattle.command_line.specs.declared.settings.Setting.{Setting}
+use Rattle.command_line.specs.declared.settings.Setting.TheVariants as settings
+use Rattle.command_line.specs.Expected.{Lists}
+use Rattle.command_line.specs.Numerals.{Writes}
+use Rattle.command_line.specs.Options.{SaysAlone, SaysTogether, command_word}
+use Rattle.command_line.specs.Steps.BareWords.{IsNoBareWord}
+use Rattle.command_line.proofs.Names.{list-read, listed}
+
+-- three letters of a word tell its setting apart
+abbrev mark : Text → ℕ
+mark (a ∷ b ∷ c ∷ d ∷ rest) = a + (1000 * c + 1000000 * d)
+mark _ = 0
+
+abbrev number_in : Text → ℕ
+number_in text = digits_value 10 (without_leading_plus text)
+
+-- what a word and a value say, and the value behind the sign of equality in a word
+abbrev setting_of : Text → Text → Setting
+setting_of word value =
+    if mark word == 115117099 then settings.Store Causal else
+    if mark word == 112109108 then settings.Store Lamport else
+    if mark word == 97101045 then settings.Eager else
+    if mark word == 115106045 then settings.Json else
+    if mark word == 101099045 then settings.Certificates else
+    if mark word == 118115045 then settings.Svg else
+    if mark word == 101115045 then settings.Seals (number_in value) else
+    if mark word == 111119045 then settings.Workers (number_in value) else
+    if mark word == 116115045 then settings.Stop (number_in value) else
+    settings.Expect (listed value)
+
+abbrev value_of : Text → Text
+value_of word = after_first (λ c. c == 61) word
+
+alone-read : (s : Setting) (w : Text) → SaysAlone s w → setting_of w (value_of w) ≡ s
+alone-read (settings.Store Causal) w says = ap (λ v. setting_of v (value_of v)) says
+alone-read (settings.Store Lamport) w says = ap (λ v. setting_of v (value_of v)) says
+alone-read settings.Eager w says = ap (λ v. setting_of v (value_of v)) says
+alone-read settings.Json w says = ap (λ v. setting_of v (value_of v)) says
+alone-read settings.Certificates w says = ap (λ v. setting_of v (value_of v)) says
+alone-read settings.Svg w says = ap (λ v. setting_of v (value_of v)) says
+alone-read (settings.Seals n) w says = ap (λ v. setting_of v (value_of v)) says.1 ∙ ap settings.Seals says.2.1
+alone-read (settings.Workers n) w says = ap (λ v. setting_of v (value_of v)) says.1 ∙ ap settings.Workers says.2.1
+alone-read (settings.Stop n) w says = ap (λ v. setting_of v (value_of v)) says.1 ∙ ap settings.Stop says.2.1
+alone-read (settings.Expect e) w says = ap (λ v. setting_of v (value_of v)) says.1 ∙ ap settings.Expect (sym (list-read says.0 e says.2))
+
+together-read : (s : Setting) (w value : Text) → SaysTogether s w value → setting_of w value ≡ s
+together-read (settings.Seals n) w value says = ap (λ v. setting_of v value) says.0 ∙ ap settings.Seals says.1.1
+together-read (settings.Workers n) w value says = ap (λ v. setting_of v value) says.0 ∙ ap settings.Workers says.1.1
+together-read (settings.Stop n) w value says = ap (λ v. setting_of v value) says.0 ∙ ap settings.Stop says.1.1
+together-read (settings.Expect e) w value says = ap (λ v. setting_of v value) says.0 ∙ ap settings.Expect (sym (list-read value e says.1))
+together-read (settings.Store store) w value says = absurd says
+together-read settings.Eager w value says = absurd says
+together-read settings.Json w value says = absurd says
+together-read settings.Certificates w value says = absurd says
+together-read settings.Svg w value says = absurd says
+
+-- one word says one thing, and so do two
+pub alone_once : (s t : Setting) (w : Text) → SaysAlone s w → SaysAlone t w → s ≡ t
+alone_once s t w says also = sym (alone-read s w says) ∙ alone-read t w also
+
+pub together_once : (s t : Setting) (w value : Text) → SaysTogether s w value → SaysTogether t w value → s ≡ t
+together_once s t w value says also = sym (together-read s w value says) ∙ together-read t w value also
+
+-- what one word says, no two words say
+abbrev names_option : Text → Bool
+names_option word =
+    pointwise nat_eq (codes "--seals") word || (pointwise nat_eq (codes "--workers") word || (pointwise nat_eq (codes "--stop") word || pointwise nat_eq (codes "--expect") word))
+
+alone-no-option : (s : Setting) (w : Text) → SaysAlone s w → names_option w ≡ false
+alone-no-option (settings.Store Causal) w says = ap names_option says
+alone-no-option (settings.Store Lamport) w says = ap names_option says
+alone-no-option settings.Eager w says = ap names_option says
+alone-no-option settings.Json w says = ap names_option says
+alone-no-option settings.Certificates w says = ap names_option says
+alone-no-option settings.Svg w says = ap names_option says
+alone-no-option (settings.Seals n) w says = ap names_option says.1
+alone-no-option (settings.Workers n) w says = ap names_option says.1
+alone-no-option (settings.Stop n) w says = ap names_option says.1
+alone-no-option (settings.Expect n) w says = ap names_option says.1
+
+together-option : (s : Setting) (w value : Text) → SaysTogether s w value → names_option w ≡ true
+together-option (settings.Seals n) w value says = ap names_option says.0
+together-option (settings.Workers n) w value says = ap names_option says.0
+together-option (settings.Stop n) w value says = ap names_option says.0
+together-option (settings.Expect n) w value says = ap names_option says.0
+together-option (settings.Store store) w value says = absurd says
+together-option settings.Eager w value says = absurd says
+together-option settings.Json w value says = absurd says
+together-option settings.Certificates w value says = absurd says
+together-option settings.Svg w value says = absurd says
+
+pub alone_or_together : (s t : Setting) (w value : Text) → SaysAlone s w → SaysTogether t w value → ⊥
+alone_or_together s t w value says also = let bad : ◌≡◌ {A = Bool} true false = sym (together-option t w value also) ∙ alone-no-option s w says in absurd (cc)
+
+-- a word that begins as an option does, and writes no value that the option takes, says nothing
+same_numeral : (text other : Text) (n : ℕ) → text ≡ other → Writes text n → Writes other n
+same_numeral text other n same writes = subst (λ (t : Text). Writes t n) same writes
+
+alone_as : (w v : Text) (s : Setting) → w ≡ v → SaysAlone s w → SaysAlone (setting_of v (value_of v)) w
+alone_as w v s is says = subst (λ (x : Setting). SaysAlone x w) (sym (alone-read s w says) ∙ ap (λ t. setting_of t (value_of t)) is) says
+
+together_as : (w v value : Text) (s : Setting) → w ≡ v → SaysTogether s w value → SaysTogether (setting_of v value) w value
+together_as w v value s is says = subst (λ (x : Setting). SaysTogether x w value) (sym (together-read s w value says) ∙ ap (λ t. setting_of t value) is) says
+
+pub no_seals : (w number : Text) → w ≡ codes "--seals=" ++ number → ((n : ℕ) → n ≤ MAX_SEALS → ¬ Writes number n) → (s : Setting) → ¬ SaysAlone s w
+no_seals w number is none s says =
+    let so : SaysAlone (settings.Seals (number_in number)) w = alone_as w (codes "--seals=" ++ number) s is says in
+    none (number_in number) so.3 (same_numeral so.0 number (number_in number) (ap value_of (sym so.1 ∙ is)) so.2)
+
+pub no_workers : (w number : Text) → w ≡ codes "--workers=" ++ number → ((n : ℕ) → AreWorkers n → ¬ Writes number n) → (s : Setting) → ¬ SaysAlone s w
+no_workers w number is none s says =
+    let so : SaysAlone (settings.Workers (number_in number)) w = alone_as w (codes "--workers=" ++ number) s is says in
+    none (number_in number) so.3 (same_numeral so.0 number (number_in number) (ap value_of (sym so.1 ∙ is)) so.2)
+
+pub no_stop : (w number : Text) → w ≡ codes "--stop=" ++ number → ((n : ℕ) → n < MAX_SESSIONS → ¬ Writes number n) → (s : Setting) → ¬ SaysAlone s w
+no_stop w number is none s says =
+    let so : SaysAlone (settings.Stop (number_in number)) w = alone_as w (codes "--stop=" ++ number) s is says in
+    none (number_in number) so.3 (same_numeral so.0 number (number_in number) (ap value_of (sym so.1 ∙ is)) so.2)
+
+pub no_expect : (w list : Text) → w ≡ codes "--expect=" ++ list → ((e : Expected) → ¬ Lists list e) → (s : Setting) → ¬ SaysAlone s w
+no_expect w list is none s says =
+    let so : SaysAlone (settings.Expect (listed list)) w = alone_as w (codes "--expect=" ++ list) s is says in
+    none (listed list) (subst (λ (t : Text). Lists t (listed list)) (ap value_of (sym so.1 ∙ is)) so.2)
+
+-- a word and a value behind it that the option does not take say nothing
+pub no_seals_behind : (w number : Text) → w ≡ codes "--seals" → ((n : ℕ) → n ≤ MAX_SEALS → ¬ Writes number n) → (s : Setting) → ¬ SaysTogether s w number
+no_seals_behind w number is none s says =
+    let so : SaysTogether (settings.Seals (number_in number)) w number = together_as w (codes "--seals") number s is says in none (number_in number) so.2 so.1
+
+pub no_workers_behind : (w number : Text) → w ≡ codes "--workers" → ((n : ℕ) → AreWorkers n → ¬ Writes number n) → (s : Setting) → ¬ SaysTogether s w number
+no_workers_behind w number is none s says =
+    let so : SaysTogether (settings.Workers (number_in number)) w number = together_as w (codes "--workers") number s is says in none (number_in number) so.2 so.1
+
+pub no_stop_behind : (w number : Text) → w ≡ codes "--stop" → ((n : ℕ) → n < MAX_SESSIONS → ¬ Writes number n) → (s : Setting) → ¬ SaysTogether s w number
+no_stop_behind w number is none s says =
+    let so : SaysTogether (settings.Stop (number_in number)) w number = together_as w (codes "--stop") number s is says in none (number_in number) so.2 so.1
+
+pub no_expect_behind : (w list : Text) → w ≡ codes "--expect" → ((e : Expected) → ¬ Lists list e) → (s : Setting) → ¬ SaysTogether s w list
+no_expect_behind w list is none s says =
+    let so : SaysTogether (settings.Expect (listed list)) w list = together_as w (codes "--expect") list s is says in none (listed list) so.1
+
+-- a word that is none of those that say something, says nothing
+pub no_alone : (w : Text) → IsNoBareWord w → ((number : Text) → w ≢ codes "--seals=" ++ number) → ((number : Text) → w ≢ codes "--workers=" ++ number)
+    → ((list : Text) → w ≢ codes "--expect=" ++ list) → ((number : Text) → w ≢ codes "--stop=" ++ number) → (s : Setting) → ¬ SaysAlone s w
+no_alone w bare _ _ _ _ (settings.Store Causal) says = bare.causal says
+no_alone w bare _ _ _ _ (settings.Store Lamport) says = bare.lamport says
+no_alone w bare _ _ _ _ settings.Eager says = bare.eager says
+no_alone w bare _ _ _ _ settings.Json says = bare.json says
+no_alone w bare _ _ _ _ settings.Certificates says = bare.certificates says
+no_alone w bare _ _ _ _ settings.Svg says = bare.svg says
+no_alone w bare is_no _ _ _ (settings.Seals n) says = is_no says.0 says.1
+no_alone w bare _ is_no _ _ (settings.Workers n) says = is_no says.0 says.1
+no_alone w bare _ _ _ is_no (settings.Stop n) says = is_no says.0 says.1
+no_alone w bare _ _ is_no _ (settings.Expect n) says = is_no says.0 says.1
+
+pub no_together : (w value : Text) → w ≢ codes "--seals" → w ≢ codes "--workers" → w ≢ codes "--expect" → w ≢ codes "--stop" → (s : Setting) → ¬ SaysTogether s w value
+no_together w value is_no _ _ _ (settings.Seals n) says = is_no says.0
+no_together w value _ is_no _ _ (settings.Workers n) says = is_no says.0
+no_together w value _ _ _ is_no (settings.Stop n) says = is_no says.0
+no_together w value _ _ is_no _ (settings.Expect n) says = is_no says.0
+no_together w value _ _ _ _ (settings.Store store) says = says
+no_together w value _ _ _ _ settings.Eager says = says
+no_together w value _ _ _ _ settings.Json says = says
+no_together w value _ _ _ _ settings.Certificates says = says
+no_together w value _ _ _ _ settings.Svg says = says
+
+-- a word names one command
+abbrev command_of : Text → CommandName
+command_of word =
+    if mark word == 103100106 then commands.Judge else
+    if mark word == 99101099 then commands.Check else
+    if mark word == 108112101 then commands.Explain else
+    if mark word == 117102114 then commands.Refute else
+    if mark word == 108112114 then commands.Replay else commands.Drive
+
+command-read : (c : CommandName) → command_of (command_word c) ≡ c
+command-read commands.Judge = refl
+command-read commands.Check = refl
+command-read commands.Explain = refl
+command-read commands.Refute = refl
+command-read commands.Replay = refl
+command-read commands.Drive = refl
+
+pub command_once : (c d : CommandName) → command_word c ≡ command_word d → c ≡ d
+command_once c d same = sym (command-read c) ∙ ap command_of same ∙ command-read d

@@ -1,0 +1,11 @@
+use Rattle.command_line.proofs.Words.{too_few, whole_order}
+use Rattle.command_line.proofs.order.order_in.Goals as goal
+
+-- src/order.rt:77:9
+pub returns-in_default : goal.returns-in_default
+returns-in_default g c = too_few g.S.AsStr.text c.args.words.now c.in_default.len_below
+
+pub returns : goal.returns
+returns g c =
+    whole_order g.S.AsStr.text c.args.words.now c.word-item.result c.as_str.result.now c.order_of.result c.in-len2-up.len_at_least c.word-item.is
+    c.as_str.ensures c.order_of.ensures

@@ -1,0 +1,186 @@
+-- What the words behind a command say: in any order, and each at most once, what the command takes. Behind the name of an option
+-- that has a value stands its value, or both are one word, joined by a sign of equality. Text is bytes.
+use Rattle.std.specs.Prelude.{◌≡◌, ◌⊎◌, ◌<◌, ◌≤◌, ◌&&◌, ℕ, List, [], ◌∷◌, ◌++◌, Option, Some, None, codes, option_map, Bool, true, false, if◌then◌else◌, is_some, not, unwrap_or}
+use Rattle.clap.specs.Words.{Text}
+use Rattle.history.specs.Workers.{AreWorkers}
+use Rattle.history.specs.declared.limits.TheConstants.{MAX_SESSIONS}
+use Rattle.replica.specs.declared.delivery.Delivery.{Delivery}
+use Rattle.replica.specs.declared.delivery.Delivery.TheVariants as deliveries
+use Rattle.command_line.specs.declared.drive.Drive.{Drive}
+use Rattle.command_line.specs.declared.drive.Store.{Store}
+use Rattle.command_line.specs.declared.drive.Store.TheVariants.{Causal, Lamport}
+use Rattle.command_line.specs.declared.drive.TheConstants.{MAX_SEALS}
+use Rattle.command_line.specs.declared.form.Form.{Form}
+use Rattle.command_line.specs.declared.form.Form.TheVariants as forms
+use Rattle.command_line.specs.declared.judging.Judging.{Judging}
+use Rattle.command_line.specs.declared.order.Order.{Order}
+use Rattle.command_line.specs.declared.order.Order.TheVariants as orders
+use Rattle.command_line.specs.declared.said.Said.{Said}
+use Rattle.command_line.specs.declared.settings.CommandName.{CommandName}
+use Rattle.command_line.specs.declared.settings.CommandName.TheVariants as commands
+use Rattle.command_line.specs.declared.settings.Setting.{Setting}
+use Rattle.command_line.specs.declared.settings.Setting.TheVariants as settings
+use Rattle.command_line.specs.Expected.{Lists, expecting_nothing}
+use Rattle.command_line.specs.Numerals.{Writes}
+
+-- the word that names a command
+abbrev pub command_word : CommandName → Text
+command_word commands.Judge = codes "judge"
+command_word commands.Check = codes "check"
+command_word commands.Explain = codes "explain"
+command_word commands.Refute = codes "refute"
+command_word commands.Replay = codes "replay"
+command_word commands.Drive = codes "drive"
+
+-- what a command takes
+abbrev pub takes : CommandName → Setting → Bool
+takes commands.Judge (settings.Workers n) = true
+takes commands.Judge (settings.Expect expected) = true
+takes commands.Check (settings.Workers n) = true
+takes commands.Explain settings.Json = true
+takes commands.Explain settings.Certificates = true
+takes commands.Explain settings.Svg = true
+takes commands.Drive (settings.Store store) = true
+takes commands.Drive settings.Eager = true
+takes commands.Drive (settings.Seals n) = true
+takes commands.Drive (settings.Workers n) = true
+takes commands.Drive (settings.Stop s) = true
+takes _ _ = false
+
+-- the word that names a store
+abbrev pub store_word : Store → Text
+store_word Causal = codes "causal"
+store_word Lamport = codes "lamport"
+
+-- one word says something
+abbrev pub SaysAlone : Setting → Text → Type 0
+SaysAlone (settings.Store store) word = word ≡ store_word store
+SaysAlone settings.Eager word = word ≡ codes "--eager"
+SaysAlone settings.Json word = word ≡ codes "--json"
+SaysAlone settings.Certificates word = word ≡ codes "--certificates"
+SaysAlone settings.Svg word = word ≡ codes "--svg"
+SaysAlone (settings.Seals n) word = (number : Text) × (word ≡ codes "--seals=" ++ number) × Writes number n × (n ≤ MAX_SEALS)
+SaysAlone (settings.Workers n) word = (number : Text) × (word ≡ codes "--workers=" ++ number) × Writes number n × AreWorkers n
+SaysAlone (settings.Stop s) word = (number : Text) × (word ≡ codes "--stop=" ++ number) × Writes number s × (s < MAX_SESSIONS)
+SaysAlone (settings.Expect expected) word = (list : Text) × (word ≡ codes "--expect=" ++ list) × Lists list expected
+
+-- two words say something
+abbrev pub SaysTogether : Setting → Text → Text → Type 0
+SaysTogether (settings.Seals n) word number = (word ≡ codes "--seals") × Writes number n × (n ≤ MAX_SEALS)
+SaysTogether (settings.Workers n) word number = (word ≡ codes "--workers") × Writes number n × AreWorkers n
+SaysTogether (settings.Stop s) word number = (word ≡ codes "--stop") × Writes number s × (s < MAX_SESSIONS)
+SaysTogether (settings.Expect expected) word list = (word ≡ codes "--expect") × Lists list expected
+SaysTogether _ word value = ⊥
+
+-- whether such a thing was said, and all that is said with one thing more
+abbrev pub says : Said → Setting → Bool
+says said (settings.Store store) = is_some said.store
+says said settings.Eager = said.eager
+says said (settings.Seals n) = is_some said.seals
+says said (settings.Workers n) = is_some said.workers
+says said (settings.Stop s) = is_some said.stop
+says said (settings.Expect expected) = is_some said.expected
+says said settings.Json = said.json
+says said settings.Certificates = said.certificates
+says said settings.Svg = said.svg
+
+abbrev pub with_setting : Said → Setting → Said
+with_setting said (settings.Store store) = record said { store = Some store }
+with_setting said settings.Eager = record said { eager = true }
+with_setting said (settings.Seals n) = record said { seals = Some n }
+with_setting said (settings.Workers n) = record said { workers = Some n }
+with_setting said (settings.Stop s) = record said { stop = Some s }
+with_setting said (settings.Expect expected) = record said { expected = Some expected }
+with_setting said settings.Json = record said { json = true }
+with_setting said settings.Certificates = record said { certificates = true }
+with_setting said settings.Svg = record said { svg = true }
+
+-- what was said, and one thing more, which the command takes and which was not said before
+abbrev pub and_also : Said → Setting → Option Said
+and_also said setting = if takes said.command setting && not (says said setting) then Some (with_setting said setting) else None
+
+-- nothing was said to a command yet
+abbrev pub unsaid : CommandName → Said
+unsaid command = record {
+  command = command;
+  store = None;
+  eager = false;
+  seals = None;
+  workers = None;
+  stop = None;
+  expected = None;
+  json = false;
+  certificates = false;
+  svg = false;
+}
+
+-- one thing more is said by one word, or by two
+abbrev pub AddsAlone : Said → Text → Said → Type 0
+AddsAlone before word after = (setting : Setting) × SaysAlone setting word × (and_also before setting ≡ Some after)
+
+abbrev pub AddsTogether : Said → Text → Text → Said → Type 0
+AddsTogether before word value after = (setting : Setting) × SaysTogether setting word value × (and_also before setting ≡ Some after)
+
+-- words say all that is said after them, and was not said before them; where the name of an option went before, the first of
+-- them is its value
+abbrev pub Say : Said → Option Text → List Text → Said → Type 0
+Say before None [] after = after ≡ before
+Say before (Some name) [] after = ⊥
+Say before None (word ∷ words) after = ((said : Said) × AddsAlone before word said × Say said None words after) ⊎ Say before (Some word) words after
+Say before (Some name) (value ∷ words) after = (said : Said) × AddsTogether before name value said × Say said None words after
+
+-- by how many workers: by 2 where nothing is said
+abbrev pub workers_for : Said → ℕ
+workers_for said = unwrap_or said.workers 2
+
+-- how histories are judged
+abbrev pub judging_for : Said → Judging
+judging_for said = record {
+  workers = workers_for said;
+  expected = unwrap_or said.expected expecting_nothing;
+}
+
+-- the form of a reason, where what was said goes together
+abbrev pub form_of : Bool → Bool → Bool → Option Form
+form_of false false false = Some forms.Words
+form_of true false false = Some forms.Json
+form_of true true false = Some forms.Certificates
+form_of false false true = Some forms.Picture
+form_of _ _ _ = None
+
+abbrev pub form_for : Said → Option Form
+form_for said = form_of said.json said.certificates said.svg
+
+-- the drive that is asked for, where a store is named: with no seal while clients run, where nothing is said
+abbrev pub delivery_for : Said → Delivery
+delivery_for said = if said.eager then deliveries.Eager else deliveries.Causal
+
+abbrev pub drive_of : Said → Store → Drive
+drive_of said store = record {
+  store = store;
+  delivery = delivery_for said;
+  seals = unwrap_or said.seals 0;
+  workers = workers_for said;
+  stop = said.stop;
+}
+
+abbrev pub drive_for : Said → Option Drive
+drive_for said = option_map (drive_of said) said.store
+
+-- the order that all that was said to a command gives
+abbrev pub order_to : CommandName → Said → Option Order
+order_to commands.Judge said = Some (orders.Judge (judging_for said))
+order_to commands.Check said = Some (orders.Check (workers_for said))
+order_to commands.Explain said = option_map orders.Explain (form_for said)
+order_to commands.Refute said = Some orders.Refute
+order_to commands.Replay said = Some orders.Replay
+order_to commands.Drive said = option_map orders.Drive (drive_for said)
+
+abbrev pub order_for : Said → Option Order
+order_for said = order_to said.command said
+
+-- a command's word, and the words behind it, give an order
+abbrev pub IsOrder : Order → Text → List Text → Type 0
+IsOrder order word words =
+    (command : CommandName) × (word ≡ command_word command)
+    × (said : Said) × Say (unsaid command) None words said × (order_for said ≡ Some order)

@@ -1,0 +1,90 @@
+//! The options of commands, as `clap` is told of them.
+ghost use Rattle.std.specs.Prelude.{◌≡◌, ◌-◌, codes, false};
+ghost use Rattle.clap.specs.Words.{rule_of};
+ghost use Rattle.command_line.specs.CommandLine.{expect, flag, number_option, store, workers};
+
+use crate::drive::MAX_SEALS;
+use clap::builder::ValueParser;
+use clap::{Arg, ArgAction};
+use history::{MAX_SESSIONS, MAX_WORKERS};
+use std::alloc::Global;
+
+/// The name of a store.
+pub fn store_argument<'a>(alloc: Global) -> Arg<'a>
+    ensures rule { rule_of result ≡ store }
+    ensures local { result.global ≡ false }
+{
+    Arg::new(alloc, "store")
+        .value_name("STORE")
+        .required(true)
+        .action(ArgAction::Set)
+        .help("The store: causal or lamport")
+}
+
+/// An option that has no value.
+pub fn flag_option<'a>(alloc: Global, name: &'a str, help: &'a str) -> Arg<'a>
+    ensures rule { rule_of result ≡ flag name.now }
+    ensures local { result.global ≡ false }
+{
+    Arg::new(alloc, name)
+        .long(name)
+        .action(ArgAction::SetTrue)
+        .help(help)
+}
+
+/// How many workers there are.
+pub fn workers_option<'a>(alloc: Global) -> Arg<'a>
+    ensures rule { rule_of result ≡ workers }
+    ensures local { result.global ≡ false }
+{
+    Arg::new(alloc, "workers")
+        .long("workers")
+        .value_name("N")
+        .action(ArgAction::Set)
+        .value_parser(ValueParser::unsigned(1, MAX_WORKERS as u64))
+        .help(
+            "How many threads check the pieces of a certificate, from 1 to 16; 2 where none is given",
+        )
+}
+
+/// The criteria that are expected to be met.
+pub fn expect_option<'a>(alloc: Global) -> Arg<'a>
+    ensures rule { rule_of result ≡ expect }
+    ensures local { result.global ≡ false }
+{
+    Arg::new(alloc, "expect")
+        .long("expect")
+        .value_name("LIST")
+        .action(ArgAction::Set)
+        .help(
+            "What is to be met: some of cc, cm and ccv, joined by commas. Sets the status, as below",
+        )
+}
+
+/// How many seals are taken while clients run.
+pub fn seals_option<'a>(alloc: Global) -> Arg<'a>
+    ensures rule { rule_of result ≡ number_option (codes "seals") MAX_SEALS }
+    ensures local { result.global ≡ false }
+{
+    Arg::new(alloc, "seals")
+        .long("seals")
+        .value_name("N")
+        .action(ArgAction::Set)
+        .value_parser(ValueParser::unsigned(0, MAX_SEALS as u64))
+        .help("How many histories are sealed while clients run, from 0 to 8; 0 where none is given")
+}
+
+/// Whose client never ends its last call.
+pub fn stop_option<'a>(alloc: Global) -> Arg<'a>
+    ensures rule { rule_of result ≡ number_option (codes "stop") (MAX_SESSIONS - 1) }
+    ensures local { result.global ≡ false }
+{
+    Arg::new(alloc, "stop")
+        .long("stop")
+        .value_name("S")
+        .action(ArgAction::Set)
+        .value_parser(ValueParser::unsigned(0, MAX_SESSIONS as u64 - 1))
+        .help(
+            "The session whose client never ends its last call, from 0 to 15; none where none is given",
+        )
+}

@@ -1,0 +1,53 @@
+//! What the help says beside the commands and their options.
+
+/// The version of the program.
+pub const VERSION: &str = "0.1.0";
+
+/// What the program is for.
+pub const ABOUT: &str =
+    "Judges a recorded history of replicated objects by the criteria of causal consistency";
+
+/// What is read and written, with an example, and what statuses and refusals mean.
+pub const MANUAL: &str =
+    r#"The input is read from standard input, and the answer is written to standard
+output. Here a client reads the old value behind its own write:
+
+  $ echo '["memory",[[["w",0,1],["r",0,0]]]]' | causal_judge judge
+  cc no WriteCOInitRead
+  cm no WriteCOInitRead
+  ccv no WriteCOInitRead
+  $ causal_judge judge < FILE
+
+A history is ["NAME",SESSIONS]. SESSIONS is a list with, for each client, the
+list of its operations in order: each is a call with what it returned.
+
+  register  ["w",V]     ["r",V]             a register V, at first 0
+  counter   ["inc"]     ["get",N]
+  set       ["add",E]   ["rem",E]   ["has",E,true]   ["has",E,false]
+  queue     ["push",V]  ["pop",V]   ["pop",null]     null: it was empty
+  memory    ["w",X,V]   ["r",X,V]           a register for each key X
+  counters, sets, queues: as above, with a key X behind the word, ["get",X,N]
+
+"?" stands for a return that is not known: ["r",X,"?"], ["w",X,V,"?"]. Behind it
+no known return may stand in its session. X is below 2^32, V, N and E are below
+2^64, and there are at most 16 sessions of at most 256 operations. A memory with
+other values at first: ["memory",SESSIONS,[[X,V],..]], X rising and V not 0.
+Write no value twice to a key: else a line is yes or unknown, and never no.
+
+Answers of judge, for causal consistency (cc), causal memory (cm) and causal
+convergence (ccv):
+  yes          an order exists that explains what was returned
+  no KIND      no such order exists: the history has a pattern of this kind
+  unknown S.I  nothing is known; the order tried fails at operation S.I
+  unknown      nothing is known
+
+Status: 0 answered, whatever the verdict; 1 the input is refused; 2 wrong words;
+3 reading or writing failed; 4 memory ran out. With --expect 0 means that each
+criterion in the list is met, 5 that one is not met, and 6 that of one nothing
+is known.
+
+'refused N', or 'refused N S.I' with the operation, says what is wrong:
+  1 no JSON   2 no list of a name and sessions   3 unknown NAME   4 no such
+  operation   5 a known return behind an unknown one   6 too many sessions
+  7 too many operations   9 over 64 MiB   29 bad first values
+The other commands have more of them: README.md tells of all."#;

@@ -1,0 +1,78 @@
+//! The words behind a command.
+
+ghost use Rattle.std.specs.Prelude.{MatchOption, None, Some, map};
+ghost use Rattle.command_line.specs.Options.{AddsAlone, AddsTogether, IsOrder, Say};
+
+use crate::order::Order;
+use crate::said::Said;
+use crate::settings::{command_named, setting_alone, setting_together};
+use std::convert::AsStr;
+
+/// The order of a command's word and the words behind it. O(1): it stops where something is said again.
+#[tactic(auto, using(crate::proofs::Saying::order_given, crate::proofs::Saying::nothing_said, crate::proofs::Saying::no_command))]
+pub fn order_of<S: AsStr>(word: &str, words: &[S]) -> Option<Order>
+    ensures { MatchOption result ((order : Order) → ¬ IsOrder order word.now (map S.text words.now))
+        (λ order. IsOrder order word.now (map S.text words.now)) }
+{
+    match command_named(word) {
+        Some(command) => match said_in(&Said::nothing(command), words) {
+            Some(said) => said.order(),
+            None => None,
+        },
+        None => None,
+    }
+}
+
+// All that is said after these words.
+#[cycle(said)]
+#[tactic(auto, using(crate::proofs::Saying::say_next, crate::proofs::Saying::say_later))]
+fn said_in<S: AsStr>(before: &Said, words: &[S]) -> Option<Said>
+    ensures { MatchOption result ((after : Said) → ¬ Say before.now None (map S.text words.now) after)
+        (Say before.now None (map S.text words.now)) }
+{
+    match words {
+        [] => Some(*before),
+        [word, behind @ ..] => match said_alone(before, word.as_str()) {
+            Some(said) => said_in(&said, behind),
+            None => said_behind(before, word.as_str(), behind),
+        },
+    }
+}
+
+// All that is said after this word, which is the name of an option, and the words behind it.
+#[cycle(said)]
+fn said_behind<S: AsStr>(before: &Said, word: &str, behind: &[S]) -> Option<Said>
+    ensures { MatchOption result ((after : Said) → ¬ Say before.now (Some word.now) (map S.text behind.now) after)
+        (Say before.now (Some word.now) (map S.text behind.now)) }
+{
+    match behind {
+        [] => None,
+        [value, further @ ..] => match said_together(before, word, value.as_str()) {
+            Some(said) => said_in(&said, further),
+            None => None,
+        },
+    }
+}
+
+// All that is said after this word.
+#[tactic(auto, using(crate::proofs::Saying::added_alone, crate::proofs::Saying::none_alone))]
+fn said_alone(before: &Said, word: &str) -> Option<Said>
+    ensures { MatchOption result ((after : Said) → ¬ AddsAlone before.now word.now after) (AddsAlone before.now word.now) }
+{
+    match setting_alone(word) {
+        Some(setting) => before.and_also(&setting),
+        None => None,
+    }
+}
+
+// All that is said after these two words.
+#[tactic(auto, using(crate::proofs::Saying::added_together, crate::proofs::Saying::none_together))]
+fn said_together(before: &Said, word: &str, value: &str) -> Option<Said>
+    ensures { MatchOption result ((after : Said) → ¬ AddsTogether before.now word.now value.now after)
+        (AddsTogether before.now word.now value.now) }
+{
+    match setting_together(word, value) {
+        Some(setting) => before.and_also(&setting),
+        None => None,
+    }
+}

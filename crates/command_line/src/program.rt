@@ -1,0 +1,128 @@
+//! The commands of the program, as `clap` is told of them.
+ghost use Rattle.std.specs.Prelude.{◌≡◌, false, IfOk};
+ghost use Rattle.clap.specs.Words.{app_of};
+ghost use Rattle.clap.specs.declared.builder.Command.TheViews.{out-Command};
+ghost use Rattle.command_line.specs.CommandLine.{check, command_line, drive, explain, explaining, judge, judging, refute, replay};
+ghost use Rattle.command_line.specs.CommandLine.{sealing, storing};
+
+use crate::arguments::{
+    expect_option, flag_option, seals_option, stop_option, store_argument, workers_option,
+};
+use crate::help::{ABOUT, MANUAL, VERSION};
+use clap::Command;
+use std::alloc::{AllocError, Global};
+
+/// The command line that the program takes.
+pub fn program<'a>(alloc: Global) -> Result<Command<'a>, AllocError>
+    ensures { IfOk result (λ command. app_of command ≡ command_line) }
+{
+    explaining_program(alloc)?
+        .subcommand(replay_command(alloc)?)?
+        .subcommand(drive_command(alloc)?)
+}
+
+// The same without `replay` and `drive`.
+fn explaining_program<'a>(alloc: Global) -> Result<Command<'a>, AllocError>
+    ensures { IfOk result (λ command. app_of command ≡ explaining) }
+{
+    judging_program(alloc)?
+        .subcommand(explain_command(alloc)?)?
+        .subcommand(refute_command(alloc)?)
+}
+
+// The same without `explain` and `refute`.
+fn judging_program<'a>(alloc: Global) -> Result<Command<'a>, AllocError>
+    ensures { IfOk result (λ command. app_of command ≡ judging) }
+{
+    Command::new(alloc, "causal_judge")
+        .about(ABOUT)
+        .version(VERSION)
+        .after_help(MANUAL)
+        .subcommand_required(true)
+        .subcommand(judge_command(alloc)?)?
+        .subcommand(check_command(alloc)?)
+}
+
+fn judge_command<'a>(alloc: Global) -> Result<Command<'a>, AllocError>
+    ensures app { IfOk result (λ command. app_of command ≡ judge) }
+    ensures local { IfOk result (λ command. (out-Command command).has_globals ≡ false) }
+{
+    Command::new(alloc, "judge")
+        .about("Reads a history and judges it")
+        .arg(workers_option(alloc))?
+        .arg(expect_option(alloc))
+}
+
+fn check_command<'a>(alloc: Global) -> Result<Command<'a>, AllocError>
+    ensures app { IfOk result (λ command. app_of command ≡ check) }
+    ensures local { IfOk result (λ command. (out-Command command).has_globals ≡ false) }
+{
+    Command::new(alloc, "check")
+        .about("Reads a history and a certificate of it, and checks it")
+        .arg(workers_option(alloc))
+}
+
+fn explain_command<'a>(alloc: Global) -> Result<Command<'a>, AllocError>
+    ensures app { IfOk result (λ command. app_of command ≡ explain) }
+    ensures local { IfOk result (λ command. (out-Command command).has_globals ≡ false) }
+{
+    Command::new(alloc, "explain")
+        .about("Reads a history, and shows why it meets each criterion or does not")
+        .arg(flag_option(alloc, "json", "Shows it as JSON"))?
+        .arg(flag_option(
+            alloc,
+            "certificates",
+            "Shows with --json the certificate of each criterion that is met",
+        ))?
+        .arg(flag_option(alloc, "svg", "Draws it as one picture"))
+}
+
+fn refute_command<'a>(alloc: Global) -> Result<Command<'a>, AllocError>
+    ensures app { IfOk result (λ command. app_of command ≡ refute) }
+    ensures local { IfOk result (λ command. (out-Command command).has_globals ≡ false) }
+{
+    Ok(Command::new(alloc, "refute").about(
+        "Reads a history, the name of a criterion and a pattern, and checks it",
+    ))
+}
+
+fn replay_command<'a>(alloc: Global) -> Result<Command<'a>, AllocError>
+    ensures app { IfOk result (λ command. app_of command ≡ replay) }
+    ensures local { IfOk result (λ command. (out-Command command).has_globals ≡ false) }
+{
+    Ok(Command::new(alloc, "replay").about(
+        "Reads a script of sessions, sealers and workers, and runs it",
+    ))
+}
+
+fn drive_command<'a>(alloc: Global) -> Result<Command<'a>, AllocError>
+    ensures app { IfOk result (λ command. app_of command ≡ drive) }
+    ensures local { IfOk result (λ command. (out-Command command).has_globals ≡ false) }
+{
+    sealing_command(alloc)?.arg(stop_option(alloc))
+}
+
+// The same without `--stop`.
+fn sealing_command<'a>(alloc: Global) -> Result<Command<'a>, AllocError>
+    ensures app { IfOk result (λ command. app_of command ≡ sealing) }
+    ensures local { IfOk result (λ command. (out-Command command).has_globals ≡ false) }
+{
+    storing_command(alloc)?
+        .arg(seals_option(alloc))?
+        .arg(workers_option(alloc))
+}
+
+// The same without `--seals` and `--workers`.
+fn storing_command<'a>(alloc: Global) -> Result<Command<'a>, AllocError>
+    ensures app { IfOk result (λ command. app_of command ≡ storing) }
+    ensures local { IfOk result (λ command. (out-Command command).has_globals ≡ false) }
+{
+    Command::new(alloc, "drive")
+        .about("Drives a store with the calls of a history, and judges what was recorded")
+        .arg(store_argument(alloc))?
+        .arg(flag_option(
+            alloc,
+            "eager",
+            "Replicas take updates in at once, whatever they depend on",
+        ))
+}

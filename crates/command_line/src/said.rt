@@ -1,0 +1,192 @@
+//! All that the words behind a command say, and the order that they give.
+
+ghost use Rattle.std.specs.Prelude.{◌≡◌};
+ghost use Rattle.command_line.specs.Options.{and_also, delivery_for, drive_for, drive_of, form_for, judging_for, order_for, says, unsaid};
+ghost use Rattle.command_line.specs.Options.{with_setting, workers_for};
+
+use crate::drive::{Drive, Store};
+use crate::expected::Expected;
+use crate::form::Form;
+use crate::judging::Judging;
+use crate::order::Order;
+use crate::settings::{CommandName, Setting};
+use crate::workers::Workers;
+use replica::Delivery;
+
+/// All that was said to a command.
+#[derive(Clone, Copy, Debug, PartialEq, Eq)]
+pub struct Said {
+    command: CommandName,
+    store: Option<Store>,
+    eager: bool,
+    seals: Option<u8>,
+    workers: Option<Workers>,
+    stop: Option<usize>,
+    expected: Option<Expected>,
+    json: bool,
+    certificates: bool,
+    svg: bool,
+}
+
+impl Said {
+    /// Nothing yet.
+    pub fn nothing(command: CommandName) -> Said
+        ensures { result ≡ unsaid command }
+    {
+        Said {
+            command,
+            store: None,
+            eager: false,
+            seals: None,
+            workers: None,
+            stop: None,
+            expected: None,
+            json: false,
+            certificates: false,
+            svg: false,
+        }
+    }
+
+    /// With one thing more; none where it was said before, or the command doesn't take it.
+    pub fn and_also(&self, setting: &Setting) -> Option<Said>
+        ensures { result ≡ and_also self.now setting.now }
+    {
+        if self.command.takes(setting) && !self.says(setting) {
+            Some(self.with(setting))
+        } else {
+            None
+        }
+    }
+
+    // Whether such a thing was said.
+    fn says(&self, setting: &Setting) -> bool
+        ensures { result ≡ says self.now setting.now }
+    {
+        match setting {
+            Setting::Store(_) => self.store.is_some(),
+            Setting::Eager => self.eager,
+            Setting::Seals(_) => self.seals.is_some(),
+            Setting::Workers(_) => self.workers.is_some(),
+            Setting::Stop(_) => self.stop.is_some(),
+            Setting::Expect(_) => self.expected.is_some(),
+            Setting::Json => self.json,
+            Setting::Certificates => self.certificates,
+            Setting::Svg => self.svg,
+        }
+    }
+
+    // With one thing more.
+    fn with(&self, setting: &Setting) -> Said
+        ensures { result ≡ with_setting self.now setting.now }
+    {
+        match setting {
+            Setting::Store(store) => Said {
+                store: Some(*store),
+                ..*self
+            },
+            Setting::Eager => Said {
+                eager: true,
+                ..*self
+            },
+            Setting::Seals(seals) => Said {
+                seals: Some(*seals),
+                ..*self
+            },
+            Setting::Workers(workers) => Said {
+                workers: Some(*workers),
+                ..*self
+            },
+            Setting::Stop(session) => Said {
+                stop: Some(*session),
+                ..*self
+            },
+            Setting::Expect(expected) => Said {
+                expected: Some(*expected),
+                ..*self
+            },
+            Setting::Json => Said {
+                json: true,
+                ..*self
+            },
+            Setting::Certificates => Said {
+                certificates: true,
+                ..*self
+            },
+            Setting::Svg => Said { svg: true, ..*self },
+        }
+    }
+
+    /// The order that is given, where what it needs was said.
+    pub fn order(&self) -> Option<Order>
+        ensures { result ≡ order_for self.now }
+    {
+        match self.command {
+            CommandName::Judge => Some(Order::Judge(self.judging())),
+            CommandName::Check => Some(Order::Check(self.workers())),
+            CommandName::Explain => Some(Order::Explain(self.form()?)),
+            CommandName::Refute => Some(Order::Refute),
+            CommandName::Replay => Some(Order::Replay),
+            CommandName::Drive => Some(Order::Drive(self.drive()?)),
+        }
+    }
+
+    fn judging(&self) -> Judging
+        ensures { result ≡ judging_for self.now }
+    {
+        Judging {
+            workers: self.workers(),
+            expected: self.expected.unwrap_or(Expected::nothing()),
+        }
+    }
+
+    fn workers(&self) -> Workers
+        ensures { result ≡ workers_for self.now }
+    {
+        self.workers.unwrap_or(Workers::usual())
+    }
+
+    // The form of a reason, where there is one.
+    fn form(&self) -> Option<Form>
+        ensures { result ≡ form_for self.now }
+    {
+        match (self.json, self.certificates, self.svg) {
+            (false, false, false) => Some(Form::Words),
+            (true, false, false) => Some(Form::Json),
+            (true, true, false) => Some(Form::Certificates),
+            (false, false, true) => Some(Form::Picture),
+            _ => None,
+        }
+    }
+
+    // The drive that is asked for, where a store is named.
+    fn drive(&self) -> Option<Drive>
+        ensures { result ≡ drive_for self.now }
+    {
+        match self.store {
+            Some(store) => Some(self.drive_of(store)),
+            None => None,
+        }
+    }
+
+    fn drive_of(&self, store: Store) -> Drive
+        ensures { result ≡ drive_of self.now store }
+    {
+        Drive {
+            store,
+            delivery: self.delivery(),
+            seals: self.seals.unwrap_or(0),
+            workers: self.workers(),
+            stop: self.stop,
+        }
+    }
+
+    fn delivery(&self) -> Delivery
+        ensures { result ≡ delivery_for self.now }
+    {
+        if self.eager {
+            Delivery::Eager
+        } else {
+            Delivery::Causal
+        }
+    }
+}

@@ -1,0 +1,174 @@
+//! What a word behind a command says, and to which commands.
+
+ghost use Rattle.std.specs.Prelude.{◌≡◌, ◌≢◌, MatchOption};
+ghost use Rattle.command_line.specs.Options.{SaysAlone, SaysTogether, command_word, takes};
+ghost use Rattle.command_line.specs.Steps.BareWords.{IsNoBareWord};
+
+use crate::drive::Store;
+use crate::expected::{Expected, expected_in};
+use crate::numerals::{seals_in, session_in, workers_in};
+use crate::workers::Workers;
+
+/// The name of a command.
+#[derive(Clone, Copy, Debug, PartialEq, Eq)]
+pub enum CommandName {
+    /// `judge`.
+    Judge,
+    /// `check`.
+    Check,
+    /// `explain`.
+    Explain,
+    /// `refute`.
+    Refute,
+    /// `replay`.
+    Replay,
+    /// `drive`.
+    Drive,
+}
+
+/// One thing that the words behind a command say.
+#[derive(Clone, Copy, Debug, PartialEq, Eq)]
+pub enum Setting {
+    /// The store.
+    Store(Store),
+    /// Updates are taken in at once.
+    Eager,
+    /// So many seals are taken while clients run.
+    Seals(u8),
+    /// So many workers check certificates.
+    Workers(Workers),
+    /// The client of this session never ends its last call.
+    Stop(usize),
+    /// These criteria are expected to be met.
+    Expect(Expected),
+    /// A reason is given as JSON.
+    Json,
+    /// Certificates stand with it.
+    Certificates,
+    /// A reason is given as a picture.
+    Svg,
+}
+
+/// The command of this name.
+pub fn command_named(word: &str) -> Option<CommandName>
+    ensures { MatchOption result ((command : CommandName) → word.now ≢ command_word command)
+        (λ command. word.now ≡ command_word command) }
+{
+    match word {
+        "judge" => Some(CommandName::Judge),
+        "check" => Some(CommandName::Check),
+        "explain" => Some(CommandName::Explain),
+        "refute" => Some(CommandName::Refute),
+        "replay" => Some(CommandName::Replay),
+        "drive" => Some(CommandName::Drive),
+        _ => None,
+    }
+}
+
+impl Setting {
+    fn is_of_judge(&self) -> bool
+        ensures { result ≡ takes CommandName.Judge self.now }
+    {
+        match self {
+            Setting::Workers(_) | Setting::Expect(_) => true,
+            _ => false,
+        }
+    }
+
+    fn is_of_check(&self) -> bool
+        ensures { result ≡ takes CommandName.Check self.now }
+    {
+        match self {
+            Setting::Workers(_) => true,
+            _ => false,
+        }
+    }
+
+    fn is_of_explain(&self) -> bool
+        ensures { result ≡ takes CommandName.Explain self.now }
+    {
+        match self {
+            Setting::Json | Setting::Certificates | Setting::Svg => true,
+            _ => false,
+        }
+    }
+
+    fn is_of_drive(&self) -> bool
+        ensures { result ≡ takes CommandName.Drive self.now }
+    {
+        match self {
+            Setting::Store(_)
+            | Setting::Eager
+            | Setting::Seals(_)
+            | Setting::Workers(_)
+            | Setting::Stop(_) => true,
+            _ => false,
+        }
+    }
+}
+
+impl CommandName {
+    /// Whether this can be said to the command.
+    pub fn takes(self, setting: &Setting) -> bool
+        ensures { result ≡ takes self setting.now }
+    {
+        match self {
+            CommandName::Judge => setting.is_of_judge(),
+            CommandName::Check => setting.is_of_check(),
+            CommandName::Explain => setting.is_of_explain(),
+            CommandName::Refute | CommandName::Replay => false,
+            CommandName::Drive => setting.is_of_drive(),
+        }
+    }
+}
+
+/// What one word says.
+pub fn setting_alone(word: &str) -> Option<Setting>
+    ensures { MatchOption result ((setting : Setting) → ¬ SaysAlone setting word.now) (λ setting. SaysAlone setting word.now) }
+{
+    match word {
+        "causal" => Some(Setting::Store(Store::Causal)),
+        "lamport" => Some(Setting::Store(Store::Lamport)),
+        "--eager" => Some(Setting::Eager),
+        "--json" => Some(Setting::Json),
+        "--certificates" => Some(Setting::Certificates),
+        "--svg" => Some(Setting::Svg),
+        _ => value_alone(word),
+    }
+}
+
+// What a word with a value says.
+#[tactic(auto, using(crate::proofs::SettingWords::no_alone, crate::proofs::SettingWords::no_seals, crate::proofs::SettingWords::no_workers, crate::proofs::SettingWords::no_expect, crate::proofs::SettingWords::no_stop))]
+fn value_alone(word: &str) -> Option<Setting>
+    requires { IsNoBareWord word.now }
+    ensures { MatchOption result ((setting : Setting) → ¬ SaysAlone setting word.now) (λ setting. SaysAlone setting word.now) }
+{
+    if let Some(number) = word.strip_prefix("--seals=") {
+        return Some(Setting::Seals(seals_in(number)?));
+    }
+    if let Some(number) = word.strip_prefix("--workers=") {
+        return Some(Setting::Workers(workers_in(number)?));
+    }
+    if let Some(list) = word.strip_prefix("--expect=") {
+        return Some(Setting::Expect(expected_in(list)?));
+    }
+    match word.strip_prefix("--stop=") {
+        Some(number) => Some(Setting::Stop(session_in(number)?)),
+        None => None,
+    }
+}
+
+/// What a word and the value behind it say.
+#[tactic(auto, using(crate::proofs::SettingWords::no_together, crate::proofs::SettingWords::no_seals_behind, crate::proofs::SettingWords::no_workers_behind, crate::proofs::SettingWords::no_expect_behind, crate::proofs::SettingWords::no_stop_behind))]
+pub fn setting_together(word: &str, value: &str) -> Option<Setting>
+    ensures { MatchOption result ((setting : Setting) → ¬ SaysTogether setting word.now value.now)
+        (λ setting. SaysTogether setting word.now value.now) }
+{
+    match word {
+        "--seals" => Some(Setting::Seals(seals_in(value)?)),
+        "--workers" => Some(Setting::Workers(workers_in(value)?)),
+        "--expect" => Some(Setting::Expect(expected_in(value)?)),
+        "--stop" => Some(Setting::Stop(session_in(value)?)),
+        _ => None,
+    }
+}
