@@ -7,6 +7,7 @@ ghost use Rattle.history.specs.Workers.{AreWorkers};
 ghost use Rattle.collector.specs.Judgements.{IsFounded, IsJudgeError, IsKnown, IsSaidOfFile, IsUnexplainedOf};
 
 use crate::judged::Judged;
+use crate::making::made_file;
 use crate::working::answer_of_file;
 use cert_check::laws::explained_certificates_show_their_criterion;
 use cert_check::{CaseFile, Criterion, DeskError};
@@ -67,8 +68,7 @@ fn judge_by_certificate<O: Judged + Send + Sync, R: Threads + Wait + Sync, G: Ga
     ensures decided { O.decides h criterion → Meets O.answer h criterion → IfOk result IsKnown }
     ensures error { IfErr result (λ e. e ≡ DeskError.Memory) }
 {
-    let made = O::make(alloc, &h, advice, criterion)?;
-    let file = CaseFile::new(h, criterion, made)?;
+    let file = made_file(alloc, h, advice, criterion)?;
     judge_file(rt, alloc, file, workers, gate)
 }
 

@@ -88,7 +88,10 @@ fn answer_of_ticket<
 }
 
 /// What the pieces of a certificate show, checked in their order.
-fn answer_of_pieces<O: SeqObject>(alloc: Global, file: &CaseFile<O>) -> Result<Answer, DeskError>
+pub(crate) fn answer_of_pieces<O: SeqObject>(
+    alloc: Global,
+    file: &CaseFile<O>,
+) -> Result<Answer, DeskError>
     requires { IsSome file.now.2 }
     ensures said { IfOk result (IsSaidOfFile O.answer file.now) }
     ensures error { IfErr result (λ e. e ≡ DeskError.Memory) }

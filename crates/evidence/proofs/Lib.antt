@@ -1,1 +1,2 @@
 pub mod PatternDepth
+pub mod CertificateDepth

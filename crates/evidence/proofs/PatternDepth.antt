@@ -13,10 +13,10 @@ use Rattle.bad_patterns.specs.declared.pattern.Pattern.TheVariants.{CyclicCO, Th
 use Rattle.bad_patterns.specs.PatternForm.{form_of, line_form, link_form, op_form}
 
 -- how deep the elements of a list nest
-abbrev deepest : List Data → ℕ
+abbrev pub deepest : List Data → ℕ
 deepest ds = items_depth (items_of ds)
 
-deepest-map : {A : Type 0} (f : A → Data) (n : ℕ) → ((x : A) → depth (f x) ≤ n) → (xs : List A) → deepest (map f xs) ≤ n
+pub deepest-map : {A : Type 0} (f : A → Data) (n : ℕ) → ((x : A) → depth (f x) ≤ n) → (xs : List A) → deepest (map f xs) ≤ n
 deepest-map f n each [] = omega arith
 deepest-map f n each (x ∷ xs) =
     let here = each x in
@@ -58,7 +58,7 @@ pattern_depth (CyclicHB o lines) = let deep = lines_depth lines in omega arith
 pattern_depth (CyclicCF links) = let deep = deepest-map link_form 3 link_depth links in omega arith
 
 -- a list of what has no float has none
-no_float-map : {A : Type 0} (f : A → Data) → ((x : A) → has_float (f x) ≡ false) → (xs : List A) → items_have_float (items_of (map f xs)) ≡ false
+pub no_float-map : {A : Type 0} (f : A → Data) → ((x : A) → has_float (f x) ≡ false) → (xs : List A) → items_have_float (items_of (map f xs)) ≡ false
 no_float-map f each [] = refl
 no_float-map f each (x ∷ xs) = rw (each x, no_float-map f each xs) refl
 

@@ -1,7 +1,9 @@
-//! What shows that a history does not meet a criterion, as JSON.
+//! What shows that a history meets a criterion or does not, as JSON.
 #![tactic(auto)]
 
+mod certificates;
 mod patterns;
 mod written;
 
+pub use certificates::certificate_value;
 pub use patterns::{op_value, pattern_value};

@@ -1,0 +1,89 @@
+//! The steps of patterns.
+
+use crate::derivation_steps::push_derivation;
+use crate::step::Step;
+use crate::steps::{Steps, ends_of};
+use bad_patterns::{Link, Links, Pair, Path, Pattern};
+use history::{History, OpId};
+use objects::Memory;
+use std::alloc::{AllocError, Global};
+
+/// What a text tells of a pattern.
+#[derive(Debug, Drop)]
+pub(crate) struct Told {
+    pub steps: Steps,
+    /// Where the steps begin and where they end, where that can be said.
+    pub ends: Option<Pair>,
+}
+
+/// The steps that show a pattern, and where they begin and end.
+///
+/// Fails for want of memory alone. O(m + l log n) for a pattern of m operations and l lines and a history of n operations.
+pub(crate) fn told_of(
+    alloc: Global,
+    h: &History<Memory>,
+    pattern: &Pattern,
+) -> Result<Told, AllocError> {
+    let mut steps = Steps::none(alloc);
+    let ends = match pattern {
+        Pattern::CyclicCO(path) | Pattern::WriteCOInitRead(path) => {
+            steps.follow(path)?;
+            ends_of(path)
+        }
+        Pattern::ThinAirRead(read) => Some((*read, *read)),
+        Pattern::WriteCORead(first, second) => push_overwritten(&mut steps, first, second)?,
+        Pattern::WriteHBInitRead(op, derivation) | Pattern::CyclicHB(op, derivation) => {
+            push_derivation(alloc, &mut steps, h, *op, derivation)?
+        }
+        Pattern::CyclicCF(links) => push_links(&mut steps, links)?,
+    };
+    Ok(Told { steps, ends })
+}
+
+// The steps from a write to another and from there to a read that reads from the first. It gives the other write and the read.
+fn push_overwritten(
+    steps: &mut Steps,
+    first: &Path,
+    second: &Path,
+) -> Result<Option<Pair>, AllocError> {
+    steps.follow(first)?;
+    steps.follow(second)?;
+    match (ends_of(first), ends_of(second)) {
+        (Some((write, other)), Some((_, read))) => {
+            steps.push(Step::ReadsFrom(write, read))?;
+            Ok(Some((other, read)))
+        }
+        _ => Ok(None),
+    }
+}
+
+// The steps of a cycle of links. It gives where the cycle begins.
+fn push_links(steps: &mut Steps, links: &Links) -> Result<Option<Pair>, AllocError> {
+    for link in links.links() {
+        push_link(steps, link)?;
+    }
+    Ok(begin_of(links))
+}
+
+// Where a cycle of links begins, twice.
+fn begin_of(links: &Links) -> Option<Pair> {
+    let begin: OpId = links.links().first()?.begin()?;
+    Some((begin, begin))
+}
+
+// The step of an edge, or those of a conflict with what shows it.
+fn push_link(steps: &mut Steps, link: &Link) -> Result<(), AllocError> {
+    match link {
+        Link::Co(from, to) => steps.push(Step::between(*from, *to)),
+        Link::Cf(path, other) => {
+            steps.lead(path)?;
+            match ends_of(path) {
+                Some((write, read)) => {
+                    steps.push(Step::ReadsFrom(*other, read))?;
+                    steps.push(Step::Yields(write, *other, read))
+                }
+                None => Ok(()),
+            }
+        }
+    }
+}

@@ -1,0 +1,22 @@
+//! What is said of histories in words: why a pattern excludes a criterion, and why nothing is known.
+//!
+//! Nobody trusts these texts: what shows that a criterion is not met is the pattern, and what shows that it is met is the
+//! certificate. They say something of any pattern, certificate and history, also where these don't belong together.
+#![tactic(auto)]
+
+mod derivation_steps;
+mod gathering;
+mod naming;
+mod operation_words;
+mod pattern_words;
+mod repeated_values;
+mod replayed;
+mod sentences;
+mod step;
+mod steps;
+mod unexplained;
+
+pub use operation_words::Worded;
+pub use pattern_words::words_of_pattern;
+pub use repeated_values::words_of_repeated_values;
+pub use unexplained::push_unexplained;

@@ -1,0 +1,96 @@
+//! Patterns in words.
+
+use crate::gathering::{Told, told_of};
+use crate::operation_words::operation_words;
+use crate::sentences::sentence_of;
+use crate::step::Step;
+use bad_patterns::Pattern;
+use history::{History, OpId};
+use objects::Memory;
+use std::alloc::{AllocError, Global};
+
+/// Why a pattern shows that a history of a memory does not meet a criterion, in lines with no line feed: the operations, each
+/// with its call and its return, then the steps from one to the other, and at the end what is wrong.
+///
+/// The first 20 steps and the last 20 are told, and how many are left out between them. Of a pattern that is not one of the
+/// history it says something too.
+///
+/// Fails for want of memory alone. O(m + (n + l) log n) for a pattern of m operations and l lines and a history of n
+/// operations.
+pub fn words_of_pattern(
+    alloc: Global,
+    h: &History<Memory>,
+    pattern: &Pattern,
+) -> Result<Vec<String>, AllocError> {
+    let told = told_of(alloc, h, pattern)?;
+    let mut lines = Vec::new(alloc);
+    push_operations(alloc, &mut lines, h, &told)?;
+    push_steps(alloc, &mut lines, told.steps.first())?;
+    push_left_out(alloc, &mut lines, told.steps.left_out())?;
+    push_steps(alloc, &mut lines, told.steps.last())?;
+    lines.push(last_line(alloc, h, pattern, &told)?)?;
+    Ok(lines)
+}
+
+// The operations that are told, by session and index.
+fn push_operations(
+    alloc: Global,
+    lines: &mut Vec<String>,
+    h: &History<Memory>,
+    told: &Told,
+) -> Result<(), AllocError> {
+    let mut ops = Vec::new(alloc);
+    push_ops(&mut ops, told.steps.first())?;
+    push_ops(&mut ops, told.steps.last())?;
+    if let Some((begin, end)) = told.ends {
+        ops.push(begin)?;
+        ops.push(end)?;
+    }
+    ops.sort_unstable();
+    ops.dedup();
+    for op in &ops {
+        lines.push(operation_words(alloc, h, *op)?)?;
+    }
+    Ok(())
+}
+
+// Puts the operations of steps behind others.
+fn push_ops(ops: &mut Vec<OpId>, steps: &[Step]) -> Result<(), AllocError> {
+    for step in steps {
+        ops.extend_from_slice(&step.ops())?;
+    }
+    Ok(())
+}
+
+// Steps in words.
+fn push_steps(alloc: Global, lines: &mut Vec<String>, steps: &[Step]) -> Result<(), AllocError> {
+    for step in steps {
+        lines.push(step.words(alloc)?)?;
+    }
+    Ok(())
+}
+
+// How many steps are left out, where some are.
+fn push_left_out(alloc: Global, lines: &mut Vec<String>, left_out: u64) -> Result<(), AllocError> {
+    if left_out > 0 {
+        lines.push(format!(in alloc; "({left_out} more steps are left out here)")?)?;
+    }
+    Ok(())
+}
+
+// What is wrong.
+fn last_line(
+    alloc: Global,
+    h: &History<Memory>,
+    pattern: &Pattern,
+    told: &Told,
+) -> Result<String, AllocError> {
+    let sentence = match told.ends {
+        Some(ends) => sentence_of(alloc, h, pattern, ends)?,
+        None => None,
+    };
+    match sentence {
+        Some(sentence) => Ok(sentence),
+        None => String::from_str(alloc, "These operations show nothing in this history."),
+    }
+}

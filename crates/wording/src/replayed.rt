@@ -1,0 +1,119 @@
+//! What an operation would have been answered in the order of a certificate.
+
+ghost use Rattle.std.specs.Prelude.{IfSome};
+ghost use Rattle.history.specs.History.{IsOp};
+
+use causal_order::{Vectors, has_counted};
+use cert_check::{Certificate, Kept, Schedules};
+use history::{History, OpId};
+use object_trait::SeqObject;
+use std::alloc::{AllocError, Global};
+
+// The piece of a certificate for an operation.
+#[derive(Clone, Copy)]
+struct Piece<'a> {
+    // The numbers of the sessions whose next operations come one after the other.
+    list: &'a [u8],
+    // The operations whose known returns are to be explained.
+    kept: Kept,
+    // The operation, and the vectors by which the list is cut to its past, where it is.
+    cut: Option<(&'a Vectors, OpId)>,
+}
+
+impl<'a> Piece<'a> {
+    // The piece for an operation, where the certificate has one.
+    fn of(certificate: &'a Certificate, op: OpId) -> Option<Piece<'a>> {
+        match certificate {
+            Certificate::Cc(_, schedules) => Some(Piece {
+                list: schedule_of(schedules, op)?,
+                kept: Kept::Only(op),
+                cut: None,
+            }),
+            Certificate::Cm(_, schedules) => Some(Piece {
+                list: schedule_of(schedules, op)?,
+                kept: Kept::ProgramPast(op),
+                cut: None,
+            }),
+            Certificate::Ccv(vectors, arbitration) => Some(Piece {
+                list: arbitration.sessions(),
+                kept: Kept::Only(op),
+                cut: Some((vectors, op)),
+            }),
+        }
+    }
+
+    // Whether the list is not cut off an operation.
+    fn takes(&self, next: OpId) -> bool {
+        match self.cut {
+            Some((vectors, op)) => has_counted(vectors, op, next),
+            None => true,
+        }
+    }
+}
+
+// The schedule of an operation, where it has one.
+fn schedule_of(schedules: &Schedules, op: OpId) -> Option<&[u8]> {
+    if schedules.contains(op) {
+        Some(schedules.get(op))
+    } else {
+        None
+    }
+}
+
+/// The first operation whose known return is another than the answer in the order of a certificate's piece, and that answer:
+/// where the piece keeps its return, and none where there is no such operation or no piece.
+///
+/// Fails for want of memory alone. O(n) for n operations of the piece, and one call of the object for each.
+pub(crate) fn unlike_answer<O: SeqObject>(
+    alloc: Global,
+    h: &History<O>,
+    certificate: &Certificate,
+    op: OpId,
+) -> Result<Option<(OpId, O::Ret)>, AllocError> {
+    let Some(piece) = Piece::of(certificate, op) else {
+        return Ok(None);
+    };
+    let mut object = O::fresh(alloc, h.start())?;
+    let mut counts = vec![in alloc; 0u64; h.sessions()]?;
+    for session in piece.list {
+        let Some(next) = next_of(h, &mut counts, *session) else {
+            return Ok(None);
+        };
+        if piece.takes(next) {
+            let answer = object.apply(h.call(next))?;
+            if piece.kept.keeps(next) && is_unlike(h, next, answer) {
+                return Ok(Some((next, answer)));
+            }
+        }
+    }
+    Ok(None)
+}
+
+// The next operation of a session, where there is one, which is then counted.
+fn next_of<O: SeqObject>(h: &History<O>, counts: &mut Vec<u64>, session: u8) -> Option<OpId>
+    ensures { IfSome result (IsOp h.now) }
+{
+    let place = usize::from(session);
+    if place >= counts.len() {
+        return None;
+    }
+    let op = OpId {
+        session: u64::from(session),
+        index: counts[place],
+    };
+    if !h.contains(op) {
+        return None;
+    }
+    counts[place] = counts[place].saturating_add(1);
+    Some(op)
+}
+
+// Whether the return of an operation is known, and is not this one.
+fn is_unlike<O: SeqObject>(h: &History<O>, op: OpId, answer: O::Ret) -> bool
+    requires { IsOp h.now op }
+{
+    match h.ret(op) {
+        Some(known) => known != answer,
+        None => false,
+    }
+}

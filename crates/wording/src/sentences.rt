@@ -1,0 +1,102 @@
+//! What is wrong, in the terms of each kind of pattern.
+
+use crate::naming::name_of;
+use bad_patterns::{Kind, Pair, Pattern};
+use history::{History, OpId};
+use memory_order::{initial_value, known_read};
+use objects::Memory;
+use std::alloc::{AllocError, Global};
+
+/// The sentence that says what is wrong, from where the steps of a pattern begin and where they end. There is none where the
+/// operations are not as the kind says.
+///
+/// Fails for want of memory alone. O(log n) for a table of n entries.
+pub(crate) fn sentence_of(
+    alloc: Global,
+    h: &History<Memory>,
+    pattern: &Pattern,
+    ends: Pair,
+) -> Result<Option<String>, AllocError> {
+    let (begin, end) = ends;
+    match pattern {
+        Pattern::WriteHBInitRead(op, _) | Pattern::CyclicHB(op, _) => {
+            sentence_on_session(alloc, h, pattern.kind(), *op, begin, end)
+        }
+        Pattern::CyclicCO(_) => sentence_on_cycle(alloc, begin, "in the causal order"),
+        Pattern::CyclicCF(_) => {
+            let words =
+                "in the causal order and the arbitration together: no order of all writes agrees with what was read";
+            sentence_on_cycle(alloc, begin, words)
+        }
+        Pattern::ThinAirRead(_) | Pattern::WriteCOInitRead(_) | Pattern::WriteCORead(_, _) => {
+            sentence_on_read(alloc, h, pattern.kind(), begin, end)
+        }
+    }
+}
+
+// The sentence on an operation that comes before itself.
+fn sentence_on_cycle(
+    alloc: Global,
+    op: OpId,
+    words: &'static str,
+) -> Result<Option<String>, AllocError> {
+    let name = name_of(alloc, op)?;
+    Ok(Some(format!(in alloc; "So {name} comes before itself {words}.")?))
+}
+
+// The sentence on a read that should have read something else. The first operation is the one that stands against it.
+fn sentence_on_read(
+    alloc: Global,
+    h: &History<Memory>,
+    kind: Kind,
+    other: OpId,
+    read: OpId,
+) -> Result<Option<String>, AllocError> {
+    let Some((key, value)) = known_read(h, read) else {
+        return Ok(None);
+    };
+    let initial = initial_value(h, key);
+    let other = name_of(alloc, other)?;
+    let read = name_of(alloc, read)?;
+    let sentence = match kind {
+        Kind::ThinAirRead => {
+            format!(in alloc;
+                "{read} read {value}, which nobody wrote to variable {key}, and its initial value is {initial}."
+            )?
+        }
+        Kind::WriteCOInitRead => {
+            format!(in alloc;
+                "{read} read {value}, the initial value of variable {key}, which {other} had overwritten in its past."
+            )?
+        }
+        _ => format!(in alloc; "{read} read {value}, which {other} had overwritten in its past.")?,
+    };
+    Ok(Some(sentence))
+}
+
+// The sentence on what a session has read up to an operation, which puts one operation before another.
+fn sentence_on_session(
+    alloc: Global,
+    h: &History<Memory>,
+    kind: Kind,
+    op: OpId,
+    first: OpId,
+    second: OpId,
+) -> Result<Option<String>, AllocError> {
+    let session = op.session;
+    let op = name_of(alloc, op)?;
+    let puts = name_of(alloc, first)?;
+    let before = name_of(alloc, second)?;
+    if kind == Kind::CyclicHB {
+        return Ok(Some(format!(in alloc;
+            "What session {session} has read up to {op} puts {puts} before itself."
+        )?));
+    }
+    let Some((key, value)) = known_read(h, second) else {
+        return Ok(None);
+    };
+    let wrong = format!(in alloc; "{before} read {value}, the initial value of variable {key}")?;
+    Ok(Some(format!(in alloc;
+        "{wrong}, but what session {session} has read up to {op} puts {puts}, which writes the variable, before it."
+    )?))
+}

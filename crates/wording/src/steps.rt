@@ -1,0 +1,96 @@
+//! The steps that are told.
+
+use crate::step::Step;
+use bad_patterns::{Pair, Path};
+use history::OpId;
+use std::alloc::{AllocError, Global};
+
+/// How many steps are told at the beginning, and how many at the end: between them the others are left out.
+pub(crate) const MAX_AT_AN_END: usize = 20;
+
+/// The first and the last steps of what shows a pattern, each once.
+#[derive(Debug, Drop)]
+pub(crate) struct Steps {
+    first: Vec<Step>,
+    last: Vec<Step>,
+    left_out: u64,
+}
+
+impl Steps {
+    /// No steps.
+    pub fn none(alloc: Global) -> Steps {
+        Steps {
+            first: Vec::new(alloc),
+            last: Vec::new(alloc),
+            left_out: 0,
+        }
+    }
+
+    /// The first ones.
+    pub fn first(&self) -> &[Step] {
+        self.first.as_slice()
+    }
+
+    /// The last ones, which stand behind those that are left out.
+    pub fn last(&self) -> &[Step] {
+        self.last.as_slice()
+    }
+
+    /// How many are left out between the first and the last ones.
+    pub fn left_out(&self) -> u64 {
+        self.left_out
+    }
+
+    /// One step more, unless it is told already.
+    pub fn push(&mut self, step: Step) -> Result<(), AllocError> {
+        if self.first.contains(&step) || self.last.contains(&step) {
+            return Ok(());
+        }
+        if self.left_out == 0 && self.last.is_empty() && self.first.len() < MAX_AT_AN_END {
+            self.first.push(step)?;
+            return Ok(());
+        }
+        if self.last.len() >= MAX_AT_AN_END {
+            self.last.remove(0);
+            self.left_out = self.left_out.saturating_add(1);
+        }
+        self.last.push(step)?;
+        Ok(())
+    }
+
+    /// Steps that are left out, and with them those before them that are not among the first.
+    pub fn leave_out(&mut self, count: u64) {
+        let before = self.last.len() as u64;
+        self.left_out = self.left_out.saturating_add(before).saturating_add(count);
+        self.last.clear();
+    }
+
+    /// The steps of a path.
+    pub fn follow(&mut self, path: &Path) -> Result<(), AllocError> {
+        let mut before: Option<OpId> = None;
+        for op in path.ops() {
+            if let Some(before) = before {
+                self.push(Step::between(before, *op))?;
+            }
+            before = Some(*op);
+        }
+        Ok(())
+    }
+
+    /// The steps of a path, and where they lead from and to, where they are more than one.
+    pub fn lead(&mut self, path: &Path) -> Result<(), AllocError> {
+        self.follow(path)?;
+        match ends_of(path) {
+            Some((from, to)) if path.ops().len() > 2 => self.push(Step::Leads(from, to)),
+            _ => Ok(()),
+        }
+    }
+}
+
+/// The ends of a path, where it has operations.
+pub(crate) fn ends_of(path: &Path) -> Option<Pair> {
+    match (path.ops().first(), path.ops().last()) {
+        (Some(first), Some(last)) => Some((*first, *last)),
+        _ => None,
+    }
+}

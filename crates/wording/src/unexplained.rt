@@ -1,0 +1,48 @@
+//! What a certificate does not explain, in words.
+
+use crate::naming::name_of;
+use crate::operation_words::{Worded, operation_words};
+use crate::replayed::unlike_answer;
+use cert_check::Certificate;
+use history::{History, OpId};
+use std::alloc::{AllocError, Global};
+
+/// Puts behind other lines those that say what a certificate of a history does not explain, with no line feed: what the operation
+/// was answered, and what it would have been answered in the order of the certificate, where that is something else.
+///
+/// Fails for want of memory alone. O(n) for n operations, and one call of the object for each.
+pub fn push_unexplained<O: Worded>(
+    alloc: Global,
+    lines: &mut Vec<String>,
+    h: &History<O>,
+    certificate: Option<&Certificate>,
+    op: OpId,
+) -> Result<(), AllocError> {
+    let name = name_of(alloc, op)?;
+    lines.push(operation_words(alloc, h, op)?)?;
+    lines.push(format!(in alloc; "The certificate that was made does not explain {name}.")?)?;
+    match certificate {
+        Some(certificate) => push_answer(alloc, lines, h, certificate, op),
+        None => Ok(()),
+    }
+}
+
+// What would have been answered in the order of a certificate, where that is something else.
+fn push_answer<O: Worded>(
+    alloc: Global,
+    lines: &mut Vec<String>,
+    h: &History<O>,
+    certificate: &Certificate,
+    op: OpId,
+) -> Result<(), AllocError> {
+    let Some((unlike, answer)) = unlike_answer(alloc, h, certificate, op)? else {
+        return Ok(());
+    };
+    if !h.contains(unlike) {
+        return Ok(());
+    }
+    let name = name_of(alloc, unlike)?;
+    let told = O::told(alloc, None, &h.call(unlike), Some(answer))?;
+    lines.push(format!(in alloc; "In its order {name} {told}.")?)?;
+    Ok(())
+}
