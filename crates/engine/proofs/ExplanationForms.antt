@@ -9,7 +9,7 @@ use Rattle.engine.specs.declared.reason.Reason.{Reason}
 use Rattle.engine.specs.declared.reason.Reason.TheVariants.{Explained, Shown, Present, Unexplained}
 use Rattle.engine.specs.Explaining.{explanation_form, shown_form}
 
-shown_depth : (reason : Reason) → depth (shown_form reason) ≤ 5
+pub shown_depth : (reason : Reason) → depth (shown_form reason) ≤ 5
 shown_depth Explained = omega arith
 shown_depth (Shown pattern) = pattern_depth pattern
 shown_depth (Present kind) = omega arith
@@ -23,7 +23,7 @@ explanation_depth explanation =
     let ccv = shown_depth explanation.ccv in
     omega arith
 
-shown_has_no_float : (reason : Reason) → has_float (shown_form reason) ≡ false
+pub shown_has_no_float : (reason : Reason) → has_float (shown_form reason) ≡ false
 shown_has_no_float Explained = refl
 shown_has_no_float (Shown pattern) = pattern_has_no_float pattern
 shown_has_no_float (Present kind) = refl

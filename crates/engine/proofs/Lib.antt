@@ -1,6 +1,7 @@
 pub mod Pairs
 pub mod PatternForms
 pub mod Claims
+pub mod CutClaims
 pub mod CutPairs
 pub mod Founded
 pub mod JudgeErrors
@@ -10,6 +11,10 @@ pub mod ScriptOutcomes
 pub mod Outcomes
 pub mod Decided
 pub mod Reasons
+pub mod Reported
 pub mod ExplanationForms
+pub mod Indented
 pub mod SealedTexts
 pub mod DriveOutcomes
+pub mod EvidenceForms
+pub mod EvidenceLaws

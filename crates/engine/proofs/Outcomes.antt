@@ -18,6 +18,10 @@ use Rattle.bad_patterns.specs.PatternForm.{form_of as pattern_form}
 use Rattle.command_line.specs.declared.order.Order.{Order}
 use Rattle.command_line.specs.declared.order.Order.TheVariants.{Judge, Check, Explain, Refute, Replay, Drive}
 use Rattle.command_line.specs.declared.drive.Drive.{Drive as Drives}
+use Rattle.command_line.specs.declared.form.Form.{Form}
+use Rattle.command_line.specs.declared.form.Form.TheVariants.{Words, Json, Certificates, Picture}
+use Rattle.command_line.specs.declared.judging.Judging.{Judging}
+use Rattle.command_line.specs.Expected.{expecting_nothing}
 use Rattle.engine.specs.Driving.{IsDriveError, IsDriveReport, IsUndriven, sessions_in}
 use Rattle.engine.specs.declared.failure.RunError.{RunError}
 use Rattle.engine.specs.declared.failure.RunError.TheVariants.{History, Script, BadCertificate, ShapeMismatch, NotThatPattern, BadLimits, NoSuch, TooLong, Memory, ReadFault, WriteFault}
@@ -127,43 +131,47 @@ has_a_form text h c is_c pair bad =
     bad.2.4 c is_c same.1
 
 -- an input is refused in one way
-judge_once : (workers : ℕ) (text : List ℕ) (e f : RunError) → IsAnswerError (Judge workers) text e → IsAnswerError (Judge workers) text f → failure_status e ≡ 1 → failure_status f ≡ 1 → e ≡ f
-judge_once workers text (History p) (History q) is_e is_f one two =
+judge_once : (judging : Judging) (text : List ℕ) (e f : RunError) → IsAnswerError (Judge judging) text e → IsAnswerError (Judge judging) text f → failure_status e ≡ 1 → failure_status f ≡ 1 → e ≡ f
+judge_once judging text (History p) (History q) is_e is_f one two =
     ap History (one_refusal first_refusal text p q (judge_refused text p is_e one) (judge_refused text q is_f two))
-judge_once workers text BadCertificate f is_e is_f one two = absurd is_e
-judge_once workers text ShapeMismatch f is_e is_f one two = absurd is_e
-judge_once workers text (Script p) f is_e is_f one two = absurd is_e
-judge_once workers text TooLong f is_e is_f one two = absurd is_e
-judge_once workers text NotThatPattern f is_e is_f one two = absurd is_e
-judge_once workers text BadLimits f is_e is_f one two = absurd is_e
-judge_once workers text NoSuch f is_e is_f one two = absurd is_e
-judge_once workers text Memory f is_e is_f one two = absurd (omega arith)
-judge_once workers text ReadFault f is_e is_f one two = absurd is_e
-judge_once workers text WriteFault f is_e is_f one two = absurd is_e
-judge_once workers text e BadCertificate is_e is_f one two = absurd is_f
-judge_once workers text e ShapeMismatch is_e is_f one two = absurd is_f
-judge_once workers text e (Script q) is_e is_f one two = absurd is_f
-judge_once workers text e TooLong is_e is_f one two = absurd is_f
-judge_once workers text e NotThatPattern is_e is_f one two = absurd is_f
-judge_once workers text e BadLimits is_e is_f one two = absurd is_f
-judge_once workers text e NoSuch is_e is_f one two = absurd is_f
-judge_once workers text e Memory is_e is_f one two = absurd (omega arith)
-judge_once workers text e ReadFault is_e is_f one two = absurd is_f
-judge_once workers text e WriteFault is_e is_f one two = absurd is_f
+judge_once judging text BadCertificate f is_e is_f one two = absurd is_e
+judge_once judging text ShapeMismatch f is_e is_f one two = absurd is_e
+judge_once judging text (Script p) f is_e is_f one two = absurd is_e
+judge_once judging text TooLong f is_e is_f one two = absurd is_e
+judge_once judging text NotThatPattern f is_e is_f one two = absurd is_e
+judge_once judging text BadLimits f is_e is_f one two = absurd is_e
+judge_once judging text NoSuch f is_e is_f one two = absurd is_e
+judge_once judging text Memory f is_e is_f one two = absurd (omega arith)
+judge_once judging text ReadFault f is_e is_f one two = absurd is_e
+judge_once judging text WriteFault f is_e is_f one two = absurd is_e
+judge_once judging text e BadCertificate is_e is_f one two = absurd is_f
+judge_once judging text e ShapeMismatch is_e is_f one two = absurd is_f
+judge_once judging text e (Script q) is_e is_f one two = absurd is_f
+judge_once judging text e TooLong is_e is_f one two = absurd is_f
+judge_once judging text e NotThatPattern is_e is_f one two = absurd is_f
+judge_once judging text e BadLimits is_e is_f one two = absurd is_f
+judge_once judging text e NoSuch is_e is_f one two = absurd is_f
+judge_once judging text e Memory is_e is_f one two = absurd (omega arith)
+judge_once judging text e ReadFault is_e is_f one two = absurd is_f
+judge_once judging text e WriteFault is_e is_f one two = absurd is_f
+
+-- how `judge` judges where nothing is asked for
+plain : Judging
+plain = record { workers = 1; expected = expecting_nothing }
 
 -- a history is refused as `judge` refuses it
-explained_as_judged : (text : List ℕ) (e : RunError) → IsAnswerError Explain text e → IsAnswerError (Judge 1) text e
-explained_as_judged text (History p) is_e = is_e
-explained_as_judged text Memory is_e = is_e
-explained_as_judged text BadCertificate is_e = absurd is_e
-explained_as_judged text ShapeMismatch is_e = absurd is_e
-explained_as_judged text (Script p) is_e = absurd is_e
-explained_as_judged text TooLong is_e = absurd is_e
-explained_as_judged text NotThatPattern is_e = absurd is_e
-explained_as_judged text BadLimits is_e = absurd is_e
-explained_as_judged text NoSuch is_e = absurd is_e
-explained_as_judged text ReadFault is_e = absurd is_e
-explained_as_judged text WriteFault is_e = absurd is_e
+explained_as_judged : (form : Form) (text : List ℕ) (e : RunError) → IsAnswerError (Explain form) text e → IsAnswerError (Judge plain) text e
+explained_as_judged form text (History p) is_e = is_e
+explained_as_judged form text Memory is_e = is_e
+explained_as_judged form text BadCertificate is_e = absurd is_e
+explained_as_judged form text ShapeMismatch is_e = absurd is_e
+explained_as_judged form text (Script p) is_e = absurd is_e
+explained_as_judged form text TooLong is_e = absurd is_e
+explained_as_judged form text NotThatPattern is_e = absurd is_e
+explained_as_judged form text BadLimits is_e = absurd is_e
+explained_as_judged form text NoSuch is_e = absurd is_e
+explained_as_judged form text ReadFault is_e = absurd is_e
+explained_as_judged form text WriteFault is_e = absurd is_e
 
 check_once : (workers : ℕ) (text : List ℕ) (e f : RunError) → IsAnswerError (Check workers) text e → IsAnswerError (Check workers) text f → failure_status e ≡ 1 → failure_status f ≡ 1 → e ≡ f
 check_once workers text (History p) (History q) is_e is_f one two =
@@ -294,31 +302,31 @@ drive_once drive text e WriteFault is_e is_f one two = absurd is_f
 
 pub refused_in_one_way : (order : Order) (text : List ℕ) (e f : RunError) → IsAnswerError order text e → IsAnswerError order text f
     → failure_status e ≡ 1 → failure_status f ≡ 1 → e ≡ f
-refused_in_one_way (Judge workers) text e f is_e is_f one two = judge_once workers text e f is_e is_f one two
+refused_in_one_way (Judge judging) text e f is_e is_f one two = judge_once judging text e f is_e is_f one two
 refused_in_one_way (Check workers) text e f is_e is_f one two = check_once workers text e f is_e is_f one two
-refused_in_one_way Explain text e f is_e is_f one two =
-    judge_once 1 text e f (explained_as_judged text e is_e) (explained_as_judged text f is_f) one two
+refused_in_one_way (Explain form) text e f is_e is_f one two =
+    judge_once plain text e f (explained_as_judged form text e is_e) (explained_as_judged form text f is_f) one two
 refused_in_one_way Refute text e f is_e is_f one two = refute_once text e f is_e is_f one two
 refused_in_one_way Replay text e f is_e is_f one two = replay_once text e f is_e is_f one two
 refused_in_one_way (Drive drive) text e f is_e is_f one two = drive_once drive text e f is_e is_f one two
 
 -- what is answered is not refused
-judge_not_refused : (workers : ℕ) (text : List ℕ) (e : RunError) (h : AnyHistory) → IsAnyHistory h → IsJson text (form_of h) → IsAnswerError (Judge workers) text e
+judge_not_refused : (judging : Judging) (text : List ℕ) (e : RunError) (h : AnyHistory) → IsAnyHistory h → IsJson text (form_of h) → IsAnswerError (Judge judging) text e
     → failure_status e ≡ 4
-judge_not_refused workers text (History p) h is read is_e =
+judge_not_refused judging text (History p) h is read is_e =
     ⊎_elim (λ (four : refusal_status p ≡ 4). four)
     (λ (one : refusal_status p ≡ 1). absurd (not_refused first_refusal text p (form_of h) (judge_refused text p is_e one) read (form_is_fine h is)))
     (statuses p)
-judge_not_refused workers text BadCertificate h is read is_e = absurd is_e
-judge_not_refused workers text ShapeMismatch h is read is_e = absurd is_e
-judge_not_refused workers text (Script p) h is read is_e = absurd is_e
-judge_not_refused workers text NotThatPattern h is read is_e = absurd is_e
-judge_not_refused workers text TooLong h is read is_e = absurd is_e
-judge_not_refused workers text BadLimits h is read is_e = absurd is_e
-judge_not_refused workers text NoSuch h is read is_e = absurd is_e
-judge_not_refused workers text Memory h is read is_e = refl
-judge_not_refused workers text ReadFault h is read is_e = absurd is_e
-judge_not_refused workers text WriteFault h is read is_e = absurd is_e
+judge_not_refused judging text BadCertificate h is read is_e = absurd is_e
+judge_not_refused judging text ShapeMismatch h is read is_e = absurd is_e
+judge_not_refused judging text (Script p) h is read is_e = absurd is_e
+judge_not_refused judging text NotThatPattern h is read is_e = absurd is_e
+judge_not_refused judging text TooLong h is read is_e = absurd is_e
+judge_not_refused judging text BadLimits h is read is_e = absurd is_e
+judge_not_refused judging text NoSuch h is read is_e = absurd is_e
+judge_not_refused judging text Memory h is read is_e = refl
+judge_not_refused judging text ReadFault h is read is_e = absurd is_e
+judge_not_refused judging text WriteFault h is read is_e = absurd is_e
 
 check_not_refused : (workers : ℕ) (text answer : List ℕ) (e : RunError) → IsCheckReport text answer → IsAnswerError (Check workers) text e → failure_status e ≡ 4
 check_not_refused workers text answer (History p) report is_e =
@@ -410,10 +418,16 @@ drive_not_refused drive text answer ReadFault report is_e = absurd is_e
 drive_not_refused drive text answer WriteFault report is_e = absurd is_e
 
 pub answered_is_not_refused : (order : Order) (text answer : List ℕ) (e : RunError) → IsAnswer order text answer → IsAnswerError order text e → failure_status e ≡ 4
-answered_is_not_refused (Judge workers) text answer e report is_e = judge_not_refused workers text e report.history report.is_history report.read is_e
+answered_is_not_refused (Judge judging) text answer e report is_e = judge_not_refused judging text e report.history report.is_history report.read is_e
 answered_is_not_refused (Check workers) text answer e report is_e = check_not_refused workers text answer e report is_e
-answered_is_not_refused Explain text answer e report is_e =
-    judge_not_refused 1 text e report.history report.is_history report.read (explained_as_judged text e is_e)
+answered_is_not_refused (Explain Words) text answer e report is_e =
+    judge_not_refused plain text e report.history report.is_history report.read (explained_as_judged Words text e is_e)
+answered_is_not_refused (Explain Json) text answer e report is_e =
+    judge_not_refused plain text e report.history report.is_history report.read (explained_as_judged Json text e is_e)
+answered_is_not_refused (Explain Certificates) text answer e report is_e =
+    judge_not_refused plain text e report.history report.is_history report.read (explained_as_judged Certificates text e is_e)
+answered_is_not_refused (Explain Picture) text answer e report is_e =
+    judge_not_refused plain text e report.history report.is_history report.read (explained_as_judged Picture text e is_e)
 answered_is_not_refused Refute text answer e report is_e = refute_not_refused text answer e report is_e
 answered_is_not_refused Replay text answer e report is_e = replay_not_refused text answer e report is_e
 answered_is_not_refused (Drive drive) text answer e report is_e = drive_not_refused drive text answer e report is_e

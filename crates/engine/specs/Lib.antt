@@ -2,9 +2,14 @@ pub mod Failure
 pub mod Report
 pub mod CheckPlaces
 pub mod Checking
+pub mod ClaimPlaces
 pub mod Refuting
 pub mod Explaining
+pub mod Certifying
+pub mod Picturing
+pub mod ExplainingInWords
 pub mod Driving
 pub mod Running
+pub mod Expecting
 pub mod ReadCalls
 pub mod Steps

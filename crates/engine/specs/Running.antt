@@ -7,11 +7,15 @@ use Rattle.engine.specs.declared.failure.RunError.TheVariants.{History, Script, 
 use Rattle.operations.specs.declared.any_history.AnyHistory.{AnyHistory}
 use Rattle.operations.specs.AnyForm.{form_of, IsAnyHistory, IsJson, IsRefusedFor}
 use Rattle.engine.specs.declared.report.Report.{Report}
+use Rattle.command_line.specs.declared.form.Form.TheVariants.{Words, Json, Certificates, Picture}
 use Rattle.command_line.specs.declared.order.Order.TheVariants.{Judge, Check, Explain, Refute, Replay, Drive}
 use Rattle.engine.specs.Report.{EachIsTrueOf, EachNamesUnexplained, EachIsKnownOnDistinctValues, text_for}
 use Rattle.engine.specs.Checking.{IsCheckReport, IsPairError, HasOtherShape}
 use Rattle.engine.specs.Refuting.{IsClaimError, IsRefutation}
+use Rattle.engine.specs.Certifying.{IsCertifiedExplanation}
 use Rattle.engine.specs.Explaining.{IsExplanation}
+use Rattle.engine.specs.ExplainingInWords.{IsWorded}
+use Rattle.engine.specs.Picturing.{IsPicture}
 use Rattle.engine.specs.Driving.{IsDriveReport, IsUndriven}
 use Rattle.engine.specs.declared.input.TheConstants.{MAX_INPUT_BYTES}
 use Rattle.script.specs.declared.any_script.AnyScript.{AnyScript}
@@ -38,9 +42,12 @@ pub record IsReplayReport (input text : List ℕ) : Type 0 where
 
 -- the text answers the input as the order asks, whatever the number of its workers
 abbrev pub IsAnswer : Order → List ℕ → List ℕ → Type 0
-IsAnswer (Judge workers) input text = IsReport input text
+IsAnswer (Judge judging) input text = IsReport input text
 IsAnswer (Check workers) input text = IsCheckReport input text
-IsAnswer Explain input text = IsExplanation input text
+IsAnswer (Explain Words) input text = IsWorded input text
+IsAnswer (Explain Json) input text = IsExplanation input text
+IsAnswer (Explain Certificates) input text = IsCertifiedExplanation input text
+IsAnswer (Explain Picture) input text = IsPicture input text
 IsAnswer Refute input text = IsRefutation input text
 IsAnswer Replay input text = IsReplayReport input text
 IsAnswer (Drive drive) input text = IsDriveReport drive input text
@@ -48,11 +55,11 @@ IsAnswer (Drive drive) input text = IsDriveReport drive input text
 -- what can come of making an answer, in its place: the input is refused, or memory ran out
 abbrev pub IsAnswerError : Order → List ℕ → RunError → Type 0
 IsAnswerError order input Memory = Unit {0}
-IsAnswerError (Judge workers) input (History refusal) = IsRefusedFor input refusal
+IsAnswerError (Judge judging) input (History refusal) = IsRefusedFor input refusal
 IsAnswerError (Check workers) input (History refusal) = IsPairError input (History refusal)
 IsAnswerError (Check workers) input BadCertificate = IsPairError input BadCertificate
 IsAnswerError (Check workers) input ShapeMismatch = HasOtherShape input
-IsAnswerError Explain input (History refusal) = IsRefusedFor input refusal
+IsAnswerError (Explain form) input (History refusal) = IsRefusedFor input refusal
 IsAnswerError Refute input (History refusal) = IsClaimError input (History refusal)
 IsAnswerError Refute input NotThatPattern = IsClaimError input NotThatPattern
 IsAnswerError Replay input (Script refusal) = IsScriptRefusedFor input refusal

@@ -3,3 +3,4 @@ pub mod FoundedAnswers
 pub mod Transfer
 pub mod SealedTexts
 pub mod Unshown
+pub mod FoundedEvidence

@@ -80,7 +80,7 @@ pub fn answer_of_certificate<T: Threads + Wait + Sync>(
 }
 
 // The same for the histories of one object.
-fn answer_of_pieces<O: Judged + Send + Sync, T: Threads + Wait + Sync>(
+pub(crate) fn answer_of_pieces<O: Judged + Send + Sync, T: Threads + Wait + Sync>(
     rt: &T,
     alloc: Global,
     history: History<O>,
@@ -119,7 +119,7 @@ pub fn answer_of_file<O: Judged + Send + Sync, T: Threads + Wait + Sync>(
 }
 
 // The history and the certificate of an input.
-fn read_pair(alloc: Global, input: &[u8]) -> Result<(AnyHistory, Certificate), RunError>
+pub(crate) fn read_pair(alloc: Global, input: &[u8]) -> Result<(AnyHistory, Certificate), RunError>
     ensures history { IfOk result (λ pair. IsAnyHistory pair.0) }
     ensures certificate { IfOk result (λ pair. IsCertificate pair.1) }
     ensures read { IfOk result (λ pair. IsPair input.now (form_of pair.0) (certificate_form pair.1)) }

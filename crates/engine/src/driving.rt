@@ -45,7 +45,7 @@ pub fn drive_with<T: Threads + Wait + Sync, G: Gate>(
 {
     match order {
         Order::Drive(drive) => drive_store(rt, alloc, history, *drive, gate),
-        Order::Judge(_) | Order::Check(_) | Order::Explain | Order::Refute | Order::Replay => {
+        Order::Judge(_) | Order::Check(_) | Order::Explain(_) | Order::Refute | Order::Replay => {
             unreachable!()
         }
     }

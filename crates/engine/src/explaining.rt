@@ -4,6 +4,7 @@ ghost use Rattle.std.specs.Prelude.{◌≡◌, ◌++◌, codes, IfErr, IfOk, OnO
 ghost use Rattle.serde_json.specs.Written.{compact_text};
 ghost use Rattle.operations.specs.AnyForm.{IsJson};
 ghost use Rattle.decision.specs.Decisions.{IsDecided};
+ghost use Rattle.command_line.specs.declared.form.Form.TheVariants.{Json};
 ghost use Rattle.engine.specs.Explaining.{EachIsReason, IsReason, explanation_form, reason_for};
 ghost use Rattle.engine.specs.Report.{EachIsKnownOnDistinctValues, EachIsTrueOf, EachNamesUnexplained};
 ghost use Rattle.engine.specs.Running.{IsAnswer, IsAnswerError};
@@ -23,13 +24,13 @@ use std::sync::Wait;
 use std::thread::Threads;
 
 /// The JSON text of the reasons on the history in the input.
-pub fn explain<T: Threads + Wait + Sync>(
+pub fn explain_as_json<T: Threads + Wait + Sync>(
     rt: &T,
     alloc: Global,
     input: &[u8],
 ) -> Result<String, RunError>
-    ensures answer { IfOk result (λ text. IsAnswer Order.Explain input.now (string_bytes text)) }
-    ensures error { IfErr result (IsAnswerError Order.Explain input.now) }
+    ensures answer { IfOk result (λ text. IsAnswer (Order.Explain Json) input.now (string_bytes text)) }
+    ensures error { IfErr result (IsAnswerError (Order.Explain Json) input.now) }
 {
     let history = read_history(alloc, input)?;
     let explanation = explanation_of(rt, alloc, history, Workers::usual())?;
@@ -58,7 +59,7 @@ pub fn explanation_of<T: Threads + Wait + Sync>(
 
 // The same for the histories of a memory, in which patterns are looked for.
 #[tactic(auto, using(crate::proofs::Reasons::each_reason))]
-fn explanation_of_memory<T: Threads + Wait + Sync>(
+pub(crate) fn explanation_of_memory<T: Threads + Wait + Sync>(
     rt: &T,
     alloc: Global,
     history: History<Memory>,
@@ -109,7 +110,7 @@ fn reason_of_decision<T: Threads + Wait + Sync>(
 }
 
 // The reasons of the answers of a report alone.
-fn unshown(report: &Report) -> Explanation
+pub(crate) fn unshown(report: &Report) -> Explanation
     ensures { (history : AnyHistory) → EachIsTrueOf history report.now → EachIsKnownOnDistinctValues history report.now
         → EachNamesUnexplained history report.now → EachIsReason history result }
 {
@@ -121,7 +122,10 @@ fn unshown(report: &Report) -> Explanation
 }
 
 // The JSON text of an explanation, and a line feed.
-fn explanation_text(alloc: Global, explanation: &Explanation) -> Result<String, AllocError>
+pub(crate) fn explanation_text(
+    alloc: Global,
+    explanation: &Explanation,
+) -> Result<String, AllocError>
     ensures whole { IfOk result (λ text. string_bytes text ≡ compact_text (explanation_form explanation.now) ++ codes "\n") }
     ensures json { OnOk result (IsJson (compact_text (explanation_form explanation.now)) (explanation_form explanation.now)) }
 {

@@ -1,9 +1,8 @@
 //! What is known of a history, for each criterion.
 
-ghost use Rattle.std.specs.Prelude.{◌≡◌, IfErr, IfOk, IfSome};
+ghost use Rattle.std.specs.Prelude.{◌≡◌, IfErr, IfOk};
 ghost use Rattle.memory_order.specs.Memory.{memory_answer};
 ghost use Rattle.bad_patterns.specs.Kinds.{IsTrueNo};
-ghost use Rattle.cert_check.specs.Certificates.{HasShapeOf, criterion_of};
 ghost use Rattle.decision.specs.Decisions.{IsDecided};
 ghost use Rattle.engine.specs.Report.{IsTrueOf, NamesUnexplained, IsKnownOnDistinctValues, answer_for};
 ghost use Rattle.engine.specs.Report.{EachIsTrueOf, EachNamesUnexplained, EachIsKnownOnDistinctValues};
@@ -11,9 +10,10 @@ ghost use Rattle.engine.specs.Steps.FoundedAnswers.{IsFoundedOn};
 
 use crate::checking::answer_of_file;
 use crate::failure::RunError;
+use crate::making::file_of_memory;
 use crate::report::Report;
 use bad_patterns::laws::bad_patterns_exclude_criteria;
-use cert_check::{CaseFile, Certificate, Criterion, DeskError};
+use cert_check::{Criterion, DeskError};
 use collector::{Answer, Judged, OpenGate, judge};
 use command_line::Workers;
 use decision::{Decision, decide_all};
@@ -21,7 +21,7 @@ use history::Advice;
 use memory_order::IndexedMemory;
 use objects::Memory;
 use operations::{AnyHistory, History};
-use std::alloc::{AllocError, Global};
+use std::alloc::Global;
 use std::sync::Wait;
 use std::thread::Threads;
 
@@ -133,7 +133,7 @@ fn report_on_memory<T: Threads + Wait + Sync>(
 }
 
 // The same for the histories of one object, in which no patterns are looked for.
-fn report_on_object<O: Judged + Send + Sync, T: Threads + Wait + Sync>(
+pub(crate) fn report_on_object<O: Judged + Send + Sync, T: Threads + Wait + Sync>(
     rt: &T,
     alloc: Global,
     history: History<O>,
@@ -203,30 +203,8 @@ fn answer_by_certificate<T: Threads + Wait + Sync>(
     ensures founded { IfOk result (IsFoundedOn memory_answer IsTrueNo memory.now criterion) }
     ensures error { IfErr result (λ e. e ≡ RunError.Memory) }
 {
-    let history = memory.history().copy(alloc)?;
-    let made = certificate_of(alloc, memory, advice, criterion)?;
-    answer_by(rt, alloc, history, made, criterion, workers)
-}
-
-// What the pieces of a certificate show, where one was made.
-#[tactic(auto, using(crate::proofs::Founded::made_is_file))]
-fn answer_by<T: Threads + Wait + Sync>(
-    rt: &T,
-    alloc: Global,
-    history: History<Memory>,
-    made: Option<Certificate>,
-    criterion: Criterion,
-    workers: Workers,
-) -> Result<Answer, RunError>
-    requires criterion { IfSome made (λ c. criterion_of c ≡ criterion) }
-    requires shape { IfSome made (HasShapeOf history) }
-    ensures founded { IfOk result (IsFoundedOn memory_answer IsTrueNo history criterion) }
-    ensures error { IfErr result (λ e. e ≡ RunError.Memory) }
-{
-    match CaseFile::new(history, criterion, made) {
-        Ok(file) => answer_of_file(rt, alloc, file, workers),
-        Err(_) => unreachable!(),
-    }
+    let file = file_of_memory(alloc, memory, advice, criterion)?;
+    answer_of_file(rt, alloc, file, workers)
 }
 
 // What is known of a history of one object and a criterion.
@@ -254,58 +232,5 @@ fn answer_of_object<O: Judged + Send + Sync, T: Threads + Wait + Sync>(
         Ok(answer) => Ok(answer),
         Err(DeskError::Memory) => Err(RunError::Memory),
         Err(_) => unreachable!(),
-    }
-}
-
-// The certificate of a history of a memory, where one is made: from advice where there is any, and else by its causal order.
-fn certificate_of(
-    alloc: Global,
-    memory: &IndexedMemory,
-    advice: &[Option<Advice>],
-    criterion: Criterion,
-) -> Result<Option<Certificate>, AllocError>
-    ensures criterion { IfOk result (λ made. IfSome made (λ c. criterion_of c ≡ criterion)) }
-    ensures shape { IfOk result (λ made. IfSome made (HasShapeOf memory.now)) }
-{
-    if advice.is_empty() {
-        certificate_by_causal_order(alloc, memory, criterion)
-    } else {
-        certificate_by_advice(alloc, memory.history(), advice, criterion)
-    }
-}
-
-// The certificate of a history of a memory from advice, where it decides; else by the sources of its reads, where one is made.
-fn certificate_by_advice(
-    alloc: Global,
-    history: &History<Memory>,
-    advice: &[Option<Advice>],
-    criterion: Criterion,
-) -> Result<Option<Certificate>, AllocError>
-    ensures criterion { IfOk result (λ made. IfSome made (λ c. criterion_of c ≡ criterion)) }
-    ensures shape { IfOk result (λ made. IfSome made (HasShapeOf history.now)) }
-{
-    match criterion {
-        Criterion::Cc => certify_cc::make_memory(alloc, history, advice),
-        Criterion::Cm => certify_cm::make_memory(alloc, history, advice),
-        Criterion::Ccv => certify_ccv::make_memory(alloc, history, advice),
-    }
-}
-
-// The certificate of a history of a memory by its causal order, where it has one and a certificate is made by it.
-fn certificate_by_causal_order(
-    alloc: Global,
-    memory: &IndexedMemory,
-    criterion: Criterion,
-) -> Result<Option<Certificate>, AllocError>
-    ensures criterion { IfOk result (λ made. IfSome made (λ c. criterion_of c ≡ criterion)) }
-    ensures shape { IfOk result (λ made. IfSome made (HasShapeOf memory.now)) }
-{
-    let Some(order) = memory.order() else {
-        return Ok(None);
-    };
-    match criterion {
-        Criterion::Cc => Ok(Some(certify_cc::make_by_order(alloc, &order)?)),
-        Criterion::Cm => certify_cm::make_by_order(alloc, &order),
-        Criterion::Ccv => certify_ccv::make_by_order(alloc, &order),
     }
 }

@@ -2,34 +2,55 @@
 //! an answer.
 #![tactic(auto)]
 
+mod certified;
+mod certifying;
 mod check_place;
 mod checking;
+mod claim_place;
+mod copying;
 mod drivable;
 mod driving;
+mod expecting;
 mod explaining;
+mod explaining_forms;
+mod explaining_in_words;
 mod failure;
 mod input;
 mod judging;
 pub mod laws;
+mod making;
+mod outcome;
 mod output;
+mod picturing;
 mod program;
 mod reason;
+mod reason_lines;
 mod refuting;
 mod replaying;
 mod report;
 mod running;
+mod showing;
 mod source;
+mod waiting;
 
+pub use certified::{CertifiedExplanation, Evidence};
+pub use certifying::{explain_with_certificates, explanation_with_certificates};
 pub use checking::answer_of_certificate;
 pub use collector::{Answer, Gate, OpenGate};
-pub use command_line::{Delivery, Drive, MAX_SEALS, Order, Store, Usage, Workers, command_of};
+pub use command_line::{
+    Delivery, Drive, Expected, Form, Judging, MAX_SEALS, Order, Store, Usage, Workers, command_of,
+};
 pub use drivable::Drivable;
 pub use driving::drive_with;
+pub use expecting::{judge_expecting, outcome_of};
 pub use explaining::explanation_of;
+pub use explaining_in_words::explain_in_words;
 pub use failure::{RunError, fault_line, status_of};
 pub use input::{MAX_INPUT_BYTES, MAX_READ_CALLS, read_input};
 pub use judging::report_on;
+pub use outcome::Outcome;
 pub use output::write_answer;
+pub use picturing::explain_as_picture;
 pub use program::status_of_process;
 pub use reason::{Explanation, Reason};
 pub use report::{Report, report_line, report_text};

@@ -3,12 +3,16 @@ ghost use Rattle.std.specs.Prelude.{◌≡◌, ◌≤◌, ◌⊎◌};
 ghost use Rattle.engine.specs.Failure.{status_for};
 ghost use Rattle.command_line.specs.CommandLine.{IsUsageStatus};
 
+use crate::expecting::judge_expecting;
 use crate::failure::{RunError, fault_line, status_of};
+use crate::outcome::Outcome;
 use crate::running::run;
-use command_line::{Order, Usage, command_of, fault_with};
+use crate::waiting::Waiting;
+use command_line::{Judging, Order, Usage, command_of, fault_with};
 use std::rt::Env;
 use std::sync::Wait;
 use std::thread::Threads;
+use std::time::Clock;
 use std::{env, io};
 
 const USAGE_STATUS: u8 = 2;
@@ -16,18 +20,40 @@ const USAGE_STATUS: u8 = 2;
 /// Does what the process's words order, and returns its exit status.
 ///
 /// An answer or the help goes to standard output. What is wrong goes to standard error: the text of a usage fault,
-/// with status 2, or the line of a run that failed.
-pub fn status_of_process<P: Env + Threads + Wait + Sync + AllocGlobal + Input + Print + Eprint>(
-    rt: &P,
-) -> u8
-    ensures { result ≤ 4 }
+/// with status 2, or the line of a run that failed. Where standard input has nothing yet and does not wait for it, as a
+/// pipe that must not block, it is asked again a millisecond later, and each time counts as a read call.
+pub fn status_of_process<
+    P: Env + Threads + Wait + Sync + AllocGlobal + Input + Print + Eprint + Clock,
+>(rt: &P) -> u8
+    ensures { result ≤ 6 }
 {
     match order_of_process(rt) {
+        Ok(Order::Judge(judging)) => report_judged(rt, judge(rt, judging)),
         Ok(order) => {
-            let outcome = run(rt, &mut rt.reader(), &mut io::writer(rt), &order);
+            let mut reader = Waiting::by(rt, rt.reader());
+            let outcome = run(rt, &mut reader, &mut io::writer(rt), &order);
             report(rt, outcome)
         }
         Err(usage) => report_usage(rt, usage),
+    }
+}
+
+// Judges the history in the input.
+fn judge<P: Threads + Wait + Sync + AllocGlobal + Input + Print + Clock>(
+    rt: &P,
+    judging: Judging,
+) -> Result<Outcome, RunError> {
+    let mut reader = Waiting::by(rt, rt.reader());
+    judge_expecting(rt, &mut reader, &mut io::writer(rt), judging)
+}
+
+// Returns the exit status of what was judged, and writes the line of a run that failed.
+fn report_judged<P: AllocGlobal + Eprint>(rt: &P, judged: Result<Outcome, RunError>) -> u8
+    ensures { result ≤ 6 }
+{
+    match judged {
+        Ok(outcome) => outcome.status(),
+        Err(error) => report(rt, Err(error)),
     }
 }
 

@@ -5,8 +5,10 @@ ghost use Rattle.serde_json.specs.Data.{string};
 ghost use Rattle.serde_json.specs.View.{view};
 ghost use Rattle.operations.specs.Json.{list};
 ghost use Rattle.engine.specs.Explaining.{explanation_form, reason_form, shown_form, word_of};
+ghost use Rattle.engine.specs.ExplainingInWords.{answer_of};
 ghost use Rattle.engine.specs.Steps.Unshown.{reason_of};
 
+use crate::report::Report;
 use bad_patterns::{Kind, Pattern};
 use cert_check::Criterion;
 use collector::Answer;
@@ -41,6 +43,18 @@ impl Reason {
         }
     }
 
+    /// The answer whose reason it is.
+    pub(crate) fn answer(&self) -> Answer
+        ensures { result ≡ answer_of self.now }
+    {
+        match self {
+            Reason::Explained => Answer::Yes,
+            Reason::Shown(pattern) => Answer::No(pattern.kind()),
+            Reason::Present(kind) => Answer::No(*kind),
+            Reason::Unexplained(place) => Answer::Unknown(*place),
+        }
+    }
+
     // Whether the criterion is met.
     fn word(&self) -> &'static str
         ensures { result.now ≡ word_of self.now }
@@ -65,7 +79,7 @@ impl Reason {
     }
 
     // Its form for a criterion.
-    fn value(&self, alloc: Global, criterion: Criterion) -> Result<Value, AllocError>
+    pub(crate) fn value(&self, alloc: Global, criterion: Criterion) -> Result<Value, AllocError>
         ensures { IfOk result (λ value. view value ≡ reason_form criterion self.now) }
     {
         let name = text_value(alloc, criterion.name())?;
@@ -86,6 +100,15 @@ pub struct Explanation {
 }
 
 impl Explanation {
+    /// The answers whose reasons these are.
+    pub(crate) fn report(&self) -> Report {
+        Report {
+            cc: self.cc.answer(),
+            cm: self.cm.answer(),
+            ccv: self.ccv.answer(),
+        }
+    }
+
     /// Its form as a JSON value.
     pub(crate) fn value(&self, alloc: Global) -> Result<Value, AllocError>
         ensures { IfOk result (λ value. view value ≡ explanation_form self.now) }
@@ -98,14 +121,14 @@ impl Explanation {
 }
 
 // A text as a JSON value.
-fn text_value(alloc: Global, text: &str) -> Result<Value, AllocError>
+pub(crate) fn text_value(alloc: Global, text: &str) -> Result<Value, AllocError>
     ensures { IfOk result (λ value. view value ≡ string text.now) }
 {
     Ok(Value::String(String::from_str(alloc, text)?))
 }
 
 // The list of three values.
-fn list_of_three(
+pub(crate) fn list_of_three(
     alloc: Global,
     first: Value,
     second: Value,

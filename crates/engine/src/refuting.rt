@@ -12,9 +12,11 @@ ghost use Rattle.engine.specs.Report.{IsExcluded};
 ghost use Rattle.engine.specs.Running.{IsAnswer, IsAnswerError};
 ghost use Rattle.engine.specs.Refuting.{IsClaimError, IsClaimErrorOf, IsPatternOf, claim_form, claim_refusal};
 
+use crate::claim_place::ClaimPlace;
 use crate::failure::RunError;
 use crate::report::report_line;
 use bad_patterns::{Pattern, check_pattern, read_pattern};
+use bounded_json::{TextError, read_bounded};
 use cert_check::Criterion;
 use collector::Answer;
 use command_line::Order;
@@ -72,15 +74,10 @@ fn read_claim(alloc: Global, input: &[u8]) -> Result<Claim, RunError>
     ensures read { IfOk result (λ claim. IsJson input.now (claim_form claim.history claim.criterion claim.pattern)) }
     ensures error { IfErr result (IsClaimError input.now) }
 {
-    match Value::from_slice(alloc, input) {
+    match read_bounded(alloc, input, ClaimPlace::Claim) {
         Ok(value) => claim_of(alloc, &value),
-        Err(refused) => {
-            if refused.is_memory() {
-                Err(RunError::Memory)
-            } else {
-                Err(RunError::History(ReadError::NotJson))
-            }
-        }
+        Err(TextError::NotJson) => Err(RunError::History(ReadError::NotJson)),
+        Err(TextError::Memory) => Err(RunError::Memory),
     }
 }
 

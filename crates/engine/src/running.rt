@@ -6,17 +6,16 @@ ghost use Rattle.engine.specs.Running.{Answers, Fails, IsAnswer, IsAnswerError};
 
 use crate::checking::check;
 use crate::driving::drive_input;
-use crate::explaining::explain;
+use crate::expecting::report_on_input;
+use crate::explaining_forms::explain_as;
 use crate::failure::RunError;
 use crate::input::{MAX_READ_CALLS, read_input};
-use crate::judging::report_on;
 use crate::output::write_answer;
 use crate::refuting::refute;
 use crate::replaying::replay;
 use crate::report::report_text;
 use crate::source::Source;
-use command_line::{Order, Workers};
-use operations::read_history;
+use command_line::{Judging, Order};
 use std::alloc::Global;
 use std::io::Write;
 use std::sync::Wait;
@@ -26,7 +25,7 @@ use std::thread::Threads;
 ///
 /// Nothing is written before the answer is made: after every error but a write fault the writer is as it was. How much
 /// was written before a write fault is not said, nor how much was read before an error; how many read calls are made is
-/// said by [`read_input`]. O(n log n) for an input of n bytes, and what [`report_on`] or
+/// said by [`read_input`]. O(n log n) for an input of n bytes, and what [`report_on`](crate::report_on) or
 /// [`answer_of_certificate`](crate::answer_of_certificate) takes for its history, or [`script::replay`] for its script.
 pub fn run<P: Threads + Wait + Sync + AllocGlobal, R: Source, W: Write>(
     rt: &P,
@@ -52,7 +51,7 @@ pub fn run<P: Threads + Wait + Sync + AllocGlobal, R: Source, W: Write>(
 /// The whole answer to an input, as the order asks.
 ///
 /// Refuses what is no input of the order, and fails for want of memory. Its cost is that of reading the input, and what
-/// [`report_on`] or [`answer_of_certificate`](crate::answer_of_certificate) takes for its history, or [`script::replay`] for its
+/// [`report_on`](crate::report_on) or [`answer_of_certificate`](crate::answer_of_certificate) takes for its history, or [`script::replay`] for its
 /// script.
 pub fn answer_to<T: Threads + Wait + Sync>(
     rt: &T,
@@ -64,9 +63,9 @@ pub fn answer_to<T: Threads + Wait + Sync>(
     ensures error { IfErr result (IsAnswerError order.now input.now) }
 {
     match order {
-        Order::Judge(workers) => judge(rt, alloc, input, *workers),
+        Order::Judge(judging) => judge(rt, alloc, input, *judging),
         Order::Check(workers) => check(rt, alloc, input, *workers),
-        Order::Explain => explain(rt, alloc, input),
+        Order::Explain(form) => explain_as(rt, alloc, input, *form),
         Order::Refute => refute(alloc, input),
         Order::Replay => replay(alloc, input),
         Order::Drive(drive) => drive_input(rt, alloc, input, *drive),
@@ -78,12 +77,11 @@ fn judge<T: Threads + Wait + Sync>(
     rt: &T,
     alloc: Global,
     input: &[u8],
-    workers: Workers,
+    judging: Judging,
 ) -> Result<String, RunError>
-    ensures answer { IfOk result (λ text. IsAnswer (Order.Judge workers) input.now (string_bytes text)) }
-    ensures error { IfErr result (IsAnswerError (Order.Judge workers) input.now) }
+    ensures answer { IfOk result (λ text. IsAnswer (Order.Judge judging) input.now (string_bytes text)) }
+    ensures error { IfErr result (IsAnswerError (Order.Judge judging) input.now) }
 {
-    let history = read_history(alloc, input)?;
-    let report = report_on(rt, alloc, history, &[], workers)?;
+    let report = report_on_input(rt, alloc, input, judging)?;
     Ok(report_text(alloc, &report)?)
 }

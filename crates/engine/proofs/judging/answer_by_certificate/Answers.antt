@@ -1,13 +1,18 @@
-use Rattle.std.proofs.Common.{◌∙◌, subst}
-use Rattle.std.specs.Prelude.{IfOk}
+use Rattle.std.proofs.Common.{subst}
+use Rattle.std.specs.Prelude.{◌≡◌, IfOk}
 use Rattle.bad_patterns.specs.Kinds.{IsTrueNo}
-use Rattle.memory_order.specs.Memory.{MemoryHistory, memory_answer}
+use Rattle.board.specs.declared.answer.Answer.TheVariants.{Yes}
+use Rattle.memory_order.specs.Memory.{memory_answer}
 use Rattle.cert_check.specs.Criteria.{Meets}
-use Rattle.collector.specs.Judgements.{IsFounded, IsUnexplainedOf}
+use Rattle.collector.specs.Judgements.{IsSaidOfFile}
+use Rattle.engine.proofs.Founded.{file_is_founded}
 use Rattle.engine.proofs.judging.answer_by_certificate.Goals as goal
 
 pub returns-clause-founded : goal.returns-clause-founded
 returns-clause-founded g c =
-    subst (λ (m : MemoryHistory). IfOk c.answer_by.result
-    (IsFounded (Meets memory_answer m c.args.criterion) (IsTrueNo m c.args.criterion) (IsUnexplainedOf memory_answer m c.args.criterion)))
-    (c.in_ok-history.ensures ∙ c.history.ensures) c.answer_by.ensures.founded
+    let h = c.args.memory.now in
+    let of_file = c.in_ok-file.ensures in
+    file_is_founded memory_answer h c.args.criterion (IsTrueNo h c.args.criterion) c.in_ok-file.file.2 c.answer_of_file.result
+    of_file.criterion of_file.shape
+    (subst (λ file. IfOk c.answer_of_file.result (IsSaidOfFile memory_answer file)) of_file.file c.answer_of_file.ensures.said)
+    (subst (λ file. IfOk c.answer_of_file.result (λ a. a ≡ Yes → Meets memory_answer file.0 file.1)) of_file.file c.answer_of_file.ensures.met)

@@ -1,0 +1,22 @@
+use Rattle.std.proofs.Common.{refl}
+use Rattle.memory_order.specs.Memory.{memory_answer}
+use Rattle.cert_check.specs.declared.criterion.Criterion.TheVariants.{Ccv}
+use Rattle.bad_patterns.specs.Kinds.{IsFreeOf}
+use Rattle.collector.proofs.DecidedLaws.{free-conflicts, free-sourced, free-start}
+use Rattle.engine.proofs.EvidenceLaws.{certified-made}
+use Rattle.engine.proofs.showing.certificate_of_convergent.Goals as goal
+
+pub returns-clause-certified : goal.returns-clause-certified
+returns-clause-certified c =
+    let h = c.args.history.now in
+    let distinct = c.requires.distinct in
+    let free : IsFreeOf h Ccv = λ kind against present. c.present_kinds_exclude_criteria.ensures h Ccv kind against present c.requires.met in
+    certified-made memory_answer h Ccv c.make_by_sources.result c.make_by_sources.ensures.criterion c.make_by_sources.ensures.shape
+    (c.make_by_sources.ensures.explained (free-start h distinct Ccv free refl))
+
+pub returns-clause-made : goal.returns-clause-made
+returns-clause-made c =
+    let h = c.args.history.now in
+    let distinct = c.requires.distinct in
+    let free : IsFreeOf h Ccv = λ kind against present. c.present_kinds_exclude_criteria.ensures h Ccv kind against present c.requires.met in
+    c.make_by_sources.ensures.made (free-sourced h distinct Ccv free refl) (free-conflicts h distinct Ccv free refl)

@@ -1,0 +1,140 @@
+//! Why a history meets each criterion, or does not, in words.
+
+ghost use Rattle.std.specs.Prelude.{◌≡◌, ◌↔◌, ◌++◌, IfErr, IfOk, IsTrue, OnOk, string_bytes};
+ghost use Rattle.std.specs.Str.Iter.{LacksByte};
+ghost use Rattle.command_line.specs.declared.form.Form.TheVariants.{Words};
+ghost use Rattle.engine.specs.Explaining.{EachIsReason};
+ghost use Rattle.engine.specs.ExplainingInWords.{IsIndented, IsWorded, Tells, TellsEach, indented};
+ghost use Rattle.engine.specs.Running.{IsAnswerError};
+
+use crate::explaining::explanation_of;
+use crate::failure::RunError;
+use crate::reason::{Explanation, Reason};
+use crate::reason_lines::lines_of_reason;
+use crate::report::report_line;
+use cert_check::Criterion;
+use command_line::{Order, Workers};
+use operations::{AnyHistory, PlainHistory, read_history};
+use std::alloc::{AllocError, Global};
+use std::sync::Wait;
+use std::thread::Threads;
+
+/// The reasons on the history in the input, in words: for each criterion the line of `judge`, and behind it what shows it, in
+/// lines that begin with two spaces.
+///
+/// Refuses what is no history, and fails for want of memory. It judges as [`report_on`](crate::report_on) does. Where a
+/// certificate does not explain an operation it is made once more, and the piece of the operation is replayed.
+pub fn explain_in_words<T: Threads + Wait + Sync>(
+    rt: &T,
+    alloc: Global,
+    input: &[u8],
+) -> Result<String, RunError>
+    ensures worded { IfOk result (λ text. IsWorded input.now (string_bytes text)) }
+    ensures error { IfErr result (IsAnswerError (Order.Explain Words) input.now) }
+{
+    let history = read_history(alloc, input)?;
+    let explanation = explanation_of_copy(rt, alloc, &history)?;
+    Ok(text_of_explanation(alloc, &history, &explanation)?)
+}
+
+// Why each criterion is met by a history, or is not, or why that is unknown.
+fn explanation_of_copy<T: Threads + Wait + Sync>(
+    rt: &T,
+    alloc: Global,
+    history: &AnyHistory,
+) -> Result<Explanation, RunError>
+    ensures reasons { IfOk result (EachIsReason history.now) }
+    ensures error { IfErr result (λ e. e ≡ RunError.Memory) }
+{
+    let copy = copied(alloc, history)?;
+    explanation_of(rt, alloc, copy, Workers::usual())
+}
+
+// An equal history.
+fn copied(alloc: Global, history: &AnyHistory) -> Result<AnyHistory, AllocError>
+    ensures { IfOk result (λ copy. copy ≡ history.now) }
+{
+    match history {
+        AnyHistory::Register(plain) => Ok(AnyHistory::Register(PlainHistory::of(
+            plain.history().copy(alloc)?,
+        ))),
+        AnyHistory::Counter(plain) => Ok(AnyHistory::Counter(PlainHistory::of(
+            plain.history().copy(alloc)?,
+        ))),
+        AnyHistory::Set(plain) => Ok(AnyHistory::Set(PlainHistory::of(
+            plain.history().copy(alloc)?,
+        ))),
+        AnyHistory::Queue(plain) => Ok(AnyHistory::Queue(PlainHistory::of(
+            plain.history().copy(alloc)?,
+        ))),
+        AnyHistory::Memory(history) => Ok(AnyHistory::Memory(history.copy(alloc)?)),
+        AnyHistory::Counters(history) => Ok(AnyHistory::Counters(history.copy(alloc)?)),
+        AnyHistory::Sets(history) => Ok(AnyHistory::Sets(history.copy(alloc)?)),
+        AnyHistory::Queues(history) => Ok(AnyHistory::Queues(history.copy(alloc)?)),
+    }
+}
+
+// The text of an explanation of a history.
+fn text_of_explanation(
+    alloc: Global,
+    history: &AnyHistory,
+    explanation: &Explanation,
+) -> Result<String, AllocError>
+    ensures { IfOk result (λ text. TellsEach explanation.now (string_bytes text)) }
+{
+    let cc = text_of_reason(alloc, history, Criterion::Cc, &explanation.cc)?;
+    let cm = text_of_reason(alloc, history, Criterion::Cm, &explanation.cm)?;
+    let ccv = text_of_reason(alloc, history, Criterion::Ccv, &explanation.ccv)?;
+    format!(in alloc; "{cc}{cm}{ccv}")
+}
+
+// The text of one reason.
+fn text_of_reason(
+    alloc: Global,
+    history: &AnyHistory,
+    criterion: Criterion,
+    reason: &Reason,
+) -> Result<String, AllocError>
+    ensures { IfOk result (λ text. Tells criterion reason.now (string_bytes text)) }
+{
+    let line = report_line(alloc, criterion, reason.answer())?;
+    let words = indented_text(alloc, &lines_of_reason(alloc, history, criterion, reason)?)?;
+    format!(in alloc; "{line}{words}")
+}
+
+// Lines, each behind two spaces.
+fn indented_text(alloc: Global, lines: &[String]) -> Result<String, AllocError>
+    ensures { IfOk result (λ text. IsIndented (string_bytes text)) }
+{
+    let mut text = String::new(alloc);
+    for line in lines {
+        push_indented(&mut text, line)?;
+    }
+    Ok(text)
+}
+
+// Puts a line behind others, unless a line feed stands in it.
+fn push_indented(text: &mut String, line: &str) -> Result<(), AllocError>
+    ensures { OnOk result (IsIndented (string_bytes text.old) → IsIndented (string_bytes text.new)) }
+{
+    if is_one_line(line) {
+        push_line(text, line)?;
+    }
+    Ok(())
+}
+
+// Puts a line behind others.
+fn push_line(text: &mut String, line: &str) -> Result<(), AllocError>
+    ensures { OnOk result (string_bytes text.new ≡ string_bytes text.old ++ indented line.now) }
+{
+    text.push_str("  ")?;
+    text.push_str(line)?;
+    text.push_str("\n")
+}
+
+// Whether no line feed stands in a line.
+fn is_one_line(line: &str) -> bool
+    ensures { IsTrue result ↔ LacksByte 0x0A line.now }
+{
+    line.as_bytes().iter().all(|byte| *byte != b'\n')
+}

@@ -1,0 +1,88 @@
+//! The certificates that are made of histories of a memory.
+
+ghost use Rattle.std.specs.Prelude.{◌≡◌, IfErr, IfOk, IfSome};
+ghost use Rattle.cert_check.specs.Certificates.{HasShapeOf, criterion_of};
+
+use crate::failure::RunError;
+use cert_check::{CaseFile, Certificate, Criterion};
+use history::Advice;
+use memory_order::IndexedMemory;
+use objects::Memory;
+use operations::History;
+use std::alloc::{AllocError, Global};
+
+/// The case file of a history of a memory and a criterion, with the certificate that is made of them, where one is made.
+///
+/// Fails for want of memory alone.
+#[tactic(auto, using(crate::proofs::Founded::made_is_file))]
+pub(crate) fn file_of_memory(
+    alloc: Global,
+    memory: &IndexedMemory,
+    advice: &[Option<Advice>],
+    criterion: Criterion,
+) -> Result<CaseFile<Memory>, RunError>
+    ensures file { IfOk result (λ file. file ≡ (memory.now, criterion, file.2)) }
+    ensures criterion { IfOk result (λ file. IfSome file.2 (λ c. criterion_of c ≡ criterion)) }
+    ensures shape { IfOk result (λ file. IfSome file.2 (HasShapeOf memory.now)) }
+    ensures error { IfErr result (λ e. e ≡ RunError.Memory) }
+{
+    let history = memory.history().copy(alloc)?;
+    let made = certificate_of(alloc, memory, advice, criterion)?;
+    match CaseFile::new(history, criterion, made) {
+        Ok(file) => Ok(file),
+        Err(_) => unreachable!(),
+    }
+}
+
+// The certificate of a history of a memory, where one is made: from advice where there is any, and else by its causal order.
+fn certificate_of(
+    alloc: Global,
+    memory: &IndexedMemory,
+    advice: &[Option<Advice>],
+    criterion: Criterion,
+) -> Result<Option<Certificate>, AllocError>
+    ensures criterion { IfOk result (λ made. IfSome made (λ c. criterion_of c ≡ criterion)) }
+    ensures shape { IfOk result (λ made. IfSome made (HasShapeOf memory.now)) }
+{
+    if advice.is_empty() {
+        certificate_by_causal_order(alloc, memory, criterion)
+    } else {
+        certificate_by_advice(alloc, memory.history(), advice, criterion)
+    }
+}
+
+// The certificate of a history of a memory from advice, where it decides; else by the sources of its reads, where one is made.
+fn certificate_by_advice(
+    alloc: Global,
+    history: &History<Memory>,
+    advice: &[Option<Advice>],
+    criterion: Criterion,
+) -> Result<Option<Certificate>, AllocError>
+    ensures criterion { IfOk result (λ made. IfSome made (λ c. criterion_of c ≡ criterion)) }
+    ensures shape { IfOk result (λ made. IfSome made (HasShapeOf history.now)) }
+{
+    match criterion {
+        Criterion::Cc => certify_cc::make_memory(alloc, history, advice),
+        Criterion::Cm => certify_cm::make_memory(alloc, history, advice),
+        Criterion::Ccv => certify_ccv::make_memory(alloc, history, advice),
+    }
+}
+
+/// The certificate of a history of a memory by its causal order, where it has one and a certificate is made by it.
+pub(crate) fn certificate_by_causal_order(
+    alloc: Global,
+    memory: &IndexedMemory,
+    criterion: Criterion,
+) -> Result<Option<Certificate>, AllocError>
+    ensures criterion { IfOk result (λ made. IfSome made (λ c. criterion_of c ≡ criterion)) }
+    ensures shape { IfOk result (λ made. IfSome made (HasShapeOf memory.now)) }
+{
+    let Some(order) = memory.order() else {
+        return Ok(None);
+    };
+    match criterion {
+        Criterion::Cc => Ok(Some(certify_cc::make_by_order(alloc, &order)?)),
+        Criterion::Cm => certify_cm::make_by_order(alloc, &order),
+        Criterion::Ccv => certify_ccv::make_by_order(alloc, &order),
+    }
+}

@@ -1,0 +1,127 @@
+//! The lines that say why a criterion is met, not met, or unknown.
+
+use crate::reason::Reason;
+use bad_patterns::{Kind, Pattern};
+use cert_check::Criterion;
+use collector::Judged;
+use operations::{AnyHistory, History, OpId};
+use std::alloc::{AllocError, Global};
+use wording::{Worded, push_unexplained, words_of_pattern, words_of_repeated_values};
+
+/// The lines that say why a history meets a criterion, does not, or why that is not known.
+///
+/// What they say is no promise. Fails for want of memory alone. The cost is that of the words of a pattern, or that of a
+/// certificate where one does not explain an operation.
+pub(crate) fn lines_of_reason(
+    alloc: Global,
+    history: &AnyHistory,
+    criterion: Criterion,
+    reason: &Reason,
+) -> Result<Vec<String>, AllocError> {
+    match reason {
+        Reason::Explained => one_line(
+            alloc,
+            "An order explains every known return: explain --json --certificates writes it.",
+        ),
+        Reason::Shown(pattern) => lines_of_pattern(alloc, history, pattern),
+        Reason::Present(kind) => lines_of_kind(alloc, *kind),
+        Reason::Unexplained(place) => lines_of_unknown(alloc, history, criterion, *place),
+    }
+}
+
+// A line alone.
+fn one_line(alloc: Global, words: &'static str) -> Result<Vec<String>, AllocError> {
+    let mut lines = Vec::new(alloc);
+    lines.push(String::from_str(alloc, words)?)?;
+    Ok(lines)
+}
+
+// The lines on a pattern: patterns are known for memories alone.
+fn lines_of_pattern(
+    alloc: Global,
+    history: &AnyHistory,
+    pattern: &Pattern,
+) -> Result<Vec<String>, AllocError> {
+    match history {
+        AnyHistory::Memory(history) => words_of_pattern(alloc, history, pattern),
+        _ => lines_of_kind(alloc, pattern.kind()),
+    }
+}
+
+// The lines on a kind whose pattern is not at hand.
+fn lines_of_kind(alloc: Global, kind: Kind) -> Result<Vec<String>, AllocError> {
+    let kind = kind.name();
+    let mut lines = Vec::new(alloc);
+    lines.push(format!(in alloc;
+        "A pattern of the kind {kind} is there, which might be too long to write."
+    )?)?;
+    Ok(lines)
+}
+
+// The lines on what is not known.
+fn lines_of_unknown(
+    alloc: Global,
+    history: &AnyHistory,
+    criterion: Criterion,
+    place: Option<OpId>,
+) -> Result<Vec<String>, AllocError> {
+    match history {
+        AnyHistory::Register(plain) => lines_of_object(alloc, plain.history(), criterion, place),
+        AnyHistory::Counter(plain) => lines_of_object(alloc, plain.history(), criterion, place),
+        AnyHistory::Set(plain) => lines_of_object(alloc, plain.history(), criterion, place),
+        AnyHistory::Queue(plain) => lines_of_object(alloc, plain.history(), criterion, place),
+        AnyHistory::Memory(history) => {
+            let mut lines = words_of_repeated_values(alloc, history)?;
+            push_line(
+                alloc,
+                &mut lines,
+                "So a read does not tell its write: only a certificate can decide, and only for a yes.",
+            )?;
+            push_certificate(alloc, &mut lines, history, criterion, place)?;
+            Ok(lines)
+        }
+        AnyHistory::Counters(history) => lines_of_object(alloc, history, criterion, place),
+        AnyHistory::Sets(history) => lines_of_object(alloc, history, criterion, place),
+        AnyHistory::Queues(history) => lines_of_object(alloc, history, criterion, place),
+    }
+}
+
+// The lines on what is not known of an object that has no patterns.
+fn lines_of_object<O: Judged + Worded>(
+    alloc: Global,
+    history: &History<O>,
+    criterion: Criterion,
+    place: Option<OpId>,
+) -> Result<Vec<String>, AllocError> {
+    let mut lines = one_line(
+        alloc,
+        "No patterns are known of this object: only a certificate can decide, and only for a yes.",
+    )?;
+    push_certificate(alloc, &mut lines, history, criterion, place)?;
+    Ok(lines)
+}
+
+// Puts a line behind others.
+fn push_line(
+    alloc: Global,
+    lines: &mut Vec<String>,
+    words: &'static str,
+) -> Result<(), AllocError> {
+    lines.push(String::from_str(alloc, words)?)?;
+    Ok(())
+}
+
+// Puts what the certificate that is made does not explain behind other lines.
+fn push_certificate<O: Judged + Worded>(
+    alloc: Global,
+    lines: &mut Vec<String>,
+    history: &History<O>,
+    criterion: Criterion,
+    place: Option<OpId>,
+) -> Result<(), AllocError> {
+    let Some(op) = place else {
+        return push_line(alloc, lines, "No certificate was made.");
+    };
+    let made = O::make(alloc, history, &[], criterion)?;
+    push_unexplained(alloc, lines, history, made.as_ref(), op)
+}

@@ -1,0 +1,177 @@
+//! Certificates that show that a history meets a criterion.
+
+ghost use Rattle.std.specs.Prelude.{◌≡◌, ◌≢◌, IfErr, IfOk, IfSome, IsSome};
+ghost use Rattle.cert_check.specs.Certificates.{Certifies, HasShapeOf, criterion_of};
+ghost use Rattle.cert_check.specs.Criteria.{Meets};
+ghost use Rattle.cert_check.specs.declared.criterion.Criterion.TheVariants.{Cc, Ccv, Cm};
+ghost use Rattle.memory_order.specs.Memory.{IsDifferentiated, memory_answer};
+ghost use Rattle.engine.specs.Certifying.{IsEvidence};
+ghost use Rattle.engine.specs.Steps.FoundedEvidence.{IsFoundedEvidenceOn, evidence_from};
+
+use crate::certified::Evidence;
+use crate::checking::answer_of_pieces;
+use crate::copying::copy_certificate;
+use crate::failure::RunError;
+use crate::reason::Reason;
+use bad_patterns::laws::present_kinds_exclude_criteria;
+use cert_check::{Certificate, Criterion};
+use collector::{Answer, Judged};
+use command_line::Workers;
+use objects::Memory;
+use operations::{AnyHistory, History};
+use std::alloc::{AllocError, Global};
+use std::sync::Wait;
+use std::thread::Threads;
+
+/// What shows that a history of a memory meets a criterion: a certificate, but where causal memory has none.
+#[tactic(auto, using(crate::proofs::EvidenceLaws::certified_is_evidence, crate::proofs::EvidenceLaws::lacking_is_causal_memory))]
+pub(crate) fn evidence_of_met(
+    alloc: Global,
+    history: &History<Memory>,
+    criterion: Criterion,
+) -> Result<Evidence, AllocError>
+    requires distinct { IsDifferentiated history.now }
+    requires met { Meets memory_answer history.now criterion }
+    ensures { IfOk result (IsEvidence (AnyHistory.Memory history.now) criterion) }
+{
+    history.value_is_history();
+    match certificate_of_met(alloc, history, criterion)? {
+        Some(certificate) => Ok(Evidence::Certified(certificate)),
+        None => Ok(Evidence::Reasoned(Reason::Explained)),
+    }
+}
+
+// The certificate of a history of a memory that meets a criterion. There is one but for causal memory.
+fn certificate_of_met(
+    alloc: Global,
+    history: &History<Memory>,
+    criterion: Criterion,
+) -> Result<Option<Certificate>, AllocError>
+    requires distinct { IsDifferentiated history.now }
+    requires met { Meets memory_answer history.now criterion }
+    ensures certified { IfOk result (λ made. IfSome made (Certifies memory_answer history.now criterion)) }
+    ensures made { criterion ≢ Cm → IfOk result (λ made. IsSome made) }
+{
+    match criterion {
+        Criterion::Cc => certificate_of_consistent(alloc, history),
+        Criterion::Cm => certificate_of_causal_memory(alloc, history),
+        Criterion::Ccv => certificate_of_convergent(alloc, history),
+    }
+}
+
+// The certificate of a history of a memory that is causally consistent.
+fn certificate_of_consistent(
+    alloc: Global,
+    history: &History<Memory>,
+) -> Result<Option<Certificate>, AllocError>
+    requires distinct { IsDifferentiated history.now }
+    requires met { Meets memory_answer history.now Cc }
+    ensures certified { IfOk result (λ made. IfSome made (Certifies memory_answer history.now Cc)) }
+    ensures made { IfOk result (λ made. IsSome made) }
+{
+    present_kinds_exclude_criteria();
+    certify_cc::make_by_sources(alloc, history)
+}
+
+// The certificate of a history of a memory that meets causal memory, where one is made.
+fn certificate_of_causal_memory(
+    alloc: Global,
+    history: &History<Memory>,
+) -> Result<Option<Certificate>, AllocError>
+    requires distinct { IsDifferentiated history.now }
+    requires met { Meets memory_answer history.now Cm }
+    ensures certified { IfOk result (λ made. IfSome made (Certifies memory_answer history.now Cm)) }
+{
+    present_kinds_exclude_criteria();
+    certify_cm::make_by_sources(alloc, history)
+}
+
+// The certificate of a history of a memory that is causally convergent.
+fn certificate_of_convergent(
+    alloc: Global,
+    history: &History<Memory>,
+) -> Result<Option<Certificate>, AllocError>
+    requires distinct { IsDifferentiated history.now }
+    requires met { Meets memory_answer history.now Ccv }
+    ensures certified { IfOk result (λ made. IfSome made (Certifies memory_answer history.now Ccv)) }
+    ensures made { IfOk result (λ made. IsSome made) }
+{
+    present_kinds_exclude_criteria();
+    certify_ccv::make_by_sources(alloc, history)
+}
+
+/// What is known of a history of one object and a criterion, with the certificate that shows it.
+pub(crate) fn evidence_of_object<O: Judged + Send + Sync, T: Threads + Wait + Sync>(
+    rt: &T,
+    alloc: Global,
+    history: History<O>,
+    criterion: Criterion,
+    workers: Workers,
+) -> Result<Evidence, RunError>
+    ensures founded { IfOk result (IsFoundedEvidenceOn O.answer history criterion) }
+    ensures error { IfErr result (λ e. e ≡ RunError.Memory) }
+{
+    let made = O::make(alloc, &history, &[], criterion)?;
+    evidence_by(rt, alloc, history, made, criterion, workers)
+}
+
+/// What the pieces of a certificate show, where one was made.
+pub(crate) fn evidence_by<O: Judged + Send + Sync, T: Threads + Wait + Sync>(
+    rt: &T,
+    alloc: Global,
+    history: History<O>,
+    made: Option<Certificate>,
+    criterion: Criterion,
+    workers: Workers,
+) -> Result<Evidence, RunError>
+    requires criterion { IfSome made (λ c. criterion_of c ≡ criterion) }
+    requires shape { IfSome made (HasShapeOf history) }
+    ensures founded { IfOk result (IsFoundedEvidenceOn O.answer history criterion) }
+    ensures error { IfErr result (λ e. e ≡ RunError.Memory) }
+{
+    match made {
+        Some(certificate) => evidence_by_certificate(
+            rt,
+            alloc,
+            history,
+            certificate,
+            criterion,
+            workers,
+        ),
+        None => Ok(Evidence::Reasoned(Reason::Unexplained(None))),
+    }
+}
+
+// What the pieces of a certificate show.
+fn evidence_by_certificate<O: Judged + Send + Sync, T: Threads + Wait + Sync>(
+    rt: &T,
+    alloc: Global,
+    history: History<O>,
+    certificate: Certificate,
+    criterion: Criterion,
+    workers: Workers,
+) -> Result<Evidence, RunError>
+    requires criterion { criterion_of certificate ≡ criterion }
+    requires shape { HasShapeOf history certificate }
+    ensures founded { IfOk result (IsFoundedEvidenceOn O.answer history criterion) }
+    ensures error { IfErr result (λ e. e ≡ RunError.Memory) }
+{
+    history.value_is_history();
+    let kept = copy_certificate(alloc, &certificate)?;
+    match answer_of_pieces(rt, alloc, history, certificate, workers) {
+        Ok(answer) => Ok(evidence_of(answer, kept)),
+        Err(_) => Err(RunError::Memory),
+    }
+}
+
+// The evidence of what the pieces of a certificate show.
+fn evidence_of(answer: Answer, certificate: Certificate) -> Evidence
+    ensures { result ≡ evidence_from answer certificate }
+{
+    match answer {
+        Answer::Yes => Evidence::Certified(certificate),
+        Answer::No(_) | Answer::Unknown(_) | Answer::Open(_) => {
+            Evidence::Reasoned(Reason::of(answer))
+        }
+    }
+}
