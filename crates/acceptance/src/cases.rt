@@ -1,9 +1,9 @@
 //! Cases as lines of text, `name | input | wanted answer`.
 
 use crate::{
-    advised, applied_calls, checked, command_lines, desks, drives, explained, found_patterns,
-    judged, judgements, made_certificates, patterns, refuted, replica_runs, replicas, texts,
-    worlds,
+    advised, applied_calls, checked, command_lines, cut_histories, desks, drives, expected,
+    explained, found_patterns, judged, judgements, made_certificates, patterns, pictured, refuted,
+    replica_runs, replicas, texts, worded, worlds, written_certificates,
 };
 use std::alloc::AllocError;
 use std::sync::Wait;
@@ -14,18 +14,30 @@ use std::thread::Threads;
 pub enum Question {
     /// What a run of `judge` by so many workers says of it.
     Judge(usize),
+    /// What a run of `judge` says of it, of which criteria are expected to be met.
+    Expect,
     /// What a run of `check` by so many workers says of it.
     Check(usize),
     /// What `judge` or `judge_with` of the library by so many workers says of it.
     JudgeBy(usize),
     /// Which order its words give.
     Order,
+    /// Which part of its history is cut out.
+    Cut,
     /// What a run of `drive` with its options says of its history.
     Drive,
     /// Which kinds of patterns are found in its history.
     Find,
     /// Why, by a run of `explain`, its history meets each criterion or does not.
     Reasons,
+    /// The same, with certificates.
+    Certificates,
+    /// What runs of `check` say of the certificates among these reasons.
+    Certified,
+    /// What stands in the picture of its history.
+    Picture,
+    /// The same in words.
+    Words,
     /// What a run of `refute` says of it.
     Refute,
     /// Whether its pattern is shown in its history.
@@ -96,12 +108,18 @@ fn answer_to<P: Threads + Wait + Sync + AllocGlobal>(
 ) -> Result<String, AllocError> {
     match question {
         Question::Judge(workers) => judged::said(rt, workers, input),
+        Question::Expect => expected::said(rt, input),
         Question::Check(workers) => checked::said(rt, workers, input),
         Question::JudgeBy(workers) => judgements::said(rt, workers, input),
         Question::Order => command_lines::ordered(rt.alloc(), input),
+        Question::Cut => cut_histories::cut(rt.alloc(), input),
         Question::Drive => drives::said(rt, input),
         Question::Find => found_patterns::found(rt.alloc(), input),
         Question::Reasons => explained::said(rt, input),
+        Question::Certificates => written_certificates::said(rt, input),
+        Question::Certified => written_certificates::certified(rt, input),
+        Question::Picture => pictured::said(rt, input),
+        Question::Words => worded::said(rt, input),
         Question::Refute => refuted::said(rt, input),
         Question::Show => patterns::shown(rt.alloc(), input),
         Question::Make => made_certificates::made(rt.alloc(), input),

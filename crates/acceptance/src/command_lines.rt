@@ -2,21 +2,55 @@
 
 use crate::cases::Question;
 use crate::tables::as_wanted;
-use engine::{Drive, Order, Usage, command_of};
+use engine::{Drive, Expected, Judging, Order, Usage, command_of};
 use std::alloc::{AllocError, Global};
 use std::test::Fail;
 
 const COMMAND_LINES: &str = r#"
-judge | causal_judge judge | judge 2
+judge | causal_judge judge | judge 2 false false false
 check | causal_judge check | check 2
-judge_by_one_worker | causal_judge judge --workers 1 | judge 1
-judge_by_16_workers | causal_judge judge --workers 16 | judge 16
+judge_by_one_worker | causal_judge judge --workers 1 | judge 1 false false false
+judge_by_16_workers | causal_judge judge --workers 16 | judge 16 false false false
 check_by_one_worker | causal_judge check --workers 1 | check 1
 check_by_16_workers_in_one_word | causal_judge check --workers=16 | check 16
-explain | causal_judge explain --json | explain
-explain_without_a_format | causal_judge explain | fault
+explain | causal_judge explain | explain Words
+explain_as_json | causal_judge explain --json | explain Json
+explain_as_json_with_certificates | causal_judge explain --json --certificates | explain Certificates
+explain_with_certificates_as_json | causal_judge explain --certificates --json | explain Certificates
+explain_as_a_picture | causal_judge explain --svg | explain Picture
+explain_with_certificates_in_words | causal_judge explain --certificates | fault
+explain_as_json_and_as_a_picture | causal_judge explain --json --svg | fault
+explain_as_a_picture_with_certificates | causal_judge explain --svg --certificates | fault
 explain_twice_as_json | causal_judge explain --json --json | fault
+explain_twice_with_certificates | causal_judge explain --certificates --json --certificates | fault
+explain_twice_as_a_picture | causal_judge explain --svg --svg | fault
+explain_as_json_with_a_value | causal_judge explain --json=yes | fault
 explain_by_workers | causal_judge explain --json --workers 2 | fault
+judge_by_an_unknown_option | causal_judge judge --lines | fault
+judge_and_expect_all | causal_judge judge --expect cc,cm,ccv | judge 2 true true true
+judge_and_expect_all_in_another_order | causal_judge judge --expect ccv,cc,cm | judge 2 true true true
+judge_and_expect_two | causal_judge judge --expect ccv,cc | judge 2 true false true
+judge_and_expect_one | causal_judge judge --expect cm | judge 2 false true false
+judge_and_expect_in_one_word | causal_judge judge --expect=cm,ccv | judge 2 false true true
+judge_with_all_options | causal_judge judge --workers 3 --expect cc | judge 3 true false false
+judge_with_all_options_in_another_order | causal_judge judge --expect=cc,ccv --workers=16 | judge 16 true false true
+judge_and_expect_twice | causal_judge judge --expect cc --expect=cm | fault
+judge_and_expect_nothing | causal_judge judge --expect= | fault
+judge_and_expect_without_a_list | causal_judge judge --expect | fault
+judge_and_expect_a_name_twice | causal_judge judge --expect cc,cc | fault
+judge_and_expect_a_name_twice_among_others | causal_judge judge --expect ccv,cm,ccv | fault
+judge_and_expect_an_unknown_name | causal_judge judge --expect ccw | fault
+judge_and_expect_in_capitals | causal_judge judge --expect CC | fault
+judge_and_expect_with_a_comma_at_the_end | causal_judge judge --expect cc, | fault
+judge_and_expect_with_a_comma_before | causal_judge judge --expect ,cc | fault
+judge_and_expect_with_two_commas | causal_judge judge --expect cc,,cm | fault
+judge_and_expect_in_two_words | causal_judge judge --expect cc cm | fault
+judge_and_expect_an_option | causal_judge judge --expect --workers | fault
+judge_as_json | causal_judge judge --json | fault
+judge_eager | causal_judge judge --eager | fault
+judge_a_store | causal_judge judge causal | fault
+check_and_expect | causal_judge check --expect cc | fault
+drive_and_expect | causal_judge drive causal --expect cc | fault
 option_for_help_behind_explain | causal_judge explain --help | help
 refute | causal_judge refute | refute
 refute_by_workers | causal_judge refute --workers 2 | fault
@@ -42,7 +76,7 @@ drive_with_too_late_a_session | causal_judge drive causal --stop 16 | fault
 drive_with_too_many_workers | causal_judge drive causal --workers 17 | fault
 drive_with_an_unknown_option | causal_judge drive causal --speed 2 | fault
 option_for_help_behind_drive | causal_judge drive --help | help
-number_behind_a_plus_and_zeros | causal_judge judge --workers=+004 | judge 4
+number_behind_a_plus_and_zeros | causal_judge judge --workers=+004 | judge 4 false false false
 name_alone | causal_judge | fault
 two_commands | causal_judge check judge | fault
 no_word |  | fault
@@ -66,6 +100,10 @@ long_option_for_help | causal_judge --help | help
 short_option_for_help | causal_judge -h | help
 command_for_help | causal_judge help | help
 help_on_a_command | causal_judge help judge | help
+long_option_for_the_version | causal_judge --version | version
+short_option_for_the_version | causal_judge -V | version
+option_for_the_version_behind_a_command | causal_judge judge --version | fault
+version_as_a_command | causal_judge version | fault
 option_for_help_behind_a_command | causal_judge judge --help | help
 "#;
 
@@ -85,21 +123,33 @@ pub fn ordered(alloc: Global, text: &str) -> Result<String, AllocError> {
         Err(Usage::Help(text)) if text.as_str().contains("Usage: causal_judge") => {
             String::from_str(alloc, "help")
         }
+        Err(Usage::Help(text)) if text.as_str().starts_with("causal_judge ") => {
+            String::from_str(alloc, "version")
+        }
         Err(usage) => format!(in alloc; "{usage:?}"),
     }
 }
 
-/// The word of an order, and the number of its workers where it has one.
+/// The word of an order, and what it has beside its command.
 fn text_of(alloc: Global, order: Order) -> Result<String, AllocError> {
-    let (word, workers) = match order {
-        Order::Judge(workers) => ("judge", workers.count()),
-        Order::Check(workers) => ("check", workers.count()),
-        Order::Explain => return String::from_str(alloc, "explain"),
-        Order::Refute => return String::from_str(alloc, "refute"),
-        Order::Replay => return String::from_str(alloc, "replay"),
-        Order::Drive(drive) => return text_of_drive(alloc, drive),
-    };
-    format!(in alloc; "{word} {workers}")
+    match order {
+        Order::Judge(judging) => text_of_judging(alloc, judging),
+        Order::Check(workers) => format!(in alloc; "check {}", workers.count()),
+        Order::Explain(form) => format!(in alloc; "explain {form:?}"),
+        Order::Refute => String::from_str(alloc, "refute"),
+        Order::Replay => String::from_str(alloc, "replay"),
+        Order::Drive(drive) => text_of_drive(alloc, drive),
+    }
+}
+
+/// The word of an order to judge, the number of its workers, what is expected, and whether each line is a history.
+fn text_of_judging(alloc: Global, judging: Judging) -> Result<String, AllocError> {
+    let Judging {
+        workers,
+        expected: Expected { cc, cm, ccv },
+    } = judging;
+    let workers = workers.count();
+    format!(in alloc; "judge {workers} {cc} {cm} {ccv}")
 }
 
 /// The word of an order to drive, its store, when updates are taken in, how many seals and workers there are, and who stops.

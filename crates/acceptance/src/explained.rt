@@ -3,7 +3,7 @@
 use crate::cases::Question;
 use crate::running::said_of;
 use crate::tables::as_wanted;
-use engine::Order;
+use engine::{Form, Order};
 use std::alloc::AllocError;
 use std::sync::Wait;
 use std::test::Fail;
@@ -49,5 +49,5 @@ pub fn said<P: Threads + Wait + Sync + AllocGlobal>(
     rt: &P,
     text: &str,
 ) -> Result<String, AllocError> {
-    said_of(rt, Order::Explain, text.as_bytes())
+    said_of(rt, Order::Explain(Form::Json), text.as_bytes())
 }

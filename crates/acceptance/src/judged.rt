@@ -3,7 +3,7 @@
 use crate::cases::Question;
 use crate::running::said_of;
 use crate::tables::as_wanted_of_each;
-use engine::{Order, Workers};
+use engine::{Judging, Order, Workers};
 use std::alloc::{AllocError, Global};
 use std::sync::Wait;
 use std::test::Fail;
@@ -73,7 +73,7 @@ pub fn said<P: Threads + Wait + Sync + AllocGlobal>(
     text: &str,
 ) -> Result<String, AllocError> {
     match Workers::of(workers) {
-        Some(workers) => said_of(rt, Order::Judge(workers), text.as_bytes()),
+        Some(workers) => said_of(rt, Order::Judge(Judging::by(workers)), text.as_bytes()),
         None => String::from_str(rt.alloc(), "no number of workers"),
     }
 }

@@ -19,6 +19,8 @@ mod checked;
 #[cfg(test)]
 mod command_lines;
 #[cfg(test)]
+mod cut_histories;
+#[cfg(test)]
 mod desks;
 #[cfg(test)]
 mod devices;
@@ -26,6 +28,8 @@ mod devices;
 mod drives;
 #[cfg(test)]
 mod examples;
+#[cfg(test)]
+mod expected;
 #[cfg(test)]
 mod explained;
 #[cfg(test)]
@@ -46,6 +50,8 @@ mod many_pairs;
 mod objects_alone;
 #[cfg(test)]
 mod patterns;
+#[cfg(test)]
+mod pictured;
 #[cfg(test)]
 mod random;
 #[cfg(test)]
@@ -77,6 +83,10 @@ mod tables;
 #[cfg(test)]
 mod texts;
 #[cfg(test)]
+mod worded;
+#[cfg(test)]
 mod workers;
 #[cfg(test)]
 mod worlds;
+#[cfg(test)]
+mod written_certificates;

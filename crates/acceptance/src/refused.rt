@@ -5,7 +5,7 @@ use crate::histories::{entries, writes};
 use crate::judged::said;
 use crate::running::said_of;
 use crate::tables::as_wanted_of_each;
-use engine::{Order, Workers};
+use engine::{Judging, Order, Workers};
 use std::alloc::AllocError;
 use std::sync::Wait;
 use std::test::Fail;
@@ -83,7 +83,7 @@ fn texts_are_refused_with_their_line(rt: HostRuntime) -> Result<(), Fail> {
 fn bytes_that_are_no_text_are_refused(rt: HostRuntime) -> Result<(), Fail> {
     let answer = said_of(
         &rt,
-        Order::Judge(Workers::usual()),
+        Order::Judge(Judging::by(Workers::usual())),
         &[b'[', b'"', 255, b'"', b']'],
     )?;
     assert_eq!(rt; answer.as_str(), "1 refused 1");

@@ -2,7 +2,7 @@
 
 use crate::devices::{Device, Failing, NEVER, Sink};
 use crate::running::said_over;
-use engine::{MAX_INPUT_BYTES, MAX_READ_CALLS, Order, RunError, Workers, read_input};
+use engine::{Judging, MAX_INPUT_BYTES, MAX_READ_CALLS, Order, RunError, Workers, read_input};
 use std::alloc::AllocError;
 use std::io::ErrorKind;
 use std::sync::Wait;
@@ -21,7 +21,12 @@ fn said_of_reads<P: Threads + Wait + Sync + AllocGlobal>(
     mut device: Device<'_>,
 ) -> Result<String, AllocError> {
     let mut sink = Sink::new(rt.alloc(), 1, NEVER);
-    let said = said_over(rt, Order::Judge(Workers::usual()), &mut device, &mut sink)?;
+    let said = said_over(
+        rt,
+        Order::Judge(Judging::by(Workers::usual())),
+        &mut device,
+        &mut sink,
+    )?;
     let calls = device.calls;
     format!(in rt.alloc(); "{said} after {calls} reads")
 }
@@ -157,7 +162,12 @@ fn said_to<P: Threads + Wait + Sync + AllocGlobal>(
 ) -> Result<String, AllocError> {
     let mut device = Device::new(HISTORY, 0, 1, NEVER);
     let mut sink = Sink::new(rt.alloc(), piece, failing);
-    said_over(rt, Order::Judge(Workers::usual()), &mut device, &mut sink)
+    said_over(
+        rt,
+        Order::Judge(Judging::by(Workers::usual())),
+        &mut device,
+        &mut sink,
+    )
 }
 
 /// The calls before `end` at which a writer that fails gives no write fault.
