@@ -3,13 +3,14 @@
 import sys
 
 STORES = ("causal", "lamport")
+CRITERIA = ("cc", "cm", "ccv")
 RANGES = {"--workers": range(1, 17), "--seals": range(9), "--stop": range(16)}
-FLAGS = ("--eager", "--json")
-NEEDED = {"drive": "store", "explain": "--json"}
+WITH_VALUE = (*RANGES, "--expect")
+FORMS = ((), ("--json",), ("--certificates", "--json"), ("--svg",))
 OPTIONS = {
-    "judge": ("--workers",),
+    "judge": ("--workers", "--expect"),
     "check": ("--workers",),
-    "explain": ("--json",),
+    "explain": ("--json", "--certificates", "--svg"),
     "refute": (),
     "replay": (),
     "drive": ("--eager", "--seals", "--workers", "--stop"),
@@ -36,20 +37,38 @@ def number_in(text, numbers):
     return int(digits) if int(digits) in numbers else None
 
 
+def criteria_in(text):
+    """The criteria that a list names, each once, joined by commas."""
+    names = text.split(",")
+    return tuple(sorted(names)) if set(names) <= set(CRITERIA) and len(set(names)) == len(names) else None
+
+
+def value_in(name, text):
+    """The value of an option that a text writes."""
+    return criteria_in(text) if name == "--expect" else number_in(text, RANGES[name])
+
+
 def said_first(command, words):
     """What the first of the words behind a command says, its value, and the words left; none where they say nothing."""
     word, *left = words
     if command == "drive" and word in STORES:
         return "store", word, left
-    if word in FLAGS and word in OPTIONS[command]:
+    if word in OPTIONS[command] and word not in WITH_VALUE:
         return word, True, left
-    name, mark, number = word.partition("=")
+    name, mark, text = word.partition("=")
     if not mark and left:
-        number, *left = left
-    if name not in RANGES or name not in OPTIONS[command]:
+        text, *left = left
+    if name not in WITH_VALUE or name not in OPTIONS[command]:
         return None
-    value = number_in(number, RANGES[name])
+    value = value_in(name, text)
     return None if value is None else (name, value, left)
+
+
+def is_whole(order):
+    """Whether a command has all that it needs, and nothing that does not go together."""
+    if order["command"] == "drive":
+        return "store" in order
+    return order["command"] != "explain" or tuple(sorted(set(order) - {"command"})) in FORMS
 
 
 def order_of(words):
@@ -63,4 +82,4 @@ def order_of(words):
             return None
         order[said[0]] = said[1]
         left = said[2]
-    return order if NEEDED.get(words[0], "command") in order else None
+    return order if is_whole(order) else None

@@ -1,11 +1,15 @@
 #!/usr/bin/env python3
-"""Puts what `explain` shows of random histories to `judge` and to `refute`.
+"""Puts what `explain` shows of random histories to `judge`, `refute` and `check`.
 
     explained.py SEED COUNT -- PROGRAM
 
 Each history is small, of a memory, and read at random: most of its values are there, and some patterns too. `explain --json` has
-to say of each criterion what `judge` says, and `refute` has to accept each pattern that it shows. It prints a line for each
-history where that is not so, and how many patterns of each kind were accepted, and ends with status 1 where there is one.
+to say of each criterion what `judge` says, and `refute` has to accept each pattern that it shows. `explain --json --certificates`
+has to say the same, with a certificate in the place of each `null` of a yes, and `check` has to say yes of each. The words of
+`explain` have to have the lines of `judge` among them, and `judge` has to say the same `no` of each core that stands there.
+`explain --svg` has to draw one picture. A form that the program doesn't know is left out, and so are its counts. It prints a line
+for each history where that is not so, and how many patterns of each kind, certificates and cores were accepted, and ends with
+status 1 where there is one.
 """
 
 import json
@@ -15,6 +19,7 @@ import sys
 from collections import Counter
 
 CRITERIA = ("cc", "cm", "ccv")
+USAGE = 2
 
 
 def history(rng):
@@ -53,12 +58,11 @@ def line_of(reason):
     return f"{criterion} {word}" + ("" if shown is None else f" {shown[0]}.{shown[1]}")
 
 
-def faults(program, form, accepted):
-    """What is wrong with the explanation of a history."""
-    status, lines = said(program, ["judge"], form)
-    explained, text = said(program, ["explain", "--json"], form)
-    if (status, explained) != (0, 0):
-        return [f"statuses {status} and {explained}"]
+def pattern_faults(program, form, lines, accepted):
+    """What is wrong with the reasons on a history, and what they are."""
+    status, text = said(program, ["explain", "--json"], form)
+    if status != 0:
+        return [f"status {status} of explain --json"], []
     reasons = json.loads(text)
     found = []
     if [line_of(reason) for reason in reasons] != lines.splitlines() or [reason[0] for reason in reasons] != list(CRITERIA):
@@ -68,8 +72,72 @@ def faults(program, form, accepted):
             claim = [form, criterion, shown]
             if said(program, ["refute"], claim) != (0, f"{criterion} no {shown[0]}\n"):
                 found.append(f"refute does not accept {json.dumps(claim)}")
-            accepted[criterion, shown[0]] += 1
+            accepted[f"{criterion} {shown[0]}"] += 1
+    return found, reasons
+
+
+def certificate_faults(program, form, reasons, accepted):
+    """What is wrong with the certificates of a history, which stand where reasons have the `null` of a yes."""
+    status, text = said(program, ["explain", "--json", "--certificates"], form)
+    if status == USAGE:
+        return []
+    if status != 0:
+        return [f"status {status} of explain --json --certificates"]
+    found, certified = [], json.loads(text)
+    bare = [[criterion, word, None if word == "yes" else shown] for criterion, word, shown in certified]
+    if bare != reasons:
+        found.append(f"explain says {reasons!r}, and with certificates {certified!r}")
+    for criterion, word, shown in certified:
+        if word == "yes":
+            if shown is None:
+                found.append(f"no certificate for {criterion}")
+            elif said(program, ["check"], [form, shown]) != (0, f"{criterion} yes\n"):
+                found.append(f"check does not accept {json.dumps([form, shown])}")
+            accepted[f"{criterion} certificate"] += 1
     return found
+
+
+def core_in(words):
+    """The history that a line of words ends with, where it does."""
+    start = words.find('["memory"')
+    return json.loads(words[start:]) if start >= 0 else None
+
+
+def word_faults(program, form, lines, accepted):
+    """What is wrong with the words on a history: the lines of `judge` stand there in order, each before its indented reason."""
+    status, text = said(program, ["explain"], form)
+    if status != 0 or text.startswith("["):
+        return [] if status in (0, USAGE) else [f"status {status} of explain"]
+    found, heads = [], []
+    for line in text.splitlines():
+        if not line.startswith("  "):
+            heads.append(line)
+        elif (core := core_in(line)) is not None and heads:
+            criterion, word = heads[-1].split()[:2]
+            judged = [line.split()[:2] for line in said(program, ["judge"], core)[1].splitlines()]
+            if word == "no" and [criterion, "no"] not in judged:
+                found.append(f"the core of {criterion} is {json.dumps(core)}, of which judge says {judged}")
+            accepted[f"{criterion} core"] += 1
+    if heads != lines.splitlines():
+        found.append(f"judge says {lines!r}, and the words begin with {heads!r}")
+    return found
+
+
+def picture_faults(program, form):
+    status, text = said(program, ["explain", "--svg"], form)
+    if status == USAGE or status == 0 and text.startswith("<svg") and text.endswith("</svg>\n"):
+        return []
+    return [f"status {status} of explain --svg, and {text[:40]!r}"]
+
+
+def faults(program, form, accepted):
+    """What is wrong with the explanations of a history."""
+    status, lines = said(program, ["judge"], form)
+    if status != 0:
+        return [f"status {status} of judge"]
+    found, reasons = pattern_faults(program, form, lines, accepted)
+    found += certificate_faults(program, form, reasons, accepted)
+    return found + word_faults(program, form, lines, accepted) + picture_faults(program, form)
 
 
 def main():
@@ -81,8 +149,8 @@ def main():
         for fault in faults(program, form, accepted):
             print(f"{json.dumps(form)}: {fault}")
             wrong += 1
-    for (criterion, kind), times in sorted(accepted.items()):
-        print(f"{criterion} {kind}: {times} accepted")
+    for what, times in sorted(accepted.items()):
+        print(f"{what}: {times} accepted")
     print(f"{count} histories, {wrong} faults")
     return 1 if wrong else 0
 

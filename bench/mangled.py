@@ -6,8 +6,10 @@
 A history, a history with a certificate or with a pattern, or a script is made at random, and then its value or its text is spoilt in one to three
 places: a part is replaced, taken out, doubled or put elsewhere, a number is put at a limit, a byte is changed. The words of the
 command line are spoilt too, now and then. The status, what is written and the line on standard error have to be those of the plain
-reader; of `judge` the lines have to be three lines of a report, of `drive` what driven.py asks for, and words that are no command
-line have to be told of as an error. Where they are not, the input is written to a file and named, and the end is status 1.
+reader; of `judge` the lines have to be three lines of a report, with the status that
+`--expect` asks for, of `explain` the text has to look like the form that is asked for, of `drive` what driven.py asks for, and words
+that are no command line have to be told of as an error. Where they are not, the input is written to a file and named, and the end is
+status 1.
 """
 
 import argparse
@@ -23,7 +25,7 @@ import time
 import driven
 import reading
 import replay
-from command_words import OPTIONS, RANGES, STORES, order_of, with_program
+from command_words import OPTIONS, RANGES, STORES, WITH_VALUE, order_of, with_program
 from objects import DONE, KEYED, MOST_NUMBER, OBJECTS, UNKNOWN, State, operation
 from patterns import AGAINST, CRITERIA, MemoryHistory
 from scripts import script_text
@@ -32,7 +34,8 @@ from shown_patterns import found
 NUMBERS = (0, 1, 2, 15, 16, 17, 255, 256, 257, 65_535, 65_536, 2**32 - 1, 2**32, 2**63, MOST_NUMBER, MOST_NUMBER + 1, -1, 1.0, 1.5)
 JUNK = (None, True, False, "", UNKNOWN, DONE, "w", [], [[]], {}, {"w": 1}, *NUMBERS)
 WORDS = (b"-0", b"1e2", b"1e400", b"1.0", b"01", b"+1", b"NaN", b"\\u0077", b"\\ud800", b"\xff", b"\xef\xbb\xbf", b"\x00", b"null", b"[" * 130)
-OPTION_WORDS = ("", "-", "--", "judge", *STORES, "--eager", "--eager=1", "--seals", "--stop=16", "--workers=0", "--speed", "9", "17")
+OPTION_WORDS = ("", "-", "--", "judge", *STORES, "--eager", "--eager=1", "--seals", "--stop=16", "--workers=0", "--speed", "9", "17", "cc,ccv")
+OPTION_WORDS += ("--json", "--certificates", "--svg", "--expect", "--expect=cc,cc", "--expect=cm,", "--expect=CC", "cc")
 
 
 def random_history(rng):
@@ -144,12 +147,19 @@ def input_of(rng, command):
     return [history, program_order(rng, history[1])] if command == "check" else history
 
 
+def random_value(rng, option):
+    """A value of an option: the names of criteria, or a number."""
+    if option == "--expect":
+        return ",".join(rng.sample(CRITERIA, rng.randint(1, len(CRITERIA))))
+    return rng.choice(("", "", "+", "0")) + str(rng.choice(RANGES[option]))
+
+
 def option_words(rng, option):
-    """An option with a number, where it takes one, as two words or as one."""
-    if option not in RANGES:
+    """An option with a value, where it takes one, as two words or as one."""
+    if option not in WITH_VALUE:
         return [option]
-    number = rng.choice(("", "", "+", "0")) + str(rng.choice(RANGES[option]))
-    return [option, number] if rng.random() < 0.5 else [f"{option}={number}"]
+    value = random_value(rng, option)
+    return [option, value] if rng.random() < 0.5 else [f"{option}={value}"]
 
 
 def random_words(rng, command):
@@ -157,7 +167,6 @@ def random_words(rng, command):
     parts = [option_words(rng, option) for option in OPTIONS[command] if rng.random() < 0.3]
     parts += [[rng.choice(STORES)]] if command == "drive" else []
     rng.shuffle(parts)
-    parts += [["--json"]] if command == "explain" and ["--json"] not in parts else []
     words = [command, *sum(parts, [])]
     if rng.random() < 0.05:
         at = rng.randrange(len(words) + 1)
@@ -205,13 +214,34 @@ def wanted(order, data):
         return 1, "", "refused " + " ".join(map(str, refusal.args)) + "\n"
 
 
+def is_reason(order, text):
+    """Whether a text has the outside of a reason in the form that is asked for."""
+    if "--json" in order:
+        return [reason[0] for reason in json.loads(text)] == ["cc", "cm", "ccv"]
+    return text.startswith("<svg") and text.endswith("</svg>\n") if "--svg" in order else text.endswith("\n")
+
+
 def is_answer(program, order, data, text):
     """Whether a text answers an input to which several texts may."""
     if order["command"] == "judge":
         return reading.REPORT.fullmatch(text) is not None
     if order["command"] == "explain":
-        return [reason[0] for reason in json.loads(text)] == ["cc", "cm", "ccv"]
+        return is_reason(order, text)
     return not driven.faults(program, order, reading.read_driven(data), text)
+
+
+def status_of(order, answers):
+    """The status of answers, each in one line: whether one is refused, and whether what is expected is met."""
+    if any(answer.startswith("refused ") for answer in answers):
+        return 1
+    verdicts = [verdict.split() for answer in answers for verdict in answer.split("; ")]
+    expected = {verdict[1] for verdict in verdicts if verdict[0] in order.get("--expect", ())}
+    return 5 if "no" in expected else 6 if "unknown" in expected else 0
+
+
+def is_line(answer, due):
+    """Whether a line answers a line of the input."""
+    return f"{answer}\n" == due[2] if due[0] == 1 else reading.REPORT.fullmatch(answer.replace("; ", "\n") + "\n") is not None
 
 
 def is_right(program, order, data, found, due):
@@ -219,7 +249,8 @@ def is_right(program, order, data, found, due):
     if due[2] is None:
         return found[:2] == due[:2] and found[2].startswith("error: ")
     if due[1] is None:
-        return (found[0], found[2]) == (due[0], due[2]) and is_answer(program, order, data, found[1])
+        answered = found[2] == due[2] and is_answer(program, order, data, found[1])
+        return answered and found[0] == status_of(order, ["; ".join(found[1].splitlines())] if "--expect" in order else [])
     return found == due
 
 
