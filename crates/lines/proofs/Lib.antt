@@ -1,0 +1,5 @@
+pub mod LineLaws
+pub mod FeedLaws
+pub mod PassLaws
+pub mod AnswerLaws
+pub mod TurnLaws
