@@ -1,0 +1,4 @@
+pub mod Outcomes
+pub mod ReadCalls
+pub mod Lines
+pub mod Steps

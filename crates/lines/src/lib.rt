@@ -1,0 +1,26 @@
+//! Answering a stream line by line: each line of what is read is answered by a line of what is written, in order, by several
+//! threads side by side. What an answer is, a [`Clerk`] says.
+#![tactic(auto)]
+
+mod answering;
+mod clerk;
+mod dividing;
+mod fault;
+mod filling;
+mod held;
+mod outcome;
+mod part;
+mod passing;
+mod running;
+mod source;
+mod writing;
+
+pub use clerk::Clerk;
+pub use dividing::answer_by;
+pub use fault::Fault;
+pub use filling::MAX_READ_CALLS;
+pub use outcome::Outcome;
+pub use part::Part;
+pub use running::answer_lines;
+pub use source::Source;
+pub use writing::write_whole;
