@@ -34,6 +34,7 @@ setting_of word value =
     if mark word == 115117099 then settings.Store Causal else
     if mark word == 112109108 then settings.Store Lamport else
     if mark word == 97101045 then settings.Eager else
+    if mark word == 105108045 then settings.Lines else
     if mark word == 115106045 then settings.Json else
     if mark word == 101099045 then settings.Certificates else
     if mark word == 118115045 then settings.Svg else
@@ -49,6 +50,7 @@ alone-read : (s : Setting) (w : Text) → SaysAlone s w → setting_of w (value_
 alone-read (settings.Store Causal) w says = ap (λ v. setting_of v (value_of v)) says
 alone-read (settings.Store Lamport) w says = ap (λ v. setting_of v (value_of v)) says
 alone-read settings.Eager w says = ap (λ v. setting_of v (value_of v)) says
+alone-read settings.Lines w says = ap (λ v. setting_of v (value_of v)) says
 alone-read settings.Json w says = ap (λ v. setting_of v (value_of v)) says
 alone-read settings.Certificates w says = ap (λ v. setting_of v (value_of v)) says
 alone-read settings.Svg w says = ap (λ v. setting_of v (value_of v)) says
@@ -64,6 +66,7 @@ together-read (settings.Stop n) w value says = ap (λ v. setting_of v value) say
 together-read (settings.Expect e) w value says = ap (λ v. setting_of v value) says.0 ∙ ap settings.Expect (sym (list-read value e says.1))
 together-read (settings.Store store) w value says = absurd says
 together-read settings.Eager w value says = absurd says
+together-read settings.Lines w value says = absurd says
 together-read settings.Json w value says = absurd says
 together-read settings.Certificates w value says = absurd says
 together-read settings.Svg w value says = absurd says
@@ -84,6 +87,7 @@ alone-no-option : (s : Setting) (w : Text) → SaysAlone s w → names_option w 
 alone-no-option (settings.Store Causal) w says = ap names_option says
 alone-no-option (settings.Store Lamport) w says = ap names_option says
 alone-no-option settings.Eager w says = ap names_option says
+alone-no-option settings.Lines w says = ap names_option says
 alone-no-option settings.Json w says = ap names_option says
 alone-no-option settings.Certificates w says = ap names_option says
 alone-no-option settings.Svg w says = ap names_option says
@@ -99,6 +103,7 @@ together-option (settings.Stop n) w value says = ap names_option says.0
 together-option (settings.Expect n) w value says = ap names_option says.0
 together-option (settings.Store store) w value says = absurd says
 together-option settings.Eager w value says = absurd says
+together-option settings.Lines w value says = absurd says
 together-option settings.Json w value says = absurd says
 together-option settings.Certificates w value says = absurd says
 together-option settings.Svg w value says = absurd says
@@ -159,6 +164,7 @@ pub no_alone : (w : Text) → IsNoBareWord w → ((number : Text) → w ≢ code
 no_alone w bare _ _ _ _ (settings.Store Causal) says = bare.causal says
 no_alone w bare _ _ _ _ (settings.Store Lamport) says = bare.lamport says
 no_alone w bare _ _ _ _ settings.Eager says = bare.eager says
+no_alone w bare _ _ _ _ settings.Lines says = bare.lines says
 no_alone w bare _ _ _ _ settings.Json says = bare.json says
 no_alone w bare _ _ _ _ settings.Certificates says = bare.certificates says
 no_alone w bare _ _ _ _ settings.Svg says = bare.svg says
@@ -174,6 +180,7 @@ no_together w value _ _ _ is_no (settings.Stop n) says = is_no says.0
 no_together w value _ _ is_no _ (settings.Expect n) says = is_no says.0
 no_together w value _ _ _ _ (settings.Store store) says = says
 no_together w value _ _ _ _ settings.Eager says = says
+no_together w value _ _ _ _ settings.Lines says = says
 no_together w value _ _ _ _ settings.Json says = says
 no_together w value _ _ _ _ settings.Certificates says = says
 no_together w value _ _ _ _ settings.Svg says = says

@@ -30,7 +30,7 @@ top =
     let app = new_app (codes "causal_judge") in
     record app { top = record app.top { subcommand_required = true; has_version = true } }
 
--- the command `judge` takes the options `--workers N` and `--expect LIST`, `check` takes `--workers N`, `explain` takes
+-- the command `judge` takes the options `--workers N`, `--expect LIST` and `--lines`, `check` takes `--workers N`, `explain` takes
 -- `--json`, `--certificates` and `--svg`, `refute` and `replay` take none, and `drive` takes the name of a store and four options
 abbrev pub workers : Rule
 workers = record (new_rule (codes "workers")) {
@@ -47,7 +47,7 @@ abbrev pub flag : Text → Rule
 flag name = record (new_rule name) { long = Some name; action = Some SetTrue }
 
 abbrev pub judge : App
-judge = with_rule (with_rule (new_app (codes "judge")) workers) expect
+judge = with_rule (with_rule (with_rule (new_app (codes "judge")) workers) expect) (flag (codes "lines"))
 
 abbrev pub check : App
 check = with_rule (new_app (codes "check")) workers

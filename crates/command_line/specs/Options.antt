@@ -36,6 +36,7 @@ command_word commands.Drive = codes "drive"
 abbrev pub takes : CommandName → Setting → Bool
 takes commands.Judge (settings.Workers n) = true
 takes commands.Judge (settings.Expect expected) = true
+takes commands.Judge settings.Lines = true
 takes commands.Check (settings.Workers n) = true
 takes commands.Explain settings.Json = true
 takes commands.Explain settings.Certificates = true
@@ -56,6 +57,7 @@ store_word Lamport = codes "lamport"
 abbrev pub SaysAlone : Setting → Text → Type 0
 SaysAlone (settings.Store store) word = word ≡ store_word store
 SaysAlone settings.Eager word = word ≡ codes "--eager"
+SaysAlone settings.Lines word = word ≡ codes "--lines"
 SaysAlone settings.Json word = word ≡ codes "--json"
 SaysAlone settings.Certificates word = word ≡ codes "--certificates"
 SaysAlone settings.Svg word = word ≡ codes "--svg"
@@ -80,6 +82,7 @@ says said (settings.Seals n) = is_some said.seals
 says said (settings.Workers n) = is_some said.workers
 says said (settings.Stop s) = is_some said.stop
 says said (settings.Expect expected) = is_some said.expected
+says said settings.Lines = said.lines
 says said settings.Json = said.json
 says said settings.Certificates = said.certificates
 says said settings.Svg = said.svg
@@ -91,6 +94,7 @@ with_setting said (settings.Seals n) = record said { seals = Some n }
 with_setting said (settings.Workers n) = record said { workers = Some n }
 with_setting said (settings.Stop s) = record said { stop = Some s }
 with_setting said (settings.Expect expected) = record said { expected = Some expected }
+with_setting said settings.Lines = record said { lines = true }
 with_setting said settings.Json = record said { json = true }
 with_setting said settings.Certificates = record said { certificates = true }
 with_setting said settings.Svg = record said { svg = true }
@@ -109,6 +113,7 @@ unsaid command = record {
   workers = None;
   stop = None;
   expected = None;
+  lines = false;
   json = false;
   certificates = false;
   svg = false;
@@ -140,6 +145,10 @@ judging_for said = record {
   expected = unwrap_or said.expected expecting_nothing;
 }
 
+-- one history is judged, or one in each line
+abbrev pub judge_for : Said → Order
+judge_for said = if said.lines then orders.JudgeLines (judging_for said) else orders.Judge (judging_for said)
+
 -- the form of a reason, where what was said goes together
 abbrev pub form_of : Bool → Bool → Bool → Option Form
 form_of false false false = Some forms.Words
@@ -169,7 +178,7 @@ drive_for said = option_map (drive_of said) said.store
 
 -- the order that all that was said to a command gives
 abbrev pub order_to : CommandName → Said → Option Order
-order_to commands.Judge said = Some (orders.Judge (judging_for said))
+order_to commands.Judge said = Some (judge_for said)
 order_to commands.Check said = Some (orders.Check (workers_for said))
 order_to commands.Explain said = option_map orders.Explain (form_for said)
 order_to commands.Refute said = Some orders.Refute

@@ -46,6 +46,10 @@ Status: 0 answered, whatever the verdict; 1 the input is refused; 2 wrong words;
 criterion in the list is met, 5 that one is not met, and 6 that of one nothing
 is known.
 
+judge --lines takes a history in each line of the input, and writes a line for
+each: its three lines with "; " between, or 'refused N'. The status is 1 where
+a line was refused, else with --expect as above for the worst of all lines.
+
 'refused N', or 'refused N S.I' with the operation, says what is wrong:
   1 no JSON   2 no list of a name and sessions   3 unknown NAME   4 no such
   operation   5 a known return behind an unknown one   6 too many sessions

@@ -19,6 +19,8 @@ use std::convert::AsStr;
 pub enum Order {
     /// Judges the history in the input.
     Judge(Judging),
+    /// Judges the history in each line of the input.
+    JudgeLines(Judging),
     /// Checks the certificate in the input against the history in it, by so many workers.
     Check(Workers),
     /// Says in this form why each criterion is met or not met by the history in the input, or why that is unknown.
@@ -46,7 +48,7 @@ pub enum Usage {
 /// once and in any order.
 ///
 /// - `judge` takes `--workers N` for a number from 1 to 16, or nothing for 2; and `--expect LIST`, where the list is one or more of
-///   `cc`, `cm` and `ccv`, each at most once, joined by commas.
+///   `cc`, `cm` and `ccv`, each at most once, joined by commas; and `--lines`.
 /// - `check` takes `--workers N`.
 /// - `explain` takes nothing, `--json`, `--json` and `--certificates`, or `--svg`.
 /// - `refute` and `replay` take nothing.

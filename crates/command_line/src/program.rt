@@ -50,7 +50,12 @@ fn judge_command<'a>(alloc: Global) -> Result<Command<'a>, AllocError>
     Command::new(alloc, "judge")
         .about("Reads a history and judges it")
         .arg(workers_option(alloc))?
-        .arg(expect_option(alloc))
+        .arg(expect_option(alloc))?
+        .arg(flag_option(
+            alloc,
+            "lines",
+            "Judges a history in each line, and answers each with one line",
+        ))
 }
 
 fn check_command<'a>(alloc: Global) -> Result<Command<'a>, AllocError>

@@ -1,7 +1,7 @@
 //! All that the words behind a command say, and the order that they give.
 
 ghost use Rattle.std.specs.Prelude.{◌≡◌};
-ghost use Rattle.command_line.specs.Options.{and_also, delivery_for, drive_for, drive_of, form_for, judging_for, order_for, says, unsaid};
+ghost use Rattle.command_line.specs.Options.{and_also, delivery_for, drive_for, drive_of, form_for, judge_for, judging_for, order_for, says, unsaid};
 ghost use Rattle.command_line.specs.Options.{with_setting, workers_for};
 
 use crate::drive::{Drive, Store};
@@ -23,6 +23,7 @@ pub struct Said {
     workers: Option<Workers>,
     stop: Option<usize>,
     expected: Option<Expected>,
+    lines: bool,
     json: bool,
     certificates: bool,
     svg: bool,
@@ -41,6 +42,7 @@ impl Said {
             workers: None,
             stop: None,
             expected: None,
+            lines: false,
             json: false,
             certificates: false,
             svg: false,
@@ -69,6 +71,7 @@ impl Said {
             Setting::Workers(_) => self.workers.is_some(),
             Setting::Stop(_) => self.stop.is_some(),
             Setting::Expect(_) => self.expected.is_some(),
+            Setting::Lines => self.lines,
             Setting::Json => self.json,
             Setting::Certificates => self.certificates,
             Setting::Svg => self.svg,
@@ -104,6 +107,10 @@ impl Said {
                 expected: Some(*expected),
                 ..*self
             },
+            Setting::Lines => Said {
+                lines: true,
+                ..*self
+            },
             Setting::Json => Said {
                 json: true,
                 ..*self
@@ -121,12 +128,23 @@ impl Said {
         ensures { result ≡ order_for self.now }
     {
         match self.command {
-            CommandName::Judge => Some(Order::Judge(self.judging())),
+            CommandName::Judge => Some(self.judge()),
             CommandName::Check => Some(Order::Check(self.workers())),
             CommandName::Explain => Some(Order::Explain(self.form()?)),
             CommandName::Refute => Some(Order::Refute),
             CommandName::Replay => Some(Order::Replay),
             CommandName::Drive => Some(Order::Drive(self.drive()?)),
+        }
+    }
+
+    // The order to judge one history, or one in each line.
+    fn judge(&self) -> Order
+        ensures { result ≡ judge_for self.now }
+    {
+        if self.lines {
+            Order::JudgeLines(self.judging())
+        } else {
+            Order::Judge(self.judging())
         }
     }
 

@@ -41,6 +41,8 @@ pub enum Setting {
     Stop(usize),
     /// These criteria are expected to be met.
     Expect(Expected),
+    /// Each line of the input holds a history.
+    Lines,
     /// A reason is given as JSON.
     Json,
     /// Certificates stand with it.
@@ -70,7 +72,7 @@ impl Setting {
         ensures { result ≡ takes CommandName.Judge self.now }
     {
         match self {
-            Setting::Workers(_) | Setting::Expect(_) => true,
+            Setting::Workers(_) | Setting::Expect(_) | Setting::Lines => true,
             _ => false,
         }
     }
@@ -130,6 +132,7 @@ pub fn setting_alone(word: &str) -> Option<Setting>
         "causal" => Some(Setting::Store(Store::Causal)),
         "lamport" => Some(Setting::Store(Store::Lamport)),
         "--eager" => Some(Setting::Eager),
+        "--lines" => Some(Setting::Lines),
         "--json" => Some(Setting::Json),
         "--certificates" => Some(Setting::Certificates),
         "--svg" => Some(Setting::Svg),

@@ -7,6 +7,7 @@ pub record IsNoBareWord (word : Text) : Type 0 where
   pub causal : word ≢ codes "causal"
   pub lamport : word ≢ codes "lamport"
   pub eager : word ≢ codes "--eager"
+  pub lines : word ≢ codes "--lines"
   pub json : word ≢ codes "--json"
   pub certificates : word ≢ codes "--certificates"
   pub svg : word ≢ codes "--svg"
