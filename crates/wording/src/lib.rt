@@ -18,5 +18,5 @@ mod unexplained;
 
 pub use operation_words::Worded;
 pub use pattern_words::words_of_pattern;
-pub use repeated_values::words_of_repeated_values;
+pub use repeated_values::{repeated_variables, words_of_repeated_values, words_without_variables};
 pub use unexplained::push_unexplained;

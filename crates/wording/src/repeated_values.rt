@@ -1,13 +1,14 @@
 //! Which values of a history of a memory are not distinct.
 
 use crate::naming::name_of;
+use bad_patterns::Kind;
 use history::History;
 use memory_order::{Write, initial_value, sorted_writes};
 use objects::Memory;
 use std::alloc::{AllocError, Global};
 
 /// Of how many variables it is told.
-const MAX_VARIABLES: u64 = 8;
+const MAX_VARIABLES: usize = 8;
 
 /// Which variables of a history are written twice with one value, or with their initial value, and by which operations, in lines
 /// with no line feed: one for each of the first 8 such variables, and how many more there are. None where values are distinct.
@@ -18,20 +19,81 @@ pub fn words_of_repeated_values(
     h: &History<Memory>,
 ) -> Result<Vec<String>, AllocError> {
     let writes = sorted_writes(alloc, h)?;
+    let repeated = repeated_writes(alloc, h, &writes)?;
     let mut lines = Vec::new(alloc);
+    for (place, write) in repeated.iter().take(MAX_VARIABLES) {
+        lines.push(words_of(alloc, h, &writes, *place, write)?)?;
+    }
+    push_left_out(
+        alloc,
+        &mut lines,
+        repeated.len().saturating_sub(MAX_VARIABLES),
+    )?;
+    Ok(lines)
+}
+
+/// The variables of a history that are written twice with one value, or with their initial value, in order. None where values
+/// are distinct.
+///
+/// Fails for want of memory alone. O(n log n) for n operations.
+pub fn repeated_variables(alloc: Global, h: &History<Memory>) -> Result<Vec<u32>, AllocError> {
+    let writes = sorted_writes(alloc, h)?;
+    let mut variables = Vec::new(alloc);
+    for (_, write) in &repeated_writes(alloc, h, &writes)? {
+        variables.push(write.key)?;
+    }
+    Ok(variables)
+}
+
+/// In words, what is not met without some variables: a kind of pattern is there.
+///
+/// The first 8 variables are named, and how many more there are. Fails for want of memory alone. O(1).
+pub fn words_without_variables(
+    alloc: Global,
+    variables: &[u32],
+    kind: Kind,
+) -> Result<String, AllocError> {
+    let plural = if variables.len() == 1 { "" } else { "s" };
+    let named = listed(alloc, variables)?;
+    let kind = kind.name();
+    format!(in alloc; "Without variable{plural} {named}: no {kind}")
+}
+
+// Numbers in a list: the first 8, and how many more there are.
+fn listed(alloc: Global, numbers: &[u32]) -> Result<String, AllocError> {
+    let more = numbers.len().saturating_sub(MAX_VARIABLES);
+    let mut text = String::new(alloc);
+    for (place, number) in numbers.iter().take(MAX_VARIABLES).enumerate() {
+        let before = if place == 0 {
+            ""
+        } else if more == 0 && place.saturating_add(1) == numbers.len() {
+            " and "
+        } else {
+            ", "
+        };
+        text.push_str(format!(in alloc; "{before}{number}")?.as_str())?;
+    }
+    if more > 0 {
+        text.push_str(format!(in alloc; " and {more} more")?.as_str())?;
+    }
+    Ok(text)
+}
+
+// Of each variable whose values are not distinct the first write that shows it, with its place among the writes.
+fn repeated_writes(
+    alloc: Global,
+    h: &History<Memory>,
+    writes: &[Write],
+) -> Result<Vec<(usize, Write)>, AllocError> {
+    let mut repeated: Vec<(usize, Write)> = Vec::new(alloc);
     let mut last: Option<u32> = None;
-    let mut variables: u64 = 0;
     for (place, write) in writes.iter().enumerate() {
-        if last != Some(write.key) && is_repeated(h, &writes, place, write) {
+        if last != Some(write.key) && is_repeated(h, writes, place, write) {
             last = Some(write.key);
-            if variables < MAX_VARIABLES {
-                lines.push(words_of(alloc, h, &writes, place, write)?)?;
-            }
-            variables = variables.saturating_add(1);
+            repeated.push((place, *write))?;
         }
     }
-    push_left_out(alloc, &mut lines, variables.saturating_sub(MAX_VARIABLES))?;
-    Ok(lines)
+    Ok(repeated)
 }
 
 // Whether a write is one of the initial value, or the next one is of the same value. The writes are sorted.
@@ -72,7 +134,7 @@ fn words_of(
 }
 
 // How many variables are not told of, where some are.
-fn push_left_out(alloc: Global, lines: &mut Vec<String>, more: u64) -> Result<(), AllocError> {
+fn push_left_out(alloc: Global, lines: &mut Vec<String>, more: usize) -> Result<(), AllocError> {
     if more > 0 {
         lines.push(format!(in alloc; "(so it is with {more} more variables)")?)?;
     }

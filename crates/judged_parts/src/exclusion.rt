@@ -1,0 +1,31 @@
+//! Whether a history is decided not to meet a criterion.
+
+ghost use Rattle.std.specs.Prelude.{IfOk, IfSome};
+ghost use Rattle.judged_parts.specs.WithoutVariables.{IsExclusion};
+
+use bad_patterns::laws::bad_patterns_exclude_criteria;
+use cert_check::Criterion;
+use decision::{Decision, decide};
+use history::History;
+use memory_order::IndexedMemory;
+use objects::Memory;
+use std::alloc::{AllocError, Global};
+
+/// What is decided of a history that does not meet a criterion: none where it meets it, or where its values are not distinct.
+///
+/// Fails for want of memory alone. What [`decide`] takes.
+pub(crate) fn exclusion_of(
+    alloc: Global,
+    history: &History<Memory>,
+    criterion: Criterion,
+) -> Result<Option<Decision>, AllocError>
+    ensures { IfOk result (λ found. IfSome found (IsExclusion history.now criterion)) }
+{
+    bad_patterns_exclude_criteria();
+    let memory = IndexedMemory::of(alloc, history)?;
+    match decide(alloc, &memory, criterion)? {
+        Decision::Excluded(pattern) => Ok(Some(Decision::Excluded(pattern))),
+        Decision::ExcludedBy(kind) => Ok(Some(Decision::ExcludedBy(kind))),
+        Decision::Meets | Decision::Open => Ok(None),
+    }
+}

@@ -1,0 +1,14 @@
+//! Parts of a memory history that are judged by themselves: the core of a bad pattern, a few operations that do not meet the
+//! criterion alone, and the history without the variables whose values are not distinct.
+#![tactic(auto)]
+
+mod cores;
+mod exclusion;
+mod gathering;
+mod places;
+mod renaming;
+mod without_variables;
+
+pub use cores::{core_of, core_text};
+pub use renaming::pattern_in_whole;
+pub use without_variables::{Excluded, excluded_without};

@@ -1,0 +1,52 @@
+//! Where the operations of a part stand in the whole.
+
+use history::{History, OpId};
+use objects::Memory;
+use std::alloc::{AllocError, Global};
+
+/// For each session of a part the operations of the whole that it keeps, in order.
+#[derive(Debug, Drop)]
+pub(crate) struct Places {
+    sessions: Vec<Vec<OpId>>,
+}
+
+impl Places {
+    /// Those of the operations at all variables but some. Fails for want of memory alone. O(n m) for n operations and m variables.
+    pub(crate) fn without(
+        alloc: Global,
+        history: &History<Memory>,
+        variables: &[u32],
+    ) -> Result<Places, AllocError> {
+        let mut sessions = Vec::new(alloc);
+        for session in 0..history.sessions() {
+            sessions.push(kept_of_session(alloc, history, session, variables)?)?;
+        }
+        Ok(Places { sessions })
+    }
+
+    /// The operation of the whole that an operation of the part is, and itself where it is none of the part.
+    pub(crate) fn in_whole(&self, op: OpId) -> OpId {
+        let kept = self.sessions.get(op.session as usize);
+        match kept.and_then(|kept| kept.get(op.index as usize)) {
+            Some(place) => *place,
+            None => op,
+        }
+    }
+}
+
+// The operations of a session that are at no variable of a list.
+fn kept_of_session(
+    alloc: Global,
+    history: &History<Memory>,
+    session: usize,
+    variables: &[u32],
+) -> Result<Vec<OpId>, AllocError> {
+    let mut kept = Vec::new(alloc);
+    for index in 0..history.len(session) {
+        let op = OpId::at(session, index);
+        if history.contains(op) && !variables.contains(&history.call(op).key) {
+            kept.push(op)?;
+        }
+    }
+    Ok(kept)
+}

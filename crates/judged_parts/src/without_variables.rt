@@ -1,0 +1,46 @@
+//! Histories judged without some of their variables.
+
+ghost use Rattle.std.specs.Prelude.{◌≡◌, IfOk, IfSome};
+ghost use Rattle.memory_order.specs.Memory.{memory_answer};
+ghost use Rattle.cert_check.specs.Criteria.{Meets};
+ghost use Rattle.judged_parts.specs.WithoutVariables.{IsExclusion, without_variables};
+
+use crate::exclusion::exclusion_of;
+use cert_check::Criterion;
+use decision::Decision;
+use history::History;
+use objects::{Memory, Register};
+use parts::laws::parts_at_keys_meet_what_the_whole_meets;
+use parts::{WithoutKeys, part_of};
+use std::alloc::{AllocError, Global};
+
+/// A part of a history, and what shows that it does not meet a criterion.
+#[derive(Drop)]
+pub struct Excluded {
+    /// The part.
+    pub part: History<Memory>,
+    /// What is decided of it.
+    pub decision: Decision,
+}
+
+/// The history without some variables, where this does not meet a criterion: then the whole does not meet it either.
+///
+/// None where the part meets the criterion, or where values of other variables are not distinct. Fails for want of memory
+/// alone. O(n m) for n operations and m variables, and what [`decide`](decision::decide) takes for the part.
+pub fn excluded_without(
+    alloc: Global,
+    history: &History<Memory>,
+    variables: &[u32],
+    criterion: Criterion,
+) -> Result<Option<Excluded>, AllocError>
+    ensures part { IfOk result (λ found. IfSome found (λ shown. shown.part ≡ without_variables variables.now history.now)) }
+    ensures excluded { IfOk result (λ found. IfSome found (λ shown. IsExclusion shown.part criterion shown.decision)) }
+    ensures whole { IfOk result (λ found. IfSome found (λ _. ¬ Meets memory_answer history.now criterion)) }
+{
+    parts_at_keys_meet_what_the_whole_meets::<Register>();
+    let part = part_of(alloc, history, &WithoutKeys(variables))?;
+    match exclusion_of(alloc, &part, criterion)? {
+        Some(decision) => Ok(Some(Excluded { part, decision })),
+        None => Ok(None),
+    }
+}
