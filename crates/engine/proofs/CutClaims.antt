@@ -1,5 +1,5 @@
 -- What is read of a text whose value is cut at the places of a claim is what is read of the whole of it.
-use Rattle.std.proofs.Common.{◌≡◌, ◌≢◌, ◌∙◌, ℕ, List, [], ◌∷◌, Option, Result, Ok, Err, refl, sym, ap, subst, inr}
+use Rattle.std.proofs.Common.{◌≡◌, ◌∙◌, ℕ, List, [], ◌∷◌, Option, Result, Ok, Err, refl, sym, ap, subst, inr}
 use Rattle.std.specs.Prelude.{IfOk}
 use Rattle.serde_json.specs.Data.{Data, null, boolean, number, string, array, object, no_items, item}
 use Rattle.bounded_json.specs.Cut.{cut, IsKept}

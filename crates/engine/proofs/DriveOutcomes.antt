@@ -1,5 +1,5 @@
 -- Which histories can be driven, by the number of their sessions.
-use Rattle.std.proofs.Common.{◌≡◌, ◌<◌, ◌≤◌, ◌∙◌, ℕ, length, sym, subst, arith, Option, Some}
+use Rattle.std.proofs.Common.{◌≡◌, ◌<◌, ◌≤◌, ◌∙◌, ℕ, length, arith, Option}
 use Rattle.history.specs.History.{HistoryValue}
 use Rattle.driver.specs.declared.drive_error.DriveError.{DriveError}
 use Rattle.driver.specs.declared.drive_error.DriveError.TheVariants as drives

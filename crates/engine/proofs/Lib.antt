@@ -4,7 +4,9 @@ pub mod Claims
 pub mod CutClaims
 pub mod CutPairs
 pub mod Founded
+pub mod EachAnswer
 pub mod JudgeErrors
+pub mod LineAnswerLaws
 pub mod ReadCallLaws
 pub mod NotRefused
 pub mod ScriptOutcomes

@@ -1,5 +1,5 @@
 -- The form of a history is not refused.
-use Rattle.std.proofs.Common.{◌≡◌, ◌≢◌, ◌<◌, ◌^◌, ◌++◌, ℕ, Bool, true, List, [], ◌∷◌, map, Option, Some, None, ap, ◌∙◌}
+use Rattle.std.proofs.Common.{◌≡◌, ◌≢◌, ◌<◌, ◌^◌, ℕ, Bool, List, [], ◌∷◌, map, Option, Some, None, ap, ◌∙◌}
 use Rattle.std.specs.Option.{option_or}
 use Rattle.serde_json.specs.Data.{Data}
 use Rattle.objects.specs.declared.keyed.KeyedCall.{KeyedCall}
@@ -13,7 +13,6 @@ use Rattle.operations.specs.CallLaws.{no_start_again}
 use Rattle.operations.specs.CounterForm as counter
 use Rattle.operations.specs.CounterFormLaws as counter_laws
 use Rattle.operations.specs.Form.{session_form}
-use Rattle.operations.specs.Json.{unknown}
 use Rattle.operations.specs.KeyedFormLaws.{keyed_again}
 use Rattle.operations.specs.ObjectNames.{text_of}
 use Rattle.operations.specs.PlainFormLaws.{IsSpelling, plain_again}

@@ -16,7 +16,7 @@ use Rattle.cert_check.proofs.CertificateForms.{one_certificate}
 use Rattle.cert_check.specs.CriterionNames.{name_of}
 use Rattle.bad_patterns.specs.PatternForm.{form_of as pattern_form}
 use Rattle.command_line.specs.declared.order.Order.{Order}
-use Rattle.command_line.specs.declared.order.Order.TheVariants.{Judge, Check, Explain, Refute, Replay, Drive}
+use Rattle.command_line.specs.declared.order.Order.TheVariants.{Judge, JudgeLines, Check, Explain, Refute, Replay, Drive}
 use Rattle.command_line.specs.declared.drive.Drive.{Drive as Drives}
 use Rattle.command_line.specs.declared.form.Form.{Form}
 use Rattle.command_line.specs.declared.form.Form.TheVariants.{Words, Json, Certificates, Picture}
@@ -29,7 +29,8 @@ use Rattle.engine.specs.declared.input.TheConstants.{MAX_INPUT_BYTES}
 use Rattle.engine.specs.Checking.{HasOtherShape, HasShape, IsCheckReport, IsPair, IsPairError, pair_form, pair_refusal}
 use Rattle.engine.specs.Refuting.{claim_form, claim_refusal, IsClaimError, IsPatternOf, IsRefutation}
 use Rattle.engine.specs.Failure.{failure_status, refusal_status, script_status}
-use Rattle.engine.specs.Running.{Answers, Fails, IsAnswer, IsAnswerError, IsReplayReport, IsReport}
+use Rattle.engine.specs.Report.{IsReport}
+use Rattle.engine.specs.Running.{Answers, Fails, IsAnswer, IsAnswerError, IsReplayReport}
 use Rattle.engine.proofs.NotRefused.{form_is_fine}
 use Rattle.engine.proofs.Claims.{refusal-claim}
 use Rattle.engine.proofs.Pairs.{refusal-pair}
@@ -262,6 +263,20 @@ replay_once text e Memory is_e is_f one two = absurd (omega arith)
 replay_once text e ReadFault is_e is_f one two = absurd is_f
 replay_once text e WriteFault is_e is_f one two = absurd is_f
 
+-- lines are refused in their answer: nothing else than memory can fail
+lines_fail : (judging : Judging) (text : List ℕ) (e : RunError) → IsAnswerError (JudgeLines judging) text e → failure_status e ≡ 4
+lines_fail judging text (History p) is_e = absurd is_e
+lines_fail judging text (Script p) is_e = absurd is_e
+lines_fail judging text BadCertificate is_e = absurd is_e
+lines_fail judging text ShapeMismatch is_e = absurd is_e
+lines_fail judging text NotThatPattern is_e = absurd is_e
+lines_fail judging text BadLimits is_e = absurd is_e
+lines_fail judging text NoSuch is_e = absurd is_e
+lines_fail judging text TooLong is_e = absurd is_e
+lines_fail judging text Memory is_e = refl
+lines_fail judging text ReadFault is_e = absurd is_e
+lines_fail judging text WriteFault is_e = absurd is_e
+
 -- a history is driven or not by what it is: it has no session, it lacks the one that stops, or neither
 one_drive_error : (stop : Option ℕ) (m n : ℕ) → m ≡ n → IsDriveError stop m BadLimits → IsDriveError stop n NoSuch → ⊥
 one_drive_error stop m n same none lacks = let no_session : m ≡ 0 = none in let some : 0 < n = lacks.0 in absurd (omega arith)
@@ -303,6 +318,8 @@ drive_once drive text e WriteFault is_e is_f one two = absurd is_f
 pub refused_in_one_way : (order : Order) (text : List ℕ) (e f : RunError) → IsAnswerError order text e → IsAnswerError order text f
     → failure_status e ≡ 1 → failure_status f ≡ 1 → e ≡ f
 refused_in_one_way (Judge judging) text e f is_e is_f one two = judge_once judging text e f is_e is_f one two
+refused_in_one_way (JudgeLines judging) text e f is_e is_f one two =
+    let four : failure_status e ≡ 4 = lines_fail judging text e is_e in absurd (omega arith)
 refused_in_one_way (Check workers) text e f is_e is_f one two = check_once workers text e f is_e is_f one two
 refused_in_one_way (Explain form) text e f is_e is_f one two =
     judge_once plain text e f (explained_as_judged form text e is_e) (explained_as_judged form text f is_f) one two
@@ -419,6 +436,7 @@ drive_not_refused drive text answer WriteFault report is_e = absurd is_e
 
 pub answered_is_not_refused : (order : Order) (text answer : List ℕ) (e : RunError) → IsAnswer order text answer → IsAnswerError order text e → failure_status e ≡ 4
 answered_is_not_refused (Judge judging) text answer e report is_e = judge_not_refused judging text e report.history report.is_history report.read is_e
+answered_is_not_refused (JudgeLines judging) text answer e report is_e = lines_fail judging text e is_e
 answered_is_not_refused (Check workers) text answer e report is_e = check_not_refused workers text answer e report is_e
 answered_is_not_refused (Explain Words) text answer e report is_e =
     judge_not_refused plain text e report.history report.is_history report.read (explained_as_judged Words text e is_e)

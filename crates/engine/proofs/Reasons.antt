@@ -1,5 +1,5 @@
 -- What is true of an answer is true of its reason.
-use Rattle.std.proofs.Common.{◌≡◌, sym, subst, Some, None}
+use Rattle.std.proofs.Common.{◌≡◌, sym, subst}
 use Rattle.operations.specs.declared.any_history.AnyHistory.{AnyHistory}
 use Rattle.board.specs.declared.answer.Answer.{Answer}
 use Rattle.board.specs.declared.answer.Answer.TheVariants.{Yes, No, Unknown, Open}
@@ -8,8 +8,8 @@ use Rattle.cert_check.specs.declared.criterion.Criterion.TheVariants.{Cc, Cm, Cc
 use Rattle.engine.specs.declared.reason.Explanation.{Explanation}
 use Rattle.engine.specs.declared.reason.Reason.{Reason}
 use Rattle.engine.specs.declared.report.Report.{Report}
-use Rattle.engine.specs.Explaining.{EachIsReason, IsReason, reason_for}
-use Rattle.engine.specs.Report.{EachIsKnownOnDistinctValues, EachIsTrueOf, EachNamesUnexplained, IsKnownOnDistinctValues, IsTrueOf, NamesUnexplained, answer_for}
+use Rattle.engine.specs.Explaining.{EachIsReason, IsReason}
+use Rattle.engine.specs.Report.{EachIsKnownOnDistinctValues, EachIsTrueOf, EachNamesUnexplained, IsKnownOnDistinctValues, IsTrueOf, NamesUnexplained}
 use Rattle.engine.specs.Steps.Unshown.{reason_of}
 
 reason_is : (history : AnyHistory) (criterion : Criterion) (answer : Answer) → IsTrueOf history criterion answer

@@ -8,9 +8,8 @@ use Rattle.engine.specs.declared.failure.RunError.{RunError}
 use Rattle.engine.specs.declared.failure.RunError.TheVariants.{History, Script, BadCertificate, ShapeMismatch, NotThatPattern, BadLimits, NoSuch, TooLong, Memory, ReadFault, WriteFault}
 use Rattle.engine.specs.declared.input.TheConstants.{MAX_INPUT_BYTES}
 use Rattle.engine.specs.declared.report.Report.{Report}
-use Rattle.engine.specs.Expecting.{IsReportOn}
 use Rattle.engine.specs.Running.{Fails, IsAnswerError}
-use Rattle.engine.specs.Report.{EachIsTrueOf, EachNamesUnexplained, EachIsKnownOnDistinctValues}
+use Rattle.engine.specs.Report.{EachIsTrueOf, EachNamesUnexplained, EachIsKnownOnDistinctValues, IsReportOn}
 
 -- what is true of the history that was read is a report on the input
 pub reported : (input : List ℕ) (history : AnyHistory) (r : Result Report RunError) → IsAnyHistory history → IsJson input (form_of history)

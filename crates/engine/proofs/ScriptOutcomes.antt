@@ -1,5 +1,5 @@
 -- What can come of one script, and what cannot come of it beside that.
-use Rattle.std.proofs.Common.{◌≡◌, ◌<◌, ◌≤◌, ◌+◌, ◌⊎◌, ℕ, zero, suc, All, List, [], ◌∷◌, Bool, false, Option, Some, None, length, map, take, refl, sym, ap, subst, ◌∙◌, arith, inl, inr}
+use Rattle.std.proofs.Common.{◌≡◌, ◌<◌, ◌≤◌, ◌+◌, ◌⊎◌, ℕ, zero, suc, List, [], ◌∷◌, Bool, false, Some, length, map, take, refl, sym, ap, subst, ◌∙◌, arith, inl, inr}
 use Rattle.std.specs.Prelude.{◌≢◌, codes, nat_eq, option_map, slice_get, unwrap_or, if◌then◌else◌}
 use Rattle.std.specs.Option.{option_map_or}
 use Rattle.std.specs.Cmp.Lexicographic.{pointwise}
@@ -18,9 +18,7 @@ use Rattle.operations.specs.Spelling.{entry_form, no_start_form, plain_start_for
 use Rattle.operations.specs.declared.object_name.ObjectName.{ObjectName}
 use Rattle.operations.specs.declared.object_name.ObjectName.TheVariants as names
 use Rattle.operations.specs.JsonLaws.{elements-list, map_from}
-use Rattle.world.specs.declared.step.StepOf.{StepOf}
 use Rattle.world.specs.declared.step.StepOf.TheVariants.{Begin, End, Start, Look, Show, File, Take, Work, Put, Refute, Ask}
-use Rattle.script.specs.declared.script.TheConstants.{MAX_STEPS}
 use Rattle.script.specs.declared.script_error.ScriptError.{ScriptError}
 use Rattle.script.specs.declared.script_error.ScriptError.TheVariants.{NotJson, BadShape, UnknownObject, BadLimits, BadStep, TooManySteps, BadInitial, Memory}
 use Rattle.script.specs.declared.written_step.WrittenStep.{WrittenStep}
@@ -29,7 +27,7 @@ use Rattle.script.specs.AnyScriptForm.{IsAnyScript, IsRefusalBy, IsRefusedAs, Is
 use Rattle.script.specs.declared.any_script.AnyScript.{AnyScript}
 use Rattle.script.specs.declared.any_script.AnyScript.TheVariants as scripts
 use Rattle.script.proofs.ScriptForms.{one_name}
-use Rattle.script.specs.ScriptForm.{AreParts, IsNumberOfSessions, IsRest, IsScript, Parts, ScriptValue, parts_form, AreFine, AreForms, AreTooMany, IsBadAt, IsFew, IsNoForm, IsRefusalOf}
+use Rattle.script.specs.ScriptForm.{AreParts, IsNumberOfSessions, IsRest, IsScript, Parts, ScriptValue, parts_form, AreFine, AreForms, AreTooMany, IsBadAt, IsNoForm, IsRefusalOf}
 use Rattle.engine.specs.Failure.{script_status}
 use Rattle.script.specs.StepForm.{IsWritten, steps_of, written_form, written_out}
 

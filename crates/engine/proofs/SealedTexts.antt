@@ -1,12 +1,12 @@
 -- What is written of sealed histories, one after the other.
-use Rattle.std.proofs.Common.{◌≡◌, ◌<◌, ◌≤◌, ◌+◌, ◌∙◌, ℕ, zero, suc, List, [], ◌∷◌, ◌++◌, length, take, refl, sym, ap, subst, arith, Option, Some, None}
+use Rattle.std.proofs.Common.{◌≡◌, ◌≤◌, ◌+◌, ◌∙◌, ℕ, zero, suc, List, [], ◌∷◌, ◌++◌, length, take, refl, sym, ap, subst, Some}
 use Rattle.std.specs.Prelude.{codes, slice_get}
 use Rattle.std.specs.List.{flat_map}
 use Rattle.std.proofs.lemmas.List.{flat_map_more, take_all}
 use Rattle.std.proofs.lemmas.Option.{same_Some}
 use Rattle.history.specs.History.{HistoryValue}
 use Rattle.snapshot.specs.Seals.{SealState}
-use Rattle.driver.specs.Drives.{IsOfInput, RepeatsCalls}
+use Rattle.driver.specs.Drives.{RepeatsCalls}
 use Rattle.operations.specs.declared.any_history.AnyHistory.{AnyHistory}
 use Rattle.operations.specs.AnyForm.{form_of, IsAnyHistory}
 use Rattle.serde_json.specs.Written.{compact_text}

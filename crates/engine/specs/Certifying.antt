@@ -1,5 +1,5 @@
 -- Why each criterion is met, not met, or unknown, as JSON, with the certificates of what is met.
-use Rattle.std.specs.Prelude.{◌≡◌, ⊤, ℕ, List, [], ◌∷◌, ◌++◌, codes, IfSome}
+use Rattle.std.specs.Prelude.{◌≡◌, ⊤, ℕ, List, [], ◌∷◌, ◌++◌, codes}
 use Rattle.serde_json.specs.Data.{Data, string}
 use Rattle.serde_json.specs.Written.{compact_text}
 use Rattle.operations.specs.declared.any_history.AnyHistory.{AnyHistory}

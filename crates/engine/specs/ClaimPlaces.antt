@@ -1,5 +1,5 @@
 -- The places in the form of a claim: those of a list of three, and in it those of its history and of its pattern.
-use Rattle.std.specs.Prelude.{ℕ, ◌+◌, ◌==◌, if◌then◌else◌, Option, Some, None}
+use Rattle.std.specs.Prelude.{ℕ, ◌+◌, ◌==◌, if◌then◌else◌, Option, Some}
 use Rattle.operations.specs.declared.history_place.HistoryPlace.TheVariants as histories
 use Rattle.operations.specs.Places as history_places
 use Rattle.pattern_place.specs.declared.pattern_place.PatternPlace.TheVariants as patterns

@@ -4,12 +4,12 @@ use Rattle.std.specs.Io.KnownBytes.{Appends}
 use Rattle.board.specs.declared.answer.Answer.{Answer}
 use Rattle.board.specs.declared.answer.Answer.TheVariants.{Yes, No, Unknown, Open}
 use Rattle.command_line.specs.declared.expected.Expected.{Expected}
-use Rattle.engine.specs.declared.outcome.Outcome.{Outcome}
-use Rattle.engine.specs.declared.outcome.Outcome.TheVariants as outcomes
+use Rattle.lines.specs.declared.outcome.Outcome.{Outcome}
+use Rattle.lines.specs.declared.outcome.Outcome.TheVariants as outcomes
+use Rattle.lines.specs.Outcomes.{worse}
 use Rattle.engine.specs.declared.input.TheConstants.{MAX_INPUT_BYTES}
 use Rattle.engine.specs.declared.report.Report.{Report}
-use Rattle.engine.specs.Report.{text_for}
-use Rattle.engine.specs.Running.{IsReport}
+use Rattle.engine.specs.Report.{IsReportOn, text_for}
 
 -- what comes of the answer for a criterion that is expected to be met, or isn't
 abbrev pub outcome_in : Bool → Answer → Outcome
@@ -19,27 +19,10 @@ outcome_in true (No kind) = outcomes.Excluded
 outcome_in true (Unknown place) = outcomes.Unknown
 outcome_in true (Open n) = outcomes.Unknown
 
--- what comes of two criteria: one that is not met counts more than one of which nothing is known
-abbrev pub worse : Outcome → Outcome → Outcome
-worse outcomes.Met other = other
-worse outcomes.Unknown outcomes.Met = outcomes.Unknown
-worse outcomes.Unknown other = other
-worse outcomes.Excluded other = outcomes.Excluded
-
 -- what comes of a report: a no to a criterion that is expected counts more than an unknown
 abbrev pub outcome_for : Expected → Report → Outcome
 outcome_for expected report =
     worse (outcome_in expected.cc report.cc) (worse (outcome_in expected.cm report.cm) (outcome_in expected.ccv report.ccv))
-
--- the exit status by what comes of a run
-abbrev pub outcome_status : Outcome → ℕ
-outcome_status outcomes.Met = 0
-outcome_status outcomes.Excluded = 5
-outcome_status outcomes.Unknown = 6
-
--- the report is one on the history in the input
-abbrev pub IsReportOn : List ℕ → Report → Type 0
-IsReportOn input report = (shown : IsReport input (text_for report)) × (shown.report ≡ report)
 
 -- an input was read whole, a report on the history in it was written whole, and this comes of that report: where the reader and
 -- the writer tell their bytes

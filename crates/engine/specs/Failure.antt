@@ -10,6 +10,8 @@ use Rattle.cert_check.specs.declared.cert_error.CertError.{CertError}
 use Rattle.cert_check.specs.declared.cert_error.CertError.TheVariants as certificates
 use Rattle.driver.specs.declared.drive_error.DriveError.{DriveError}
 use Rattle.driver.specs.declared.drive_error.DriveError.TheVariants as drives
+use Rattle.lines.specs.declared.fault.Fault.{Fault}
+use Rattle.lines.specs.declared.fault.Fault.TheVariants as streams
 use Rattle.script.specs.declared.script_error.ScriptError.{ScriptError}
 use Rattle.script.specs.declared.script_error.ScriptError.TheVariants as scripts
 use Rattle.script.specs.Refusals.{number_of as script_number}
@@ -34,6 +36,12 @@ abbrev pub drive_failure : DriveError → RunError
 drive_failure drives.BadLimits = BadLimits
 drive_failure drives.NoSuch = NoSuch
 drive_failure _ = Memory
+
+-- how a run fails whose lines are not answered to the end
+abbrev pub stream_failure : Fault → RunError
+stream_failure streams.Memory = Memory
+stream_failure streams.Read = ReadFault
+stream_failure streams.Write = WriteFault
 
 -- the exit status of a refused history: 4 where memory ran out, and else 1
 abbrev pub refusal_status : ReadError → ℕ

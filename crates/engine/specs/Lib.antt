@@ -9,7 +9,9 @@ pub mod Certifying
 pub mod Picturing
 pub mod ExplainingInWords
 pub mod Driving
-pub mod Running
+pub mod Alone
 pub mod Expecting
+pub mod LineAnswers
+pub mod Running
 pub mod ReadCalls
 pub mod Steps

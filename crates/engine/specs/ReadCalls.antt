@@ -1,31 +1,27 @@
--- Which read calls are made of a source, by what it tells of each: the states before and after it, and its outcome.
-use Rattle.std.specs.Prelude.{◌≡◌, ◌≢◌, ◌<◌, ◌≤◌, ◌⊎◌, ℕ, zero, suc, Bool, true, false, Result, Ok, Err}
+-- How a reading of a source ends, by what the source tells of each read call: the states before and after it, and its outcome.
+use Rattle.std.specs.Prelude.{◌≡◌, ◌≢◌, ◌<◌, ◌⊎◌, ℕ, zero, suc, Bool, true, false, Result, Ok, Err}
 use Rattle.std.specs.IoError.{error_kind}
-use Rattle.std.specs.declared.io.Error.{Error}
 use Rattle.std.specs.declared.io.ErrorKind.TheVariants.{Interrupted}
+use Rattle.lines.specs.ReadCalls.{CallOutcome}
 use Rattle.engine.specs.declared.failure.RunError.{RunError}
 use Rattle.engine.specs.declared.failure.RunError.TheVariants.{TooLong, Memory, ReadFault}
 
--- what comes of a read call: a number of bytes, or an error
-abbrev pub Outcome : Type 0
-Outcome = Result ℕ Error
-
 -- it gave bytes or was interrupted, and reading goes on
-abbrev pub GoesOn : Outcome → Type 0
+abbrev pub GoesOn : CallOutcome → Type 0
 GoesOn (Ok count) = 0 < count
 GoesOn (Err e) = error_kind e ≡ Interrupted
 
 -- it found the end
-abbrev pub IsEnd : Outcome → Type 0
+abbrev pub IsEnd : CallOutcome → Type 0
 IsEnd outcome = outcome ≡ Ok 0
 
 -- it failed, and was not interrupted
-abbrev pub IsFailure : Outcome → Type 0
+abbrev pub IsFailure : CallOutcome → Type 0
 IsFailure (Ok count) = ⊥
 IsFailure (Err e) = error_kind e ≢ Interrupted
 
 -- what is made of a read call: it found the end, reading goes on, the reader failed, or the bytes could not be kept
-abbrev pub CameTo : Outcome → Result Bool RunError → Type 0
+abbrev pub CameTo : CallOutcome → Result Bool RunError → Type 0
 CameTo outcome (Ok true) = IsEnd outcome
 CameTo outcome (Ok false) = GoesOn outcome
 CameTo outcome (Err ReadFault) = IsFailure outcome
@@ -33,25 +29,16 @@ CameTo outcome (Err TooLong) = GoesOn outcome
 CameTo outcome (Err Memory) = GoesOn outcome
 CameTo outcome (Err _) = ⊥
 
-module _ {S : Type 0} (called : S → Outcome → S → Type 0) where
-  -- so many read calls come from a state to another
-  unfoldable pub Calls : ℕ → S → S → Type 0
-  Calls zero old new = old ≡ new
-  Calls (suc n) old new = (between : S) × (outcome : Outcome) × Calls n old between × called between outcome new
-
+module _ {S : Type 0} (called : S → CallOutcome → S → Type 0) where
   -- so many read calls, after each of which reading goes on
   unfoldable pub GoOn : ℕ → S → S → Type 0
   GoOn zero old new = old ≡ new
-  GoOn (suc n) old new = (between : S) × (outcome : Outcome) × GoOn n old between × GoesOn outcome × called between outcome new
-
-  -- at most so many read calls
-  abbrev pub CallsAtMost : ℕ → S → S → Type 0
-  CallsAtMost most old new = (n : ℕ) × (n ≤ most) × Calls n old new
+  GoOn (suc n) old new = (between : S) × (outcome : CallOutcome) × GoOn n old between × GoesOn outcome × called between outcome new
 
   -- at most so many read calls: after each but the last reading goes on, and of the last this holds
-  abbrev pub EndsBy : ℕ → (Outcome → Type 0) → S → S → Type 0
+  abbrev pub EndsBy : ℕ → (CallOutcome → Type 0) → S → S → Type 0
   EndsBy most Last old new =
-      (n : ℕ) × (between : S) × (outcome : Outcome) × (n < most) × GoOn n old between × Last outcome × called between outcome new
+      (n : ℕ) × (between : S) × (outcome : CallOutcome) × (n < most) × GoOn n old between × Last outcome × called between outcome new
 
   -- no end was found: in so many read calls, or the last of at most so many failed
   abbrev pub FindsNoEnd : ℕ → S → S → Type 0

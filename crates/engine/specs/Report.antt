@@ -5,8 +5,8 @@ use Rattle.cert_check.specs.declared.criterion.Criterion.{Criterion}
 use Rattle.cert_check.specs.declared.criterion.Criterion.TheVariants.{Cc, Cm, Ccv}
 use Rattle.operations.specs.declared.any_history.AnyHistory.{AnyHistory}
 use Rattle.operations.specs.declared.any_history.AnyHistory.TheVariants as histories
+use Rattle.operations.specs.AnyForm.{form_of, IsAnyHistory, IsJson}
 use Rattle.bad_patterns.specs.declared.kind.Kind.{Kind}
-use Rattle.bad_patterns.specs.declared.kind.Kind.TheVariants.{ThinAirRead}
 use Rattle.objects.specs.Register.{answer as register_answer}
 use Rattle.objects.specs.Counter.{answer as counter_answer}
 use Rattle.objects.specs.AddRemoveSet.{answer as set_answer}
@@ -109,3 +109,18 @@ line_for criterion (Open n) = name_of criterion ++ (codes " open " ++ (decimal n
 -- the lines of a report, one after the other
 abbrev pub text_for : Report → List ℕ
 text_for report = line_for Cc report.cc ++ (line_for Cm report.cm ++ line_for Ccv report.ccv)
+
+-- the text is a report on the history in the input: its three lines, each of which is true of that history
+pub record IsReport (input text : List ℕ) : Type 0 where
+  pub history : AnyHistory
+  pub report : Report
+  pub is_history : IsAnyHistory history
+  pub read : IsJson input (form_of history)
+  pub true_of : EachIsTrueOf history report
+  pub unknown : EachIsKnownOnDistinctValues history report
+  pub unexplained : EachNamesUnexplained history report
+  pub lines : text ≡ text_for report
+
+-- the report is one on the history in the input
+abbrev pub IsReportOn : List ℕ → Report → Type 0
+IsReportOn input report = (shown : IsReport input (text_for report)) × (shown.report ≡ report)

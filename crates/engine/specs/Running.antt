@@ -4,12 +4,11 @@ use Rattle.std.specs.Io.KnownBytes.{Appends}
 use Rattle.command_line.specs.declared.order.Order.{Order}
 use Rattle.engine.specs.declared.failure.RunError.{RunError}
 use Rattle.engine.specs.declared.failure.RunError.TheVariants.{History, Script, BadCertificate, ShapeMismatch, NotThatPattern, BadLimits, NoSuch, TooLong, Memory, ReadFault, WriteFault}
-use Rattle.operations.specs.declared.any_history.AnyHistory.{AnyHistory}
-use Rattle.operations.specs.AnyForm.{form_of, IsAnyHistory, IsJson, IsRefusedFor}
-use Rattle.engine.specs.declared.report.Report.{Report}
+use Rattle.operations.specs.AnyForm.{IsJson, IsRefusedFor}
 use Rattle.command_line.specs.declared.form.Form.TheVariants.{Words, Json, Certificates, Picture}
-use Rattle.command_line.specs.declared.order.Order.TheVariants.{Judge, Check, Explain, Refute, Replay, Drive}
-use Rattle.engine.specs.Report.{EachIsTrueOf, EachNamesUnexplained, EachIsKnownOnDistinctValues, text_for}
+use Rattle.command_line.specs.declared.order.Order.TheVariants.{Judge, JudgeLines, Check, Explain, Refute, Replay, Drive}
+use Rattle.engine.specs.Report.{IsReport}
+use Rattle.engine.specs.LineAnswers.{IsLinesAnswer}
 use Rattle.engine.specs.Checking.{IsCheckReport, IsPairError, HasOtherShape}
 use Rattle.engine.specs.Refuting.{IsClaimError, IsRefutation}
 use Rattle.engine.specs.Certifying.{IsCertifiedExplanation}
@@ -22,17 +21,6 @@ use Rattle.script.specs.declared.any_script.AnyScript.{AnyScript}
 use Rattle.script.specs.AnyScriptForm.{IsAnyScript, IsRefusedFor as IsScriptRefusedFor, form_of as script_form}
 use Rattle.script.specs.Replays.{IsReplay}
 
--- the text is a report on the history in the input: its three lines, each of which is true of that history
-pub record IsReport (input text : List ℕ) : Type 0 where
-  pub history : AnyHistory
-  pub report : Report
-  pub is_history : IsAnyHistory history
-  pub read : IsJson input (form_of history)
-  pub true_of : EachIsTrueOf history report
-  pub unknown : EachIsKnownOnDistinctValues history report
-  pub unexplained : EachNamesUnexplained history report
-  pub lines : text ≡ text_for report
-
 -- the text answers the script in the input: it is the lines of the replies of a run of its steps
 pub record IsReplayReport (input text : List ℕ) : Type 0 where
   pub script : AnyScript
@@ -43,6 +31,7 @@ pub record IsReplayReport (input text : List ℕ) : Type 0 where
 -- the text answers the input as the order asks, whatever the number of its workers
 abbrev pub IsAnswer : Order → List ℕ → List ℕ → Type 0
 IsAnswer (Judge judging) input text = IsReport input text
+IsAnswer (JudgeLines judging) input text = IsLinesAnswer judging.expected input text
 IsAnswer (Check workers) input text = IsCheckReport input text
 IsAnswer (Explain Words) input text = IsWorded input text
 IsAnswer (Explain Json) input text = IsExplanation input text

@@ -45,9 +45,12 @@ pub fn drive_with<T: Threads + Wait + Sync, G: Gate>(
 {
     match order {
         Order::Drive(drive) => drive_store(rt, alloc, history, *drive, gate),
-        Order::Judge(_) | Order::Check(_) | Order::Explain(_) | Order::Refute | Order::Replay => {
-            unreachable!()
-        }
+        Order::Judge(_)
+        | Order::JudgeLines(_)
+        | Order::Check(_)
+        | Order::Explain(_)
+        | Order::Refute
+        | Order::Replay => { unreachable!() }
     }
 }
 

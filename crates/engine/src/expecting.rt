@@ -1,20 +1,22 @@
 //! Judging a history of which criteria are expected to be met.
 ghost use Rattle.std.specs.Prelude.{◌≡◌, ◌≢◌, ◌⊎◌, IfErr, IfOk, OnOk};
 ghost use Rattle.std.specs.Io.KnownBytes.{Appends, IsAtEnd};
-ghost use Rattle.engine.specs.Expecting.{IsReportOn, Judges, outcome_for, outcome_in};
-ghost use Rattle.engine.specs.ReadCalls.{CallsAtMost, FindsNoEnd};
-ghost use Rattle.engine.specs.Report.{text_for};
+ghost use Rattle.engine.specs.Alone.{judging_alone};
+ghost use Rattle.engine.specs.Expecting.{Judges, outcome_for, outcome_in};
+ghost use Rattle.lines.specs.ReadCalls.{CallsAtMost};
+ghost use Rattle.engine.specs.ReadCalls.{FindsNoEnd};
+ghost use Rattle.engine.specs.Report.{IsReportOn, text_for};
 ghost use Rattle.engine.specs.Running.{Fails, IsAnswerError};
 
 use crate::failure::RunError;
 use crate::input::{MAX_READ_CALLS, read_input};
 use crate::judging::report_on;
-use crate::outcome::Outcome;
+use crate::judging_alone::report_alone;
 use crate::output::write_answer;
 use crate::report::{Report, report_text};
-use crate::source::Source;
 use collector::Answer;
 use command_line::{Expected, Judging, Order};
+use lines::{Outcome, Source};
 use operations::read_history;
 use std::alloc::Global;
 use std::io::Write;
@@ -58,6 +60,17 @@ pub(crate) fn report_on_input<T: Threads + Wait + Sync>(
 {
     let history = read_history(alloc, input)?;
     report_on(rt, alloc, history, &[], judging.workers)
+}
+
+/// The report on the history in an input, made by the calling thread alone.
+///
+/// Refuses what is no history, and fails for want of memory. The cost is that of [`report_alone`].
+pub(crate) fn report_on_input_alone(alloc: Global, input: &[u8]) -> Result<Report, RunError>
+    ensures report { IfOk result (IsReportOn input.now) }
+    ensures error { IfErr result (IsAnswerError (Order.Judge judging_alone) input.now) }
+{
+    let history = read_history(alloc, input)?;
+    report_alone(alloc, history)
 }
 
 // Makes the text of a report, and then writes it.

@@ -4,6 +4,7 @@ ghost use Rattle.engine.specs.Failure.{line_for, refusal_line, refused_at, scrip
 
 use cert_check::CertError;
 use driver::DriveError;
+use lines::Fault;
 use operations::{OpId, ReadError};
 use script::ScriptError;
 use std::alloc::{AllocError, AllocFailed, Global};
@@ -112,6 +113,21 @@ impl From<DriveError> for RunError {
             DriveError::Memory | DriveError::ClockFull | DriveError::CellGaveBack => {
                 RunError::Memory
             }
+        }
+    }
+}
+
+impl From<Fault> for RunError {
+    ghost use Rattle.std.specs.Prelude.{◌≡◌};
+    ghost use Rattle.engine.specs.Failure.{stream_failure};
+
+    ghost from_gives = { λ fault e. e ≡ stream_failure fault };
+
+    fn from(fault: Fault) -> RunError {
+        match fault {
+            Fault::Memory => RunError::Memory,
+            Fault::Read => RunError::ReadFault,
+            Fault::Write => RunError::WriteFault,
         }
     }
 }

@@ -2,11 +2,12 @@
 ghost use Rattle.std.specs.Prelude.{◌≡◌, ◌+◌, ◌++◌, ◌<◌, ◌≤◌, ◌⊎◌, ◌↔◌, Err, IfErr, IfOk, IfSome, OnOk, length, true, vec_len};
 ghost use Rattle.std.specs.Io.KnownBytes.{IsAtEnd};
 ghost use Rattle.engine.specs.Failure.{IsInputError};
-ghost use Rattle.engine.specs.ReadCalls.{CallsAtMost, CameTo, EndsBy, FindsNoEnd, IsEnd, Outcome};
+ghost use Rattle.lines.specs.ReadCalls.{CallOutcome, CallsAtMost};
+ghost use Rattle.engine.specs.ReadCalls.{CameTo, EndsBy, FindsNoEnd, IsEnd};
 ghost use Rattle.engine.specs.Steps.Transfer.{Gives, GivesPast, MovesTo};
 
 use crate::failure::RunError;
-use crate::source::Source;
+use lines::Source;
 use std::alloc::Global;
 use std::io::ErrorKind;
 
@@ -74,7 +75,7 @@ fn read_once<R: Source>(
         → GivesPast (R.remaining reader.old) (R.remaining reader.new) input.old.items MAX_INPUT_BYTES }
     ensures errors { IfErr result IsInputError }
     ensures reader { Gives (R.remaining reader.old) (R.remaining reader.new) }
-    ensures call { (outcome : Outcome) × R.called reader.old outcome reader.new × CameTo outcome result }
+    ensures call { (outcome : CallOutcome) × R.called reader.old outcome reader.new × CameTo outcome result }
 {
     match reader.call(chunk) {
         Ok(0) => Ok(true),

@@ -5,17 +5,18 @@ ghost use Rattle.memory_order.specs.Memory.{IsDifferentiated, MemoryHistory, mem
 ghost use Rattle.cert_check.specs.Criteria.{Meets};
 ghost use Rattle.operations.specs.AnyForm.{form_of, IsAnyHistory, IsJson};
 ghost use Rattle.engine.specs.Failure.{failure_status};
-ghost use Rattle.engine.specs.ReadCalls.{CallsAtMost, Outcome};
+ghost use Rattle.lines.specs.ReadCalls.{CallOutcome, CallsAtMost};
 ghost use Rattle.engine.specs.Report.{answer_for};
-ghost use Rattle.engine.specs.Running.{Answers, Fails, IsAnswer, IsAnswerError, IsReport};
+ghost use Rattle.engine.specs.Running.{Answers, Fails, IsAnswer, IsAnswerError};
+ghost use Rattle.engine.specs.Report.{IsReport};
 
 use crate::failure::RunError;
 use crate::input::MAX_INPUT_BYTES;
-use crate::source::Source;
 use bad_patterns::Kind;
 use cert_check::Criterion;
 use collector::Answer;
 use command_line::Order;
+use lines::Source;
 use operations::AnyHistory;
 
 /// A report on the form of a history is a report on that history: no other start can be taken, for instance.
@@ -57,6 +58,6 @@ pub fn too_long_input_is_refused_as_such()
 
 /// What counts the calls of a source, by one at most for each, counts no more than were made.
 pub fn calls_are_counted<S: Source>()
-    ensures { (count : S → ℕ) → ((a : S) (outcome : Outcome) (b : S) → S.called a outcome b → count b ≤ count a + 1)
+    ensures { (count : S → ℕ) → ((a : S) (outcome : CallOutcome) (b : S) → S.called a outcome b → count b ≤ count a + 1)
         → (most : ℕ) (old new : S) → CallsAtMost S.called most old new → count new ≤ count old + most }
 {}

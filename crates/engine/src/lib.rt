@@ -2,25 +2,31 @@
 //! an answer.
 #![tactic(auto)]
 
+mod alone;
 mod certified;
 mod certifying;
 mod check_place;
 mod checking;
+mod checking_alone;
 mod claim_place;
 mod copying;
 mod drivable;
 mod driving;
 mod expecting;
 mod explaining;
+mod explaining_alone;
 mod explaining_forms;
 mod explaining_in_words;
 mod failure;
 mod input;
 mod judging;
+mod judging_alone;
 pub mod laws;
+mod line_answers;
+mod line_judge;
 mod making;
-mod outcome;
 mod output;
+mod part_lines;
 mod picturing;
 mod program;
 mod reason;
@@ -30,12 +36,13 @@ mod replaying;
 mod report;
 mod running;
 mod showing;
-mod source;
 mod waiting;
 
+pub use alone::{check_alone, explain_alone, judge_alone, refute_alone};
 pub use certified::{CertifiedExplanation, Evidence};
 pub use certifying::{explain_with_certificates, explanation_with_certificates};
 pub use checking::answer_of_certificate;
+pub use checking_alone::answer_of_certificate_alone;
 pub use collector::{Answer, Gate, OpenGate};
 pub use command_line::{
     Delivery, Drive, Expected, Form, Judging, MAX_SEALS, Order, Store, Usage, Workers, command_of,
@@ -44,15 +51,17 @@ pub use drivable::Drivable;
 pub use driving::drive_with;
 pub use expecting::{judge_expecting, outcome_of};
 pub use explaining::explanation_of;
+pub use explaining_alone::explanation_alone;
 pub use explaining_in_words::explain_in_words;
 pub use failure::{RunError, fault_line, status_of};
 pub use input::{MAX_INPUT_BYTES, MAX_READ_CALLS, read_input};
 pub use judging::report_on;
-pub use outcome::Outcome;
+pub use judging_alone::report_alone;
+pub use line_judge::judge_lines;
+pub use lines::{Outcome, Source};
 pub use output::write_answer;
 pub use picturing::explain_as_picture;
 pub use program::status_of_process;
 pub use reason::{Explanation, Reason};
 pub use report::{Report, report_line, report_text};
 pub use running::{answer_to, run};
-pub use source::Source;

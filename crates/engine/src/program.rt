@@ -5,10 +5,11 @@ ghost use Rattle.command_line.specs.CommandLine.{IsUsageStatus};
 
 use crate::expecting::judge_expecting;
 use crate::failure::{RunError, fault_line, status_of};
-use crate::outcome::Outcome;
+use crate::line_judge::judge_lines;
 use crate::running::run;
 use crate::waiting::Waiting;
 use command_line::{Judging, Order, Usage, command_of, fault_with};
+use lines::Outcome;
 use std::rt::Env;
 use std::sync::Wait;
 use std::thread::Threads;
@@ -29,6 +30,7 @@ pub fn status_of_process<
 {
     match order_of_process(rt) {
         Ok(Order::Judge(judging)) => report_judged(rt, judge(rt, judging)),
+        Ok(Order::JudgeLines(judging)) => report_judged(rt, judge_each_line(rt, judging)),
         Ok(order) => {
             let mut reader = Waiting::by(rt, rt.reader());
             let outcome = run(rt, &mut reader, &mut io::writer(rt), &order);
@@ -45,6 +47,15 @@ fn judge<P: Threads + Wait + Sync + AllocGlobal + Input + Print + Clock>(
 ) -> Result<Outcome, RunError> {
     let mut reader = Waiting::by(rt, rt.reader());
     judge_expecting(rt, &mut reader, &mut io::writer(rt), judging)
+}
+
+// Judges the history in each line of the input.
+fn judge_each_line<P: Threads + Wait + Sync + AllocGlobal + Input + Print + Clock>(
+    rt: &P,
+    judging: Judging,
+) -> Result<Outcome, RunError> {
+    let mut reader = Waiting::by(rt, rt.reader());
+    judge_lines(rt, &mut reader, &mut io::writer(rt), judging)
 }
 
 // Returns the exit status of what was judged, and writes the line of a run that failed.

@@ -1,17 +1,20 @@
 //! The lines that say why a criterion is met, not met, or unknown.
 
+use crate::part_lines::{lines_with_core, push_without_variables};
 use crate::reason::Reason;
 use bad_patterns::{Kind, Pattern};
 use cert_check::Criterion;
 use collector::Judged;
+use objects::Memory;
 use operations::{AnyHistory, History, OpId};
 use std::alloc::{AllocError, Global};
-use wording::{Worded, push_unexplained, words_of_pattern, words_of_repeated_values};
+use wording::{Worded, push_unexplained, words_of_repeated_values};
 
 /// The lines that say why a history meets a criterion, does not, or why that is not known.
 ///
-/// What they say is no promise. Fails for want of memory alone. The cost is that of the words of a pattern, or that of a
-/// certificate where one does not explain an operation.
+/// What they say is no promise, but for the parts of the history in them: each is judged by itself before it is told. Fails for
+/// want of memory alone. The cost is that of the words and the core of a pattern, or that of a certificate where one does not
+/// explain an operation, and of the history without the variables whose values are not distinct.
 pub(crate) fn lines_of_reason(
     alloc: Global,
     history: &AnyHistory,
@@ -23,7 +26,7 @@ pub(crate) fn lines_of_reason(
             alloc,
             "An order explains every known return: explain --json --certificates writes it.",
         ),
-        Reason::Shown(pattern) => lines_of_pattern(alloc, history, pattern),
+        Reason::Shown(pattern) => lines_of_pattern(alloc, history, criterion, pattern),
         Reason::Present(kind) => lines_of_kind(alloc, *kind),
         Reason::Unexplained(place) => lines_of_unknown(alloc, history, criterion, *place),
     }
@@ -40,16 +43,17 @@ fn one_line(alloc: Global, words: &'static str) -> Result<Vec<String>, AllocErro
 fn lines_of_pattern(
     alloc: Global,
     history: &AnyHistory,
+    criterion: Criterion,
     pattern: &Pattern,
 ) -> Result<Vec<String>, AllocError> {
     match history {
-        AnyHistory::Memory(history) => words_of_pattern(alloc, history, pattern),
+        AnyHistory::Memory(history) => lines_with_core(alloc, history, criterion, pattern),
         _ => lines_of_kind(alloc, pattern.kind()),
     }
 }
 
-// The lines on a kind whose pattern is not at hand.
-fn lines_of_kind(alloc: Global, kind: Kind) -> Result<Vec<String>, AllocError> {
+/// The lines on a kind whose pattern is not at hand.
+pub(crate) fn lines_of_kind(alloc: Global, kind: Kind) -> Result<Vec<String>, AllocError> {
     let kind = kind.name();
     let mut lines = Vec::new(alloc);
     lines.push(format!(in alloc;
@@ -70,20 +74,30 @@ fn lines_of_unknown(
         AnyHistory::Counter(plain) => lines_of_object(alloc, plain.history(), criterion, place),
         AnyHistory::Set(plain) => lines_of_object(alloc, plain.history(), criterion, place),
         AnyHistory::Queue(plain) => lines_of_object(alloc, plain.history(), criterion, place),
-        AnyHistory::Memory(history) => {
-            let mut lines = words_of_repeated_values(alloc, history)?;
-            push_line(
-                alloc,
-                &mut lines,
-                "So a read does not tell its write: only a certificate can decide, and only for a yes.",
-            )?;
-            push_certificate(alloc, &mut lines, history, criterion, place)?;
-            Ok(lines)
-        }
+        AnyHistory::Memory(history) => lines_of_memory(alloc, history, criterion, place),
         AnyHistory::Counters(history) => lines_of_object(alloc, history, criterion, place),
         AnyHistory::Sets(history) => lines_of_object(alloc, history, criterion, place),
         AnyHistory::Queues(history) => lines_of_object(alloc, history, criterion, place),
     }
+}
+
+// The lines on what is not known of a memory, whose values are not distinct: which these are, what the certificate that is made
+// does not explain, and what the other variables show.
+fn lines_of_memory(
+    alloc: Global,
+    history: &History<Memory>,
+    criterion: Criterion,
+    place: Option<OpId>,
+) -> Result<Vec<String>, AllocError> {
+    let mut lines = words_of_repeated_values(alloc, history)?;
+    push_line(
+        alloc,
+        &mut lines,
+        "So a read does not tell its write: only a certificate can decide, and only for a yes.",
+    )?;
+    push_certificate(alloc, &mut lines, history, criterion, place)?;
+    push_without_variables(alloc, &mut lines, history, criterion)?;
+    Ok(lines)
 }
 
 // The lines on what is not known of an object that has no patterns.

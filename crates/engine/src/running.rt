@@ -1,7 +1,8 @@
 //! One run of the program: from the bytes of its input to the bytes of its answer.
 ghost use Rattle.std.specs.Prelude.{◌≡◌, ◌≢◌, Err, IfErr, IfOk, OnOk, string_bytes};
 ghost use Rattle.std.specs.Io.KnownBytes.{IsAtEnd};
-ghost use Rattle.engine.specs.ReadCalls.{CallsAtMost, FindsNoEnd};
+ghost use Rattle.lines.specs.ReadCalls.{CallsAtMost};
+ghost use Rattle.engine.specs.ReadCalls.{FindsNoEnd};
 ghost use Rattle.engine.specs.Running.{Answers, Fails, IsAnswer, IsAnswerError};
 
 use crate::checking::check;
@@ -10,12 +11,13 @@ use crate::expecting::report_on_input;
 use crate::explaining_forms::explain_as;
 use crate::failure::RunError;
 use crate::input::{MAX_READ_CALLS, read_input};
+use crate::line_judge::judge_each;
 use crate::output::write_answer;
 use crate::refuting::refute;
 use crate::replaying::replay;
 use crate::report::report_text;
-use crate::source::Source;
 use command_line::{Judging, Order};
+use lines::Source;
 use std::alloc::Global;
 use std::io::Write;
 use std::sync::Wait;
@@ -64,6 +66,7 @@ pub fn answer_to<T: Threads + Wait + Sync>(
 {
     match order {
         Order::Judge(judging) => judge(rt, alloc, input, *judging),
+        Order::JudgeLines(judging) => judge_each(rt, alloc, input, *judging),
         Order::Check(workers) => check(rt, alloc, input, *workers),
         Order::Explain(form) => explain_as(rt, alloc, input, *form),
         Order::Refute => refute(alloc, input),

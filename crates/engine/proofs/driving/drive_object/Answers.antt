@@ -1,4 +1,4 @@
-use Rattle.std.proofs.Common.{List, subst, sym}
+use Rattle.std.proofs.Common.{subst, sym}
 use Rattle.std.specs.Prelude.{string_bytes}
 use Rattle.collector.proofs.JudgedLaws.{ok-follows}
 use Rattle.engine.specs.Driving.{sessions_in}

@@ -1,0 +1,33 @@
+-- What answers a line, and what answers all lines of an input.
+use Rattle.std.proofs.Common.{◌≡◌, ◌++◌, ℕ, List, Result, Ok, Err, IfOk, ◌∙◌, ap, sym, subst, inr}
+use Rattle.std.specs.Prelude.{◌≢◌}
+use Rattle.command_line.specs.declared.expected.Expected.{Expected}
+use Rattle.lines.specs.declared.fault.Fault.{Fault}
+use Rattle.lines.specs.declared.fault.Fault.TheVariants as faults
+use Rattle.lines.specs.declared.outcome.Outcome.{Outcome}
+use Rattle.lines.specs.Lines.{AnswersAs, AreAnswered, ended, lines_of}
+use Rattle.engine.specs.declared.failure.RunError.{RunError}
+use Rattle.engine.specs.declared.failure.RunError.TheVariants.{WriteFault}
+use Rattle.engine.specs.Failure.{stream_failure}
+use Rattle.engine.specs.LineAnswers.{IsLineAnswer, IsLineError, IsLineRefusal}
+
+-- a line that is refused is answered by the line of its refusal
+pub refusal_answers : (expected : Expected) (line before after : List ℕ) (error : RunError) (r : Result Outcome Fault) → IsLineError line error
+    → IfOk r (λ outcome. (said : List ℕ) × ((any : List ℕ) → IsLineError any error → IsLineRefusal any said outcome) × (after ≡ before ++ ended said))
+    → IfOk r (λ outcome. (said : List ℕ) × IsLineAnswer expected line said outcome × (after ≡ before ++ ended said))
+refusal_answers expected line before after error (Ok outcome) is told = (told.0, inr (told.1 line is), told.2)
+refusal_answers expected line before after error (Err fault) is told = tt
+
+-- what is made of all lines without a fault answers them
+pub lines_answered : (expected : Expected) (input text said : List ℕ) (outcome : Result Outcome Fault) (one : Outcome) → outcome ≡ Ok one → said ≡ text
+    → AnswersAs (IsLineAnswer expected) (lines_of input) outcome text
+    → (all : Outcome) × AreAnswered (IsLineAnswer expected) (lines_of input) said all
+lines_answered expected input text said outcome one is same answers = (
+  one,
+  subst (λ (t : List ℕ). AreAnswered (IsLineAnswer expected) (lines_of input) t one) (sym same)
+      (subst (λ (r : Result Outcome Fault). AnswersAs (IsLineAnswer expected) (lines_of input) r text) is answers),
+)
+
+-- a run that did not fail for its writer failed for no fault of it
+pub not_written : (fault : Fault) (error : RunError) → error ≡ stream_failure fault → error ≢ WriteFault → fault ≢ faults.Write
+not_written fault error is other same = other (is ∙ ap stream_failure same)

@@ -1,0 +1,18 @@
+use Rattle.std.proofs.Common.{subst}
+use Rattle.std.specs.Prelude.{◌≡◌, IfOk}
+use Rattle.bad_patterns.specs.Kinds.{IsTrueNo}
+use Rattle.board.specs.declared.answer.Answer.TheVariants.{Yes}
+use Rattle.memory_order.specs.Memory.{memory_answer}
+use Rattle.cert_check.specs.Criteria.{Meets}
+use Rattle.collector.specs.Judgements.{IsSaidOfFile}
+use Rattle.engine.proofs.Founded.{file_is_founded}
+use Rattle.engine.proofs.judging_alone.answer_by_certificate_alone.Goals as goal
+
+pub returns-clause-founded : goal.returns-clause-founded
+returns-clause-founded c =
+    let h = c.args.memory.now in
+    let of_file = c.in_ok-file.ensures in
+    file_is_founded memory_answer h c.args.criterion (IsTrueNo h c.args.criterion) c.in_ok-file.file.2 c.answer_of_file_alone.result
+    of_file.criterion of_file.shape
+    (subst (λ file. IfOk c.answer_of_file_alone.result (IsSaidOfFile memory_answer file)) of_file.file c.answer_of_file_alone.ensures.said)
+    (subst (λ file. IfOk c.answer_of_file_alone.result (λ a. a ≡ Yes → Meets memory_answer file.0 file.1)) of_file.file c.answer_of_file_alone.ensures.met)

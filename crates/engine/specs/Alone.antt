@@ -1,0 +1,7 @@
+-- How the calling thread alone judges a history.
+use Rattle.command_line.specs.declared.judging.Judging.{Judging}
+use Rattle.command_line.specs.Expected.{expecting_nothing}
+
+-- as one worker does, and nothing is expected of the history
+abbrev pub judging_alone : Judging
+judging_alone = record { workers = 1; expected = expecting_nothing }

@@ -1,0 +1,103 @@
+//! The answer to a line that is to hold a history.
+ghost use Rattle.std.specs.Prelude.{◌≡◌, ◌≤◌, ◌++◌, ℕ, List, length, IfErr, IfOk, OnErr, OnOk};
+ghost use Rattle.lines.specs.Lines.{ended};
+ghost use Rattle.engine.specs.LineAnswers.{IsLineAnswer, IsLineError, IsLineRefusal, joined_for, unended};
+ghost use Rattle.engine.specs.Report.{IsReportOn};
+
+use crate::expecting::{outcome_of, report_on_input_alone};
+use crate::failure::{RunError, fault_line, status_of};
+use crate::input::MAX_INPUT_BYTES;
+use crate::report::{Report, report_line};
+use cert_check::Criterion;
+use command_line::Expected;
+use lines::{Fault, Outcome};
+use std::alloc::{AllocError, Global};
+
+/// Appends the answer to a line and a line feed, and returns what comes of it: the lines of the report on its history joined by `; `, or the line of
+/// its refusal.
+///
+/// Fails for want of memory alone, and then the text is as it was. No thread is started.
+pub(crate) fn append_answer(
+    alloc: Global,
+    line: &[u8],
+    expected: Expected,
+    text: &mut Vec<u8>,
+) -> Result<Outcome, Fault>
+    ensures answered { IfOk result (λ outcome. (said : List ℕ)
+        × IsLineAnswer expected line.now said outcome × (text.new.items ≡ text.old.items ++ ended said)) }
+    ensures unchanged { OnErr result (text.new.items ≡ text.old.items) }
+{
+    match report_on_line(alloc, line) {
+        Ok(report) => {
+            append_report(alloc, &report, text)?;
+            Ok(outcome_of(&report, expected))
+        }
+        Err(error) => append_refusal(alloc, &error, text),
+    }
+}
+
+// The report on the history in a line.
+fn report_on_line(alloc: Global, line: &[u8]) -> Result<Report, RunError>
+    ensures within { OnOk result (length line.now ≤ MAX_INPUT_BYTES) }
+    ensures report { IfOk result (IsReportOn line.now) }
+    ensures error { IfErr result (IsLineError line.now) }
+{
+    if line.len() > MAX_INPUT_BYTES {
+        return Err(RunError::TooLong);
+    }
+    report_on_input_alone(alloc, line)
+}
+
+// Appends the lines of a report, joined to one, and a line feed.
+fn append_report(alloc: Global, report: &Report, text: &mut Vec<u8>) -> Result<(), AllocError>
+    ensures appended { OnOk result (text.new.items ≡ text.old.items ++ ended (joined_for report.now)) }
+    ensures unchanged { OnErr result (text.new.items ≡ text.old.items) }
+{
+    let joined = joined_text(alloc, report)?;
+    text.extend_from_slice(joined.as_slice())
+}
+
+// The lines of a report, joined to one, and a line feed.
+fn joined_text(alloc: Global, report: &Report) -> Result<Vec<u8>, AllocError>
+    ensures { IfOk result (λ text. text.items ≡ ended (joined_for report.now)) }
+{
+    let cc = report_line(alloc, Criterion::Cc, report.cc)?;
+    let cm = report_line(alloc, Criterion::Cm, report.cm)?;
+    let ccv = report_line(alloc, Criterion::Ccv, report.ccv)?;
+    let mut text = Vec::from_slice(alloc, without_end(cc.as_bytes()))?;
+    text.extend_from_slice(b"; ")?;
+    text.extend_from_slice(without_end(cm.as_bytes()))?;
+    text.extend_from_slice(b"; ")?;
+    text.extend_from_slice(without_end(ccv.as_bytes()))?;
+    text.push(b'\n')?;
+    Ok(text)
+}
+
+// A line without its line feed.
+fn without_end(line: &[u8]) -> &[u8]
+    ensures { result.now ≡ unended line.now }
+{
+    let (front, _) = line.split_at(line.len().saturating_sub(1));
+    front
+}
+
+/// Appends the line of a refusal and a line feed. Want of memory is none.
+///
+/// Fails for want of memory alone, and then the text is as it was.
+pub(crate) fn append_refusal(
+    alloc: Global,
+    error: &RunError,
+    text: &mut Vec<u8>,
+) -> Result<Outcome, Fault>
+    ensures answered { IfOk result (λ outcome. (said : List ℕ)
+        × ((line : List ℕ) → IsLineError line error.now → IsLineRefusal line said outcome) × (text.new.items ≡ text.old.items ++ ended said)) }
+    ensures unchanged { OnErr result (text.new.items ≡ text.old.items) }
+{
+    if status_of(&Err(*error)) != 1 {
+        return Err(Fault::Memory);
+    }
+    let line = fault_line(alloc, error)?;
+    let line = format!(in alloc; "{line}\n")?;
+    text.extend_from_slice(line.as_bytes())?;
+    Ok(Outcome::Refused)
+}

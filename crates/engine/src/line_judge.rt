@@ -1,0 +1,105 @@
+//! Judging many histories, each in a line of its own.
+ghost use Rattle.std.specs.Prelude.{◌≡◌, ◌≢◌, ◌⊎◌, IfErr, IfOk, OnOk, string_bytes};
+ghost use Rattle.std.specs.Io.KnownBytes.{IsAtEnd};
+ghost use Rattle.lines.specs.Lines.{AllAreAnswered, FirstAreAnswered};
+ghost use Rattle.engine.specs.LineAnswers.{IsLineAnswer};
+ghost use Rattle.engine.specs.Running.{IsAnswer, IsAnswerError};
+
+use crate::failure::RunError;
+use crate::input::MAX_INPUT_BYTES;
+use crate::line_answers::{append_answer, append_refusal};
+use command_line::{Expected, Judging, Order};
+use lines::{Clerk, Fault, Outcome, Source, answer_by, answer_lines};
+use std::alloc::Global;
+use std::io::Write;
+use std::sync::Wait;
+use std::thread::Threads;
+
+/// Judges the history in each line of the input, and writes a line for each, in order: the lines of its report joined by `; `, or
+/// the line of its refusal as [`fault_line`](crate::fault_line) has it. Returns what comes of all.
+///
+/// The limit of bytes of an input is each line's; a longer line is refused as a too long input is, and its rest is passed over. The
+/// last line may lack its line feed. As many lines as there are workers are judged side by side, each by one thread, and what is
+/// written of whole lines that are at hand is written before more is read, as [`answer_lines`] says.
+///
+/// It fails where the reader or the writer does, or memory runs out for a line. What was answered before stays written then. The
+/// cost is that of `judge` for each line.
+#[tactic(auto, using(crate::proofs::LineAnswerLaws::not_written))]
+pub fn judge_lines<P: Threads + Wait + Sync + AllocGlobal, R: Source, W: Write>(
+    rt: &P,
+    reader: &mut R,
+    writer: &mut W,
+    judging: Judging,
+) -> Result<Outcome, RunError>
+    ensures answered { IfOk result (AllAreAnswered (IsLineAnswer judging.expected)
+        (R.remaining reader.old) (W.contents writer.old) (W.contents writer.new)) }
+    ensures end { OnOk result (IsAtEnd (R.remaining reader.new)) }
+    ensures faulted { IfErr result (λ e. e ≢ RunError.WriteFault → FirstAreAnswered (IsLineAnswer judging.expected)
+        (R.remaining reader.old) (W.contents writer.old) (W.contents writer.new)) }
+    ensures error { IfErr result (λ e. (e ≡ RunError.Memory) ⊎ ((e ≡ RunError.ReadFault) ⊎ (e ≡ RunError.WriteFault))) }
+{
+    let judge = LineJudge {
+        alloc: rt.alloc(),
+        expected: judging.expected,
+    };
+    let outcome = answer_lines(
+        rt,
+        rt.alloc(),
+        reader,
+        writer,
+        &judge,
+        judging.workers.count(),
+    )?;
+    Ok(outcome)
+}
+
+/// The lines that answer those of an input.
+///
+/// Fails for want of memory alone. The cost is that of `judge` for each line.
+pub(crate) fn judge_each<T: Threads + Wait + Sync>(
+    rt: &T,
+    alloc: Global,
+    input: &[u8],
+    judging: Judging,
+) -> Result<String, RunError>
+    ensures answer { IfOk result (λ text. IsAnswer (Order.JudgeLines judging) input.now (string_bytes text)) }
+    ensures error { IfErr result (IsAnswerError (Order.JudgeLines judging) input.now) }
+{
+    let judge = LineJudge {
+        alloc,
+        expected: judging.expected,
+    };
+    let part = answer_by(rt, alloc, &judge, input, judging.workers.count());
+    match (part.outcome, String::from_utf8(part.text)) {
+        (Ok(_), Ok(text)) => Ok(text),
+        _ => Err(RunError::Memory),
+    }
+}
+
+// Judges single lines.
+#[derive(Drop)]
+struct LineJudge {
+    alloc: Global,
+    expected: Expected,
+}
+
+impl Clerk for LineJudge {
+    ghost use Rattle.engine.specs.LineAnswers.{IsLineAnswer};
+    ghost use Rattle.engine.specs.declared.input.TheConstants.{MAX_INPUT_BYTES as LIMIT};
+
+    ghost says = { λ judge line text outcome. IsLineAnswer judge.expected line text outcome };
+
+    ghost most = { λ _. LIMIT };
+
+    fn limit(&self) -> usize {
+        MAX_INPUT_BYTES
+    }
+
+    fn answer(&self, line: &[u8], text: &mut Vec<u8>) -> Result<Outcome, Fault> {
+        append_answer(self.alloc, line, self.expected, text)
+    }
+
+    fn answer_long(&self, text: &mut Vec<u8>) -> Result<Outcome, Fault> {
+        append_refusal(self.alloc, &RunError::TooLong, text)
+    }
+}

@@ -1,0 +1,88 @@
+//! The lines on parts of a history that do not meet a criterion by themselves.
+
+use crate::reason_lines::lines_of_kind;
+use bad_patterns::Pattern;
+use cert_check::Criterion;
+use decision::Decision;
+use judged_parts::{Excluded, core_text, excluded_without, pattern_in_whole};
+use objects::Memory;
+use operations::History;
+use std::alloc::{AllocError, Global};
+use wording::{repeated_variables, words_of_pattern, words_without_variables};
+
+/// The lines on a pattern of a history of a memory: its words, and its core where it has one.
+///
+/// Fails for want of memory alone. What the words take, and what [`core_text`] takes.
+pub(crate) fn lines_with_core(
+    alloc: Global,
+    history: &History<Memory>,
+    criterion: Criterion,
+    pattern: &Pattern,
+) -> Result<Vec<String>, AllocError> {
+    let mut lines = words_of_pattern(alloc, history, pattern)?;
+    push_core(alloc, &mut lines, history, criterion, pattern)?;
+    Ok(lines)
+}
+
+/// Puts behind other lines what shows that a history without the variables whose values are not distinct does not meet a criterion,
+/// where that is so.
+///
+/// Fails for want of memory alone. What [`excluded_without`] takes, and the lines on a pattern.
+pub(crate) fn push_without_variables(
+    alloc: Global,
+    lines: &mut Vec<String>,
+    history: &History<Memory>,
+    criterion: Criterion,
+) -> Result<(), AllocError> {
+    let variables = repeated_variables(alloc, history)?;
+    match excluded_without(alloc, history, &variables, criterion)? {
+        Some(excluded) => push_excluded(alloc, lines, history, criterion, &variables, &excluded),
+        None => Ok(()),
+    }
+}
+
+// Puts what shows that a part does not meet a criterion behind other lines.
+fn push_excluded(
+    alloc: Global,
+    lines: &mut Vec<String>,
+    history: &History<Memory>,
+    criterion: Criterion,
+    variables: &[u32],
+    excluded: &Excluded,
+) -> Result<(), AllocError> {
+    match &excluded.decision {
+        Decision::Excluded(pattern) => {
+            lines.push(words_without_variables(alloc, variables, pattern.kind())?)?;
+            let renamed = pattern_in_whole(alloc, history, variables, pattern)?;
+            push_all(lines, words_of_pattern(alloc, history, &renamed)?)?;
+            push_core(alloc, lines, &excluded.part, criterion, pattern)
+        }
+        Decision::ExcludedBy(kind) => {
+            lines.push(words_without_variables(alloc, variables, *kind)?)?;
+            push_all(lines, lines_of_kind(alloc, *kind)?)
+        }
+        Decision::Meets | Decision::Open => Ok(()),
+    }
+}
+
+// Puts the core of a pattern behind other lines, where it has one.
+fn push_core(
+    alloc: Global,
+    lines: &mut Vec<String>,
+    history: &History<Memory>,
+    criterion: Criterion,
+    pattern: &Pattern,
+) -> Result<(), AllocError> {
+    if let Some(core) = core_text(alloc, history, criterion, pattern)? {
+        lines.push(format!(in alloc; "These operations alone are a no: {core}")?)?;
+    }
+    Ok(())
+}
+
+// Puts lines behind others.
+fn push_all(lines: &mut Vec<String>, more: Vec<String>) -> Result<(), AllocError> {
+    for line in more {
+        lines.push(line)?;
+    }
+    Ok(())
+}
