@@ -1,0 +1,96 @@
+//! The judge as a library for programs in C, and in whatever calls C: bytes in, bytes out, and a status.
+//!
+//! `embed/causal_judge.h` declares the calls. No call starts a thread, keeps anything, or reads or writes anything but what it
+//! is given.
+#![tactic(auto)]
+
+mod telling;
+#[cfg(test)]
+mod tests;
+
+ghost use Rattle.command_line.specs.declared.form.Form.TheVariants.{Json};
+ghost use Rattle.engine.specs.Alone.{judging_alone};
+ghost use Rattle.causal_judge_library.specs.Calls.{Tells};
+
+use crate::telling::tell;
+use engine::Order;
+use std::alloc::Global;
+
+/// The status of a call whose answer is in its buffer.
+pub const ANSWERED: u8 = 0;
+
+/// The status of a call that refuses its input: the line that says why is in its buffer.
+pub const REFUSED: u8 = 1;
+
+/// The status of a call whose buffer has no room for its text: the buffer is as it was.
+pub const TOO_SMALL: u8 = 3;
+
+/// The status of a call for which there was no memory: the buffer is as it was.
+pub const NO_MEMORY: u8 = 4;
+
+/// Judges the history in the input, as the program's `judge` does.
+///
+/// The text that comes of it is put into the buffer `answer`, and `needed` becomes the number of its bytes: what the program
+/// writes to standard output, with status 0, or what it writes to standard error, with status 1. Status 3 where the buffer is
+/// smaller than the text, and status 4 for want of memory; the buffer is then as it was.
+#[unsafe(no_mangle)]
+#[tactic(auto, using(crate::proofs::Tellings::tells))]
+pub extern "C" fn causal_judge_judge(
+    alloc: Global,
+    input: &[u8],
+    answer: &mut [u8],
+    needed: &mut usize,
+) -> u8
+    ensures { Tells (Order.Judge judging_alone) input.now answer.old answer.new needed.new result }
+{
+    tell(alloc, engine::judge_alone(alloc, input), answer, needed)
+}
+
+/// Checks the certificate in the input against the history in it, as the program's `check` does.
+///
+/// Its text, its buffer and its statuses are as those of [`causal_judge_judge`].
+#[unsafe(no_mangle)]
+#[tactic(auto, using(crate::proofs::Tellings::tells))]
+pub extern "C" fn causal_judge_check(
+    alloc: Global,
+    input: &[u8],
+    answer: &mut [u8],
+    needed: &mut usize,
+) -> u8
+    ensures { Tells (Order.Check 1) input.now answer.old answer.new needed.new result }
+{
+    tell(alloc, engine::check_alone(alloc, input), answer, needed)
+}
+
+/// Says why each criterion is met or not met by the history in the input, or why that is unknown, as the program's
+/// `explain --json` does.
+///
+/// Its text, its buffer and its statuses are as those of [`causal_judge_judge`].
+#[unsafe(no_mangle)]
+#[tactic(auto, using(crate::proofs::Tellings::tells))]
+pub extern "C" fn causal_judge_explain(
+    alloc: Global,
+    input: &[u8],
+    answer: &mut [u8],
+    needed: &mut usize,
+) -> u8
+    ensures { Tells (Order.Explain Json) input.now answer.old answer.new needed.new result }
+{
+    tell(alloc, engine::explain_alone(alloc, input), answer, needed)
+}
+
+/// Checks that the pattern in the input shows that the history in it does not meet a criterion, as the program's `refute` does.
+///
+/// Its text, its buffer and its statuses are as those of [`causal_judge_judge`].
+#[unsafe(no_mangle)]
+#[tactic(auto, using(crate::proofs::Tellings::tells))]
+pub extern "C" fn causal_judge_refute(
+    alloc: Global,
+    input: &[u8],
+    answer: &mut [u8],
+    needed: &mut usize,
+) -> u8
+    ensures { Tells Order.Refute input.now answer.old answer.new needed.new result }
+{
+    tell(alloc, engine::refute_alone(alloc, input), answer, needed)
+}

@@ -1,0 +1,66 @@
+//! What comes of a call, handed over in the buffer of its caller.
+
+ghost use Rattle.std.specs.Prelude.{◌≡◌, IfOk, string_bytes};
+ghost use Rattle.causal_judge_library.specs.Calls.{IsTold, refusal_text};
+ghost use Rattle.causal_judge_library.specs.Steps.{TellsOf, TellsFailure};
+
+use crate::{ANSWERED, NO_MEMORY, REFUSED, TOO_SMALL};
+use engine::{RunError, fault_line, status_of};
+use std::alloc::{AllocError, Global};
+
+/// Puts into the buffer what comes of a call, and returns the call's status.
+pub fn tell(
+    alloc: Global,
+    outcome: Result<String, RunError>,
+    answer: &mut [u8],
+    needed: &mut usize,
+) -> u8
+    ensures { TellsOf answer.old answer.new needed.new result outcome }
+{
+    match outcome {
+        Ok(text) => put(text.as_bytes(), ANSWERED, answer, needed),
+        Err(error) => tell_failure(alloc, error, answer, needed),
+    }
+}
+
+// The line of a refusal, with status 1; and status 4 for any other failure, which is want of memory.
+fn tell_failure(alloc: Global, error: RunError, answer: &mut [u8], needed: &mut usize) -> u8
+    ensures { TellsFailure answer.old answer.new needed.new result error }
+{
+    if status_of(&Err(error)) != REFUSED {
+        return tell_nothing(needed);
+    }
+    match text_of_refusal(alloc, &error) {
+        Ok(text) => put(text.as_bytes(), REFUSED, answer, needed),
+        Err(_) => tell_nothing(needed),
+    }
+}
+
+// The status of a call that has nothing to tell for want of memory.
+fn tell_nothing(needed: &mut usize) -> u8
+    ensures status { result ≡ NO_MEMORY }
+    ensures needed { needed.new ≡ 0 }
+{
+    *needed = 0;
+    NO_MEMORY
+}
+
+// The line of a refusal, and a line feed.
+fn text_of_refusal(alloc: Global, error: &RunError) -> Result<String, AllocError>
+    ensures { IfOk result (λ text. string_bytes text ≡ refusal_text error.now) }
+{
+    let line = fault_line(alloc, error)?;
+    format!(in alloc; "{line}\n")
+}
+
+// Puts a text into the buffer, where it has room in it, and returns the status that says so.
+fn put(text: &[u8], fitting: u8, answer: &mut [u8], needed: &mut usize) -> u8
+    ensures { IsTold answer.old answer.new needed.new fitting result text.now }
+{
+    *needed = text.len();
+    if text.len() > answer.len() {
+        return TOO_SMALL;
+    }
+    answer[..text.len()].copy_from_slice(text);
+    fitting
+}

@@ -1,0 +1,93 @@
+#!/usr/bin/env python3
+"""Compares what the library says of random inputs, mostly mangled ones, with what the program says of them.
+
+    python3 embed/compare.py SEED COUNT [--threads N]
+
+The inputs are those of bench/mangled.py for judge, check, explain and refute, and one that is too long. Each is put to the library
+three times, by N threads side by side (4 by default): as a caller does, with a buffer of just as many bytes as the text has, and
+with a smaller one, which has to stay as it was. embed/run.py builds what this needs. It prints how many inputs came to which
+status, and ends with status 1 where there is a difference.
+"""
+
+import argparse
+import collections
+import pathlib
+import random
+import subprocess
+import sys
+import tempfile
+from concurrent.futures import ThreadPoolExecutor
+from typing import NamedTuple
+
+HERE = pathlib.Path(__file__).resolve().parent
+sys.path.insert(0, str(HERE.parent / "bench"))
+
+import causal_judge  # noqa: E402
+from mangled import mangled  # noqa: E402
+
+PROGRAM = HERE.parent / "crates" / "causal_judge" / "out" / "causal_judge"
+MOST_BYTES = 67_108_864
+
+
+class Case(NamedTuple):
+    """An input, and how much of the room that its text needs a smaller buffer has."""
+
+    command: str
+    data: bytes
+    part: float
+
+
+def of_program(command, data):
+    """The status and the text of the program: the answer, or the line on standard error."""
+    words = [PROGRAM, command, *(["--json"] if command == "explain" else [])]
+    done = subprocess.run(words, input=data, capture_output=True, check=False, timeout=120)
+    return done.returncode, done.stdout if done.returncode == 0 else done.stderr
+
+
+def is_room_told(case, status, text):
+    """Whether a buffer that has just room for the text takes it, and a smaller one stays as it was."""
+    exact, needed, answer = causal_judge.ask_once(case.command, case.data, len(text))
+    room = int(case.part * len(text))
+    small, too, same = causal_judge.ask_once(case.command, case.data, room)
+    told = (exact, needed, answer.raw) == (status, len(text), text)
+    return told and (small, too, same.raw) == (causal_judge.TOO_SMALL, len(text), bytes(max(room, 1)))
+
+
+def compared(case):
+    """What the library says, what the program says, and whether both are the same and buffers are told of rightly."""
+    found, due = causal_judge.ask(case.command, case.data), of_program(case.command, case.data)
+    return found, due, found == due and is_room_told(case, *found)
+
+
+def cases(rng, count):
+    yield Case("judge", b" " * (MOST_BYTES + 1), 0.5)
+    for _ in range(count):
+        command = rng.choice(causal_judge.COMMANDS)
+        yield Case(command, mangled(rng, command), rng.random())
+
+
+def main():
+    parser = argparse.ArgumentParser(description=__doc__, formatter_class=argparse.RawDescriptionHelpFormatter)
+    parser.add_argument("seed", type=int)
+    parser.add_argument("count", type=int)
+    parser.add_argument("--threads", type=int, default=4)
+    given = parser.parse_args()
+    folder = pathlib.Path(tempfile.mkdtemp(prefix="compared-"))
+    asked = list(cases(random.Random(given.seed), given.count))
+    seen, wrong = collections.Counter(), 0
+    with ThreadPoolExecutor(given.threads) as pool:
+        for case, (found, due, is_right) in zip(asked, pool.map(compared, asked)):
+            seen[case.command, found[0]] += 1
+            if not is_right:
+                wrong += 1
+                path = folder / f"{case.command}-{wrong}.json"
+                path.write_bytes(case.data)
+                print(f"{case.command} < {path}: {found!r}, the program {due!r}", flush=True)
+    for (command, status), many in sorted(seen.items()):
+        print(f"{many:8} {command}, status {status}")
+    print(f"{sum(seen.values())} inputs, {wrong} with a difference")
+    sys.exit(1 if wrong else 0)
+
+
+if __name__ == "__main__":
+    main()

@@ -1,0 +1,80 @@
+/*
+ * Answers standard input as the program does, through the library:
+ *
+ *     judge_c judge < FILE
+ *
+ * The answer goes to standard output, the line of a refusal to standard error,
+ * and the status of the call becomes that of the process.
+ */
+#include "causal_judge.h"
+
+#include <stdio.h>
+#include <stdlib.h>
+#include <string.h>
+
+typedef uint8_t call(const uint8_t *, size_t, uint8_t *, size_t, size_t *);
+
+static const struct {
+    const char *name;
+    call *call;
+} COMMANDS[] = {
+    {"judge", causal_judge_judge},
+    {"check", causal_judge_check},
+    {"explain", causal_judge_explain},
+    {"refute", causal_judge_refute},
+};
+
+static call *command(const char *name) {
+    for (size_t i = 0; i < sizeof COMMANDS / sizeof COMMANDS[0]; i++)
+        if (strcmp(name, COMMANDS[i].name) == 0)
+            return COMMANDS[i].call;
+    return NULL;
+}
+
+/* All of standard input, or NULL. */
+static uint8_t *read_all(size_t *bytes) {
+    size_t room = 65536;
+    uint8_t *all = malloc(room);
+    *bytes = 0;
+    while (all != NULL) {
+        size_t got = fread(all + *bytes, 1, room - *bytes, stdin);
+        *bytes += got;
+        if (got == 0)
+            return all;
+        if (*bytes == room) {
+            uint8_t *more = realloc(all, room *= 2);
+            if (more == NULL)
+                free(all);
+            all = more;
+        }
+    }
+    return NULL;
+}
+
+int main(int count, char **words) {
+    call *ask = count == 2 ? command(words[1]) : NULL;
+    if (ask == NULL) {
+        fputs("usage: judge_c judge|check|explain|refute < FILE\n", stderr);
+        return 2;
+    }
+    size_t input_bytes, room = CAUSAL_JUDGE_LINES, needed;
+    uint8_t *input = read_all(&input_bytes), *answer = malloc(room);
+    if (input == NULL || answer == NULL)
+        return CAUSAL_JUDGE_NO_MEMORY;
+    uint8_t status = ask(input, input_bytes, answer, room, &needed);
+    if (status == CAUSAL_JUDGE_TOO_SMALL) {
+        free(answer);
+        room = needed;
+        answer = malloc(room);
+        if (answer == NULL)
+            return CAUSAL_JUDGE_NO_MEMORY;
+        status = ask(input, input_bytes, answer, room, &needed);
+    }
+    if (status == CAUSAL_JUDGE_NO_MEMORY)
+        fputs("no memory\n", stderr);
+    else
+        fwrite(answer, 1, needed, status == CAUSAL_JUDGE_ANSWERED ? stdout : stderr);
+    free(answer);
+    free(input);
+    return status;
+}

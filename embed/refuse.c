@@ -1,0 +1,75 @@
+/*
+ * Refuses each allocation of a call on standard input in turn:
+ *
+ *     refuse judge < FILE
+ *
+ * Each such call has to answer as usual, or to say that there was no memory
+ * and leave its buffer as it was; and it has to give back all that it took. It
+ * prints how many allocations were refused, and ends with status 1 where a
+ * call did otherwise.
+ *
+ * It is linked with --wrap for malloc, realloc and free.
+ */
+#include "causal_judge.h"
+
+#include <stdio.h>
+#include <string.h>
+
+typedef uint8_t call(const uint8_t *, size_t, uint8_t *, size_t, size_t *);
+
+enum { MARK = 0x5a, ROOM = 1 << 16 };
+
+static uint8_t input[1 << 20], usual[ROOM], answer[ROOM], marked[ROOM];
+/* Blocks that were not given back, allocations of the call, and the one that is refused. */
+static size_t blocks, allocations, refused;
+
+void *__real_malloc(size_t bytes);
+void *__real_realloc(void *block, size_t bytes);
+void __real_free(void *block);
+
+void *__wrap_malloc(size_t bytes) {
+    if (++allocations == refused)
+        return NULL;
+    blocks++;
+    return __real_malloc(bytes);
+}
+
+void *__wrap_realloc(void *block, size_t bytes) {
+    if (++allocations == refused)
+        return NULL;
+    blocks += block == NULL;
+    return __real_realloc(block, bytes);
+}
+
+void __wrap_free(void *block) {
+    blocks -= block != NULL;
+    __real_free(block);
+}
+
+int main(int count, char **words) {
+    if (count != 2)
+        return 2;
+    call *ask = !strcmp(words[1], "judge") ? causal_judge_judge
+              : !strcmp(words[1], "check") ? causal_judge_check
+              : !strcmp(words[1], "explain") ? causal_judge_explain
+                                             : causal_judge_refute;
+    size_t input_bytes = fread(input, 1, sizeof input, stdin), due, needed;
+    memset(marked, MARK, ROOM);
+    memset(usual, MARK, ROOM);
+    size_t before = blocks;
+    uint8_t right = ask(input, input_bytes, usual, ROOM, &due), status;
+    if (right > CAUSAL_JUDGE_REFUSED || blocks != before)
+        return 1;
+    do {
+        memset(answer, MARK, ROOM);
+        allocations = 0;
+        refused++;
+        status = ask(input, input_bytes, answer, ROOM, &needed);
+        int is_usual = status == right && needed == due && memcmp(answer, usual, ROOM) == 0;
+        int is_untold = status == CAUSAL_JUDGE_NO_MEMORY && needed == 0 && memcmp(answer, marked, ROOM) == 0;
+        if (blocks != before || (!is_usual && !(is_untold && allocations >= refused)))
+            return 1;
+    } while (allocations >= refused);
+    printf("%zu\n", refused - 1);
+    return 0;
+}
