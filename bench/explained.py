@@ -6,7 +6,8 @@
 Each history is small, of a memory, and read at random: most of its values are there, and some patterns too. `explain --json` has
 to say of each criterion what `judge` says, and `refute` has to accept each pattern that it shows. `explain --json --certificates`
 has to say the same, with a certificate in the place of each `null` of a yes, and `check` has to say yes of each. The words of
-`explain` have to have the lines of `judge` among them, and `judge` has to say the same `no` of each core that stands there.
+`explain` have to have the lines of `judge` among them, and `judge` has to say `no` of each core that stands there, of the same
+criterion: behind a `no`, and behind an `unknown` where variables were left out.
 `explain --svg` has to draw one picture. A form that the program doesn't know is left out, and so are its counts. It prints a line
 for each history where that is not so, and how many patterns of each kind, certificates and cores were accepted, and ends with
 status 1 where there is one.
@@ -115,9 +116,9 @@ def word_faults(program, form, lines, accepted):
         elif (core := core_in(line)) is not None and heads:
             criterion, word = heads[-1].split()[:2]
             judged = [line.split()[:2] for line in said(program, ["judge"], core)[1].splitlines()]
-            if word == "no" and [criterion, "no"] not in judged:
+            if [criterion, "no"] not in judged:
                 found.append(f"the core of {criterion} is {json.dumps(core)}, of which judge says {judged}")
-            accepted[f"{criterion} core"] += 1
+            accepted[f"{criterion} core" if word == "no" else f"{criterion} core without variables"] += 1
     if heads != lines.splitlines():
         found.append(f"judge says {lines!r}, and the words begin with {heads!r}")
     return found

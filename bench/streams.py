@@ -31,10 +31,16 @@ class Run(NamedTuple):
     def answered(self):
         return 0, self.text, b""
 
+    def refused(self, number):
+        """What becomes of an input that is refused so: the line goes to standard error, and with --lines it is the answer."""
+        line = b"refused %d\n" % number
+        return (1, line, b"") if "--lines" in self.words else (1, b"", line)
+
 
 REPORT = b"cc yes\ncm yes\nccv yes\n"
 COMMANDS = (
     (["judge"], b'["memory",[[["w",0,1]],[["r",0,1]]]]', REPORT),
+    (["judge", "--lines"], b'["memory",[]]\n["memory",[[["r",0,7]]]]', b"cc yes; cm yes; ccv yes\ncc no ThinAirRead; cm no ThinAirRead; ccv no ThinAirRead\n"),
     (["check"], b'[["counter",[[["inc"]],[["get",1]]]],["ccv",[[[1,0]],[[1,1]]],[0,1]]]', b"ccv yes\n"),
     (["explain", "--json"], b'["memory",[[["r",0,7]]]]', b'[["cc","no",["ThinAirRead",[0,0]]],["cm","no",["ThinAirRead",[0,0]]],["ccv","no",["ThinAirRead",[0,0]]]]\n'),
     (["refute"], b'[["memory",[[["r",0,7]]]],"cc",["ThinAirRead",[0,0]]]', b"cc no ThinAirRead\n"),
@@ -47,7 +53,7 @@ WRITE_FAULT = (3, b"", b"write fault\n")
 NO_MEMORY = (4, b"", b"no memory\n")
 SECONDS = 60
 MEMORY_STEPS = 50
-STACK_BYTES = 80 << 10
+STACK_BYTES = 112 << 10
 
 
 def ended(process, data=None):
@@ -190,7 +196,7 @@ def small_memory(run):
 def small_stack(run):
     """The outcomes that are not right of lists in lists, as deep as a text may have them, on a small stack."""
     texts = (b"[" * 127 + b"]" * 127, b"[" * 128 + b"]" * 128, b'{"a":' * 127 + b"0" + b"}" * 127, run.data)
-    dues = ((1, b"", b"refused 2\n"), (1, b"", b"refused 1\n"), (1, b"", b"refused 2\n"), run.answered())
+    dues = (run.refused(2), run.refused(1), run.refused(2), run.answered())
     found = [answer_to(run._replace(data=text), limited(resource.RLIMIT_STACK, STACK_BYTES)) for text in texts]
     return [outcome for outcome, due in zip(found, dues) if outcome != due]
 

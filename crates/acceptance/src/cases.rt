@@ -2,8 +2,8 @@
 
 use crate::{
     advised, applied_calls, checked, command_lines, cut_histories, desks, drives, expected,
-    explained, found_patterns, judged, judgements, made_certificates, patterns, pictured, refuted,
-    replica_runs, replicas, texts, worded, worlds, written_certificates,
+    explained, found_patterns, judged, judged_lines, judgements, made_certificates, patterns,
+    pictured, refuted, replica_runs, replicas, texts, worded, worlds, written_certificates,
 };
 use std::alloc::AllocError;
 use std::sync::Wait;
@@ -16,6 +16,10 @@ pub enum Question {
     Judge(usize),
     /// What a run of `judge` says of it, of which criteria are expected to be met.
     Expect,
+    /// What `judge --lines` by so many workers says of its lines, whose bytes come so many a read call.
+    Lines(usize, usize),
+    /// What a run that answers all its lines at once says of them.
+    LinesAtOnce,
     /// What a run of `check` by so many workers says of it.
     Check(usize),
     /// What `judge` or `judge_with` of the library by so many workers says of it.
@@ -109,6 +113,8 @@ fn answer_to<P: Threads + Wait + Sync + AllocGlobal>(
     match question {
         Question::Judge(workers) => judged::said(rt, workers, input),
         Question::Expect => expected::said(rt, input),
+        Question::Lines(workers, piece) => judged_lines::said(rt, workers, piece, input),
+        Question::LinesAtOnce => judged_lines::said_at_once(rt, input),
         Question::Check(workers) => checked::said(rt, workers, input),
         Question::JudgeBy(workers) => judgements::said(rt, workers, input),
         Question::Order => command_lines::ordered(rt.alloc(), input),

@@ -26,7 +26,12 @@ explain_twice_with_certificates | causal_judge explain --certificates --json --c
 explain_twice_as_a_picture | causal_judge explain --svg --svg | fault
 explain_as_json_with_a_value | causal_judge explain --json=yes | fault
 explain_by_workers | causal_judge explain --json --workers 2 | fault
-judge_by_an_unknown_option | causal_judge judge --lines | fault
+judge_lines | causal_judge judge --lines | lines 2 false false false
+judge_lines_with_all_options | causal_judge judge --workers=4 --lines --expect cm | lines 4 false true false
+judge_lines_twice | causal_judge judge --lines --lines | fault
+judge_lines_with_a_value | causal_judge judge --lines=4 | fault
+check_lines | causal_judge check --lines | fault
+judge_by_an_unknown_option | causal_judge judge --line | fault
 judge_and_expect_all | causal_judge judge --expect cc,cm,ccv | judge 2 true true true
 judge_and_expect_all_in_another_order | causal_judge judge --expect ccv,cc,cm | judge 2 true true true
 judge_and_expect_two | causal_judge judge --expect ccv,cc | judge 2 true false true
@@ -133,7 +138,8 @@ pub fn ordered(alloc: Global, text: &str) -> Result<String, AllocError> {
 /// The word of an order, and what it has beside its command.
 fn text_of(alloc: Global, order: Order) -> Result<String, AllocError> {
     match order {
-        Order::Judge(judging) => text_of_judging(alloc, judging),
+        Order::Judge(judging) => text_of_judging(alloc, "judge", judging),
+        Order::JudgeLines(judging) => text_of_judging(alloc, "lines", judging),
         Order::Check(workers) => format!(in alloc; "check {}", workers.count()),
         Order::Explain(form) => format!(in alloc; "explain {form:?}"),
         Order::Refute => String::from_str(alloc, "refute"),
@@ -142,14 +148,14 @@ fn text_of(alloc: Global, order: Order) -> Result<String, AllocError> {
     }
 }
 
-/// The word of an order to judge, the number of its workers, what is expected, and whether each line is a history.
-fn text_of_judging(alloc: Global, judging: Judging) -> Result<String, AllocError> {
+/// A word for an order to judge, the number of its workers, and what is expected.
+fn text_of_judging(alloc: Global, word: &str, judging: Judging) -> Result<String, AllocError> {
     let Judging {
         workers,
         expected: Expected { cc, cm, ccv },
     } = judging;
     let workers = workers.count();
-    format!(in alloc; "judge {workers} {cc} {cm} {ccv}")
+    format!(in alloc; "{word} {workers} {cc} {cm} {ccv}")
 }
 
 /// The word of an order to drive, its store, when updates are taken in, how many seals and workers there are, and who stops.

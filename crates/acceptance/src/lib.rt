@@ -41,6 +41,8 @@ mod histories;
 #[cfg(test)]
 mod judged;
 #[cfg(test)]
+mod judged_lines;
+#[cfg(test)]
 mod judgements;
 #[cfg(test)]
 mod made_certificates;

@@ -1,0 +1,190 @@
+#!/usr/bin/env python3
+"""Compares `judge --lines` with one run of `judge` a line, and measures it on many small histories.
+
+    python3 bench/lines.py SEED LINES [--small N] [--rounds N] -- PROGRAM
+
+LINES histories of all objects are made at random, and most are spoilt as mangled.py does it; some lines are empty. Each is judged by
+a run of its own, and all by runs of `judge --lines` with 1, 2 and 4 workers, with and without criteria that are expected to be met,
+whose lines come in one piece, or in pieces of random length. The lines that are written have to be those of the single runs: the
+three of a report joined by `; `, or the one on standard error; and the status has to be what follows from them. A client that writes
+one line and waits for its answer has to get it. It ends with status 1 where something is wrong.
+
+Then N small histories (10,000 by default) are judged by 1, 2 and 4 workers, and a thousandth of that many by a run each. The table
+has the least of some rounds (5 by default) on the clock, from the start of the process to its end, and what a line takes of that.
+"""
+
+import argparse
+import json
+import os
+import pathlib
+import random
+import subprocess
+import tempfile
+import time
+
+import mangled
+from command_words import with_program
+
+WORKERS = (1, 2, 4)
+EXPECTED = ("", "cc", "cm", "ccv", "cc,cm,ccv")
+
+
+def line_of(rng):
+    """A line, which may be empty, and is mostly no history."""
+    return b"" if rng.random() < 0.02 else mangled.mangled(rng, "judge").replace(b"\n", b" ")
+
+
+def answer_alone(program, line):
+    """What a run of its own says of a line."""
+    done = subprocess.run([*program, "judge"], input=line, capture_output=True, check=False, timeout=120)
+    said = done.stderr if done.returncode else done.stdout
+    return said.decode().removesuffix("\n").replace("\n", "; ")
+
+
+def is_answered(answer):
+    return answer.startswith("cc ")
+
+
+def said_for(answer, criterion):
+    """What an answer says of a criterion."""
+    return dict(part.split(" ", 1) for part in answer.split("; "))[criterion]
+
+
+def status_due(answers, expected):
+    """The status of a run over lines that are answered so."""
+    if not all(map(is_answered, answers)):
+        return 1
+    said = [said_for(answer, criterion) for answer in answers for criterion in filter(None, expected.split(","))]
+    if any(word.startswith("no ") for word in said):
+        return 5
+    return 0 if all(word == "yes" for word in said) else 6
+
+
+def words_for(workers, expected):
+    return ["judge", "--lines", "--workers", str(workers), *(["--expect", expected] if expected else [])]
+
+
+def run_in_pieces(rng, command, text):
+    """The status and the output of a run whose input comes in pieces of random length."""
+    process = subprocess.Popen(command, stdin=subprocess.PIPE, stdout=subprocess.PIPE)
+    writer = os.fork()
+    if writer == 0:
+        process.stdout.close()
+        at = 0
+        while at < len(text):
+            until = at + rng.choice((1, 7, 100, 1_000, 70_000))
+            os.write(process.stdin.fileno(), text[at:until])
+            at = until
+        os._exit(0)
+    process.stdin.close()
+    written = process.stdout.read()
+    os.waitpid(writer, 0)
+    return process.wait(), written.decode()
+
+
+def run_whole(command, text):
+    done = subprocess.run(command, input=text, capture_output=True, check=False, timeout=600)
+    return done.returncode, done.stdout.decode()
+
+
+def compared(rng, program, lines):
+    """How many runs over the lines had another outcome than the single runs, each of which is told of."""
+    answers = [answer_alone(program, line) for line in lines]
+    answered = [i for i, answer in enumerate(answers) if is_answered(answer)]
+    wrong = 0
+    for kept in (range(len(lines)), answered):
+        text = b"\n".join(lines[i] for i in kept) + (b"\n" if rng.random() < 0.5 or not kept or not lines[kept[-1]] else b"")
+        due = "".join(f"{answers[i]}\n" for i in kept)
+        for workers in WORKERS:
+            for expected in EXPECTED:
+                wanted = (status_due([answers[i] for i in kept], expected), due)
+                command = [*program, *words_for(workers, expected)]
+                for found in (run_whole(command, text), run_in_pieces(rng, command, text)):
+                    if found != wanted:
+                        wrong += 1
+                        print(f"{' '.join(command[1:])}: status {found[0]} for {wanted[0]}, {differing(found[1], due)}")
+    print(f"{len(lines)} lines, {len(answered)} of them answered")
+    return wrong
+
+
+def differing(found, due):
+    """The first line that is not as due."""
+    pairs = zip(found.splitlines(), due.splitlines())
+    at = next((i for i, (one, other) in enumerate(pairs) if one != other), None)
+    return f"{found.count(chr(10))} lines for {due.count(chr(10))}" if at is None else f"line {at}: {found.splitlines()[at]!r}"
+
+
+def talked(program):
+    """How many of some clients that write a line and wait for its answer got another one."""
+    wrong = 0
+    for workers in WORKERS:
+        process = subprocess.Popen([*program, *words_for(workers, "")], stdin=subprocess.PIPE, stdout=subprocess.PIPE)
+        for line in (b'["memory",[]]\n', b"\n", b'["memory",[[["r",0,7]]]]\n'):
+            process.stdin.write(line)
+            process.stdin.flush()
+            wrong += process.stdout.readline().decode().removesuffix("\n") != answer_alone(program, line)
+        process.stdin.close()
+        wrong += process.wait() != 1
+    return wrong
+
+
+def small_history(rng):
+    """A memory of two or three sessions of up to four operations, with distinct values."""
+    fresh = 0
+    sessions = []
+    for _ in range(rng.choice((2, 3))):
+        session = []
+        for _ in range(rng.randint(1, 4)):
+            if rng.random() < 0.5:
+                fresh += 1
+                session.append(["w", rng.randrange(2), fresh])
+            else:
+                session.append(["r", rng.randrange(2), rng.randint(0, max(fresh, 1))])
+        sessions.append(session)
+    return json.dumps(["memory", sessions], separators=(",", ":"))
+
+
+def time_of(command, path):
+    """The time on the clock of one run in seconds."""
+    with open(path, "rb") as text, open(os.devnull, "wb") as nothing:
+        begin = time.perf_counter()
+        subprocess.run(command, stdin=text, stdout=nothing, check=True)
+        return time.perf_counter() - begin
+
+
+def measured(rng, program, many, rounds):
+    """Prints what small histories take."""
+    lines = [small_history(rng) for _ in range(many)]
+    with tempfile.TemporaryDirectory() as room:
+        path = pathlib.Path(room) / "lines"
+        path.write_text("".join(f"{line}\n" for line in lines), encoding="ascii")
+        print(f"{many} histories, {path.stat().st_size} bytes")
+        print("| run | milliseconds | microseconds a line |")
+        print("|---|---|---|")
+        for workers in WORKERS:
+            least = min(time_of([*program, *words_for(workers, "")], path) for _ in range(rounds))
+            print(f"| `--lines --workers {workers}` | {1000 * least:.1f} | {1_000_000 * least / many:.1f} |")
+        few = max(1, many // 1000)
+        begin = time.perf_counter()
+        for line in lines[:few]:
+            answer_alone(program, line.encode())
+        taken = (time.perf_counter() - begin) / few
+        print(f"| one run a line | - | {1_000_000 * taken:.1f} |")
+
+
+def main():
+    parser = argparse.ArgumentParser(description=__doc__, formatter_class=argparse.RawDescriptionHelpFormatter)
+    parser.add_argument("seed", type=int)
+    parser.add_argument("lines", type=int)
+    parser.add_argument("--small", type=int, default=10_000)
+    parser.add_argument("--rounds", type=int, default=5)
+    given = with_program(parser)
+    rng = random.Random(given.seed)
+    wrong = compared(rng, given.program, [line_of(rng) for _ in range(given.lines)]) + talked(given.program)
+    measured(rng, given.program, given.small, given.rounds)
+    print(f"{wrong} outcomes that are not due")
+    raise SystemExit(1 if wrong else 0)
+
+
+if __name__ == "__main__":
+    main()
