@@ -4,18 +4,18 @@
     python3 examples/python/try_store.py PATH_TO_causal_judge [--eager] [--seed N]
 
 With `--eager` the store has its fault. Another seed gives another run. The history is written to out/history.json beside this
-script, and the three lines that the program writes about it are shown. The status is 0 where no line says no, 1 where one does,
-and 2 where nothing was judged.
+script. The three lines that the program writes about it are shown, and the status is 0; where one is no yes, what shows that is
+shown with them, and the status is 1. It is 2 where nothing was judged.
 """
 
 import argparse
 import pathlib
 import random
-import re
 import subprocess
 import sys
 from collections.abc import Iterator
 
+from judging import assert_met
 from recorder import History, Session
 from store import Refused, Simulation, Store, TimedOut
 
@@ -26,8 +26,6 @@ CALLS = 60
 LOSS = 0.02
 PAUSES = (0.0, 2.0)
 WRITTEN = pathlib.Path(__file__).resolve().parent / "out" / "history.json"
-SECONDS = 60
-REPORT = re.compile("".join(rf"{criterion} (yes|no \w+|unknown( \d+\.\d+)?)\n" for criterion in ("cc", "cm", "ccv")))
 
 
 def write(store: Store, session: Session, at: int, key: int, value: int) -> Iterator[float]:
@@ -74,14 +72,6 @@ def recorded_run(is_eager: bool, seed: int) -> History:
     return history
 
 
-def judged(program: str, text: str) -> str:
-    """The three lines that the program writes about a history."""
-    done = subprocess.run([program, "judge"], input=text, capture_output=True, check=False, text=True, timeout=SECONDS)
-    if done.returncode != 0 or not REPORT.fullmatch(done.stdout):
-        raise RuntimeError(f"{program} ended with status {done.returncode} and wrote {done.stdout + done.stderr!r}")
-    return done.stdout
-
-
 def main() -> int:
     """Runs, records and judges; gives the status."""
     parser = argparse.ArgumentParser(description=__doc__, formatter_class=argparse.RawDescriptionHelpFormatter)
@@ -90,15 +80,17 @@ def main() -> int:
     parser.add_argument("--seed", type=int, default=1, help="1 unless given")
     given = parser.parse_args()
     try:
-        text = recorded_run(given.eager, given.seed).text()
+        history = recorded_run(given.eager, given.seed)
         WRITTEN.parent.mkdir(exist_ok=True)
-        WRITTEN.write_text(text + "\n", encoding="ascii")
-        report = judged(given.program, text)
+        WRITTEN.write_text(history.text() + "\n", encoding="ascii")
+        print(assert_met(given.program, history.form()), end="")
+    except AssertionError as fault:
+        print(fault, end="")
+        return 1
     except (OSError, RuntimeError, ValueError, subprocess.SubprocessError) as fault:
         print(f"not judged: {fault}", file=sys.stderr)
         return 2
-    print(report, end="")
-    return 1 if any(line.split()[1] == "no" for line in report.splitlines()) else 0
+    return 0
 
 
 if __name__ == "__main__":
