@@ -1,25 +1,25 @@
 -- A replay over the one list up to an operation: what it takes in, and that it comes to the operation.
-use Rattle.std.proofs.Common.{◌≡◌, ◌≢◌, ℕ, ◌+◌, ◌<◌, ◌≤◌, ◌↔◌, Bool, false, List, [], ◌∷◌, ◌++◌, length, take, drop, get_or, refl, sym, ap, ◌∙◌, subst, arith, ⊎_elim, lt-ltb, take_all, append-nil}
+use Rattle.std.proofs.Common.{◌≡◌, ◌≢◌, ℕ, ◌+◌, ◌<◌, ◌≤◌, ◌↔◌, Bool, false, List, [], ◌∷◌, ◌++◌, length, take, drop, get_or, refl, sym, ap, ◌∙◌, subst, arith, ⊎_elim, lt-ltb, append-nil}
 use Rattle.std.specs.Prelude.{IsTrue, Some, filter, slice_get}
 use Rattle.std.proofs.lemmas.Bool.{cases_eq, cases_lt, cond-true, cond-false}
 use Rattle.std.proofs.lemmas.List.{take-append-drop, drop_more, take_at}
 use Rattle.std.proofs.lemmas.List.Elements.{filter-append}
 use Rattle.std.proofs.lemmas.Option.{slice_get_within, get_or_from_slice_get}
 use Rattle.history.specs.declared.op_id.OpId.{OpId}
-use Rattle.history.specs.History.{HistoryValue, IsOp, calls, entry, session}
-use Rattle.causal_order.proofs.Placed.{placed-up}
+use Rattle.history.specs.History.{HistoryValue, calls, entry, session}
 use Rattle.causal_order.specs.Orders.{op, StandsAt}
 use Rattle.causal_order.proofs.OrdersLaws.{same_op}
 use Rattle.causal_order.specs.Vectors.{Counts, count, IsCounted, IsVectorOk}
 use Rattle.cert_check.specs.Certificates.{counted, IsArbitratedPiece}
 use Rattle.cert_check.specs.Schedules.{named, StandsBefore}
 use Rattle.causal_order.specs.Schedules.{placed}
-use Rattle.cert_check.specs.Steps.Replays.{AreCountsAt, IsAnsweredAfter}
+use Rattle.cert_check.specs.Steps.Namings.{AreCountsAt}
+use Rattle.cert_check.specs.Steps.Replays.{IsAnsweredAfter, NamesOperations}
 use Rattle.cert_check.proofs.ConvergentLaws.{only-same}
 use Rattle.cert_check.proofs.FilteredLaws.{filter_in_order}
-use Rattle.cert_check.proofs.Named.{placed-next, placed-one, placed-none, named_once}
+use Rattle.cert_check.proofs.Named.{placed-next, placed-one, placed-none, named_once, named_within}
 use Rattle.cert_check.proofs.Pasts.{only-itself}
-use Rattle.cert_check.proofs.ReplaySteps.{after_from_within, within_from_after}
+use Rattle.cert_check.proofs.NamingSteps.{after_from_within, within_from_after}
 
 module _ {X : Type 0} (p : X → Bool) where
   -- one element more, where it passes and where it doesn't
@@ -76,32 +76,11 @@ module _ {X : Type 0} (p : X → Bool) where
       (cases_lt k j))
       (cases_lt j k)
 
--- a list that names each operation of a history as often as it is there
-module _ {S C R : Type 0} (h : HistoryValue S C R) (list : List ℕ) (whole : (s : ℕ) → placed list s ≡ length (session h s)) where
-  placed-within : (s i : ℕ) → placed (take i list) s ≤ length (session h s)
-  placed-within s i =
-      let all = whole s in
-      let every = ap (λ (xs : List ℕ). placed xs s) (take_all (length list) list (omega arith)) in
-      ⊎_elim
-      (λ (below : i < length list). let up_to = placed-up list i (length list) s (omega arith) in omega arith)
-      (λ (past : length list ≤ i). let same = ap (λ (xs : List ℕ). placed xs s) (take_all i list past) in omega arith)
-      (cases_lt i (length list))
-
-  -- the operation that is named next is there
-  pub next_is_op : (i n s : ℕ) → slice_get list i ≡ Some s → (counts : List ℕ) → AreCountsAt list i n counts → IsOp h (op s (get_or counts s 0))
-  next_is_op i n s here counts at =
-      let next = placed-next s list i s here in
-      let one = placed-one s s refl in
-      let most = placed-within s (i + 1) in
-      let now = at.each s in
-      omega arith
-
-  -- at the end each operation was named
-  pub is_named : (o : OpId) → IsOp h o → (i : ℕ) → length list ≤ i → placed (take i list) o.session ≤ o.index → ⊥
-  is_named o is_op i past not_yet =
-      let all = whole o.session in
-      let same = ap (λ (xs : List ℕ). placed xs o.session) (take_all i list past) in
-      omega arith
+-- a list that names each operation of a history as often as it is there names no other
+pub whole_names : {S C R : Type 0} (h : HistoryValue S C R) (list : List ℕ) → ((s : ℕ) → placed list s ≡ length (session h s)) → NamesOperations h list
+whole_names h list whole = record {
+  each = λ k o there. let within = named_within list k o there in let all = whole o.session in omega arith;
+}
 
 -- where another operation is named, the operation is named later
 pub not_named_yet : (list : List ℕ) (i n s : ℕ) → slice_get list i ≡ Some s → (counts : List ℕ) → AreCountsAt list i n counts

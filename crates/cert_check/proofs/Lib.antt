@@ -7,6 +7,8 @@ pub mod PastPieces
 pub mod Complete
 pub mod Ranges
 pub mod Shapes
+pub mod NamingSteps
+pub mod NeedSteps
 pub mod ReplaySteps
 pub mod SchedulePieces
 pub mod CutSteps

@@ -9,6 +9,10 @@ use Rattle.causal_order.proofs.Placed.{placed-up}
 use Rattle.causal_order.specs.Orders.{op}
 use Rattle.causal_order.proofs.OrdersLaws.{session-of_history}
 use Rattle.causal_order.specs.Schedules.{placed}
+use Rattle.causal_order.specs.Vectors.{AreVectorsOf}
+use Rattle.cert_check.specs.declared.certificate.Certificate.{Certificate}
+use Rattle.cert_check.specs.declared.certificate.Certificate.TheVariants.{Cc, Cm, Ccv}
+use Rattle.cert_check.specs.Certificates.{vectors_of, HasShapeOf}
 use Rattle.cert_check.proofs.Named.{placed-next, placed-one, named_each, named_is}
 
 -- a number that occurs at a place occurs
@@ -52,3 +56,9 @@ module _ {S C R : Type 0} (h : HistoryValue S C R) where
       (λ (below : s < length h.1). inside s below)
       (λ (past : length h.1 ≤ s). times_none list (length h.1) s small past ∙ sym (ap length (get_or_past h.1 s [] past)))
       (cases_lt s (length h.1))
+
+-- a certificate of good shape has vectors of the history
+pub shape-vectors : {S C R : Type 0} (h : HistoryValue S C R) (certificate : Certificate) → HasShapeOf h certificate → AreVectorsOf h (vectors_of certificate)
+shape-vectors h (Cc v schedules) shape = shape.0
+shape-vectors h (Cm v schedules) shape = shape.0
+shape-vectors h (Ccv v arbitration) shape = shape.0

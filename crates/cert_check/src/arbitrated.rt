@@ -1,13 +1,11 @@
-ghost use Rattle.std.specs.Prelude.{◌≡◌, ◌+◌, ◌↔◌, ℕ, filter, length, IfOk, IsTrue, take};
+ghost use Rattle.std.specs.Prelude.{◌≡◌, ◌↔◌, ℕ, length, IfOk, IsTrue};
 ghost use Rattle.history.specs.History.{session, IsOp};
-ghost use Rattle.causal_order.specs.Orders.{StandsAt};
 ghost use Rattle.causal_order.specs.Vectors.{AreVectorsOf};
-ghost use Rattle.cert_check.specs.Certificates.{counted, IsArbitratedPiece};
-ghost use Rattle.cert_check.specs.Schedules.{named};
+ghost use Rattle.cert_check.specs.Certificates.{IsArbitratedPiece};
 ghost use Rattle.causal_order.specs.Schedules.{placed};
-ghost use Rattle.cert_check.specs.Steps.Replays.{IsReplayAt};
+ghost use Rattle.cert_check.specs.Steps.Firsts.{IsFirstOfSession};
 
-use crate::replay::Replay;
+use crate::replay_to::replay_to;
 use causal_order::{Vectors, vector_ok};
 use history::{History, OpId};
 use object_trait::SeqObject;
@@ -38,28 +36,25 @@ pub fn is_arbitrated_piece<O: SeqObject>(
     Ok(complete && answered)
 }
 
-/// Replays over the list until it names an operation, and takes in the operations before it that its vector counts.
-fn replay_to<O: SeqObject>(
+/// The first operation of a session whose vector and the one list don't explain its known return.
+///
+/// Fails for want of memory alone. The cost is that of `is_arbitrated_piece` at each operation.
+pub fn first_unarbitrated<O: SeqObject>(
     alloc: Global,
     h: &History<O>,
     v: &Vectors,
     list: &[u8],
-    op: OpId,
-) -> Result<Replay<O>, AllocError>
+    s: usize,
+) -> Result<Option<OpId>, AllocError>
     requires shape { AreVectorsOf h.now v.now }
-    requires whole { (s : ℕ) → placed list.now s ≡ length (session h.now s) }
-    requires is_op { IsOp h.now op }
-    ensures { IfOk result (λ replay. (i : ℕ) × StandsAt (named list.now) i op
-        × IsReplayAt O.stands h.now list.now (i + 1) (filter (counted v.now op) (take i (named list.now)))
-        replay.counts.items replay.object) }
+    requires whole { (t : ℕ) → placed list.now t ≡ length (session h.now t) }
+    ensures { IfOk result (IsFirstOfSession h.now (IsArbitratedPiece O.answer h.now v.now list.now) s) }
 {
-    let mut replay = Replay::new(alloc, h)?;
-    for session in list {
-        let next = replay.name_next(h, *session).unwrap();
-        if next == op {
-            return Ok(replay);
+    for index in 0..h.len(s) {
+        let op = OpId::at(s, index);
+        if !is_arbitrated_piece(alloc, h, v, list, op)? {
+            return Ok(Some(op));
         }
-        replay.take_in_counted(h, v, op, next)?;
     }
-    unreachable!()
+    Ok(None)
 }

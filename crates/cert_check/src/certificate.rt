@@ -1,5 +1,5 @@
 ghost use Rattle.std.specs.Prelude.{◌≡◌};
-ghost use Rattle.cert_check.specs.Certificates.{criterion_of};
+ghost use Rattle.cert_check.specs.Certificates.{criterion_of, vectors_of};
 
 use crate::arbitration::Arbitration;
 use crate::criterion::Criterion;
@@ -31,6 +31,15 @@ impl Certificate {
             Certificate::Cc(_, _) => Criterion::Cc,
             Certificate::Cm(_, _) => Criterion::Cm,
             Certificate::Ccv(_, _) => Criterion::Ccv,
+        }
+    }
+
+    /// The vectors of the pasts of all operations.
+    pub fn vectors(&self) -> &Vectors
+        ensures { result.now ≡ vectors_of self.now }
+    {
+        match self {
+            Certificate::Cc(v, _) | Certificate::Cm(v, _) | Certificate::Ccv(v, _) => v,
         }
     }
 }

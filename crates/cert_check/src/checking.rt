@@ -1,16 +1,20 @@
-ghost use Rattle.std.specs.Prelude.{◌≡◌, ◌↔◌, ◌<◌, ℕ, IfOk, IfSome, IsNone, IsSome, IsTrue, MatchOption, Some};
+ghost use Rattle.std.specs.Prelude.{◌≡◌, ◌↔◌, IfOk, IfSome, IsNone, IsSome, IsTrue, MatchOption, Some};
 ghost use Rattle.history.specs.History.{IsOp};
-ghost use Rattle.causal_order.specs.Orders.{op};
 ghost use Rattle.cert_check.specs.Criteria.{Meets};
 ghost use Rattle.cert_check.specs.declared.certificate.Certificate.{Certificate};
-ghost use Rattle.cert_check.specs.Certificates.{HasShapeOf, IsExplainedIn, IsExplainedPiece, IsExplainedThroughout};
+ghost use Rattle.cert_check.specs.Certificates.{vectors_of, HasShapeOf, IsExplainedIn, IsExplainedPiece, IsExplainedThroughout};
 ghost use Rattle.cert_check.specs.Certificates.{IsFirstUnexplained};
+ghost use Rattle.cert_check.specs.Steps.Firsts.{IsFirstOfSession};
+ghost use Rattle.cert_check.specs.Steps.Needs.{AreNeedsOf};
 
-use crate::arbitrated::is_arbitrated_piece;
+use crate::arbitrated::{first_unarbitrated, is_arbitrated_piece};
 use crate::case_file::CaseFile;
 use crate::certificate::Certificate;
 use crate::kept::Kept;
 use crate::laws::explained_certificates_show_their_criterion;
+use crate::need::Needs;
+use crate::own_answers::{first_without_own_answer, is_own_piece};
+use crate::past_answers::first_without_past_answers;
 use crate::scheduled::is_scheduled_piece;
 use history::{History, OpId};
 use object_trait::SeqObject;
@@ -63,8 +67,9 @@ pub fn first_unexplained<O: SeqObject>(
     explained_certificates_show_their_criterion::<O>();
     let h = file.history();
     let certificate = file.certificate().unwrap();
+    let needs = Needs::of(alloc, h, certificate.vectors())?;
     for session in 0..h.sessions() {
-        let found = first_of_session(alloc, h, certificate, session)?;
+        let found = first_of_session(alloc, h, certificate, &needs, session)?;
         if found.is_some() {
             return Ok(found);
         }
@@ -84,9 +89,7 @@ fn is_explained<O: SeqObject>(
     ensures { IfOk result (λ yes. IsTrue yes ↔ IsExplainedPiece O.answer h.now certificate.now op) }
 {
     match certificate {
-        Certificate::Cc(v, schedules) => {
-            is_scheduled_piece(alloc, h, v, schedules.get(op), op, Kept::Only(op))
-        }
+        Certificate::Cc(v, schedules) => { is_own_piece(alloc, h, v, schedules.get(op), op) }
         Certificate::Cm(v, schedules) => {
             is_scheduled_piece(alloc, h, v, schedules.get(op), op, Kept::ProgramPast(op))
         }
@@ -101,19 +104,22 @@ fn first_of_session<O: SeqObject>(
     alloc: Global,
     h: &History<O>,
     certificate: &Certificate,
+    needs: &Needs,
     session: usize,
 ) -> Result<Option<OpId>, AllocError>
-    requires { HasShapeOf h.now certificate.now }
-    ensures { IfOk result (λ first. MatchOption first
-        ((i : ℕ) → IsOp h.now (op session i) → IsExplainedPiece O.answer h.now certificate.now (op session i))
-        (λ o. (o.session ≡ session) × IsOp h.now o × (¬ IsExplainedPiece O.answer h.now certificate.now o)
-        × ((i : ℕ) → i < o.index → IsExplainedPiece O.answer h.now certificate.now (op session i)))) }
+    requires shape { HasShapeOf h.now certificate.now }
+    requires needs { AreNeedsOf (vectors_of certificate.now) needs.now }
+    ensures { IfOk result (IsFirstOfSession h.now (IsExplainedPiece O.answer h.now certificate.now) session) }
 {
-    for index in 0..h.len(session) {
-        let op = OpId::at(session, index);
-        if !is_explained(alloc, h, certificate, op)? {
-            return Ok(Some(op));
+    match certificate {
+        Certificate::Cc(v, schedules) => {
+            first_without_own_answer(alloc, h, v, needs, schedules, session)
+        }
+        Certificate::Cm(v, schedules) => {
+            first_without_past_answers(alloc, h, v, needs, schedules, session)
+        }
+        Certificate::Ccv(v, arbitration) => {
+            first_unarbitrated(alloc, h, v, arbitration.sessions(), session)
         }
     }
-    Ok(None)
 }

@@ -13,10 +13,15 @@ mod criterion;
 mod desk_error;
 mod kept;
 pub mod laws;
+mod naming;
+mod need;
 mod number;
+mod own_answers;
+mod past_answers;
 mod reading;
 mod reading_lists;
 mod replay;
+mod replay_to;
 mod scheduled;
 mod shape;
 

@@ -1,12 +1,15 @@
-ghost use Rattle.std.specs.Prelude.{◌≡◌, ◌↔◌, ℕ, IfOk, IsTrue};
+ghost use Rattle.std.specs.Prelude.{◌≡◌, ◌↔◌, ℕ, [], length, IfOk, IsTrue};
 ghost use Rattle.history.specs.History.{IsOp};
-ghost use Rattle.causal_order.specs.Vectors.{count, AreVectorsOf};
+ghost use Rattle.causal_order.specs.Vectors.{AreVectorsOf, IsVectorOk};
 ghost use Rattle.cert_check.specs.Certificates.{IsScheduledPiece};
-ghost use Rattle.cert_check.specs.Schedules.{named};
-ghost use Rattle.causal_order.specs.Schedules.{placed};
-ghost use Rattle.cert_check.specs.Steps.Replays.{kept_of, AreStepsOk};
+ghost use Rattle.cert_check.specs.Schedules.{IsSchedule};
+ghost use Rattle.cert_check.specs.Steps.Namings.{AreCountsAt, AreNamedWell};
+ghost use Rattle.cert_check.specs.Steps.Needs.{AreNeedsOf};
+ghost use Rattle.cert_check.specs.Steps.Replays.{kept_of};
 
 use crate::kept::Kept;
+use crate::naming::Naming;
+use crate::need::Needs;
 use crate::replay::Replay;
 use causal_order::{Vectors, vector_ok};
 use history::{History, OpId};
@@ -28,31 +31,41 @@ pub fn is_scheduled_piece<O: SeqObject>(
     requires is_op { IsOp h.now op }
     ensures { IfOk result (λ yes. IsTrue yes ↔ IsScheduledPiece O.answer h.now v.now schedule.now op (kept_of kept)) }
 {
-    if !vector_ok(h, v, op) {
+    let mut naming = Naming::new(alloc, h)?;
+    if !is_schedule(&mut naming, h, v, &Needs::none(alloc), &[], schedule, op) {
         return Ok(false);
     }
-    is_replayed(alloc, h, v, schedule, op, kept)
+    let mut replay = Replay::new(alloc, h)?;
+    replay.go_through(h, schedule, 0, kept)
 }
 
-/// Whether each step of a schedule is good, and it names as many operations of each session as the vector counts.
-fn is_replayed<O: SeqObject>(
-    alloc: Global,
+/// Whether the vector and the schedule of an operation are good, by going on from another list that names operations
+/// well.
+///
+/// O(p + k^2) for k sessions and p numbers of both lists behind the place where they part, where each need is one
+/// operation.
+pub fn is_schedule<O: SeqObject>(
+    naming: &mut Naming,
     h: &History<O>,
     v: &Vectors,
+    needs: &Needs,
+    before: &[u8],
     schedule: &[u8],
     op: OpId,
-    kept: Kept,
-) -> Result<bool, AllocError>
+) -> bool
     requires shape { AreVectorsOf h.now v.now }
+    requires needs { AreNeedsOf v.now needs.now }
     requires is_op { IsOp h.now op }
-    ensures { IfOk result (λ yes. IsTrue yes ↔ (AreStepsOk O.answer h.now v.now (kept_of kept) (named schedule.now)
-        × ((s : ℕ) → placed schedule.now s ≡ count v.now op s))) }
+    requires counts { AreCountsAt before.now (length before.now) (length h.now.1) naming.old.counts.items }
+    requires well { AreNamedWell h.now v.now before.now (length before.now) }
+    ensures exact { IsTrue result ↔ (IsVectorOk h.now v.now op × IsSchedule h.now v.now op schedule.now) }
+    ensures on { IsTrue result → AreCountsAt schedule.now (length schedule.now) (length h.now.1) naming.new.counts.items }
 {
-    let mut replay = Replay::new(alloc, h)?;
-    for session in schedule {
-        if !replay.step(h, v, kept, *session)? {
-            return Ok(false);
-        }
+    if !vector_ok(h, v, op) {
+        return false;
     }
-    Ok(replay.ends_at(v.get(op)))
+    if !naming.go_on(h, v, needs, before, schedule) {
+        return false;
+    }
+    naming.ends_at(v.get(op))
 }

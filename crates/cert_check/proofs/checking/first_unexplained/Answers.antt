@@ -7,6 +7,7 @@ use Rattle.history.specs.History.{IsOp}
 use Rattle.causal_order.proofs.OrdersLaws.{session-of_history}
 use Rattle.cert_check.specs.Certificates.{IsExplainedPiece}
 use Rattle.cert_check.specs.declared.certificate.Certificate.{Certificate}
+use Rattle.cert_check.proofs.Shapes.{shape-vectors}
 use Rattle.cert_check.proofs.checking.first_unexplained.Goals as goal
 
 pub returns-clause-first : goal.returns-clause-first
@@ -27,3 +28,10 @@ returns-clause-meets g c = λ _.
     subst (λ (k : Criterion). Meets g.O.SeqObject.answer c.args.file.now.0 k) good.0
     (c.explained_certificates_show_their_criterion.ensures c.args.file.now.0 c.unwrap-certificate.result.now good.1
     (returns-clause-first g c c.unwrap-certificate.result.now is))
+
+pub of-requires-after_bounds : goal.of-requires-after_bounds
+of-requires-after_bounds g c = λ _ _.
+    let is : c.args.file.now.2 ≡ Some c.unwrap-certificate.result.now =
+    sym (sym (ap option_copied c.unwrap-certificate.ensures) ∙ c.certificate.ensures.certificate) in
+    let good = c.certificate.ensures.is_case_file c.unwrap-certificate.result.now is in
+    rw (c.history-h.ensures, c.vectors.ensures) (shape-vectors c.args.file.now.0 c.unwrap-certificate.result.now good.1)

@@ -1,26 +1,29 @@
-use Rattle.std.proofs.Common.{◌≡◌, ℕ, Bool}
+use Rattle.std.proofs.Common.{Bool, length}
 use Rattle.std.specs.Prelude.{IsTrue, ◌↔◌}
 use Rattle.std.proofs.lemmas.Result.{IfOk-weaker}
-use Rattle.causal_order.specs.Vectors.{count}
 use Rattle.cert_check.specs.Certificates.{IsScheduledPiece}
-use Rattle.cert_check.specs.Schedules.{named}
-use Rattle.causal_order.specs.Schedules.{placed}
-use Rattle.cert_check.specs.Steps.Replays.{kept_of, AreStepsOk}
-use Rattle.cert_check.proofs.SchedulePieces.{piece-from, piece-walked}
+use Rattle.cert_check.specs.Steps.Replays.{kept_of, AreAnswered}
+use Rattle.cert_check.proofs.ReplaySteps.{explains-answered, explains-from, none_answered}
+use Rattle.cert_check.proofs.SchedulePieces.{piece_exactly, schedule-names}
 use Rattle.cert_check.proofs.scheduled.is_scheduled_piece.Goals as goal
+
+pub go_through-requires-clause-names : goal.go_through-requires-clause-names
+go_through-requires-clause-names g c = λ _ _.
+    schedule-names c.args.h.now c.args.v.now c.args.op c.args.schedule.now (c.is_schedule-2.ensures.exact.0 c.if-not-is_schedule.false).1
 
 pub returns : goal.returns
 returns g c =
     let answer = g.O.SeqObject.answer in
     let h = c.args.h.now in
     let v = c.args.v.now in
-    let schedule = c.args.schedule.now in
-    let good = c.vector_ok.ensures.0 c.if-not-vector_ok.false in
-    IfOk-weaker c.is_replayed.result
-    (λ (yes : Bool). IsTrue yes ↔ (AreStepsOk answer h v (kept_of c.args.kept) (named schedule) × ((s : ℕ) → placed schedule s ≡ count v c.args.op s)))
-    (λ (yes : Bool). IsTrue yes ↔ IsScheduledPiece answer h v schedule c.args.op (kept_of c.args.kept))
-    (λ yes walked. (
-      (λ t. piece-from answer h v (kept_of c.args.kept) schedule c.args.op good (walked.0 t)),
-      λ piece. walked.1 (piece-walked answer h v (kept_of c.args.kept) schedule c.args.op piece),
-    ))
-    c.is_replayed.ensures
+    let list = c.args.schedule.now in
+    let kept = kept_of c.args.kept in
+    let good = c.is_schedule-2.ensures.exact.0 c.if-not-is_schedule.false in
+    IfOk-weaker c.go_through.result
+    (λ (yes : Bool). AreAnswered answer h kept list 0 → IsTrue yes ↔ AreAnswered answer h kept list (length list))
+    (λ (yes : Bool). IsTrue yes ↔ IsScheduledPiece answer h v list c.args.op kept)
+    (λ yes exactly.
+    let all = exactly (none_answered answer h kept list) in
+    piece_exactly answer h v c.args.op list kept good.0 good.1 yes
+    ((λ t. explains-from answer h kept list (all.0 t)), λ explains. all.1 (explains-answered answer h kept list explains)))
+    c.go_through.ensures.exact

@@ -8,11 +8,12 @@ use Rattle.causal_order.specs.Orders.{StandsAt, only}
 use Rattle.cert_check.specs.Certificates.{counted}
 use Rattle.cert_check.specs.Schedules.{named}
 use Rattle.cert_check.proofs.ConvergentLaws.{only-same}
-use Rattle.cert_check.proofs.CutSteps.{next_is_op, not_named_yet}
+use Rattle.cert_check.proofs.CutSteps.{not_named_yet}
 use Rattle.cert_check.proofs.Named.{take_next}
 use Rattle.cert_check.proofs.Pasts.{only-itself}
-use Rattle.cert_check.proofs.ReplaySteps.{counting, named_here}
-use Rattle.cert_check.proofs.arbitrated.replay_to.Goals as goal
+use Rattle.cert_check.proofs.NamingSteps.{counting, named_here}
+use Rattle.cert_check.proofs.ReplaySteps.{names_next}
+use Rattle.cert_check.proofs.replay_to.replay_to.Goals as goal
 
 pub unwrap-next-requires : goal.unwrap-next-requires
 unwrap-next-requires g c =
@@ -20,25 +21,25 @@ unwrap-next-requires g c =
     let list = c.args.list.now in
     let here = slice_get-get_or list i 0 c.loop-session-test.true in
     some_since c.name_next.result _ _ c.name_next.ensures.next (λ none. none.0
-    (next_is_op c.args.h.now list c.requires.whole i (length c.args.h.now.1) (get_or list i 0) here
-    c.loop-session.replay.counts.items c.loop-session.invariant.0.counting))
+    (names_next c.args.h.now list c.requires.names i (length c.args.h.now.1) (get_or list i 0) here
+    c.loop-session.replay.naming.counts.items c.loop-session.invariant.0.counting))
 
 pub returns-then-eq : goal.returns-then-eq
 returns-then-eq g c =
     let i = c.loop-session.session-index in
     let list = c.args.list.now in
     let here = slice_get-get_or list i 0 c.loop-session-test.true in
-    let counts = c.loop-session.replay.counts.items in
+    let counts = c.loop-session.replay.naming.counts.items in
     let at = c.loop-session.invariant.0 in
     let next = MatchOption-at_some _ _ c.unwrap-next.result c.unwrap-next.ensures c.name_next.ensures.next in
     let is : c.unwrap-next.result ≡ c.args.op = only-same c.args.op c.unwrap-next.result (sym c.eq.ensures ∙ c.if-eq.true) in (
       i,
       subst (λ (o : OpId). StandsAt (named list) i o) is
-          (named_here g.O.SeqObject.stands g.O.SeqObject.answer c.args.h.now c.args.v.now (only c.args.op) list i (get_or list i 0) here
-          counts at.counting c.unwrap-next.result next.0 next.1 c.name_next.new.self.counts.items next.2),
+          (named_here c.args.h.now c.args.v.now list i (get_or list i 0) here
+          counts at.counting c.unwrap-next.result next.0 next.1 c.name_next.new.self.naming.counts.items next.2),
       record {
-        counting = counting g.O.SeqObject.stands g.O.SeqObject.answer c.args.h.now c.args.v.now (only c.args.op) list i (get_or list i 0) here
-            counts at.counting c.unwrap-next.result next.0 next.1 c.name_next.new.self.counts.items next.2;
+        counting = counting c.args.h.now c.args.v.now list i (get_or list i 0) here
+            counts at.counting c.unwrap-next.result next.0 next.1 c.name_next.new.self.naming.counts.items next.2;
         state = subst (λ object. g.O.SeqObject.stands object c.args.h.now.0 (calls c.args.h.now (filter (counted c.args.v.now c.args.op) (take i (named list)))))
             (sym c.name_next.ensures.object) at.state;
       },
@@ -49,17 +50,17 @@ loop-session-preserved g c =
     let i = c.loop-session.session-index in
     let list = c.args.list.now in
     let here = slice_get-get_or list i 0 c.loop-session-test.true in
-    let counts = c.loop-session.replay.counts.items in
+    let counts = c.loop-session.replay.naming.counts.items in
     let at = c.loop-session.invariant.0 in
     let next = MatchOption-at_some _ _ c.unwrap-next.result c.unwrap-next.ensures c.name_next.ensures.next in
-    let stands = named_here g.O.SeqObject.stands g.O.SeqObject.answer c.args.h.now c.args.v.now (only c.args.op) list i (get_or list i 0) here
-    counts at.counting c.unwrap-next.result next.0 next.1 c.name_next.new.self.counts.items next.2 in
+    let stands = named_here c.args.h.now c.args.v.now list i (get_or list i 0) here
+    counts at.counting c.unwrap-next.result next.0 next.1 c.name_next.new.self.naming.counts.items next.2 in
     let taken = c.in_ok-take_in_counted.ensures.state (take i (named list))
     (subst (λ object. g.O.SeqObject.stands object c.args.h.now.0 (calls c.args.h.now (filter (counted c.args.v.now c.args.op) (take i (named list)))))
     (sym c.name_next.ensures.object) at.state) in (
       record {
-        counting = counting g.O.SeqObject.stands g.O.SeqObject.answer c.args.h.now c.args.v.now (only c.args.op) list i (get_or list i 0) here
-            counts at.counting c.unwrap-next.result next.0 next.1 c.take_in_counted.new.self.counts.items
+        counting = counting c.args.h.now c.args.v.now list i (get_or list i 0) here
+            counts at.counting c.unwrap-next.result next.0 next.1 c.take_in_counted.new.self.naming.counts.items
             (c.in_ok-take_in_counted.ensures.counts ∙ next.2);
         state = subst (λ (ops : List OpId). g.O.SeqObject.stands c.take_in_counted.new.self.object c.args.h.now.0
             (calls c.args.h.now (filter (counted c.args.v.now c.args.op) ops))) (sym (take_next (named list) i c.unwrap-next.result stands)) taken;

@@ -1,0 +1,27 @@
+use Rattle.std.proofs.Common.{◌≡◌, List, ℕ, get_or, length, ap, ◌∙◌, sym}
+use Rattle.std.proofs.lemmas.Bool.{both_ways}
+use Rattle.causal_order.specs.Vectors.{count}
+use Rattle.cert_check.proofs.SchedulePieces.{schedule-ends, schedule-from, schedule-named}
+use Rattle.cert_check.proofs.scheduled.is_schedule.Goals as goal
+
+pub returns-clause-exact : goal.returns-clause-exact
+returns-clause-exact g c =
+    let h = c.args.h.now in
+    let v = c.args.v.now in
+    let o = c.args.op in
+    let list = c.args.schedule.now in
+    let counts = c.go_on.new.self.counts.items in
+    let at = c.go_on.ensures.on c.if-not-go_on.false in
+    let vector : (s : ℕ) → get_or c.get.result.now s 0 ≡ count v o s = λ s. ap (λ (xs : List ℕ). get_or xs s 0) c.get.ensures in (
+      (λ ended. (
+        c.vector_ok.ensures.0 c.if-not-vector_ok.false,
+        schedule-from h v o list (c.go_on.ensures.exact.0 c.if-not-go_on.false) (length h.1) counts at (λ s. c.ends_at.ensures.0 ended s ∙ vector s),
+      )),
+      λ good. c.ends_at.ensures.1 (λ s. schedule-ends h v o list good.1 (length h.1) counts at s ∙ sym (vector s)),
+    )
+
+pub returns-then-not-go_on-clause-exact : goal.returns-then-not-go_on-clause-exact
+returns-then-not-go_on-clause-exact g c = (
+  (λ e. absurd cc),
+  λ good. absurd (both_ways c.go_on.result c.if-not-go_on.true (c.go_on.ensures.exact.1 (schedule-named c.args.h.now c.args.v.now c.args.op c.args.schedule.now good.1))),
+)
