@@ -1,3 +1,4 @@
+pub mod CutWalks
 pub mod SourceLimits
 pub mod SourceSchedules
 pub mod Explained

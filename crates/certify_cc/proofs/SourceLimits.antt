@@ -16,8 +16,9 @@ use Rattle.causal_order.specs.Orders.{op}
 use Rattle.memory_order.specs.SourceOrder.{CountsSourceOrder, SourceOrder}
 use Rattle.causal_order.specs.Topological.{IsFullWalk}
 use Rattle.causal_order.specs.Schedules.{placed}
-use Rattle.causal_order.specs.Vectors.{Counts, count, IsCounted}
+use Rattle.causal_order.specs.Vectors.{Counts, count, list_of, IsCounted}
 use Rattle.certify_cc.specs.BySources.{AreApart}
+use Rattle.certify_cc.specs.Steps.Cuts.{AreClosed, IsCountedOn}
 
 module _ (h : MemoryHistory) (v : Counts) (order : CountsSourceOrder h v) (o w : OpId) (is_op : IsOp h o) (before : SourceOrder h w o)
     (limits : List ℕ) (apart : AreApart v o w limits) where
@@ -103,3 +104,22 @@ module _ (h : MemoryHistory) (v : Counts) (order : CountsSourceOrder h v) (o w :
       let most = walk-within v limits [] first full.walk s in
       let least = closed-reached h v order limits [] first full limit-held limit-closed s in
       omega arith
+
+  -- so a walk can be cut to them
+  pub apart_closed : AreClosed v limits
+  apart_closed = record {
+    each = λ b a listed below counts. let same = order.vectors.one_each.operations b.session in limit-closed a b (omega arith) below counts;
+  }
+
+-- a walk can be cut to the past of an operation
+pub past_closed : (h : MemoryHistory) (v : Counts) → CountsSourceOrder h v → (o : OpId) → IsOp h o → AreClosed v (list_of v o)
+past_closed h v order o is_op = record { each = λ b a listed below counts. counted-counted h v order o b a is_op below counts }
+
+-- the vectors of a session count on what one of them counts
+pub counted_on : (h : MemoryHistory) (v : Counts) → CountsSourceOrder h v → (w : OpId) → IsCountedOn v w
+counted_on h v order w = record {
+  each = λ s i j below listed counts.
+      let same = order.vectors.one_each.operations s in
+      let is_op : IsOp h (op s j) = omega arith in
+      counted-counted h v order (op s j) (op s i) w is_op (counts-before h v order (op s j) (op s i) is_op (program-before h s i j below is_op)) counts;
+}

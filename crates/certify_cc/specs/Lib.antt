@@ -1,1 +1,2 @@
 pub mod BySources
+pub mod Steps

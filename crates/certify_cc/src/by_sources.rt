@@ -10,9 +10,11 @@ ghost use Rattle.memory_order.specs.SourceOrder.{CountsSourceOrder, IsCyclic, La
 ghost use Rattle.causal_order.specs.Vectors.{HasOneEach, list_of};
 ghost use Rattle.cert_check.specs.Certificates.{criterion_of, HasShapeOf, IsExplainedThroughout};
 ghost use Rattle.certify_cc.specs.BySources.{IsBySources, IsScheduleFor};
+ghost use Rattle.certify_cc.specs.Steps.Cuts.{IsWalkOfAll};
 
+use crate::cutting::walk_of_all;
 use crate::schedule::schedule_of;
-use causal_order::{Rows, Vectors};
+use causal_order::{Rows, Vectors, Walk};
 use cert_check::{Certificate, Criterion, Schedules};
 use history::{History, MAX_SESSIONS, OpId};
 use memory_order::{CausalOrder, IndexedMemory};
@@ -27,7 +29,7 @@ use std::alloc::{AllocError, Global};
 /// order is cyclic, or where a read has no source. The certificate explains all known returns where none of them is an
 /// overwritten value; else that is for the checker of certificates to say. So on distinct values, where no bad pattern
 /// against causal consistency is present, there is one and it shows the criterion. Fails for want of memory alone.
-/// O(n p k) for n operations of k sessions and pasts of at most p operations.
+/// O(n (n + p k)) for n operations of k sessions, where at most p operations of a past count the source of its read.
 pub fn make_by_sources(
     alloc: Global,
     h: &History<Memory>,
@@ -49,7 +51,7 @@ pub fn make_by_sources(
 
 /// The certificate that [`make_by_sources`] makes, for a caller that has the causal order already.
 ///
-/// Fails for want of memory alone. O(n p k) for n operations of k sessions and pasts of at most p operations.
+/// Fails for want of memory alone. O(n (n + p k)) for n operations of k sessions, where at most p operations of a past count the source of its read.
 pub fn make_by_order(alloc: Global, order: &CausalOrder) -> Result<Certificate, AllocError>
     ensures criterion { IfOk result (λ c. criterion_of c ≡ Criterion.Cc) }
     ensures shape { IfOk result (HasShapeOf order.now) }
@@ -74,14 +76,16 @@ fn schedules_by_sources(
     ensures exact { IfOk result (λ schedules. (o : Operation) → IsOp order.now o
         → IsScheduleFor order.now vectors.now o (list_of schedules o)) }
 {
+    let whole = walk_of_all(alloc, order.memory().history(), vectors)?;
     Schedules::from_sessions(
         alloc,
         order.memory().history().sessions(),
         |session|
             requires counts { CountsSourceOrder order.now vectors.now }
+            requires whole { IsWalkOfAll vectors.now whole }
             requires few { length order.now.1 ≤ MAX_SESSIONS }
             requires exists { session < length order.now.1 }
-        { schedules_of(alloc, order, vectors, session) },
+        { schedules_of(alloc, order, vectors, &whole, session) },
     )
 }
 
@@ -90,20 +94,18 @@ fn schedules_of(
     alloc: Global,
     order: &CausalOrder,
     vectors: &Vectors,
+    whole: &Walk,
     session: usize,
 ) -> Result<Rows<u8>, AllocError>
     requires counts { CountsSourceOrder order.now vectors.now }
+    requires whole { IsWalkOfAll vectors.now whole.now }
     requires few { length order.now.1 ≤ MAX_SESSIONS }
     requires exists { session < length order.now.1 }
     ensures { IfOk result (AreListsOf order.now (IsScheduleFor order.now vectors.now) session) }
 {
     let mut schedules = Rows::new(alloc);
     for index in 0..order.memory().history().len(session) {
-        let op = OpId {
-            session: session as u64,
-            index: index as u64,
-        };
-        let walk = schedule_of(alloc, vectors, op, order.source(op))?;
+        let walk = schedule_of(alloc, order, vectors, whole, OpId::at(session, index))?;
         schedules.push(walk.schedule())?;
     }
     Ok(schedules)

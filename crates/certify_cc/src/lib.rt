@@ -3,6 +3,7 @@
 
 mod as_advised;
 mod by_sources;
+mod cutting;
 pub mod laws;
 mod schedule;
 

@@ -1,38 +1,43 @@
 //! Schedules of the past of an operation.
 
-ghost use Rattle.std.specs.Prelude.{◌≡◌, ◌<◌, ◌≤◌, ℕ, [], length, IfOk, MatchOption, Some, slice_index_or};
-ghost use Rattle.history.specs.declared.op_id.OpId.{OpId as Operation};
-ghost use Rattle.causal_order.specs.Vectors.{IsListed, list_of};
-ghost use Rattle.causal_order.specs.Topological.{AreSquare, IsFullWalk};
-ghost use Rattle.certify_cc.specs.BySources.{AreApart, IsApart, IsBySource};
+ghost use Rattle.std.specs.Prelude.{◌<◌, ◌≤◌, ℕ, length, IfOk, slice_index_or};
+ghost use Rattle.history.specs.History.{IsOp};
+ghost use Rattle.causal_order.specs.Vectors.{IsListed};
+ghost use Rattle.causal_order.specs.Topological.{AreSquare};
+ghost use Rattle.memory_order.specs.SourceOrder.{CountsSourceOrder};
+ghost use Rattle.certify_cc.specs.BySources.{AreApart, IsApart, IsScheduleFor};
+ghost use Rattle.certify_cc.specs.Steps.Cuts.{IsCountedOn, IsWalkOfAll};
 
-use causal_order::{MAX_PLACED, Vectors, Walk};
+use crate::cutting::cut_to;
+use causal_order::{MAX_PLACED, Vectors, Walk, has_counted};
 use history::{MAX_SESSIONS, OpId};
+use memory_order::CausalOrder;
 use std::alloc::{AllocError, Global};
 
-/// A walk through the past of an operation by the topological rule. Where the operation has a source, what isn't after
+/// The schedule of an operation: a walk through its past by the topological rule. Where it has a source, what isn't after
 /// the source comes first, then the source, then the rest.
 ///
-/// Fails for want of memory alone. O(p k) for a past of p operations of k sessions.
+/// Fails for want of memory alone. O(n + p k) for n operations of k sessions, p of which are in the past and count the
+/// source.
 pub fn schedule_of(
     alloc: Global,
+    order: &CausalOrder,
     vectors: &Vectors,
+    whole: &Walk,
     op: OpId,
-    source: Option<OpId>,
 ) -> Result<Walk, AllocError>
+    requires counts { CountsSourceOrder order.now vectors.now }
     requires few { length vectors.now ≤ MAX_SESSIONS }
-    requires square { AreSquare vectors.now }
-    requires listed { IsListed vectors.now op }
-    requires source { (w : Operation) → source ≡ Some w → IsListed vectors.now w }
-    ensures { IfOk result (λ schedule. MatchOption source (IsFullWalk vectors.now (list_of vectors.now op) [] schedule)
-        (λ w. IsBySource vectors.now op w schedule)) }
+    requires whole { IsWalkOfAll vectors.now whole.now }
+    requires is_op { IsOp order.now op }
+    ensures { IfOk result (IsScheduleFor order.now vectors.now op) }
 {
-    let mut walk = Walk::new(alloc);
-    if let Some(write) = source {
-        let limits = limits_apart_from(alloc, vectors, op, write)?;
-        walk.run_to(vectors, &limits)?;
-        walk.place(write.session as usize)?;
-    }
+    let Some(write) = order.source(op) else {
+        return cut_to(alloc, vectors, whole, vectors.get(op));
+    };
+    let limits = limits_apart_from(alloc, vectors, op, write)?;
+    let mut walk = cut_to(alloc, vectors, whole, &limits)?;
+    walk.place(write.session as usize)?;
     walk.run_to(vectors, vectors.get(op))?;
     Ok(walk)
 }
@@ -47,7 +52,7 @@ fn limits_apart_from(
     requires few { length vectors.now ≤ MAX_SESSIONS }
     requires square { AreSquare vectors.now }
     requires listed { IsListed vectors.now op }
-    requires write { IsListed vectors.now write }
+    requires rising { IsCountedOn vectors.now write }
     ensures apart { IfOk result (λ limits. AreApart vectors.now op write limits.items) }
     ensures small { IfOk result (λ limits. (s : ℕ) → s < length vectors.now → slice_index_or limits.items s 0 < MAX_PLACED) }
 {
@@ -60,22 +65,22 @@ fn limits_apart_from(
 }
 
 /// How many of the first operations of a session, up to a limit, have a vector that doesn't count a write.
+///
+/// O(log p) for p operations up to the limit: from the first one that counts it on, all do.
 fn limit_apart_from(vectors: &Vectors, session: usize, limit: u16, write: OpId) -> u16
-    requires few { length vectors.now ≤ MAX_SESSIONS }
-    requires square { AreSquare vectors.now }
     requires exists { session < length vectors.now }
-    requires write { IsListed vectors.now write }
+    requires rising { IsCountedOn vectors.now write }
     ensures { IsApart vectors.now write session limit result }
 {
-    let end = vectors.operations(session).min(limit as usize);
-    for index in 0..end {
-        let op = OpId {
-            session: session as u64,
-            index: index as u64,
-        };
-        if write.index < vectors.get(op)[write.session as usize] as u64 {
-            return index as u16;
+    let mut free = 0;
+    let mut end = vectors.operations(session).min(limit as usize);
+    while free < end {
+        let middle = free + (end - free) / 2;
+        if has_counted(vectors, OpId::at(session, middle), write) {
+            end = middle;
+        } else {
+            free = middle + 1;
         }
     }
-    end as u16
+    free as u16
 }

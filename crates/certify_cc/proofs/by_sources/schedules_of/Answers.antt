@@ -1,29 +1,18 @@
 use Rattle.std.proofs.Common.{List, ℕ, sym, subst, arith}
+use Rattle.history.specs.declared.op_id.OpId.{OpId}
 use Rattle.causal_order.specs.Orders.{op}
 use Rattle.causal_order.proofs.GatheredLaws.{lists-push}
-use Rattle.memory_order.proofs.IndexedLaws.{if_any-source}
-use Rattle.memory_order.proofs.SourcedLaws.{listed-source}
 use Rattle.certify_cc.specs.BySources.{IsScheduleFor}
 use Rattle.certify_cc.proofs.by_sources.schedules_of.Goals as goal
 
 pub schedule_of-requires-clause-few : goal.schedule_of-requires-clause-few
 schedule_of-requires-clause-few c = let sessions = c.requires.counts.vectors.one_each.sessions in omega arith
 
-pub schedule_of-requires-clause-source : goal.schedule_of-requires-clause-source
-schedule_of-requires-clause-source c =
-    let o = op c.args.session c.loop-index.index in
-    listed-source c.args.order.now c.args.vectors.now c.requires.counts.vectors o c.source.result
-    (if_any-source c.args.order.now c.requires.counts.sources o c.source.result c.source.ensures)
-
 pub loop-index-preserved : goal.loop-index-preserved
 loop-index-preserved c =
     let o = op c.args.session c.loop-index.index in
     let holds = IsScheduleFor c.args.order.now c.args.vectors.now in
-    let made : holds o c.in_ok-walk.walk = record {
-      source = c.source.result;
-      is_source = if_any-source c.args.order.now c.requires.counts.sources o c.source.result c.source.ensures;
-      walk = c.in_ok-walk.ensures;
-    } in
     rw c.in_ok-push.ensures.ok
     (lists-push holds c.args.session c.loop-index.index c.loop-index.schedules c.schedule.result.now c.loop-index.invariant
-    (subst (λ (xs : List ℕ). holds o xs) (sym c.schedule.ensures) made))
+    (subst (λ (xs : List ℕ). holds o xs) (sym c.schedule.ensures)
+    (subst (λ (x : OpId). holds x c.in_ok-walk.walk) c.at.ensures c.in_ok-walk.ensures)))

@@ -1,8 +1,16 @@
-use Rattle.std.proofs.Common.{◌<◌, ℕ}
+use Rattle.std.proofs.Common.{◌<◌, ◌≤◌, ◌-◌, ℕ, [], length, get_or, min}
 use Rattle.causal_order.specs.Orders.{op}
 use Rattle.causal_order.specs.Vectors.{IsCounted}
 use Rattle.certify_cc.proofs.schedule.limit_apart_from.Given as goal
 
--- none of the operations so far counts the write
-abbrev pub invariant-loop-index : goal.invariant-loop-index
-invariant-loop-index l = (i : ℕ) → i < l.index → ¬ IsCounted l.vectors (op l.session i) l.write
+-- none of the first operations counts the write, and the one at the end does, if it is not the last
+abbrev pub invariant-loop-free : goal.invariant-loop-free
+invariant-loop-free l = record {
+  ordered : l.free ≤ l.end;
+  within : l.end ≤ min (length (get_or l.vectors l.session [])) l.limit;
+  uncounted : (i : ℕ) → i < l.free → ¬ IsCounted l.vectors (op l.session i) l.write;
+  counted : l.end < min (length (get_or l.vectors l.session [])) l.limit → IsCounted l.vectors (op l.session l.end) l.write;
+}
+
+abbrev pub decreases-loop-free : goal.decreases-loop-free
+decreases-loop-free l = l.end - l.free
