@@ -99,7 +99,9 @@ pub(crate) fn answer_of_pieces<O: Judged + Send + Sync, T: Threads + Wait + Sync
     }
 }
 
-// What the certificate of a case file shows.
+/// What the certificate of a case file shows, its pieces checked by workers, at most as many as are given.
+///
+/// Fails for want of memory alone. The cost is that of `check_piece` for each operation, shared by the workers.
 #[tactic(auto, using(crate::proofs::JudgeErrors::memory_alone))]
 pub fn answer_of_file<O: Judged + Send + Sync, T: Threads + Wait + Sync>(
     rt: &T,

@@ -54,7 +54,9 @@ pub fn drive_with<T: Threads + Wait + Sync, G: Gate>(
     }
 }
 
-// What a drive writes for the history in the input.
+/// What a drive of its store writes for the history in the input, as [`drive_with`] drives it, at an open gate.
+///
+/// Refuses what is no history, and what the drive refuses. O(n) for n bytes, and what [`drive_with`] takes.
 pub fn drive_input<T: Threads + Wait + Sync>(
     rt: &T,
     alloc: Global,

@@ -9,14 +9,14 @@ ghost use Rattle.engine.specs.Report.{IsReportOn, text_for};
 ghost use Rattle.engine.specs.Running.{Fails, IsAnswerError};
 
 use crate::failure::RunError;
-use crate::input::{MAX_READ_CALLS, read_input};
+use crate::input::read_input;
 use crate::judging::report_on;
 use crate::judging_alone::report_alone;
 use crate::output::write_answer;
 use crate::report::{Report, report_text};
 use collector::Answer;
 use command_line::{Expected, Judging, Order};
-use lines::{Outcome, Source};
+use lines::{MAX_READ_CALLS, Outcome, Source};
 use operations::read_history;
 use std::alloc::Global;
 use std::io::Write;

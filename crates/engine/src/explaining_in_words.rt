@@ -23,7 +23,8 @@ use std::thread::Threads;
 /// lines that begin with two spaces.
 ///
 /// Refuses what is no history, and fails for want of memory. It judges as [`report_on`](crate::report_on) does. Where a
-/// certificate does not explain an operation it is made once more, and the piece of the operation is replayed.
+/// certificate does not explain an operation it is made once more, and the piece of the operation is replayed. Beside that, O(n)
+/// for n bytes that are read and written.
 pub fn explain_in_words<T: Threads + Wait + Sync>(
     rt: &T,
     alloc: Global,

@@ -7,15 +7,12 @@ ghost use Rattle.engine.specs.ReadCalls.{CameTo, EndsBy, FindsNoEnd, IsEnd};
 ghost use Rattle.engine.specs.Steps.Transfer.{Gives, GivesPast, MovesTo};
 
 use crate::failure::RunError;
-use lines::Source;
+use lines::{MAX_READ_CALLS, Source};
 use std::alloc::Global;
 use std::io::ErrorKind;
 
 /// The most bytes of an input.
 pub const MAX_INPUT_BYTES: usize = 67_108_864;
-
-/// The most read calls of one run: each call counts, an interrupted one and the one that finds the end too.
-pub const MAX_READ_CALLS: u32 = 1_048_576;
 
 // How many bytes a read call asks for.
 const CHUNK_BYTES: usize = 65_536;
@@ -24,7 +21,7 @@ const CHUNK_BYTES: usize = 65_536;
 ///
 /// Refused are more than [`MAX_INPUT_BYTES`], at the first read that passes them. An interrupted read is made again.
 /// Any other error of the source is a read fault, and so is a source that did not come to its end in
-/// [`MAX_READ_CALLS`] calls.
+/// [`MAX_READ_CALLS`] calls. O(n) for n bytes.
 pub fn read_input<R: Source>(alloc: Global, reader: &mut R) -> Result<Vec<u8>, RunError>
     ensures all { IfOk result (λ input. IfSome (R.remaining reader.old) (λ bytes. input.items ≡ bytes)) }
     ensures end { OnOk result (IsAtEnd (R.remaining reader.new)) }
