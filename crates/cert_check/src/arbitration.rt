@@ -1,5 +1,6 @@
-ghost use Rattle.std.specs.Prelude.{◌≡◌, List, ℕ};
+ghost use Rattle.std.specs.Prelude.{◌≡◌, List, ℕ, IfOk};
 
+use std::alloc::{AllocError, Global};
 use std::marker::Model;
 
 /// One list of session numbers, each of which names that session's next operation.
@@ -20,6 +21,15 @@ impl Arbitration {
         ensures { result ≡ sessions.items }
     {
         Arbitration { sessions }
+    }
+
+    /// An equal list.
+    ///
+    /// Fails for want of memory alone. O(n) for n numbers.
+    pub fn copy(&self, alloc: Global) -> Result<Arbitration, AllocError>
+        ensures { IfOk result (λ copy. copy ≡ self.now) }
+    {
+        Ok(Arbitration::of(Vec::from_slice(alloc, self.sessions())?))
     }
 
     /// The session numbers, in order.

@@ -1,9 +1,10 @@
-ghost use Rattle.std.specs.Prelude.{◌≡◌};
+ghost use Rattle.std.specs.Prelude.{◌≡◌, IfOk};
 ghost use Rattle.cert_check.specs.Certificates.{criterion_of, vectors_of};
 
 use crate::arbitration::Arbitration;
 use crate::criterion::Criterion;
 use causal_order::{ByOperation, Vectors};
+use std::alloc::{AllocError, Global};
 
 /// For each operation, a list of session numbers, each of which names that session's next operation.
 pub type Schedules = ByOperation<u8>;
@@ -31,6 +32,25 @@ impl Certificate {
             Certificate::Cc(_, _) => Criterion::Cc,
             Certificate::Cm(_, _) => Criterion::Cm,
             Certificate::Ccv(_, _) => Criterion::Ccv,
+        }
+    }
+
+    /// An equal certificate.
+    ///
+    /// Fails for want of memory alone. O(m) for m counts and session numbers.
+    pub fn copy(&self, alloc: Global) -> Result<Certificate, AllocError>
+        ensures { IfOk result (λ copy. copy ≡ self.now) }
+    {
+        match self {
+            Certificate::Cc(vectors, schedules) => {
+                Ok(Certificate::Cc(vectors.copy(alloc)?, schedules.copy(alloc)?))
+            }
+            Certificate::Cm(vectors, schedules) => {
+                Ok(Certificate::Cm(vectors.copy(alloc)?, schedules.copy(alloc)?))
+            }
+            Certificate::Ccv(vectors, arbitration) => {
+                Ok(Certificate::Ccv(vectors.copy(alloc)?, arbitration.copy(alloc)?))
+            }
         }
     }
 

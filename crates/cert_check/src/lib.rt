@@ -4,6 +4,7 @@
 
 mod arbitrated;
 mod arbitration;
+mod at_most;
 mod case_file;
 mod cert_error;
 mod certificate;

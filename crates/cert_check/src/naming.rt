@@ -5,8 +5,9 @@ ghost use Rattle.causal_order.specs.Vectors.{count, AreVectorsOf, HasListOf};
 ghost use Rattle.cert_check.specs.Steps.Namings.{AreCountsAt, AreNamedWell, IsNamedWell};
 ghost use Rattle.cert_check.specs.Steps.Needs.{AreNeedsOf};
 
+use crate::at_most::are_at_most;
 use crate::need::Needs;
-use causal_order::{Vectors, is_at_most};
+use causal_order::Vectors;
 use history::{History, OpId};
 use object_trait::SeqObject;
 use std::alloc::{AllocError, Global};
@@ -52,14 +53,14 @@ impl Naming {
         requires { HasListOf v.now of }
         ensures { IsTrue result ↔ ((s : ℕ) → count v.now of s ≤ slice_index_or self.now.counts.items s 0) }
     {
-        is_at_most(v.get(of), &self.counts)
+        are_at_most(v.get(of), &self.counts)
     }
 
     /// Whether as many operations of each session were named as a vector counts.
     pub fn ends_at(&self, vector: &[u16]) -> bool
         ensures { IsTrue result ↔ ((s : ℕ) → slice_index_or self.now.counts.items s 0 ≡ slice_index_or vector.now s 0) }
     {
-        is_at_most(&self.counts, vector) && is_at_most(vector, &self.counts)
+        are_at_most(&self.counts, vector) && are_at_most(vector, &self.counts)
     }
 
     /// Names the next operation of a session. Whether it is there and comes after all others that its own vector counts.

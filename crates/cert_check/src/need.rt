@@ -3,7 +3,8 @@ ghost use Rattle.causal_order.specs.Orders.{op};
 ghost use Rattle.causal_order.specs.Vectors.{AreVectorsOf, HasListOf};
 ghost use Rattle.cert_check.specs.Steps.Needs.{vector_before, need_of, AreNeedsOf, IsCountCovered, IsCovered, IsMet, IsNeedOf};
 
-use causal_order::{Vectors, is_at_most};
+use crate::at_most::are_at_most;
+use causal_order::Vectors;
 use history::{History, OpId};
 use object_trait::SeqObject;
 use std::alloc::{AllocError, Global};
@@ -29,7 +30,7 @@ impl Need {
         match self {
             Need::Nothing => true,
             Need::After(session, index) => { index < at(counts, usize::from(session)) }
-            Need::Everything => is_at_most(v.get(of), counts),
+            Need::Everything => are_at_most(v.get(of), counts),
         }
     }
 }

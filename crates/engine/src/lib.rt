@@ -9,7 +9,6 @@ mod check_place;
 mod checking;
 mod checking_alone;
 mod claim_place;
-mod copying;
 mod drivable;
 mod driving;
 mod expecting;

@@ -10,7 +10,6 @@ ghost use Rattle.engine.specs.Steps.FoundedEvidence.{IsFoundedEvidenceOn, eviden
 
 use crate::certified::Evidence;
 use crate::checking::answer_of_pieces;
-use crate::copying::copy_certificate;
 use crate::failure::RunError;
 use crate::reason::Reason;
 use bad_patterns::laws::present_kinds_exclude_criteria;
@@ -157,7 +156,7 @@ fn evidence_by_certificate<O: Judged + Send + Sync, T: Threads + Wait + Sync>(
     ensures error { IfErr result (λ e. e ≡ RunError.Memory) }
 {
     history.value_is_history();
-    let kept = copy_certificate(alloc, &certificate)?;
+    let kept = certificate.copy(alloc)?;
     match answer_of_pieces(rt, alloc, history, certificate, workers) {
         Ok(answer) => Ok(evidence_of(answer, kept)),
         Err(_) => Err(RunError::Memory),

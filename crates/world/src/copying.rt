@@ -2,7 +2,7 @@
 
 ghost use Rattle.std.specs.Prelude.{◌≡◌, IfOk};
 
-use cert_check::{Arbitration, Certificate};
+use cert_check::Certificate;
 use std::alloc::{AllocError, Global};
 
 /// An equal certificate, where there is one.
@@ -14,31 +14,6 @@ pub(crate) fn copy_of(
 {
     match certificate {
         None => Ok(None),
-        Some(offered) => Ok(Some(copy_certificate(alloc, offered)?)),
+        Some(offered) => Ok(Some(offered.copy(alloc)?)),
     }
-}
-
-/// An equal certificate.
-fn copy_certificate(alloc: Global, certificate: &Certificate) -> Result<Certificate, AllocError>
-    ensures { IfOk result (λ copy. copy ≡ certificate.now) }
-{
-    match certificate {
-        Certificate::Cc(vectors, schedules) => {
-            Ok(Certificate::Cc(vectors.copy(alloc)?, schedules.copy(alloc)?))
-        }
-        Certificate::Cm(vectors, schedules) => {
-            Ok(Certificate::Cm(vectors.copy(alloc)?, schedules.copy(alloc)?))
-        }
-        Certificate::Ccv(vectors, arbitration) => Ok(Certificate::Ccv(
-            vectors.copy(alloc)?,
-            copy_arbitration(alloc, arbitration)?,
-        )),
-    }
-}
-
-/// An equal list.
-fn copy_arbitration(alloc: Global, arbitration: &Arbitration) -> Result<Arbitration, AllocError>
-    ensures { IfOk result (λ copy. copy ≡ arbitration.now) }
-{
-    Ok(Arbitration::of(Vec::from_slice(alloc, arbitration.sessions())?))
 }
