@@ -1,4 +1,4 @@
-ghost use Rattle.std.specs.Prelude.{◌≡◌, ◌↔◌, List, [], ◌∷◌, ◌++◌, Bool, true, IsTrue, IfOk, OnErr};
+ghost use Rattle.std.specs.Prelude.{◌≡◌, ◌↔◌, List, [], ◌∷◌, ◌++◌, Bool, true, false, IsTrue, IfOk, OnErr};
 
 use std::alloc::{AllocError, Global};
 
@@ -22,6 +22,9 @@ pub trait SeqObject: Drop + Sized {
 
     /// A query changes no later answer.
     ghost query: { Self.Call → Bool };
+
+    /// The answer to the first call may depend on whether the second came before it.
+    ghost depends: { Self.Call → Self.Call → Bool };
 
     /// A return is of a kind that the call may have.
     ghost matches: { Self.Call → Self.Ret → Bool };
@@ -63,6 +66,10 @@ pub trait SeqObject: Drop + Sized {
     fn is_query(call: &Self::Call) -> bool
         ensures { result ≡ query call.now };
 
+    /// Whether the answer to the call may depend on another that came before it.
+    fn depends_on(call: &Self::Call, other: &Self::Call) -> bool
+        ensures { result ≡ depends call.now other.now };
+
     /// Whether the return is of a kind that the call may have.
     fn fits(call: &Self::Call, ret: &Self::Ret) -> bool
         ensures { result ≡ matches call.now ret.now };
@@ -73,6 +80,9 @@ pub trait SeqObject: Drop + Sized {
 
     ghost query_changes_nothing: { (s : Self.Start) (before after : List Self.Call) (q c : Self.Call) → query q ≡ true
         → answer s (before ++ q ∷ after) c ≡ answer s (before ++ after) c };
+
+    ghost others_change_nothing: { (s : Self.Start) (before after : List Self.Call) (o c : Self.Call) → depends c o ≡ false
+        → answer s (before ++ o ∷ after) c ≡ answer s (before ++ after) c };
 
     ghost equal_calls: { (a b : Self.Call) → (Self.Call.eq a b ≡ true) ↔ (a ≡ b) };
 

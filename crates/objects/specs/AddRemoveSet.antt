@@ -41,6 +41,12 @@ is_has (Add e) = false
 is_has (Remove e) = false
 is_has (Has e) = true
 
+-- a has depends on the adds and removes of its element before it
+abbrev pub depends : SetCall → SetCall → Bool
+depends (Add e) other = false
+depends (Remove e) other = false
+depends (Has e) other = changes e other
+
 -- an add or a remove answers Done, and a has whether the element is there
 abbrev pub matches : SetCall → SetRet → Bool
 matches (Add e) Done = true

@@ -1,10 +1,11 @@
 -- What holds of the answers of a set: the laws of an object, and that equality is equality of values.
-use Rattle.std.specs.Prelude.{◌≡◌, ℕ, ◌==◌, List, ◌∷◌, ◌++◌, unwrap_or, option_map, Bool, true, false, None, refl}
+use Rattle.std.specs.Prelude.{◌≡◌, ℕ, ◌==◌, List, ◌∷◌, ◌++◌, filter, unwrap_or, option_map, Bool, true, false, None, refl}
 use Rattle.std.specs.List.{last_or}
 use Rattle.std.specs.Bool.{beq}
 use Rattle.std.proofs.Common.{ap, sym, ◌∙◌}
+use Rattle.std.proofs.lemmas.Bool.{cond-false}
 use Rattle.std.proofs.lemmas.List.Elements.{filter-append}
-use Rattle.objects.specs.AddRemoveSet.{changes, is_add, has, answer, is_has, matches}
+use Rattle.objects.specs.AddRemoveSet.{changes, is_add, has, answer, is_has, depends, matches}
 use Rattle.objects.specs.Equal.{same_of_part, same_numbers, same_truths}
 use Rattle.objects.specs.declared.add_remove_set.SetCall.{SetCall}
 use Rattle.objects.specs.declared.add_remove_set.SetCall.TheVariants.{Add, Remove, Has}
@@ -29,6 +30,20 @@ pub query_changes_nothing : (start : Unit {0}) (before after : List SetCall) (q 
 query_changes_nothing start before after q (Add e) h = refl
 query_changes_nothing start before after q (Remove e) h = refl
 query_changes_nothing start before after q (Has e) h = ap HasAnswer (has-query e before after q h)
+
+pub has-other : (element : ℕ) (before after : List SetCall) (other : SetCall) → changes element other ≡ false
+    → has element (before ++ other ∷ after) ≡ has element (before ++ after)
+has-other element before after other e =
+    ap (λ calls. unwrap_or (option_map is_add (last_or None calls)) false)
+    (filter-append (changes element) before (other ∷ after)
+    ∙ ap (λ calls. filter (changes element) before ++ calls) (cond-false (changes element other) (other ∷ filter (changes element) after) (filter (changes element) after) e)
+    ∙ sym (filter-append (changes element) before after))
+
+pub others_change_nothing : (start : Unit {0}) (before after : List SetCall) (other call : SetCall) → depends call other ≡ false
+    → answer start (before ++ other ∷ after) call ≡ answer start (before ++ after) call
+others_change_nothing start before after other (Add e) h = refl
+others_change_nothing start before after other (Remove e) h = refl
+others_change_nothing start before after other (Has e) h = ap HasAnswer (has-other e before after other h)
 
 -- equality of calls and of returns is equality of values, by constructors
 

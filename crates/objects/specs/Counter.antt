@@ -29,6 +29,11 @@ abbrev pub is_get : CounterCall → Bool
 is_get Increment = false
 is_get Get = true
 
+-- a get depends on the increments before it
+abbrev pub depends : CounterCall → CounterCall → Bool
+depends Increment other = false
+depends Get other = is_increment other
+
 -- an increment answers Done, and a get a value
 abbrev pub matches : CounterCall → CounterRet → Bool
 matches Increment Done = true

@@ -1,8 +1,8 @@
 -- What holds of the answers of a counter: the laws of an object, and that equality is equality of values.
-use Rattle.std.specs.Prelude.{◌≡◌, min, ℕ, List, ◌∷◌, ◌++◌, true, refl}
+use Rattle.std.specs.Prelude.{◌≡◌, min, ℕ, List, ◌∷◌, ◌++◌, true, false, refl}
 use Rattle.std.proofs.Common.{ap, cond, ◌+◌, ◌==◌}
 use Rattle.std.proofs.lemmas.List.Sums.{sum_by-append, sum_by-cons}
-use Rattle.objects.specs.Counter.{GREATEST, is_increment, increments, answer, is_get, matches}
+use Rattle.objects.specs.Counter.{GREATEST, is_increment, increments, answer, is_get, depends, matches}
 use Rattle.objects.specs.Equal.{same_of_part, same_numbers}
 use Rattle.objects.specs.declared.counter.CounterCall.{CounterCall}
 use Rattle.objects.specs.declared.counter.CounterCall.TheVariants.{Increment, Get}
@@ -25,6 +25,12 @@ pub query_changes_nothing : (start : Unit {0}) (before after : List CounterCall)
     → answer start (before ++ q ∷ after) call ≡ answer start (before ++ after) call
 query_changes_nothing start before after q Increment e = refl
 query_changes_nothing start before after q Get e = ap (λ n. Value (min n GREATEST)) (increments-query before after q e)
+
+pub others_change_nothing : (start : Unit {0}) (before after : List CounterCall) (other call : CounterCall) → depends call other ≡ false
+    → answer start (before ++ other ∷ after) call ≡ answer start (before ++ after) call
+others_change_nothing start before after other Increment e = refl
+others_change_nothing start before after Get Get e = query_changes_nothing start before after Get Get refl
+others_change_nothing start before after Increment Get e = absurd cc
 
 -- equality of calls and of returns is equality of values, by constructors
 

@@ -1,5 +1,5 @@
 -- What a keyed object answers: at each key, what one object answers after the calls with that key.
-use Rattle.std.specs.Prelude.{◌≡◌, ℕ, ◌==◌, List, [], map, filter, MatchOption}
+use Rattle.std.specs.Prelude.{◌≡◌, ℕ, ◌==◌, ◌&&◌, Bool, List, [], map, filter, MatchOption}
 use Rattle.objects.specs.declared.keyed.KeyedCall.{KeyedCall}
 use Rattle.objects.specs.Table.{value_at, start_at}
 
@@ -20,6 +20,10 @@ module _ {S C R : Type 0} where
       → start_at plain s c.key ≡ start_at plain t c.key
       → calls_at c.key before ≡ calls_at c.key after
       → answers s before c ≡ answers t after c
+
+-- a call depends on calls with its key alone
+abbrev pub depends : {C : Type 0} → (C → C → Bool) → KeyedCall C → KeyedCall C → Bool
+depends inner c other = (other.key == c.key) && inner c.call other.call
 
 module _ {S C O : Type 0} where
   -- a table of starts and a list of states stand for a start and calls: the table is the start, and the state at a key

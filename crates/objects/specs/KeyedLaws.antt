@@ -6,7 +6,7 @@ use Rattle.std.proofs.lemmas.List.{map-append}
 use Rattle.std.proofs.lemmas.List.Elements.{All-nil, filter-append}
 use Rattle.objects.specs.declared.keyed.KeyedCall.{KeyedCall}
 use Rattle.objects.specs.Table.{IsTable, start_at}
-use Rattle.objects.specs.Keyed.{calls_at, answer}
+use Rattle.objects.specs.Keyed.{calls_at, answer, depends}
 
 pub empty_is_table : {S : Type 0} (plain : S) (is_start : S → Type 0) → IsTable plain is_start []
 empty_is_table plain is_start = record {
@@ -37,6 +37,19 @@ module _ {S C R : Type 0} (plain : S) (inner : S → List C → C → R) (query 
       (λ (here : (q.key == c.key) ≡ true). rw (calls_at-here c.key q after here) (silent (start_at plain start c.key) (calls_at c.key before) (calls_at c.key after) q.call c.call e))
       (λ (apart : (q.key == c.key) ≡ false). rw (calls_at-apart c.key q after apart) refl)
       (cases_Bool (q.key == c.key)))
+
+module _ {S C R : Type 0} (plain : S) (inner : S → List C → C → R) (inner_depends : C → C → Bool)
+    (silent : (s : S) (before after : List C) (o c : C) → inner_depends c o ≡ false → inner s (before ++ o ∷ after) c ≡ inner s (before ++ after) c) where
+  pub keyed_others_change_nothing : (start : List (ℕ × S)) (before after : List (KeyedCall C)) (o c : KeyedCall C) → depends inner_depends c o ≡ false
+      → answer plain inner start (before ++ o ∷ after) c ≡ answer plain inner start (before ++ after) c
+  keyed_others_change_nothing start before after o c e =
+      rw (calls_at-append c.key before (o ∷ after), calls_at-append c.key before after)
+      (⊎_elim
+      (λ (here : (o.key == c.key) ≡ true).
+      let not_inner : inner_depends c.call o.call ≡ false = rw here at e in
+      rw (calls_at-here c.key o after here) (silent (start_at plain start c.key) (calls_at c.key before) (calls_at c.key after) o.call c.call not_inner))
+      (λ (apart : (o.key == c.key) ≡ false). rw (calls_at-apart c.key o after apart) refl)
+      (cases_Bool (o.key == c.key)))
 
 module _ {C : Type 0} (eq : C → C → Bool) (decides : (a b : C) → (eq a b ≡ true) ↔ (a ≡ b)) where
   pub equal_keyed_calls : (a b : KeyedCall C) → (((a.key == b.key) && eq a.call b.call) ≡ true) ↔ (a ≡ b)

@@ -22,6 +22,11 @@ answer start calls Pop = Popped (slice_get (left calls) 0)
 abbrev pub is_query : QueueCall → Bool
 is_query call = false
 
+-- a pop depends on each call before it
+abbrev pub depends : QueueCall → QueueCall → Bool
+depends (Push v) other = false
+depends Pop other = true
+
 -- a push answers Done, and a pop what was popped
 abbrev pub matches : QueueCall → QueueRet → Bool
 matches (Push v) Done = true

@@ -1,9 +1,9 @@
 -- What holds of the answers of a queue: the laws of an object, and that equality is equality of values.
-use Rattle.std.specs.Prelude.{◌≡◌, ℕ, List, ◌∷◌, ◌++◌, true, Option, refl}
+use Rattle.std.specs.Prelude.{◌≡◌, ℕ, List, ◌∷◌, ◌++◌, true, false, Option, refl}
 use Rattle.std.specs.Option.{option_eq}
 use Rattle.std.proofs.Common.{◌==◌}
 use Rattle.objects.specs.Equal.{same_of_part, same_numbers, same_options}
-use Rattle.objects.specs.Queue.{answer, is_query, matches}
+use Rattle.objects.specs.Queue.{answer, is_query, depends, matches}
 use Rattle.objects.specs.declared.queue.QueueCall.{QueueCall}
 use Rattle.objects.specs.declared.queue.QueueCall.TheVariants.{Push, Pop}
 use Rattle.objects.specs.declared.queue.QueueRet.{QueueRet}
@@ -16,6 +16,11 @@ answer_fits start calls Pop = refl
 pub query_changes_nothing : (start : Unit {0}) (before after : List QueueCall) (q call : QueueCall) → is_query q ≡ true
     → answer start (before ++ q ∷ after) call ≡ answer start (before ++ after) call
 query_changes_nothing start before after q call e = absurd cc
+
+pub others_change_nothing : (start : Unit {0}) (before after : List QueueCall) (other call : QueueCall) → depends call other ≡ false
+    → answer start (before ++ other ∷ after) call ≡ answer start (before ++ after) call
+others_change_nothing start before after other (Push v) e = refl
+others_change_nothing start before after other Pop e = absurd cc
 
 -- equality of calls and of returns is equality of values, by constructors
 

@@ -19,6 +19,12 @@ abbrev pub is_read : RegisterCall → Bool
 is_read (Write v) = false
 is_read Read = true
 
+-- a read depends on the writes before it
+abbrev pub depends : RegisterCall → RegisterCall → Bool
+depends (Write v) other = false
+depends Read (Write u) = true
+depends Read Read = false
+
 -- a write answers Done, and a read a value
 abbrev pub matches : RegisterCall → RegisterRet → Bool
 matches (Write v) Done = true

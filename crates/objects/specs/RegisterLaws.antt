@@ -2,7 +2,7 @@
 use Rattle.std.specs.Prelude.{◌≡◌, ℕ, List, [], ◌∷◌, ◌++◌, true, false, refl}
 use Rattle.std.proofs.Common.{ap, eqb, eq-eqb}
 use Rattle.std.proofs.lemmas.Bool.{eqb-true}
-use Rattle.objects.specs.Register.{last_written, answer, is_read, matches}
+use Rattle.objects.specs.Register.{last_written, answer, is_read, depends, matches}
 use Rattle.objects.specs.declared.register.RegisterCall.{RegisterCall}
 use Rattle.objects.specs.declared.register.RegisterCall.TheVariants.{Write, Read}
 use Rattle.objects.specs.declared.register.RegisterRet.TheVariants.{Done, Value}
@@ -22,6 +22,12 @@ pub query_changes_nothing : (start : ℕ) (before after : List RegisterCall) (q 
     → answer start (before ++ q ∷ after) call ≡ answer start (before ++ after) call
 query_changes_nothing start before after q (Write v) e = refl
 query_changes_nothing start before after q Read e = rw (last_written-query start before after q e) refl
+
+pub others_change_nothing : (start : ℕ) (before after : List RegisterCall) (other call : RegisterCall) → depends call other ≡ false
+    → answer start (before ++ other ∷ after) call ≡ answer start (before ++ after) call
+others_change_nothing start before after other (Write v) e = refl
+others_change_nothing start before after Read Read e = rw (last_written-query start before after Read refl) refl
+others_change_nothing start before after (Write u) Read e = absurd cc
 
 pub last_written-push : (start : ℕ) (calls : List RegisterCall) (v : ℕ) → last_written start (calls ++ Write v ∷ []) ≡ v
 last_written-push start [] v = refl

@@ -1,6 +1,6 @@
 ghost use Rattle.std.specs.Prelude.{◌≡◌, ℕ, List, Bool, refl};
-ghost use Rattle.objects.specs.AddRemoveSet.{HoldsAfter, answer as set_answer, is_has, matches as set_matches};
-ghost use Rattle.objects.specs.AddRemoveSetLaws.{answer_fits, query_changes_nothing, variant_of_call, variant_of_ret};
+ghost use Rattle.objects.specs.AddRemoveSet.{HoldsAfter, answer as set_answer, depends as set_depends, is_has, matches as set_matches};
+ghost use Rattle.objects.specs.AddRemoveSetLaws.{answer_fits, others_change_nothing, query_changes_nothing, variant_of_call, variant_of_ret};
 ghost use Rattle.objects.specs.AddRemoveSetLaws.{same_adds, same_removes, same_hases, same_answers};
 ghost use Rattle.objects.specs.Equal.{alike, apart, same_units};
 ghost use Rattle.objects.specs.declared.add_remove_set.SetCall.TheVariants.{Add, Remove, Has};
@@ -46,6 +46,8 @@ impl SeqObject for AddRemoveSet {
 
     ghost query = { is_has };
 
+    ghost depends = { set_depends };
+
     ghost matches = { set_matches };
 
     ghost plain_start = { tt };
@@ -57,6 +59,8 @@ impl SeqObject for AddRemoveSet {
     ghost answer_fits = { answer_fits };
 
     ghost query_changes_nothing = { query_changes_nothing };
+
+    ghost others_change_nothing = { others_change_nothing };
 
     ghost equal_calls = { elim [
       | Add u ↦ elim [
@@ -120,6 +124,15 @@ impl SeqObject for AddRemoveSet {
 
     fn is_query(call: &SetCall) -> bool {
         matches!(call, SetCall::Has(_))
+    }
+
+    fn depends_on(call: &SetCall, other: &SetCall) -> bool {
+        match (call, other) {
+            (SetCall::Has(element), SetCall::Add(changed) | SetCall::Remove(changed)) => {
+                changed == element
+            }
+            _ => false,
+        }
     }
 
     fn fits(call: &SetCall, ret: &SetRet) -> bool {

@@ -1,8 +1,8 @@
 ghost use Rattle.std.specs.Prelude.{◌≡◌, ◌≤◌, ℕ, List, Bool, refl};
 ghost use Rattle.objects.specs.Counter.{GREATEST, increments, count_of, answer as counter_answer, is_get};
-ghost use Rattle.objects.specs.Counter.{matches as counter_matches};
+ghost use Rattle.objects.specs.Counter.{depends as counter_depends, matches as counter_matches};
 ghost use Rattle.objects.specs.CounterLaws.{answer_fits, query_changes_nothing, variant_of_call, variant_of_ret};
-ghost use Rattle.objects.specs.CounterLaws.{same_values};
+ghost use Rattle.objects.specs.CounterLaws.{others_change_nothing, same_values};
 ghost use Rattle.objects.specs.Equal.{alike, apart, same_units};
 ghost use Rattle.objects.specs.declared.counter.CounterCall.{CounterCall};
 ghost use Rattle.objects.specs.declared.counter.CounterCall.TheVariants.{Increment, Get};
@@ -56,6 +56,8 @@ impl SeqObject for Counter {
 
     ghost query = { is_get };
 
+    ghost depends = { counter_depends };
+
     ghost matches = { counter_matches };
 
     ghost plain_start = { tt };
@@ -67,6 +69,8 @@ impl SeqObject for Counter {
     ghost answer_fits = { answer_fits };
 
     ghost query_changes_nothing = { query_changes_nothing };
+
+    ghost others_change_nothing = { others_change_nothing };
 
     ghost equal_calls = { elim [
       | Increment ↦ elim [ Increment ↦ alike Increment | Get ↦ apart variant_of_call Increment Get refl ]
@@ -108,6 +112,10 @@ impl SeqObject for Counter {
 
     fn is_query(call: &CounterCall) -> bool {
         matches!(call, CounterCall::Get)
+    }
+
+    fn depends_on(call: &CounterCall, other: &CounterCall) -> bool {
+        matches!((call, other), (CounterCall::Get, CounterCall::Increment))
     }
 
     fn fits(call: &CounterCall, ret: &CounterRet) -> bool {

@@ -1,7 +1,7 @@
 ghost use Rattle.std.specs.Prelude.{◌≡◌, ℕ, List, [], IfOk};
 ghost use Rattle.objects.specs.Table.{IsTable, start_at};
-ghost use Rattle.objects.specs.Keyed.{answer as keyed_answer, calls_at, Stands};
-ghost use Rattle.objects.specs.KeyedLaws.{empty_is_table, keyed_query_changes_nothing, equal_keyed_calls};
+ghost use Rattle.objects.specs.Keyed.{answer as keyed_answer, calls_at, depends as keyed_depends, Stands};
+ghost use Rattle.objects.specs.KeyedLaws.{empty_is_table, keyed_query_changes_nothing, keyed_others_change_nothing, equal_keyed_calls};
 ghost use Rattle.objects.specs.TableLaws.{equal_tables_decide};
 
 use crate::table::Table;
@@ -50,6 +50,8 @@ impl<O: SeqObject> SeqObject for Keyed<O> {
 
     ghost query = { λ c. O.query c.call };
 
+    ghost depends = { keyed_depends O.depends };
+
     ghost matches = { λ c. O.matches c.call };
 
     ghost plain_start = { [] };
@@ -61,6 +63,8 @@ impl<O: SeqObject> SeqObject for Keyed<O> {
     ghost answer_fits = { λ start calls c. O.answer_fits (start_at O.plain_start start c.key) (calls_at c.key calls) c.call };
 
     ghost query_changes_nothing = { keyed_query_changes_nothing O.plain_start O.answer O.query O.query_changes_nothing };
+
+    ghost others_change_nothing = { keyed_others_change_nothing O.plain_start O.answer O.depends O.others_change_nothing };
 
     ghost equal_calls = { equal_keyed_calls O.Call.eq O.equal_calls };
 
@@ -117,6 +121,10 @@ impl<O: SeqObject> SeqObject for Keyed<O> {
 
     fn is_query(call: &KeyedCall<O::Call>) -> bool {
         O::is_query(&call.call)
+    }
+
+    fn depends_on(call: &KeyedCall<O::Call>, other: &KeyedCall<O::Call>) -> bool {
+        other.key == call.key && O::depends_on(&call.call, &other.call)
     }
 
     fn fits(call: &KeyedCall<O::Call>, ret: &O::Ret) -> bool {

@@ -1,7 +1,7 @@
 ghost use Rattle.std.specs.Prelude.{◌≡◌, ℕ, List, Bool, refl};
-ghost use Rattle.objects.specs.Queue.{left, answer as queue_answer, is_query, matches as queue_matches};
+ghost use Rattle.objects.specs.Queue.{left, answer as queue_answer, depends as queue_depends, is_query, matches as queue_matches};
 ghost use Rattle.objects.specs.QueueLaws.{answer_fits, query_changes_nothing, variant_of_call, variant_of_ret};
-ghost use Rattle.objects.specs.QueueLaws.{same_pushes, same_popped};
+ghost use Rattle.objects.specs.QueueLaws.{others_change_nothing, same_pushes, same_popped};
 ghost use Rattle.objects.specs.Equal.{alike, apart, same_units};
 ghost use Rattle.objects.specs.declared.queue.QueueCall.TheVariants.{Push, Pop};
 ghost use Rattle.objects.specs.declared.queue.QueueRet.TheVariants.{Done, Popped};
@@ -54,6 +54,8 @@ impl SeqObject for Queue {
 
     ghost query = { is_query };
 
+    ghost depends = { queue_depends };
+
     ghost matches = { queue_matches };
 
     ghost plain_start = { tt };
@@ -65,6 +67,8 @@ impl SeqObject for Queue {
     ghost answer_fits = { answer_fits };
 
     ghost query_changes_nothing = { query_changes_nothing };
+
+    ghost others_change_nothing = { others_change_nothing };
 
     ghost equal_calls = { elim [
       | Push u ↦ elim [ Push v ↦ same_pushes u v | Pop ↦ apart variant_of_call (Push u) Pop refl ]
@@ -110,6 +114,10 @@ impl SeqObject for Queue {
 
     fn is_query(_call: &QueueCall) -> bool {
         false
+    }
+
+    fn depends_on(call: &QueueCall, _other: &QueueCall) -> bool {
+        matches!(call, QueueCall::Pop)
     }
 
     fn fits(call: &QueueCall, ret: &QueueRet) -> bool {

@@ -1,8 +1,8 @@
 ghost use Rattle.std.specs.Prelude.{◌≡◌, ◌⊎◌, ℕ, List, Bool};
 ghost use Rattle.std.proofs.Common.{rules};
-ghost use Rattle.objects.specs.Register.{answer as register_answer, is_read, matches as register_matches};
-ghost use Rattle.objects.specs.Register.{last_written};
-ghost use Rattle.objects.specs.RegisterLaws.{answer_fits, query_changes_nothing, same_writes, write_and_read};
+ghost use Rattle.objects.specs.Register.{answer as register_answer, depends as register_depends, is_read};
+ghost use Rattle.objects.specs.Register.{last_written, matches as register_matches};
+ghost use Rattle.objects.specs.RegisterLaws.{answer_fits, others_change_nothing, query_changes_nothing, same_writes, write_and_read};
 ghost use Rattle.objects.specs.RegisterLaws.{read_and_write, same_values, done_and_value, value_and_done};
 ghost use Rattle.objects.specs.Equal.{alike, same_numbers};
 ghost use Rattle.objects.specs.declared.register.RegisterCall.TheVariants.{Write, Read};
@@ -44,6 +44,8 @@ impl SeqObject for Register {
 
     ghost query = { is_read };
 
+    ghost depends = { register_depends };
+
     ghost matches = { register_matches };
 
     ghost plain_start = { 0 };
@@ -55,6 +57,8 @@ impl SeqObject for Register {
     ghost answer_fits = { answer_fits };
 
     ghost query_changes_nothing = { query_changes_nothing };
+
+    ghost others_change_nothing = { others_change_nothing };
 
     ghost equal_calls = { elim [
       | Write u ↦ elim [ Write v ↦ same_writes u v | Read ↦ write_and_read u ]
@@ -96,6 +100,10 @@ impl SeqObject for Register {
 
     fn is_query(call: &RegisterCall) -> bool {
         matches!(call, RegisterCall::Read)
+    }
+
+    fn depends_on(call: &RegisterCall, other: &RegisterCall) -> bool {
+        matches!((call, other), (RegisterCall::Read, RegisterCall::Write(_)))
     }
 
     fn fits(call: &RegisterCall, ret: &RegisterRet) -> bool {
