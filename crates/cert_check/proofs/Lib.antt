@@ -9,6 +9,8 @@ pub mod Ranges
 pub mod Shapes
 pub mod NamingSteps
 pub mod NeedSteps
+pub mod ConsideredCalls
+pub mod PieceCheckers
 pub mod ReplaySteps
 pub mod SchedulePieces
 pub mod CutSteps

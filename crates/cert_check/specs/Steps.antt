@@ -3,3 +3,4 @@ pub mod Namings
 pub mod Firsts
 pub mod Needs
 pub mod Replays
+pub mod Walks

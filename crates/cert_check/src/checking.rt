@@ -1,22 +1,15 @@
-ghost use Rattle.std.specs.Prelude.{◌≡◌, ◌↔◌, IfOk, IfSome, IsNone, IsSome, IsTrue, MatchOption, Some};
+ghost use Rattle.std.specs.Prelude.{◌≡◌, ◌↔◌, IfOk, IsNone, IsSome, MatchOption, Some};
 ghost use Rattle.history.specs.History.{IsOp};
 ghost use Rattle.cert_check.specs.Criteria.{Meets};
-ghost use Rattle.cert_check.specs.declared.certificate.Certificate.{Certificate};
-ghost use Rattle.cert_check.specs.Certificates.{vectors_of, HasShapeOf, IsExplainedIn, IsExplainedPiece, IsExplainedThroughout};
+ghost use Rattle.cert_check.specs.declared.certificate.Certificate.{Certificate as AnyCertificate};
+ghost use Rattle.cert_check.specs.Certificates.{IsExplainedIn, IsExplainedPiece, IsExplainedThroughout};
 ghost use Rattle.cert_check.specs.Certificates.{IsFirstUnexplained};
 ghost use Rattle.cert_check.specs.Steps.Firsts.{IsFirstOfSession};
-ghost use Rattle.cert_check.specs.Steps.Needs.{AreNeedsOf};
 
-use crate::arbitrated::{first_unarbitrated, is_arbitrated_piece};
 use crate::case_file::CaseFile;
-use crate::certificate::Certificate;
-use crate::kept::Kept;
 use crate::laws::explained_certificates_show_their_criterion;
-use crate::need::Needs;
-use crate::own_answers::{first_without_own_answer, is_own_piece};
-use crate::past_answers::first_without_past_answers;
-use crate::scheduled::is_scheduled_piece;
-use history::{History, OpId};
+use crate::piece_checker::PieceChecker;
+use history::OpId;
 use object_trait::SeqObject;
 use std::alloc::{AllocError, Global};
 
@@ -42,12 +35,8 @@ pub fn check_piece<O: SeqObject>(
     requires is_op { IsOp file.now.0 op }
     ensures { IfOk result (λ outcome. (outcome ≡ Outcome.Explained) ↔ IsExplainedIn O.answer file.now op) }
 {
-    let certificate = file.certificate().unwrap();
-    if is_explained(alloc, file.history(), certificate, op)? {
-        Ok(Outcome::Explained)
-    } else {
-        Ok(Outcome::Unexplained)
-    }
+    let mut checker = PieceChecker::of_one(alloc, file)?;
+    checker.check(alloc, op)
 }
 
 /// The first operation, by session and then by index, that the certificate's piece does not explain.
@@ -60,16 +49,15 @@ pub fn first_unexplained<O: SeqObject>(
     file: &CaseFile<O>,
 ) -> Result<Option<OpId>, AllocError>
     requires { IsSome file.now.2 }
-    ensures first { (certificate : Certificate) → file.now.2 ≡ Some certificate → IfOk result (λ first. MatchOption first
+    ensures first { (certificate : AnyCertificate) → file.now.2 ≡ Some certificate → IfOk result (λ first. MatchOption first
         (IsExplainedThroughout O.answer file.now.0 certificate) (IsFirstUnexplained O.answer file.now.0 certificate)) }
     ensures meets { IfOk result (λ first. IsNone first → Meets O.answer file.now.0 file.now.1) }
 {
     explained_certificates_show_their_criterion::<O>();
-    let h = file.history();
-    let certificate = file.certificate().unwrap();
-    let needs = Needs::of(alloc, h, certificate.vectors())?;
-    for session in 0..h.sessions() {
-        let found = first_of_session(alloc, h, certificate, &needs, session)?;
+    let _is_case_file = file.certificate();
+    let mut checker = PieceChecker::new(alloc, file)?;
+    for session in 0..file.history().sessions() {
+        let found = first_of_session(alloc, &mut checker, session)?;
         if found.is_some() {
             return Ok(found);
         }
@@ -77,49 +65,22 @@ pub fn first_unexplained<O: SeqObject>(
     Ok(None)
 }
 
-/// Whether the piece of an operation explains it.
-fn is_explained<O: SeqObject>(
-    alloc: Global,
-    h: &History<O>,
-    certificate: &Certificate,
-    op: OpId,
-) -> Result<bool, AllocError>
-    requires shape { HasShapeOf h.now certificate.now }
-    requires is_op { IsOp h.now op }
-    ensures { IfOk result (λ yes. IsTrue yes ↔ IsExplainedPiece O.answer h.now certificate.now op) }
-{
-    match certificate {
-        Certificate::Cc(v, schedules) => { is_own_piece(alloc, h, v, schedules.get(op), op) }
-        Certificate::Cm(v, schedules) => {
-            is_scheduled_piece(alloc, h, v, schedules.get(op), op, Kept::ProgramPast(op))
-        }
-        Certificate::Ccv(v, arbitration) => {
-            is_arbitrated_piece(alloc, h, v, arbitration.sessions(), op)
-        }
-    }
-}
-
 /// The first operation of a session that the certificate's piece does not explain.
-fn first_of_session<O: SeqObject>(
+fn first_of_session<'a, O: SeqObject>(
     alloc: Global,
-    h: &History<O>,
-    certificate: &Certificate,
-    needs: &Needs,
+    checker: &mut PieceChecker<'a, O>,
     session: usize,
 ) -> Result<Option<OpId>, AllocError>
-    requires shape { HasShapeOf h.now certificate.now }
-    requires needs { AreNeedsOf (vectors_of certificate.now) needs.now }
-    ensures { IfOk result (IsFirstOfSession h.now (IsExplainedPiece O.answer h.now certificate.now) session) }
+    ensures first { IfOk result (λ first. (c : AnyCertificate) → checker.old.2 ≡ Some c
+        → IsFirstOfSession checker.old.0 (IsExplainedPiece O.answer checker.old.0 c) session first) }
+    ensures same { checker.new ≡ checker.old }
 {
-    match certificate {
-        Certificate::Cc(v, schedules) => {
-            first_without_own_answer(alloc, h, v, needs, schedules, session)
-        }
-        Certificate::Cm(v, schedules) => {
-            first_without_past_answers(alloc, h, v, needs, schedules, session)
-        }
-        Certificate::Ccv(v, arbitration) => {
-            first_unarbitrated(alloc, h, v, arbitration.sessions(), session)
+    let h = checker.history();
+    for index in 0..h.len(session) {
+        let op = OpId::at(session, index);
+        if !checker.is_explained(alloc, op)? {
+            return Ok(Some(op));
         }
     }
+    Ok(None)
 }

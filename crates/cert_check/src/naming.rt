@@ -28,6 +28,13 @@ impl Naming {
         Ok(Naming { counts })
     }
 
+    /// Names nothing again.
+    pub fn clear(&mut self)
+        ensures { (list : List ℕ) → AreCountsAt list 0 (length self.old.counts.items) self.new.counts.items }
+    {
+        self.counts.fill(0);
+    }
+
     /// Names the next operation of a session and counts it, or gives none where the history has no more.
     pub fn name_next<O: SeqObject>(&mut self, h: &History<O>, session: u8) -> Option<OpId>
         requires { length self.old.counts.items ≡ length h.now.1 }
@@ -80,6 +87,7 @@ impl Naming {
         ensures on { (list : List ℕ) (i : ℕ) → AreCountsAt list i (length h.now.1) self.old.counts.items
             → slice_get list i ≡ Some session → IsTrue result
             → AreCountsAt list (i + 1) (length h.now.1) self.new.counts.items }
+        ensures width { length self.new.counts.items ≡ length h.now.1 }
     {
         let Some(next) = self.name_next(h, session) else {
             return false;
@@ -105,6 +113,7 @@ impl Naming {
         requires well { AreNamedWell h.now v.now before.now (length before.now) }
         ensures exact { IsTrue result ↔ AreNamedWell h.now v.now list.now (length list.now) }
         ensures on { IsTrue result → AreCountsAt list.now (length list.now) (length h.now.1) self.new.counts.items }
+        ensures width { length self.new.counts.items ≡ length h.now.1 }
     {
         let shared = shared_front(before, list);
         self.go_back(before, shared);

@@ -1,12 +1,12 @@
-ghost use Rattle.std.specs.Prelude.{◌≡◌, ◌+◌, ◌≤◌, ◌↔◌, ℕ, List, [], ◌∷◌, ◌++◌, filter, length, IfOk, IsTrue};
+ghost use Rattle.std.specs.Prelude.{◌≡◌, ◌+◌, ◌≤◌, ◌↔◌, ℕ, List, [], ◌∷◌, ◌++◌, length, IfOk, IsTrue};
 ghost use Rattle.std.specs.Prelude.{MatchOption, slice_index_or, slice_set, take};
 ghost use Rattle.history.specs.declared.op_id.OpId.{OpId};
 ghost use Rattle.history.specs.History.{IsOp, calls};
 ghost use Rattle.causal_order.specs.Orders.{op};
 ghost use Rattle.causal_order.specs.Vectors.{count, HasListOf};
-ghost use Rattle.cert_check.specs.Certificates.{counted};
 ghost use Rattle.cert_check.specs.Schedules.{named};
-ghost use Rattle.cert_check.specs.Steps.Replays.{kept_of, AreAnswered, IsAnsweredAfter, IsReplayAt, NamesOperations};
+ghost use Rattle.cert_check.specs.Steps.Replays.{considered, kept_of, AreAnswered, IsAnsweredAfter, IsAnsweredBy};
+ghost use Rattle.cert_check.specs.Steps.Replays.{IsReplayAt, NamesOperations};
 
 use crate::kept::Kept;
 use crate::naming::Naming;
@@ -50,8 +50,8 @@ impl<O: SeqObject> Replay<O> {
     pub fn take_in(&mut self, h: &History<O>, next: OpId) -> Result<bool, AllocError>
         requires { IsOp h.now next }
         ensures counts { self.new.naming.counts.items ≡ self.old.naming.counts.items }
-        ensures answer { (taken : List OpId) → O.stands self.old.object h.now.0 (calls h.now taken)
-            → IfOk result (λ yes. IsTrue yes ↔ IsAnsweredAfter O.answer h.now taken next) }
+        ensures answer { (cs : List O.Call) → O.stands self.old.object h.now.0 cs
+            → IfOk result (λ yes. IsTrue yes ↔ IsAnsweredBy O.answer h.now cs next) }
         ensures state { (taken : List OpId) → O.stands self.old.object h.now.0 (calls h.now taken)
             → IfOk result (λ _. O.stands self.new.object h.now.0 (calls h.now (taken ++ next ∷ []))) }
     {
@@ -75,22 +75,28 @@ impl<O: SeqObject> Replay<O> {
         Ok(answered || !kept.keeps(next))
     }
 
-    /// Takes in the call of an operation where the vector of another counts it.
-    pub fn take_in_counted(
+    /// Takes in the call of an operation where the vector of another counts it and the answer to a call may depend on it.
+    pub fn take_in_considered(
         &mut self,
         h: &History<O>,
         v: &Vectors,
         of: OpId,
+        asked: &O::Call,
         next: OpId,
     ) -> Result<(), AllocError>
         requires of { HasListOf v.now of }
         requires is_op { IsOp h.now next }
         ensures counts { self.new.naming.counts.items ≡ self.old.naming.counts.items }
-        ensures state { (taken : List OpId) → O.stands self.old.object h.now.0 (calls h.now (filter (counted v.now of) taken))
-            → IfOk result (λ _. O.stands self.new.object h.now.0 (calls h.now (filter (counted v.now of) (taken ++ next ∷ [])))) }
+        ensures state { (taken : List OpId)
+            → O.stands self.old.object h.now.0 (considered O.depends h.now v.now of asked.now taken)
+            → IfOk result (λ _. O.stands self.new.object h.now.0 (considered O.depends h.now v.now of asked.now (taken ++ next ∷ []))) }
     {
-        if next.index < u64::from(count_of(v, of, next.session)) {
-            self.take_in(h, next)?;
+        if next.index >= u64::from(count_of(v, of, next.session)) {
+            return Ok(());
+        }
+        let call = h.call(next);
+        if O::depends_on(asked, &call) {
+            self.object.apply(call)?;
         }
         Ok(())
     }

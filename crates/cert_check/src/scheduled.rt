@@ -60,6 +60,7 @@ pub fn is_schedule<O: SeqObject>(
     requires well { AreNamedWell h.now v.now before.now (length before.now) }
     ensures exact { IsTrue result ↔ (IsVectorOk h.now v.now op × IsSchedule h.now v.now op schedule.now) }
     ensures on { IsTrue result → AreCountsAt schedule.now (length schedule.now) (length h.now.1) naming.new.counts.items }
+    ensures width { length naming.new.counts.items ≡ length h.now.1 }
 {
     if !vector_ok(h, v, op) {
         return false;

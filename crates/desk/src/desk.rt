@@ -67,6 +67,18 @@ impl<O: Refutable, K: ShelfName> Desk<O, K> {
         self.shelf.file(token)
     }
 
+    /// Where allocations are made.
+    pub(crate) fn alloc(&self) -> Global {
+        self.alloc
+    }
+
+    /// Tickets of one case are of one file. It does nothing: what it ensures is the law.
+    pub(crate) fn agree(&self, a: &Ticket<O, K>, b: &Ticket<O, K>)
+        ensures { a.now.place ≡ b.now.place → a.now.file ≡ b.now.file }
+    {
+        self.shelf.agree(a.token(), b.token());
+    }
+
     /// Files a case, and gives the ticket of it.
     ///
     /// `Full` where 64 cases are filed, and `Memory`. The file is dropped then, and the board is as before. O(n) for n

@@ -2,6 +2,7 @@
 //! them outside the lock and put verdicts, and what the desk answers of a case is true of its file.
 #![tactic(auto)]
 
+mod case_checker;
 mod cases;
 mod desk;
 mod file_rows;

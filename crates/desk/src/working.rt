@@ -3,6 +3,7 @@
 ghost use Rattle.std.specs.Prelude.{◌≡◌, ◌≤◌, IfErr, IfOk, IsSome};
 ghost use Rattle.desk.specs.Files.{HasPiece};
 
+use crate::case_checker::CaseChecker;
 use crate::desk::Desk;
 use crate::shelf_name::ShelfName;
 use crate::ticket::Ticket;
@@ -10,6 +11,7 @@ use crate::verdict::Verdict;
 use cert_check::DeskError;
 use history::{Gate, OpId};
 use refutable::Refutable;
+use std::alloc::{AllocError, Global};
 use std::sync::Wait;
 
 /// How often one call of `work` takes a piece.
@@ -20,17 +22,21 @@ impl<O: Refutable, K: ShelfName> Desk<O, K> {
     /// nothing is left to take or 65,536 pieces were taken. Gives how many verdicts it put.
     ///
     /// A verdict that comes second is passed over. Fails for want of memory alone: the piece that it had taken stays without a
-    /// verdict, and the verdicts already put stay.
+    /// verdict, and the verdicts already put stay. The cost of a piece is that of `check_piece`, but for what its schedule shares
+    /// with that of the piece before.
     pub fn work<G: Gate>(&self, rt: &impl Wait, gate: &G) -> Result<u32, DeskError>
         ensures turns { IfOk result (λ put. put ≤ MAX_TURNS) }
         ensures refused { IfErr result (λ e. e ≡ DeskError.Memory) }
     {
         let mut put = 0;
+        let mut held = None;
         for _turn in 0..MAX_TURNS {
             let Some((ticket, op)) = self.take(rt) else {
                 return Ok(put);
             };
-            let verdict = self.check_between(gate, &ticket, op)?;
+            let mut checker = self.checker_of(held, &ticket)?;
+            let verdict = check_between(self.alloc(), gate, &mut checker, op)?;
+            held = Some(checker);
             if self.put(rt, &ticket, verdict).is_ok() {
                 put += 1;
             }
@@ -38,22 +44,22 @@ impl<O: Refutable, K: ShelfName> Desk<O, K> {
         Ok(put)
     }
 
-    /// Checks a piece between `enter` and `leave` of a gate.
-    fn check_between<G: Gate>(
-        &self,
-        gate: &G,
+    /// The checker that a worker holds, where it is of the case of a ticket, or else one of that case.
+    fn checker_of<'a>(
+        &'a self,
+        held: Option<CaseChecker<'a, O, K>>,
         ticket: &Ticket<O, K>,
-        op: OpId,
-    ) -> Result<Verdict<O, K>, DeskError>
-        requires { HasPiece ticket.now.file op }
-        ensures ticket { IfOk result (λ v. v.case_of ≡ ticket.now) }
-        ensures op { IfOk result (λ v. v.op ≡ op) }
-        ensures refused { IfErr result (λ e. e ≡ DeskError.Memory) }
+    ) -> Result<CaseChecker<'a, O, K>, AllocError>
+        requires { IsSome ticket.now.file.2 }
+        ensures { IfOk result (λ checker. checker.file ≡ ticket.now.file) }
     {
-        gate.enter(op);
-        let verdict = self.check(ticket, op);
-        gate.leave(op);
-        verdict
+        if let Some(checker) = held {
+            if checker.ticket().is_same_case(ticket) {
+                self.agree(checker.ticket(), ticket);
+                return Ok(checker);
+            }
+        }
+        CaseChecker::of(self.alloc(), self, ticket)
     }
 
     /// Checks each piece of a case whose row has no verdict yet, outside the lock, and puts the verdicts.
@@ -93,4 +99,19 @@ impl<O: Refutable, K: ShelfName> Desk<O, K> {
         }
         Ok(())
     }
+}
+
+/// Checks a piece between `enter` and `leave` of a gate.
+fn check_between<'a, O: Refutable, K: ShelfName, G: Gate>(
+    alloc: Global,
+    gate: &G,
+    checker: &mut CaseChecker<'a, O, K>,
+    op: OpId,
+) -> Result<Verdict<O, K>, AllocError>
+    requires { HasPiece checker.old.file op }
+{
+    gate.enter(op);
+    let verdict = checker.check(alloc, op);
+    gate.leave(op);
+    verdict
 }

@@ -1,37 +1,23 @@
-use Rattle.std.proofs.Common.{◌≡◌, sym, ap, ◌∙◌, subst, arith}
-use Rattle.std.specs.Prelude.{option_copied, Some}
+use Rattle.std.proofs.Common.{◌≡◌, length, sym, ap, subst, arith, ◌∙◌}
+use Rattle.std.specs.Prelude.{Some}
 use Rattle.cert_check.specs.declared.criterion.Criterion.{Criterion}
 use Rattle.cert_check.specs.Criteria.{Meets}
-use Rattle.std.proofs.lemmas.Option.{same_Some}
-use Rattle.history.specs.History.{IsOp}
 use Rattle.causal_order.proofs.OrdersLaws.{session-of_history}
-use Rattle.cert_check.specs.Certificates.{IsExplainedPiece}
-use Rattle.cert_check.specs.declared.certificate.Certificate.{Certificate}
-use Rattle.cert_check.proofs.Shapes.{shape-vectors}
 use Rattle.cert_check.proofs.checking.first_unexplained.Goals as goal
 
 pub returns-clause-first : goal.returns-clause-first
 returns-clause-first g c = λ certificate is o is_op.
-    let same : c.unwrap-certificate.result.now ≡ certificate =
-    same_Some _ _ (sym (ap option_copied c.unwrap-certificate.ensures) ∙ c.certificate.ensures.certificate ∙ is) in
-    let there = subst (λ h. IsOp h o) (sym c.history-h.ensures) is_op in
-    let inside = session-of_history c.history-h.result.now o there in
-    let explained = c.loop-session.invariant o.session o.index (omega arith) there in
-    subst (λ h. IsExplainedPiece g.O.SeqObject.answer h certificate o) c.history-h.ensures
-    (subst (λ (one : Certificate). IsExplainedPiece g.O.SeqObject.answer c.history-h.result.now one o) same explained)
+    let inside = session-of_history c.args.file.now.0 o is_op in
+    let count = c.sessions-session-end.ensures.count in
+    let many : length c.history.result.now.1 ≡ length c.args.file.now.0.1 = ap (λ h. length h.1) c.history.ensures in
+    let all = c.loop-session-test.false in
+    c.loop-session.invariant.1 certificate is o.session o.index (omega arith) is_op
 
 pub returns-clause-meets : goal.returns-clause-meets
 returns-clause-meets g c = λ _.
-    let is : c.args.file.now.2 ≡ Some c.unwrap-certificate.result.now =
-    sym (sym (ap option_copied c.unwrap-certificate.ensures) ∙ c.certificate.ensures.certificate) in
-    let good = c.certificate.ensures.is_case_file c.unwrap-certificate.result.now is in
-    subst (λ (k : Criterion). Meets g.O.SeqObject.answer c.args.file.now.0 k) good.0
-    (c.explained_certificates_show_their_criterion.ensures c.args.file.now.0 c.unwrap-certificate.result.now good.1
-    (returns-clause-first g c c.unwrap-certificate.result.now is))
-
-pub of-requires-after_bounds : goal.of-requires-after_bounds
-of-requires-after_bounds g c = λ _ _.
-    let is : c.args.file.now.2 ≡ Some c.unwrap-certificate.result.now =
-    sym (sym (ap option_copied c.unwrap-certificate.ensures) ∙ c.certificate.ensures.certificate) in
-    let good = c.certificate.ensures.is_case_file c.unwrap-certificate.result.now is in
-    rw (c.history-h.ensures, c.vectors.ensures) (shape-vectors c.args.file.now.0 c.unwrap-certificate.result.now good.1)
+    let file = c.args.file.now in
+    let held = c.checker-2.inside.certificate.now in
+    let is : file.2 ≡ Some held = sym (ap (λ f. f.2) (c.checker-2.view_is ∙ c.loop-session.invariant.0)) ∙ c.checker-2.invariant.certificate in
+    let good = c.certificate-is_case_file.ensures.is_case_file held is in
+    subst (λ (k : Criterion). Meets g.O.SeqObject.answer file.0 k) good.0
+    (c.explained_certificates_show_their_criterion.ensures file.0 held good.1 (returns-clause-first g c held is))

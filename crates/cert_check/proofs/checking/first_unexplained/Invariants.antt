@@ -1,9 +1,13 @@
-use Rattle.std.proofs.Common.{ℕ, ◌<◌}
+use Rattle.std.proofs.Common.{◌≡◌, ℕ, ◌<◌}
+use Rattle.std.specs.Prelude.{Some}
 use Rattle.history.specs.History.{IsOp}
 use Rattle.causal_order.specs.Orders.{op}
+use Rattle.cert_check.specs.declared.certificate.Certificate.{Certificate}
 use Rattle.cert_check.specs.Certificates.{IsExplainedPiece}
 use Rattle.cert_check.proofs.checking.first_unexplained.Given as goal
 
--- the pieces of the sessions so far explain their operations
+-- the checker is of the file, and the pieces of the sessions so far explain their operations
 abbrev pub invariant-loop-session : goal.invariant-loop-session
-invariant-loop-session g l = (s i : ℕ) → s < l.session → IsOp l.h (op s i) → IsExplainedPiece g.O.SeqObject.answer l.h l.certificate (op s i)
+invariant-loop-session g l =
+    (l.checker ≡ l.file)
+    × ((c : Certificate) → l.file.2 ≡ Some c → (s i : ℕ) → s < l.session → IsOp l.file.0 (op s i) → IsExplainedPiece g.O.SeqObject.answer l.file.0 c (op s i))

@@ -1,0 +1,20 @@
+-- What a checker of pieces holds, and what it says of a piece.
+use Rattle.std.proofs.Common.{◌≡◌, Bool, List, sym, ap, subst, ◌∙◌}
+use Rattle.std.specs.Prelude.{◌↔◌, IsTrue, Some}
+use Rattle.std.proofs.lemmas.Option.{same_Some}
+use Rattle.history.specs.declared.op_id.OpId.{OpId}
+use Rattle.history.specs.History.{HistoryValue}
+use Rattle.cert_check.specs.declared.certificate.Certificate.{Certificate}
+use Rattle.cert_check.specs.Certificates.{CaseRecord, IsExplainedPiece}
+
+module _ {S C R : Type 0} where
+  -- the certificate that is held is that of the case file
+  pub held_is : (file now : CaseRecord S C R) → file ≡ now → (held certificate : Certificate) → file.2 ≡ Some held → now.2 ≡ Some certificate → held ≡ certificate
+  held_is file now same held certificate holds is = same_Some held certificate (sym holds ∙ ap (λ (f : CaseRecord S C R). f.2) same ∙ is)
+
+  -- what decides a piece decides it under other names of the history and of the certificate
+  pub decided_as : (answer : S → List C → C → R) (o : OpId) (explained : Bool) (h now : HistoryValue S C R) → h ≡ now → (held certificate : Certificate) → held ≡ certificate
+      → IsTrue explained ↔ IsExplainedPiece answer h held o → IsTrue explained ↔ IsExplainedPiece answer now certificate o
+  decided_as answer o explained h now same held certificate is exactly =
+      subst (λ (x : HistoryValue S C R). IsTrue explained ↔ IsExplainedPiece answer x certificate o) same
+      (subst (λ (k : Certificate). IsTrue explained ↔ IsExplainedPiece answer h k o) is exactly)

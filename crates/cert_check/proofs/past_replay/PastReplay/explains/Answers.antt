@@ -1,0 +1,23 @@
+use Rattle.std.proofs.Common.{◌≡◌, sym, subst, ◌∙◌}
+use Rattle.causal_order.specs.Orders.{program_past}
+use Rattle.causal_order.specs.Vectors.{IsVectorOk}
+use Rattle.cert_check.specs.Schedules.{IsSchedule}
+use Rattle.cert_check.specs.Steps.Replays.{AreAnswered}
+use Rattle.cert_check.proofs.SchedulePieces.{answered_later}
+use Rattle.cert_check.proofs.past_replay.PastReplay.explains.Goals as goal
+
+pub invariant_of-self : goal.invariant_of-self
+invariant_of-self g c =
+    let answer = g.O.SeqObject.answer in
+    let h = c.self.inside.history.now in
+    let o = c.args.op in
+    let list = c.args.schedule.now in
+    let v = c.requires.good.0 in
+    let is : c.args.self.now ≡ h = sym (c.self.view_is ∙ c.in_ok-replay.ensures.same) in
+    let vector = subst (λ x. IsVectorOk x v o) is c.requires.good.1 in
+    let schedule = subst (λ x. IsSchedule x v o list) is c.requires.good.2 in
+    let begun = subst (λ x. AreAnswered answer x (program_past o) list c.in_ok-replay.from) is c.in_ok-replay.ensures.answered in
+    let answered = (c.in_ok-yes.ensures.exact begun).0 c.if-yes.true in (
+      record { each = λ later same. answered_later answer h v o list schedule vector later same answered },
+      c.in_ok-yes.ensures.on c.if-yes.true,
+    )

@@ -1,0 +1,52 @@
+use Rattle.std.proofs.Common.{Bool, ◌≡◌, ℕ, List, sym, ap, ap₂, subst, ◌∙◌}
+use Rattle.std.specs.Prelude.{IsTrue, ◌↔◌}
+use Rattle.std.proofs.lemmas.Result.{IfOk-weaker}
+use Rattle.history.specs.History.{HistoryValue}
+use Rattle.causal_order.specs.Orders.{only, program_past}
+use Rattle.causal_order.specs.Vectors.{Counts}
+use Rattle.cert_check.specs.Certificates.{IsArbitratedPiece, IsScheduledPiece, vectors_of}
+use Rattle.cert_check.specs.declared.certificate.Certificate.TheVariants.{Cc, Cm, Ccv}
+use Rattle.cert_check.proofs.PieceCheckers.{decided_as, held_is}
+use Rattle.cert_check.proofs.piece_checker.PieceChecker.is_explained.Goals as goal
+
+pub returns-in-Cc-clause-exact : goal.returns-in-Cc-clause-exact
+returns-in-Cc-clause-exact g c =
+    let answer = g.O.SeqObject.answer in
+    let o = c.args.op in
+    let h = c.history-h.result.now in
+    let history : h ≡ c.args.self.now.0 = c.history-h.ensures ∙ ap (λ file. file.0) c.self.view_is in
+    IfOk-weaker c.is_own_piece.result _ _
+    (λ (yes : Bool) exactly certificate is.
+    let held : Cc c.in-Cc.v c.in-Cc.schedules ≡ certificate = sym c.in-Cc.is ∙ held_is c.self.inside.file.now c.args.self.now c.self.view_is c.self.inside.certificate.now certificate c.self.invariant.certificate is in
+    decided_as answer o yes h c.args.self.now.0 history (Cc c.in-Cc.v c.in-Cc.schedules) certificate held
+    (subst (λ (xs : List ℕ). IsTrue yes ↔ IsScheduledPiece answer h c.in-Cc.v xs o (only o)) c.get.ensures exactly))
+    c.is_own_piece.ensures.exact
+
+pub returns-in-Cm-clause-exact : goal.returns-in-Cm-clause-exact
+returns-in-Cm-clause-exact g c =
+    let answer = g.O.SeqObject.answer in
+    let o = c.args.op in
+    let h = c.history-h.result.now in
+    let history : h ≡ c.args.self.now.0 = c.history-h.ensures ∙ ap (λ file. file.0) c.self.view_is in
+    let walk : c.self.inside.walk ≡ (h, c.in-Cm.field-0) = c.self.invariant.walk ∙ ap₂ (λ x k. (x, vectors_of k)) (sym c.history-h.ensures) c.in-Cm.is in
+    let walked : (yes : Bool) → _ → _ = λ yes exactly.
+    subst (λ (w : HistoryValue g.row.O-Start.Denot g.row.O-Call.Denot g.row.O-Ret.Denot × Counts). IsTrue yes ↔ IsScheduledPiece answer w.0 w.1 c.get-in-Cm.result.now o (program_past o)) walk exactly in
+    IfOk-weaker c.is_past_piece.result _ _
+    (λ (yes : Bool) exactly certificate is.
+    let held : Cm c.in-Cm.field-0 c.in-Cm.schedules ≡ certificate = sym c.in-Cm.is ∙ held_is c.self.inside.file.now c.args.self.now c.self.view_is c.self.inside.certificate.now certificate c.self.invariant.certificate is in
+    decided_as answer o yes h c.args.self.now.0 history (Cm c.in-Cm.field-0 c.in-Cm.schedules) certificate held
+    (subst (λ (xs : List ℕ). IsTrue yes ↔ IsScheduledPiece answer h c.in-Cm.field-0 xs o (program_past o)) c.get-in-Cm.ensures (walked yes exactly)))
+    c.is_past_piece.ensures.exact
+
+pub returns-in-Ccv-clause-exact : goal.returns-in-Ccv-clause-exact
+returns-in-Ccv-clause-exact g c =
+    let answer = g.O.SeqObject.answer in
+    let o = c.args.op in
+    let h = c.history-h.result.now in
+    let history : h ≡ c.args.self.now.0 = c.history-h.ensures ∙ ap (λ file. file.0) c.self.view_is in
+    IfOk-weaker c.is_arbitrated_piece.result _ _
+    (λ (yes : Bool) exactly certificate is.
+    let held : Ccv c.in-Ccv.v c.in-Ccv.arbitration ≡ certificate = sym c.in-Ccv.is ∙ held_is c.self.inside.file.now c.args.self.now c.self.view_is c.self.inside.certificate.now certificate c.self.invariant.certificate is in
+    decided_as answer o yes h c.args.self.now.0 history (Ccv c.in-Ccv.v c.in-Ccv.arbitration) certificate held
+    (subst (λ (xs : List ℕ). IsTrue yes ↔ IsArbitratedPiece answer h c.in-Ccv.v xs o) c.sessions.ensures exactly))
+    c.is_arbitrated_piece.ensures

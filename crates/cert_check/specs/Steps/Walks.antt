@@ -1,0 +1,31 @@
+-- What is known between one piece and the next, in terms of the checker's own data.
+use Rattle.std.specs.Prelude.{◌≡◌, ℕ, List, Some, length}
+use Rattle.history.specs.declared.op_id.OpId.{OpId}
+use Rattle.history.specs.History.{HistoryValue}
+use Rattle.causal_order.specs.Orders.{program_past}
+use Rattle.causal_order.specs.Vectors.{AreVectorsOf, Counts}
+use Rattle.cert_check.specs.declared.certificate.Certificate.{Certificate}
+use Rattle.cert_check.specs.declared.need.Need.{Need}
+use Rattle.cert_check.specs.Certificates.{CaseRecord, HasShapeOf, vectors_of}
+use Rattle.cert_check.specs.Steps.Namings.{AreCountsAt, AreNamedWell}
+use Rattle.cert_check.specs.Steps.Needs.{AreNeedsOf}
+use Rattle.cert_check.specs.Steps.Replays.{AreAnswered}
+
+module _ {S C R : Type 0} where
+  -- a schedule that names operations well was gone through to its end
+  pub record IsAtEnd (h : HistoryValue S C R) (v : Counts) (listed : List (List Need)) (schedule counts : List ℕ) : Type 0 where
+    pub shape : AreVectorsOf h v
+    pub needs : AreNeedsOf v listed
+    pub counting : AreCountsAt schedule (length schedule) (length h.1) counts
+    pub well : AreNamedWell h v schedule (length schedule)
+
+  -- the known returns of a session are the answers at their places in a schedule
+  pub record AnswersSession (answer : S → List C → C → R) (h : HistoryValue S C R) (schedule : List ℕ) (s : ℕ) : Type 0 where
+    pub each : (o : OpId) → o.session ≡ s → AreAnswered answer h (program_past o) schedule (length schedule)
+
+  -- a checker holds the certificate of a case file, and what it goes through and replays is of that
+  pub record IsCheckerOf (file : CaseRecord S C R) (held : Certificate) (walked : HistoryValue S C R × Counts) (replayed : HistoryValue S C R) : Type 0 where
+    pub certificate : file.2 ≡ Some held
+    pub shape : HasShapeOf file.0 held
+    pub walk : walked ≡ (file.0, vectors_of held)
+    pub past : replayed ≡ file.0
