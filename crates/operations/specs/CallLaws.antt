@@ -8,6 +8,7 @@ use Rattle.serde_json.specs.Data.{Data, number, unsigned}
 use Rattle.serde_json.specs.Written.{has_float}
 use Rattle.operations.specs.Json.{whole_number}
 use Rattle.operations.specs.JsonLaws.{map_from, whole_number-read}
+use Rattle.operations.specs.PlainFormLaws.{IsStartSpelling}
 use Rattle.operations.specs.Spelling.{first_number, call_with, no_start_form, no_start_at}
 
 -- what is read by a word is read for this word, or for another one
@@ -57,3 +58,6 @@ no_start_again s _ other = absurd (other refl)
 
 pub no_start_has_no_float : (s : Unit {0}) → has_float (no_start_form s) ≡ false
 no_start_has_no_float s = refl
+
+pub no_start_is_spelling : IsStartSpelling tt (λ _. Unit {0}) no_start_form no_start_at
+no_start_is_spelling = record { start_read = no_start_read; start_again = no_start_again; start_has_no_float = no_start_has_no_float }

@@ -32,6 +32,12 @@ pub record IsSpelling {C R : Type 0} (word_of : C → List ℕ) (arguments : C �
   pub arguments_have_no_float : (c : C) → HaveNoFloats (arguments c)
   pub ret_has_no_float : (r : R) → HaveNoFloats (ret_form r)
 
+-- reading undoes the form of a start that isn't the plain one, nothing else is read, and no number in it is a float
+pub record IsStartSpelling {S : Type 0} (plain : S) (is_start : S → Type 0) (start_form : S → Data) (start_at : Data → Option S) : Type 0 where
+  pub start_read : (d : Data) (s : S) → start_at d ≡ Some s → (d ≡ start_form s) × is_start s × (s ≢ plain)
+  pub start_again : (s : S) → is_start s → s ≢ plain → start_at (start_form s) ≡ Some s
+  pub start_has_no_float : (s : S) → has_float (start_form s) ≡ false
+
 module _ {C R : Type 0} {word_of : C → List ℕ} {arguments : C → List Data} {ret_form : R → List Data}
     {call_at : List ℕ → List Data → Option (C × List Data)} {ret_at : C → List Data → Option R} {fits : C → R → Bool}
     (spelling : IsSpelling word_of arguments ret_form call_at ret_at fits) where

@@ -14,7 +14,7 @@ use Rattle.operations.specs.Form.{HaveNoFloats}
 use Rattle.operations.specs.Json.{whole_number, unknown}
 use Rattle.operations.specs.JsonLaws.{whole_number-read}
 use Rattle.operations.specs.CallLaws.{by_word, alone_read, with_number_read, number-read}
-use Rattle.operations.specs.PlainFormLaws.{IsSpelling}
+use Rattle.operations.specs.PlainFormLaws.{IsSpelling, IsStartSpelling}
 use Rattle.operations.specs.Spelling.{call_with}
 use Rattle.operations.specs.RegisterForm.{word_of, arguments, ret_form, call_at, ret_at, start_form, start_at}
 
@@ -96,3 +96,6 @@ is_spelling = record {
   arguments_have_no_float = arguments_have_no_float;
   ret_has_no_float = ret_has_no_float;
 }
+
+pub is_start_spelling : IsStartSpelling 0 (λ _. Unit {0}) start_form start_at
+is_start_spelling = record { start_read = start_read; start_again = start_again; start_has_no_float = start_has_no_float }

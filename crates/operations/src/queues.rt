@@ -5,7 +5,7 @@ ghost use Rattle.serde_json.specs.View.{view};
 ghost use Rattle.operations.specs.QueueForm.{popped_at};
 ghost use Rattle.operations.specs.QueueForm as queue;
 ghost use Rattle.operations.specs.QueueFormLaws as laws;
-ghost use Rattle.operations.specs.CallLaws.{no_start_read, no_start_again, no_start_has_no_float};
+ghost use Rattle.operations.specs.CallLaws.{no_start_is_spelling};
 ghost use Rattle.operations.specs.Spelling.{no_start_form, no_start_at};
 
 use crate::lone::is_done;
@@ -45,25 +45,9 @@ impl Spelled for Queue {
 
     ghost start_at = { no_start_at };
 
-    ghost call_read = { laws.call_read };
+    ghost is_spelling = { laws.is_spelling };
 
-    ghost call_again = { laws.call_again };
-
-    ghost ret_read = { laws.ret_read };
-
-    ghost ret_again = { laws.ret_again };
-
-    ghost ret_is_known = { laws.ret_is_known };
-
-    ghost start_read = { no_start_read };
-
-    ghost start_again = { no_start_again };
-
-    ghost arguments_have_no_float = { laws.arguments_have_no_float };
-
-    ghost ret_has_no_float = { laws.ret_has_no_float };
-
-    ghost start_has_no_float = { no_start_has_no_float };
+    ghost is_start_spelling = { no_start_is_spelling };
 
     fn plain_name() -> &'static str {
         "queue"

@@ -30,25 +30,9 @@ impl Spelled for Register {
 
     ghost start_at = { register.start_at };
 
-    ghost call_read = { laws.call_read };
+    ghost is_spelling = { laws.is_spelling };
 
-    ghost call_again = { laws.call_again };
-
-    ghost ret_read = { laws.ret_read };
-
-    ghost ret_again = { laws.ret_again };
-
-    ghost ret_is_known = { laws.ret_is_known };
-
-    ghost start_read = { laws.start_read };
-
-    ghost start_again = { laws.start_again };
-
-    ghost arguments_have_no_float = { laws.arguments_have_no_float };
-
-    ghost ret_has_no_float = { laws.ret_has_no_float };
-
-    ghost start_has_no_float = { laws.start_has_no_float };
+    ghost is_start_spelling = { laws.is_start_spelling };
 
     fn plain_name() -> &'static str {
         "register"

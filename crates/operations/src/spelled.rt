@@ -1,18 +1,15 @@
-ghost use Rattle.std.specs.Prelude.{◌≡◌, ◌≢◌, ℕ, List, [], ◌∷◌, ◌++◌, Option, Some, None, true, false, map, option_map, IfOk, OnOk, OnErr};
+ghost use Rattle.std.specs.Prelude.{◌≡◌, ℕ, List, ◌++◌, Option, None, map, option_map, IfOk, OnOk, OnErr};
 ghost use Rattle.serde_json.specs.Data.{Data};
 ghost use Rattle.serde_json.specs.View.{view};
-ghost use Rattle.serde_json.specs.Written.{has_float};
-ghost use Rattle.operations.specs.Form.{HaveNoFloats};
-ghost use Rattle.operations.specs.Json.{unknown};
-ghost use Rattle.operations.specs.LoneForm.{lone_return_form, plain_call_form, whole_call_at};
-ghost use Rattle.operations.specs.Reads.{IsRead, IsReadWithin};
-ghost use Rattle.operations.specs.Spelling.{entries_at, entry_at, entry_form, plain_at, plain_form, plain_start_at, rest_form, spelled_at};
+ghost use Rattle.operations.specs.LoneForm.{lone_return_form, whole_call_at};
+ghost use Rattle.operations.specs.PlainFormLaws.{IsSpelling, IsStartSpelling};
+ghost use Rattle.operations.specs.Reads.{IsRead};
+ghost use Rattle.operations.specs.Spelling.{entries_at, entry_at, entry_form, rest_form, spelled_at};
 
 use crate::json::elements_of;
 use crate::keys::{entry_of, is_above, key_of};
 use crate::lone::is_nothing;
 use crate::unknown::{is_question_mark_alone, push_question_mark};
-use crate::words::{word_alone, word_and_rest};
 use object_trait::SeqObject;
 use objects::Table;
 use serde_json::Value;
@@ -115,55 +112,12 @@ pub trait Spelled: SeqObject {
         Ok(values)
     }
 
-    /// The operation without a key that the value spells.
-    final fn read_plain(value: &Value) -> Option<(Self::Call, Option<Self::Ret>)>
-        ensures { result ≡ plain_at call_at ret_at (view value.now) }
-    {
-        let (word, rest) = word_and_rest(value)?;
-        Self::read_spelled(word, rest)
-    }
-
-    /// The form of an operation without a key.
-    final fn write_plain(
-        alloc: Global,
-        call: &Self::Call,
-        ret: &Option<Self::Ret>,
-    ) -> Result<Value, AllocError>
-        ensures { IfOk result (λ v. view v ≡ plain_form word_of arguments ret_form call.now ret.now) }
-    {
-        let values = word_alone(alloc, Self::word(call))?;
-        Ok(Value::from(Self::with_rest(alloc, call, ret, values)?))
-    }
-
     /// The call that a word and the values behind it spell, where nothing stands behind what it takes.
     fn read_whole_call(word: &str, values: &[Value]) -> Option<Self::Call>
         ensures { result ≡ whole_call_at call_at word.now (map view values.now) }
     {
         let (call, rest) = Self::read_call(word, values)?;
         if is_nothing(rest) { Some(call) } else { None }
-    }
-
-    /// The call without a key whose form the value is, where it stands without its return.
-    final fn read_plain_call(value: &Value) -> Option<Self::Call>
-        ensures { IsReadWithin (λ _. Unit {0}) (plain_call_form word_of arguments) (view value.now) result }
-    {
-        let Some((word, rest)) = word_and_rest(value) else {
-            return None;
-        };
-        Self::read_whole_call(word, rest)
-    }
-
-    /// The plain start, where nothing stands behind the sessions.
-    final fn read_plain_start(
-        alloc: Global,
-        rest: &[Value],
-    ) -> Result<Option<Self::Start>, AllocError>
-        ensures { IfOk result (λ s. s ≡ plain_start_at Self.plain_start (map view rest.now)) }
-    {
-        match rest {
-            [] => Ok(Some(Self::plain(alloc)?)),
-            _ => Ok(None),
-        }
     }
 
     /// The key and the start of an entry of a table.
@@ -212,26 +166,7 @@ pub trait Spelled: SeqObject {
         Ok(values)
     }
 
-    ghost call_read: { (w : List ℕ) (ds rest : List Data) (c : Self.Call) → call_at w ds ≡ Some (c, rest)
-        → (w ≡ word_of c) × (ds ≡ arguments c ++ rest) };
+    ghost is_spelling: { IsSpelling word_of arguments ret_form call_at ret_at Self.matches };
 
-    ghost call_again: { (c : Self.Call) (rest : List Data) → call_at (word_of c) (arguments c ++ rest) ≡ Some (c, rest) };
-
-    ghost ret_read: { (c : Self.Call) (ds : List Data) (r : Self.Ret) → ret_at c ds ≡ Some r
-        → (ds ≡ ret_form r) × (Self.matches c r ≡ true) };
-
-    ghost ret_again: { (c : Self.Call) (r : Self.Ret) → Self.matches c r ≡ true → ret_at c (ret_form r) ≡ Some r };
-
-    ghost ret_is_known: { (r : Self.Ret) → ret_form r ≢ unknown ∷ [] };
-
-    ghost start_read: { (d : Data) (s : Self.Start) → start_at d ≡ Some s
-        → (d ≡ start_form s) × Self.is_start s × (s ≢ Self.plain_start) };
-
-    ghost start_again: { (s : Self.Start) → Self.is_start s → s ≢ Self.plain_start → start_at (start_form s) ≡ Some s };
-
-    ghost arguments_have_no_float: { (c : Self.Call) → HaveNoFloats (arguments c) };
-
-    ghost ret_has_no_float: { (r : Self.Ret) → HaveNoFloats (ret_form r) };
-
-    ghost start_has_no_float: { (s : Self.Start) → has_float (start_form s) ≡ false };
+    ghost is_start_spelling: { IsStartSpelling Self.plain_start Self.is_start start_form start_at };
 }
