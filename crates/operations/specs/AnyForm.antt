@@ -1,8 +1,7 @@
 -- The form of a history of any object that has a name, and which refusal comes first where a text is none.
 use Rattle.std.specs.Prelude.{◌≡◌, ⊤, ℕ, ◌<◌, ◌^◌, List, Bool, Option, Some, None, Result, IfOk, IfErr, MatchResult}
-use Rattle.std.specs.Str.{IsUtf8}
 use Rattle.serde_json.specs.Data.{Data}
-use Rattle.serde_json.specs.Read.{read}
+pub use Rattle.bounded_json.specs.Text.{IsJson}
 use Rattle.objects.specs.AddRemoveSet.{matches as set_matches}
 use Rattle.objects.specs.Counter.{matches as counter_matches}
 use Rattle.objects.specs.Queue.{matches as queue_matches}
@@ -95,10 +94,6 @@ pub record IsReadAs (d : Data) (refusal : Option ReadError) (result : Result Any
   pub form : IfOk result (λ h. d ≡ form_of h)
   pub only : (h : AnyHistory) → IsAnyHistory h → d ≡ form_of h → MatchResult result (λ g. g ≡ h) (λ e. e ≡ errors.Memory)
   pub refused : IfErr result (IsFirst refusal)
-
--- the JSON value of a text
-abbrev pub IsJson : List ℕ → Data → Type 0
-IsJson text d = IsUtf8 text × (read text ≡ Some d)
 
 -- why a text is refused: it is no JSON, or its value has this first refusal
 abbrev pub IsRefusedFor : List ℕ → ReadError → Type 0

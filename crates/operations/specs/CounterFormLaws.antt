@@ -7,7 +7,7 @@ use Rattle.objects.specs.declared.counter.CounterCall.{CounterCall}
 use Rattle.objects.specs.declared.counter.CounterCall.TheVariants.{Increment, Get}
 use Rattle.objects.specs.declared.counter.CounterRet.{CounterRet}
 use Rattle.objects.specs.declared.counter.CounterRet.TheVariants.{Done, Value}
-use Rattle.operations.specs.CallLaws.{by_word, alone_read, number-read}
+use Rattle.operations.specs.CallLaws.{by_word, alone_read, number_said, done_read}
 use Rattle.operations.specs.CounterForm.{word_of, arguments, ret_form, call_at, ret_at}
 use Rattle.operations.specs.Form.{HaveNoFloats}
 use Rattle.operations.specs.Json.{unknown}
@@ -27,14 +27,11 @@ pub call_again : (c : CounterCall) (rest : List Data) → call_at (word_of c) (a
 call_again Increment rest = refl
 call_again Get rest = refl
 
-answered : (d : Data) (n : ℕ) (r : CounterRet) → d ≡ number (unsigned n) → Value n ≡ r → (d ∷ [] ≡ ret_form r) × (matches Get r ≡ true)
-answered d n r form ret = rw (← ret, form) (refl, refl)
-
 pub ret_read : (c : CounterCall) (ds : List Data) (r : CounterRet) → ret_at c ds ≡ Some r → (ds ≡ ret_form r) × (matches c r ≡ true)
-ret_read Increment [] r e = let h : Done ≡ r = cc in rw (← h) (refl, refl)
+ret_read Increment [] r e = done_read ret_form (matches Increment) Done refl refl r e
 ret_read Increment (d ∷ ds) r e = absurd cc
 ret_read Get [] r e = absurd cc
-ret_read Get (d ∷ []) r e = let p = number-read Value d r e in answered d p.0 r p.1 p.2
+ret_read Get (d ∷ []) r e = number_said ret_form (matches Get) Value (λ n. refl) (λ n. refl) d r e
 ret_read Get (d ∷ f ∷ ds) r e = absurd cc
 
 pub ret_again : (c : CounterCall) (r : CounterRet) → matches c r ≡ true → ret_at c (ret_form r) ≡ Some r

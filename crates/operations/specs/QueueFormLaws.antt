@@ -1,40 +1,28 @@
 -- Reading undoes the spelling of a queue, and nothing else is read.
 use Rattle.std.specs.Prelude.{◌≡◌, ◌≢◌, ℕ, List, [], ◌∷◌, ◌++◌, codes, true, Some, None, option_map, refl}
-use Rattle.std.proofs.Common.{⊎_elim}
 use Rattle.serde_json.specs.Data.{Data, null, boolean, number, string, array, object, unsigned}
 use Rattle.objects.specs.Queue.{matches}
 use Rattle.objects.specs.declared.queue.QueueCall.{QueueCall}
 use Rattle.objects.specs.declared.queue.QueueCall.TheVariants.{Push, Pop}
 use Rattle.objects.specs.declared.queue.QueueRet.{QueueRet}
 use Rattle.objects.specs.declared.queue.QueueRet.TheVariants.{Done, Popped}
-use Rattle.operations.specs.CallLaws.{by_word, alone_read, with_number_read, number-read}
+use Rattle.operations.specs.CallLaws.{number_or_alone_read, number_said, done_read}
 use Rattle.operations.specs.Form.{HaveNoFloats}
 use Rattle.operations.specs.Json.{unknown, whole_number}
 use Rattle.operations.specs.PlainFormLaws.{IsSpelling}
 use Rattle.operations.specs.QueueForm.{word_of, arguments, ret_form, call_at, popped_at, ret_at}
-use Rattle.operations.specs.Spelling.{call_with}
 
 pub call_read : (w : List ℕ) (ds rest : List Data) (c : QueueCall) → call_at w ds ≡ Some (c, rest) → (w ≡ word_of c) × (ds ≡ arguments c ++ rest)
-call_read w ds rest c e =
-    ⊎_elim
-    (λ p. with_number_read word_of arguments Push w ds rest c (λ n. p.0) (λ n. refl) p.1)
-    (λ other. ⊎_elim
-    (λ p. alone_read word_of arguments Pop w ds rest c p.0 refl p.1)
-    (λ none. absurd cc)
-    (by_word w (codes "pop") (Some (Pop, ds)) None (c, rest) other))
-    (by_word w (codes "push") (call_with Push ds) _ (c, rest) e)
+call_read = number_or_alone_read word_of arguments Push Pop (codes "push") (codes "pop") (λ n. refl) (λ n. refl) refl refl
 
 pub call_again : (c : QueueCall) (rest : List Data) → call_at (word_of c) (arguments c ++ rest) ≡ Some (c, rest)
 call_again (Push v) rest = refl
 call_again Pop rest = refl
 
 -- a return of a pop
-popped : (d : Data) (n : ℕ) (r : QueueRet) → d ≡ number (unsigned n) → Popped (Some n) ≡ r → (d ∷ [] ≡ ret_form r) × (matches Pop r ≡ true)
-popped d n r form ret = rw (← ret, form) (refl, refl)
-
 popped_number : (d : Data) (r : QueueRet) → (option_map (λ (v : ℕ). Popped (Some v)) (whole_number d) ≡ Some r)
     → (d ∷ [] ≡ ret_form r) × (matches Pop r ≡ true)
-popped_number d r e = let p = number-read (λ (v : ℕ). Popped (Some v)) d r e in popped d p.0 r p.1 p.2
+popped_number = number_said ret_form (matches Pop) (λ (v : ℕ). Popped (Some v)) (λ v. refl) (λ v. refl)
 
 popped_read : (d : Data) (r : QueueRet) → popped_at d ≡ Some r → (d ∷ [] ≡ ret_form r) × (matches Pop r ≡ true)
 popped_read null r e = let h : Popped None ≡ r = cc in rw (← h) (refl, refl)
@@ -45,7 +33,7 @@ popped_read (array ds) r e = popped_number (array ds) r e
 popped_read (object ms) r e = popped_number (object ms) r e
 
 pub ret_read : (c : QueueCall) (ds : List Data) (r : QueueRet) → ret_at c ds ≡ Some r → (ds ≡ ret_form r) × (matches c r ≡ true)
-ret_read (Push v) [] r e = let h : Done ≡ r = cc in rw (← h) (refl, refl)
+ret_read (Push v) [] r e = done_read ret_form (matches (Push v)) Done refl refl r e
 ret_read (Push v) (d ∷ ds) r e = absurd cc
 ret_read Pop [] r e = absurd cc
 ret_read Pop (d ∷ []) r e = popped_read d r e

@@ -13,35 +13,22 @@ use Rattle.objects.specs.declared.register.RegisterRet.TheVariants.{Done, Value}
 use Rattle.operations.specs.Form.{HaveNoFloats}
 use Rattle.operations.specs.Json.{whole_number, unknown}
 use Rattle.operations.specs.JsonLaws.{whole_number-read}
-use Rattle.operations.specs.CallLaws.{by_word, alone_read, with_number_read, number-read}
+use Rattle.operations.specs.CallLaws.{number_or_alone_read, number_said, done_read}
 use Rattle.operations.specs.PlainFormLaws.{IsSpelling, IsStartSpelling}
-use Rattle.operations.specs.Spelling.{call_with}
 use Rattle.operations.specs.RegisterForm.{word_of, arguments, ret_form, call_at, ret_at, start_form, start_at}
 
 pub call_read : (w : List ℕ) (ds rest : List Data) (c : RegisterCall) → call_at w ds ≡ Some (c, rest) → (w ≡ word_of c) × (ds ≡ arguments c ++ rest)
-call_read w ds rest c e =
-    ⊎_elim
-    (λ p. with_number_read word_of arguments Write w ds rest c (λ n. p.0) (λ n. refl) p.1)
-    (λ other. ⊎_elim
-    (λ p. alone_read word_of arguments Read w ds rest c p.0 refl p.1)
-    (λ none. absurd cc)
-    (by_word w (codes "r") (Some (Read, ds)) None (c, rest) other))
-    (by_word w (codes "w") (call_with Write ds) _ (c, rest) e)
+call_read = number_or_alone_read word_of arguments Write Read (codes "w") (codes "r") (λ n. refl) (λ n. refl) refl refl
 
 pub call_again : (c : RegisterCall) (rest : List Data) → call_at (word_of c) (arguments c ++ rest) ≡ Some (c, rest)
 call_again (Write v) rest = refl
 call_again Read rest = refl
 
-answered : (d : Data) (n : ℕ) (r : RegisterRet) → d ≡ number (unsigned n) → Value n ≡ r → (d ∷ [] ≡ ret_form r) × (matches Read r ≡ true)
-answered d n r form ret = rw (← ret, form) (refl, refl)
-
 pub ret_read : (c : RegisterCall) (ds : List Data) (r : RegisterRet) → ret_at c ds ≡ Some r → (ds ≡ ret_form r) × (matches c r ≡ true)
-ret_read (Write v) [] r e = let h : Done ≡ r = cc in rw (← h) (refl, refl)
+ret_read (Write v) [] r e = done_read ret_form (matches (Write v)) Done refl refl r e
 ret_read (Write v) (d ∷ ds) r e = absurd cc
 ret_read Read [] r e = absurd cc
-ret_read Read (d ∷ []) r e =
-    let p = number-read Value d r e in
-    answered d p.0 r p.1 p.2
+ret_read Read (d ∷ []) r e = number_said ret_form (matches Read) Value (λ n. refl) (λ n. refl) d r e
 ret_read Read (d ∷ f ∷ ds) r e = absurd cc
 
 pub ret_again : (c : RegisterCall) (r : RegisterRet) → matches c r ≡ true → ret_at c (ret_form r) ≡ Some r

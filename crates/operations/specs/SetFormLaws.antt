@@ -8,10 +8,9 @@ use Rattle.objects.specs.declared.add_remove_set.SetCall.{SetCall}
 use Rattle.objects.specs.declared.add_remove_set.SetCall.TheVariants.{Add, Remove, Has}
 use Rattle.objects.specs.declared.add_remove_set.SetRet.{SetRet}
 use Rattle.objects.specs.declared.add_remove_set.SetRet.TheVariants.{Done, Has as HasAnswer}
-use Rattle.operations.specs.CallLaws.{by_word, with_number_read}
+use Rattle.operations.specs.CallLaws.{by_word, with_number_read, said_read, done_read}
 use Rattle.operations.specs.Form.{HaveNoFloats}
 use Rattle.operations.specs.Json.{unknown}
-use Rattle.operations.specs.JsonLaws.{map_from}
 use Rattle.operations.specs.PlainFormLaws.{IsSpelling}
 use Rattle.operations.specs.SetForm.{word_of, arguments, ret_form, call_at, ret_at}
 use Rattle.operations.specs.Spelling.{call_with}
@@ -42,16 +41,13 @@ as_bool-read (string s) b e = absurd cc
 as_bool-read (array ds) b e = absurd cc
 as_bool-read (object ms) b e = absurd cc
 
-answered : (element : ℕ) (d : Data) (b : Bool) (r : SetRet) → d ≡ boolean b → HasAnswer b ≡ r → (d ∷ [] ≡ ret_form r) × (matches (Has element) r ≡ true)
-answered element d b r form ret = rw (← ret, form) (refl, refl)
-
 pub ret_read : (c : SetCall) (ds : List Data) (r : SetRet) → ret_at c ds ≡ Some r → (ds ≡ ret_form r) × (matches c r ≡ true)
-ret_read (Add u) [] r e = let h : Done ≡ r = cc in rw (← h) (refl, refl)
+ret_read (Add u) [] r e = done_read ret_form (matches (Add u)) Done refl refl r e
 ret_read (Add u) (d ∷ ds) r e = absurd cc
-ret_read (Remove u) [] r e = let h : Done ≡ r = cc in rw (← h) (refl, refl)
+ret_read (Remove u) [] r e = done_read ret_form (matches (Remove u)) Done refl refl r e
 ret_read (Remove u) (d ∷ ds) r e = absurd cc
 ret_read (Has u) [] r e = absurd cc
-ret_read (Has u) (d ∷ []) r e = let p = map_from HasAnswer (as_bool d) r e in answered u d p.0 r (as_bool-read d p.0 p.1) p.2
+ret_read (Has u) (d ∷ []) r e = said_read ret_form (matches (Has u)) boolean as_bool as_bool-read HasAnswer (λ b. refl) (λ b. refl) d r e
 ret_read (Has u) (d ∷ f ∷ ds) r e = absurd cc
 
 pub ret_again : (c : SetCall) (r : SetRet) → matches c r ≡ true → ret_at c (ret_form r) ≡ Some r

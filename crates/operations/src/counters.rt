@@ -4,7 +4,6 @@ ghost use Rattle.std.specs.Prelude.{codes};
 ghost use Rattle.operations.specs.CounterForm as counter;
 ghost use Rattle.operations.specs.CounterFormLaws as laws;
 ghost use Rattle.operations.specs.CallLaws.{no_start_is_spelling};
-ghost use Rattle.operations.specs.Spelling.{no_start_form, no_start_at};
 
 use crate::lone::is_done;
 use crate::spelled::Spelled;
@@ -26,10 +25,6 @@ impl Spelled for Counter {
     ghost call_at = { counter.call_at };
 
     ghost ret_at = { counter.ret_at };
-
-    ghost start_form = { no_start_form };
-
-    ghost start_at = { no_start_at };
 
     ghost is_spelling = { laws.is_spelling };
 
@@ -85,13 +80,5 @@ impl Spelled for Counter {
             CounterRet::Done => Ok(()),
             CounterRet::Value(value) => Ok(values.push(Value::from(*value))?),
         }
-    }
-
-    fn read_start(_value: &Value) -> Option<()> {
-        None
-    }
-
-    fn write_start(_start: &()) -> Value {
-        Value::Null
     }
 }

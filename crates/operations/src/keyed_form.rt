@@ -12,6 +12,7 @@ use crate::json::elements_of;
 use crate::keys::{keyed_parts, word_and_key};
 use crate::named::Named;
 use crate::spelled::Spelled;
+use crate::spelled_start::SpelledStart;
 use objects::{Keyed, KeyedCall, MAX_ENTRIES, Table};
 use serde_json::Value;
 use std::alloc::{AllocError, Global};
@@ -39,9 +40,9 @@ impl<O: Spelled> Named for Keyed<O> {
 
     ghost operation_at = { keyed_at O.call_at O.ret_at };
 
-    ghost start_form = { table_form O.start_form };
+    ghost start_form = { table_form O.Start.start_form };
 
-    ghost start_at = { table_at O.start_at };
+    ghost start_at = { table_at O.Start.start_at };
 
     ghost is_call = { λ c. c.key < 2 ^ 32 };
 
@@ -54,13 +55,13 @@ impl<O: Spelled> Named for Keyed<O> {
     ghost operation_again = { keyed_again O.word_of O.arguments O.ret_form O.call_at O.ret_at O.matches
         O.is_spelling.call_again O.is_spelling.ret_again O.is_spelling.ret_is_known };
 
-    ghost start_read = { table_read O.plain_start O.is_start O.start_form O.start_at O.is_start_spelling.start_read };
+    ghost start_read = { table_read O.plain_start O.is_start O.Start.start_form O.Start.start_at O.is_start_spelling.start_read };
 
-    ghost start_again = { table_again O.plain_start O.is_start O.start_form O.start_at O.is_start_spelling.start_again };
+    ghost start_again = { table_again O.plain_start O.is_start O.Start.start_form O.Start.start_at O.is_start_spelling.start_again };
 
     ghost operation_has_no_float = { keyed_has_no_float O.word_of O.arguments O.ret_form O.is_spelling.arguments_have_no_float O.is_spelling.ret_has_no_float };
 
-    ghost start_has_no_float = { table_has_no_float O.start_form O.is_start_spelling.start_has_no_float };
+    ghost start_has_no_float = { table_has_no_float O.Start.start_form O.is_start_spelling.start_has_no_float };
 
     fn name() -> &'static str {
         O::keyed_name()
@@ -102,7 +103,7 @@ impl<O: Spelled> Named for Keyed<O> {
         match rest {
             [] => Ok(Some(Table::new(alloc))),
             [value] => match elements_of_table(value) {
-                Some(values) => O::read_entries(alloc, values),
+                Some(values) => <O::Start as SpelledStart>::read_entries(alloc, values),
                 None => Ok(None),
             },
             _ => Ok(None),
@@ -113,7 +114,7 @@ impl<O: Spelled> Named for Keyed<O> {
         if start.is_empty() {
             return Ok(None);
         }
-        let values = O::write_entries(alloc, start.entries())?;
+        let values = <O::Start as SpelledStart>::write_entries(alloc, start.entries())?;
         Ok(Some(Value::from(values)))
     }
 }

@@ -6,7 +6,6 @@ ghost use Rattle.operations.specs.QueueForm.{popped_at};
 ghost use Rattle.operations.specs.QueueForm as queue;
 ghost use Rattle.operations.specs.QueueFormLaws as laws;
 ghost use Rattle.operations.specs.CallLaws.{no_start_is_spelling};
-ghost use Rattle.operations.specs.Spelling.{no_start_form, no_start_at};
 
 use crate::lone::is_done;
 use crate::spelled::Spelled;
@@ -40,10 +39,6 @@ impl Spelled for Queue {
     ghost call_at = { queue.call_at };
 
     ghost ret_at = { queue.ret_at };
-
-    ghost start_form = { no_start_form };
-
-    ghost start_at = { no_start_at };
 
     ghost is_spelling = { laws.is_spelling };
 
@@ -103,13 +98,5 @@ impl Spelled for Queue {
             QueueRet::Popped(None) => Ok(values.push(Value::Null)?),
             QueueRet::Popped(Some(item)) => Ok(values.push(Value::from(*item))?),
         }
-    }
-
-    fn read_start(_value: &Value) -> Option<()> {
-        None
-    }
-
-    fn write_start(_start: &()) -> Value {
-        Value::Null
     }
 }

@@ -26,10 +26,6 @@ impl Spelled for Register {
 
     ghost ret_at = { register.ret_at };
 
-    ghost start_form = { register.start_form };
-
-    ghost start_at = { register.start_at };
-
     ghost is_spelling = { laws.is_spelling };
 
     ghost is_start_spelling = { laws.is_start_spelling };
@@ -88,13 +84,5 @@ impl Spelled for Register {
             RegisterRet::Done => Ok(()),
             RegisterRet::Value(value) => Ok(values.push(Value::from(*value))?),
         }
-    }
-
-    fn read_start(value: &Value) -> Option<u64> {
-        value.as_u64().filter(|start| *start != 0)
-    }
-
-    fn write_start(start: &u64) -> Value {
-        Value::from(*start)
     }
 }

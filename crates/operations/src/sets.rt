@@ -4,7 +4,6 @@ ghost use Rattle.std.specs.Prelude.{codes};
 ghost use Rattle.operations.specs.SetForm as set;
 ghost use Rattle.operations.specs.SetFormLaws as laws;
 ghost use Rattle.operations.specs.CallLaws.{no_start_is_spelling};
-ghost use Rattle.operations.specs.Spelling.{no_start_form, no_start_at};
 
 use crate::lone::is_done;
 use crate::spelled::Spelled;
@@ -27,10 +26,6 @@ impl Spelled for AddRemoveSet {
     ghost call_at = { set.call_at };
 
     ghost ret_at = { set.ret_at };
-
-    ghost start_form = { no_start_form };
-
-    ghost start_at = { no_start_at };
 
     ghost is_spelling = { laws.is_spelling };
 
@@ -94,13 +89,5 @@ impl Spelled for AddRemoveSet {
             SetRet::Done => Ok(()),
             SetRet::Has(there) => Ok(values.push(Value::Bool(*there))?),
         }
-    }
-
-    fn read_start(_value: &Value) -> Option<()> {
-        None
-    }
-
-    fn write_start(_start: &()) -> Value {
-        Value::Null
     }
 }

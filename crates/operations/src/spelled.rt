@@ -1,17 +1,15 @@
-ghost use Rattle.std.specs.Prelude.{◌≡◌, ℕ, List, ◌++◌, Option, None, map, option_map, IfOk, OnOk, OnErr};
+ghost use Rattle.std.specs.Prelude.{◌≡◌, ℕ, List, ◌++◌, Option, map, option_map, IfOk, OnOk, OnErr};
 ghost use Rattle.serde_json.specs.Data.{Data};
 ghost use Rattle.serde_json.specs.View.{view};
 ghost use Rattle.operations.specs.LoneForm.{lone_return_form, whole_call_at};
 ghost use Rattle.operations.specs.PlainFormLaws.{IsSpelling, IsStartSpelling};
 ghost use Rattle.operations.specs.Reads.{IsRead};
-ghost use Rattle.operations.specs.Spelling.{entries_at, entry_at, entry_form, rest_form, spelled_at};
+ghost use Rattle.operations.specs.Spelling.{rest_form, spelled_at};
 
-use crate::json::elements_of;
-use crate::keys::{entry_of, is_above, key_of};
 use crate::lone::is_nothing;
+use crate::spelled_start::SpelledStart;
 use crate::unknown::{is_question_mark_alone, push_question_mark};
 use object_trait::SeqObject;
-use objects::Table;
 use serde_json::Value;
 use std::alloc::{AllocError, Global};
 
@@ -20,7 +18,7 @@ use std::alloc::{AllocError, Global};
 /// What is common to all objects is written once over this trait: the key of a keyed object stands behind the word, and
 /// `"?"` in the place of a return that is not known. The laws say that reading undoes writing, and that nothing else is
 /// read.
-pub trait Spelled: SeqObject {
+pub trait Spelled: SeqObject<Start: SpelledStart> {
     /// The name of the histories of this object.
     ghost plain_name: { List ℕ };
 
@@ -41,12 +39,6 @@ pub trait Spelled: SeqObject {
 
     /// The return of a call.
     ghost ret_at: { Self.Call → List Data → Option Self.Ret };
-
-    /// A start that is not the plain one.
-    ghost start_form: { Self.Start → Data };
-
-    /// The start of a form.
-    ghost start_at: { Data → Option Self.Start };
 
     fn plain_name() -> &'static str
         ensures { result.now ≡ plain_name };
@@ -76,12 +68,6 @@ pub trait Spelled: SeqObject {
     fn push_ret(ret: &Self::Ret, values: &mut Vec<Value>) -> Result<(), AllocError>
         ensures ok { OnOk result (map view values.new.items ≡ map view values.old.items ++ ret_form ret.now) }
         ensures err { OnErr result (values.new.items ≡ values.old.items) };
-
-    fn read_start(value: &Value) -> Option<Self::Start>
-        ensures { result ≡ start_at (view value.now) };
-
-    fn write_start(start: &Self::Start) -> Value
-        ensures { view result ≡ start_form start.now };
 
     /// The call that a word and the values behind it spell, and its return where that is known.
     fn read_spelled(word: &str, values: &[Value]) -> Option<(Self::Call, Option<Self::Ret>)>
@@ -120,53 +106,7 @@ pub trait Spelled: SeqObject {
         if is_nothing(rest) { Some(call) } else { None }
     }
 
-    /// The key and the start of an entry of a table.
-    fn read_entry(value: &Value) -> Option<(u32, Self::Start)>
-        ensures { result ≡ entry_at start_at (view value.now) }
-    {
-        match elements_of(value)? {
-            [key, start] => Some((key_of(key)?, Self::read_start(start)?)),
-            _ => None,
-        }
-    }
-
-    /// The table of these entries, where their keys rise.
-    fn read_entries(
-        alloc: Global,
-        values: &[Value],
-    ) -> Result<Option<Table<Self::Start>>, AllocError>
-        ensures { IfOk result (λ t. t ≡ entries_at start_at None (map view values.now)) }
-    {
-        let mut table = Table::new(alloc);
-        let mut before = None;
-        for value in values {
-            let Some((key, start)) = Self::read_entry(value) else {
-                return Ok(None);
-            };
-            if !is_above(before, key) {
-                return Ok(None);
-            }
-            table.push(key, start)?;
-            before = Some(key);
-        }
-        Ok(Some(table))
-    }
-
-    /// The forms of the entries of a table.
-    fn write_entries(
-        alloc: Global,
-        entries: &[(u32, Self::Start)],
-    ) -> Result<Vec<Value>, AllocError>
-        ensures { IfOk result (λ vs. map view vs.items ≡ map (entry_form start_form) entries.now) }
-    {
-        let mut values = Vec::new(alloc);
-        for (key, start) in entries {
-            values.push(entry_of(alloc, *key, Self::write_start(start))?)?;
-        }
-        Ok(values)
-    }
-
     ghost is_spelling: { IsSpelling word_of arguments ret_form call_at ret_at Self.matches };
 
-    ghost is_start_spelling: { IsStartSpelling Self.plain_start Self.is_start start_form start_at };
+    ghost is_start_spelling: { IsStartSpelling Self.plain_start Self.is_start Self.Start.start_form Self.Start.start_at };
 }
