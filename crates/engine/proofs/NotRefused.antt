@@ -15,7 +15,7 @@ use Rattle.operations.specs.CounterFormLaws as counter_laws
 use Rattle.operations.specs.Form.{session_form}
 use Rattle.operations.specs.KeyedFormLaws.{keyed_again}
 use Rattle.operations.specs.ObjectNames.{text_of}
-use Rattle.operations.specs.PlainFormLaws.{IsSpelling, plain_again}
+use Rattle.operations.specs.PlainFormLaws.{plain_again}
 use Rattle.operations.specs.QueueForm as queue
 use Rattle.operations.specs.QueueFormLaws as queue_laws
 use Rattle.operations.specs.Reading.{named_refusal, parts_of, start_refusal}
@@ -23,6 +23,7 @@ use Rattle.operations.specs.RegisterForm as register
 use Rattle.operations.specs.RegisterFormLaws as register_laws
 use Rattle.operations.specs.SetForm as set
 use Rattle.operations.specs.SetFormLaws as set_laws
+use Rattle.operations.specs.SpelledLaws.{IsSpelling}
 use Rattle.operations.specs.Spelling.{plain_form, plain_at, plain_start_at, keyed_form, keyed_at, entry_form, table_form, table_at, no_start_form, no_start_at}
 use Rattle.operations.specs.TableFormLaws.{table_again}
 use Rattle.operations.proofs.HistoryForm.{sessions_fine, sessions_read}
@@ -54,7 +55,7 @@ module _ {C R : Type 0} {word_of : C → List ℕ} {arguments : C → List Data}
       let ss = map (session_form (keyed_form word_of arguments ret_form)) h.1 in
       let read =
       sessions_read (keyed_at call_at ret_at) (keyed_form word_of arguments ret_form) (λ (c : KeyedCall C). fits c.call) (λ (c : KeyedCall C). c.key < 2 ^ 32)
-      (keyed_again word_of arguments ret_form call_at ret_at fits spelling.call_again spelling.ret_again spelling.ret_is_known) h.1 is.0.each is.1 in
+      (keyed_again spelling) h.1 is.0.each is.1 in
       ap (λ (o : Option ReadError). option_or o (start_refusal (table_at start_at (table_form start_form h.0))))
       (sessions_fine (keyed_at call_at ret_at) (λ (c : KeyedCall C). fits c.call) ss h.1 read is.0.each is.0.few)
       ∙ ap start_refusal (table_again plain (λ _. Unit {0}) start_form start_at start_again h.0 is.0.start tt)

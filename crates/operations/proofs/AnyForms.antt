@@ -17,7 +17,7 @@ use Rattle.operations.specs.Form.{Fits, EachCall, session_form, HaveNoFloats}
 use Rattle.history.specs.History.{HistoryValue, IsHistory}
 use Rattle.operations.specs.KeyedFormLaws.{keyed_again, keyed_has_no_float}
 use Rattle.operations.specs.ObjectNames.{text_of}
-use Rattle.operations.specs.PlainFormLaws.{IsSpelling, plain_again, plain_has_no_float}
+use Rattle.operations.specs.PlainFormLaws.{plain_again, plain_has_no_float}
 use Rattle.operations.specs.QueueForm as queue
 use Rattle.operations.specs.QueueFormLaws as queue_laws
 use Rattle.operations.specs.Refusals.{IsFirst}
@@ -25,6 +25,7 @@ use Rattle.operations.specs.RegisterForm as register
 use Rattle.operations.specs.RegisterFormLaws as register_laws
 use Rattle.operations.specs.SetForm as set
 use Rattle.operations.specs.SetFormLaws as set_laws
+use Rattle.operations.specs.SpelledLaws.{IsSpelling}
 use Rattle.operations.specs.Spelling.{plain_form, plain_at, keyed_form, keyed_at, table_form, table_at, no_start_form, no_start_at}
 use Rattle.operations.specs.TableFormLaws.{table_again, table_has_no_float}
 use Rattle.operations.proofs.AnyHistories.{only_with_name}
@@ -69,16 +70,16 @@ any_form_has_no_float (histories.Queue h) =
     (plain_has_no_float queue_laws.is_spelling) refl
 any_form_has_no_float (histories.Memory h) =
     form_has_no_float (text_of names.Memory) (keyed_form register.word_of register.arguments register.ret_form) h.1 (table_form register.start_form h.0)
-    (keyed_has_no_float register.word_of register.arguments register.ret_form register_laws.arguments_have_no_float register_laws.ret_has_no_float) (table_has_no_float register.start_form register_laws.start_has_no_float h.0)
+    (keyed_has_no_float register_laws.is_spelling) (table_has_no_float register.start_form register_laws.start_has_no_float h.0)
 any_form_has_no_float (histories.Counters h) =
     form_has_no_float (text_of names.Counters) (keyed_form counter.word_of counter.arguments counter.ret_form) h.1 (table_form no_start_form h.0)
-    (keyed_has_no_float counter.word_of counter.arguments counter.ret_form counter_laws.arguments_have_no_float counter_laws.ret_has_no_float) (table_has_no_float no_start_form no_start_has_no_float h.0)
+    (keyed_has_no_float counter_laws.is_spelling) (table_has_no_float no_start_form no_start_has_no_float h.0)
 any_form_has_no_float (histories.Sets h) =
     form_has_no_float (text_of names.Sets) (keyed_form set.word_of set.arguments set.ret_form) h.1 (table_form no_start_form h.0)
-    (keyed_has_no_float set.word_of set.arguments set.ret_form set_laws.arguments_have_no_float set_laws.ret_has_no_float) (table_has_no_float no_start_form no_start_has_no_float h.0)
+    (keyed_has_no_float set_laws.is_spelling) (table_has_no_float no_start_form no_start_has_no_float h.0)
 any_form_has_no_float (histories.Queues h) =
     form_has_no_float (text_of names.Queues) (keyed_form queue.word_of queue.arguments queue.ret_form) h.1 (table_form no_start_form h.0)
-    (keyed_has_no_float queue.word_of queue.arguments queue.ret_form queue_laws.arguments_have_no_float queue_laws.ret_has_no_float) (table_has_no_float no_start_form no_start_has_no_float h.0)
+    (keyed_has_no_float queue_laws.is_spelling) (table_has_no_float no_start_form no_start_has_no_float h.0)
 
 -- sessions with the same forms are the same
 module _ {C R : Type 0} (operation_form : C → Option R → Data) (operation_at : Data → Option (C × Option R)) (fits : C → R → Bool) (is_call : C → Type 0)
@@ -115,7 +116,7 @@ module _ {C R : Type 0} {word_of : C → List ℕ} {arguments : C → List Data}
       rw (
         same_start,
         sessions_are_the_same (keyed_form word_of arguments ret_form) (keyed_at call_at ret_at) (λ c. fits c.call) (λ c. c.key < 2 ^ 32)
-            (keyed_again word_of arguments ret_form call_at ret_at fits spelling.call_again spelling.ret_again spelling.ret_is_known)
+            (keyed_again spelling)
             _ g h is_g.0 is_h.0 is_g.1 is_h.1 same,
       ) refl
 

@@ -26,7 +26,7 @@ use Rattle.operations.specs.Json.{list, listed, elements}
 use Rattle.operations.specs.KeyedFormLaws.{keyed_read}
 use Rattle.operations.specs.ObjectNames.{name_at}
 use Rattle.operations.specs.Places.{inside_of, limit_of}
-use Rattle.operations.specs.PlainFormLaws.{IsSpelling, plain_read}
+use Rattle.operations.specs.PlainFormLaws.{plain_read}
 use Rattle.operations.specs.QueueForm as queue
 use Rattle.operations.specs.QueueFormLaws as queue_laws
 use Rattle.operations.specs.Reading.{first_among, is_unknown_return, entry_refusal, operation_refusal, operations_refusal, session_refusal, sessions_refusal, start_refusal, named_parts, parts_of, named_refusal}
@@ -34,6 +34,7 @@ use Rattle.operations.specs.RegisterForm as register
 use Rattle.operations.specs.RegisterFormLaws as register_laws
 use Rattle.operations.specs.SetForm as set
 use Rattle.operations.specs.SetFormLaws as set_laws
+use Rattle.operations.specs.SpelledLaws.{IsSpelling}
 use Rattle.operations.specs.Spelling.{plain_form, plain_at, plain_start_at, keyed_form, keyed_at, entry_form, table_form, table_at, no_start_form, no_start_at}
 use Rattle.operations.specs.TableFormLaws.{table_read}
 use Rattle.operations.proofs.JsonLists.{elements-list, items_of-listed}
@@ -153,7 +154,7 @@ module _ {C R : Type 0} (word_of : C → List ℕ) (arguments : C → List Data)
   keyed_same : ((c : KeyedCall C) (r : Option R) → IsWholeAt Operation (keyed_form word_of arguments ret_form c r)) → (d : Data) → keyed_at call_at ret_at (cut_at Operation d) ≡ keyed_at call_at ret_at d
   keyed_same kept =
       unseen limit_of inside_of Operation (keyed_at call_at ret_at)
-      (λ d x read. subst (IsWholeAt Operation) (sym ((keyed_read word_of arguments ret_form call_at ret_at fits spelling.call_read spelling.ret_read d x.0 x.1 read).0)) (kept x.0 x.1))
+      (λ d x read. subst (IsWholeAt Operation) (sym ((keyed_read spelling d x.0 x.1 read).0)) (kept x.0 x.1))
 
 object_same : (name : ObjectName) (ss rest : List Data) → refusal_of_object name (map (cut_at Session) (take 17 ss)) (map (cut_at Start) rest) ≡ refusal_of_object name ss rest
 object_same names.Register =

@@ -1,5 +1,5 @@
 -- Reading undoes the form of an operation under a key, and nothing else is read: for each object by its own laws.
-use Rattle.std.specs.Prelude.{◌≡◌, ◌≢◌, ℕ, ◌<◌, ◌^◌, nat_lt, List, [], ◌∷◌, ◌++◌, Bool, true, false, Option, Some, None, option_map, option_and_then, if◌then◌else◌, refl}
+use Rattle.std.specs.Prelude.{◌≡◌, ℕ, ◌<◌, ◌^◌, nat_lt, List, [], ◌∷◌, Bool, false, Option, Some, None, option_map, option_and_then, if◌then◌else◌, refl}
 use Rattle.std.proofs.Common.{ap, subst, ◌∙◌}
 use Rattle.std.proofs.lemmas.Bool.{ltb-true, lt-ltb}
 use Rattle.std.proofs.lemmas.Option.{same_Some}
@@ -7,10 +7,10 @@ use Rattle.serde_json.specs.Data.{Data, number, string, unsigned}
 use Rattle.serde_json.specs.Find.{as_str}
 use Rattle.serde_json.specs.Written.{has_float}
 use Rattle.objects.specs.declared.keyed.KeyedCall.{KeyedCall}
-use Rattle.operations.specs.Form.{Fits, HaveNoFloats}
-use Rattle.operations.specs.Json.{list, elements, whole_number, unknown}
+use Rattle.operations.specs.Form.{Fits}
+use Rattle.operations.specs.Json.{list, elements, whole_number}
 use Rattle.operations.specs.JsonLaws.{elements-list, list_from_elements, and_then_from, map_from, chosen, whole_number-read, as_str-read}
-use Rattle.operations.specs.SpelledLaws.{spelled_read, spelled_again, rest_has_no_float}
+use Rattle.operations.specs.SpelledLaws.{IsSpelling, spelled_read, spelled_again, rest_has_no_float}
 use Rattle.operations.specs.Spelling.{key_at, word_key_rest, rest_form, keyed_form, spelled_at, keyed_parts_at, keyed_at}
 
 -- ---- a word, a key and the rest
@@ -65,42 +65,36 @@ module _ {C R : Type 0} (call_at : List ℕ → List Data → Option (C × List 
       let s = map_from (λ (e : C × Option R). (record { key = p.0.1; call = e.0 }, e.1)) (spelled_at call_at ret_at p.0.0 p.0.2) (c, r) p.2 in
       subst (λ (y : KeyedCall C × Option R). y.0.key < 2 ^ 32) s.2 (word_key_rest-small q.0 p.0 q.2)
 
-module _ {C R : Type 0} (word_of : C → List ℕ) (arguments : C → List Data) (ret_form : R → List Data)
-    (call_at : List ℕ → List Data → Option (C × List Data)) (ret_at : C → List Data → Option R) (fits : C → R → Bool) where
-  module _ (call_read : (w : List ℕ) (ds rest : List Data) (c : C) → call_at w ds ≡ Some (c, rest) → (w ≡ word_of c) × (ds ≡ arguments c ++ rest))
-      (ret_read : (c : C) (ds : List Data) (r : R) → ret_at c ds ≡ Some r → (ds ≡ ret_form r) × (fits c r ≡ true)) where
-    form_of_parts : (d : Data) (ds : List Data) (p : List ℕ × ℕ × List Data) (call : C) (ret : Option R) (x : KeyedCall C × Option R)
-        → d ≡ list ds → ds ≡ string p.0 ∷ number (unsigned p.1) ∷ p.2
-        → p.0 ≡ word_of call → p.2 ≡ rest_form arguments ret_form call ret → Fits fits call ret
-        → (record { key = p.1; call = call }, ret) ≡ x
-        → (d ≡ keyed_form word_of arguments ret_form x.0 x.1) × Fits (λ (k : KeyedCall C). fits k.call) x.0 x.1
-    form_of_parts d ds p call ret x is_list parts word rest fine same =
-        subst (λ (y : KeyedCall C × Option R). (d ≡ keyed_form word_of arguments ret_form y.0 y.1) × Fits (λ (k : KeyedCall C). fits k.call) y.0 y.1) same
-        (is_list ∙ ap list parts ∙ (λ i. list (string (word i) ∷ number (unsigned p.1) ∷ rest i)), fine)
+module _ {C R : Type 0} {word_of : C → List ℕ} {arguments : C → List Data} {ret_form : R → List Data}
+    {call_at : List ℕ → List Data → Option (C × List Data)} {ret_at : C → List Data → Option R} {fits : C → R → Bool}
+    (spelling : IsSpelling word_of arguments ret_form call_at ret_at fits) where
+  form_of_parts : (d : Data) (ds : List Data) (p : List ℕ × ℕ × List Data) (call : C) (ret : Option R) (x : KeyedCall C × Option R)
+      → d ≡ list ds → ds ≡ string p.0 ∷ number (unsigned p.1) ∷ p.2
+      → p.0 ≡ word_of call → p.2 ≡ rest_form arguments ret_form call ret → Fits fits call ret
+      → (record { key = p.1; call = call }, ret) ≡ x
+      → (d ≡ keyed_form word_of arguments ret_form x.0 x.1) × Fits (λ (k : KeyedCall C). fits k.call) x.0 x.1
+  form_of_parts d ds p call ret x is_list parts word rest fine same =
+      subst (λ (y : KeyedCall C × Option R). (d ≡ keyed_form word_of arguments ret_form y.0 y.1) × Fits (λ (k : KeyedCall C). fits k.call) y.0 y.1) same
+      (is_list ∙ ap list parts ∙ (λ i. list (string (word i) ∷ number (unsigned p.1) ∷ rest i)), fine)
 
-    pub keyed_read : (d : Data) (c : KeyedCall C) (r : Option R) → keyed_at call_at ret_at d ≡ Some (c, r)
-        → (d ≡ keyed_form word_of arguments ret_form c r) × Fits (λ (k : KeyedCall C). fits k.call) c r
-    keyed_read d c r e =
-        let p = and_then_from (keyed_parts_at call_at ret_at) (option_and_then word_key_rest (elements d)) (c, r) e in
-        let q = and_then_from word_key_rest (elements d) p.0 p.1 in
-        let s = map_from (λ (e : C × Option R). (record { key = p.0.1; call = e.0 }, e.1)) (spelled_at call_at ret_at p.0.0 p.0.2) (c, r) p.2 in
-        let spelled = spelled_read word_of arguments ret_form call_at ret_at fits call_read ret_read p.0.0 p.0.2 s.0.0 s.0.1 s.1 in
-        form_of_parts d q.0 p.0 s.0.0 s.0.1 (c, r) (list_from_elements d q.0 q.1) (word_key_rest-read q.0 p.0 q.2)
-        spelled.0 spelled.1 spelled.2 s.2
+  pub keyed_read : (d : Data) (c : KeyedCall C) (r : Option R) → keyed_at call_at ret_at d ≡ Some (c, r)
+      → (d ≡ keyed_form word_of arguments ret_form c r) × Fits (λ (k : KeyedCall C). fits k.call) c r
+  keyed_read d c r e =
+      let p = and_then_from (keyed_parts_at call_at ret_at) (option_and_then word_key_rest (elements d)) (c, r) e in
+      let q = and_then_from word_key_rest (elements d) p.0 p.1 in
+      let s = map_from (λ (e : C × Option R). (record { key = p.0.1; call = e.0 }, e.1)) (spelled_at call_at ret_at p.0.0 p.0.2) (c, r) p.2 in
+      let spelled = spelled_read spelling p.0.0 p.0.2 s.0.0 s.0.1 s.1 in
+      form_of_parts d q.0 p.0 s.0.0 s.0.1 (c, r) (list_from_elements d q.0 q.1) (word_key_rest-read q.0 p.0 q.2)
+      spelled.0 spelled.1 spelled.2 s.2
 
-  module _ (call_again : (c : C) (rest : List Data) → call_at (word_of c) (arguments c ++ rest) ≡ Some (c, rest))
-      (ret_again : (c : C) (r : R) → fits c r ≡ true → ret_at c (ret_form r) ≡ Some r)
-      (ret_is_known : (r : R) → ret_form r ≢ unknown ∷ []) where
-    pub keyed_again : (c : KeyedCall C) (r : Option R) → c.key < 2 ^ 32 → Fits (λ (k : KeyedCall C). fits k.call) c r
-        → keyed_at call_at ret_at (keyed_form word_of arguments ret_form c r) ≡ Some (c, r)
-    keyed_again c r small fine =
-        let rest = rest_form arguments ret_form c.call r in
-        ap (λ (o : Option (List Data)). option_and_then (keyed_parts_at call_at ret_at) (option_and_then word_key_rest o))
-        (elements-list (string (word_of c.call) ∷ number (unsigned c.key) ∷ rest))
-        ∙ ap (λ (o : Option (List ℕ × ℕ × List Data)). option_and_then (keyed_parts_at call_at ret_at) o) (word_key_rest-again (word_of c.call) c.key rest small)
-        ∙ ap (λ (o : Option (C × Option R)). option_map (λ (e : C × Option R). (record { key = c.key; call = e.0 }, e.1)) o) (spelled_again word_of arguments ret_form call_at ret_at fits call_again ret_again ret_is_known c.call r fine)
+  pub keyed_again : (c : KeyedCall C) (r : Option R) → c.key < 2 ^ 32 → Fits (λ (k : KeyedCall C). fits k.call) c r
+      → keyed_at call_at ret_at (keyed_form word_of arguments ret_form c r) ≡ Some (c, r)
+  keyed_again c r small fine =
+      let rest = rest_form arguments ret_form c.call r in
+      ap (λ (o : Option (List Data)). option_and_then (keyed_parts_at call_at ret_at) (option_and_then word_key_rest o))
+      (elements-list (string (word_of c.call) ∷ number (unsigned c.key) ∷ rest))
+      ∙ ap (λ (o : Option (List ℕ × ℕ × List Data)). option_and_then (keyed_parts_at call_at ret_at) o) (word_key_rest-again (word_of c.call) c.key rest small)
+      ∙ ap (λ (o : Option (C × Option R)). option_map (λ (e : C × Option R). (record { key = c.key; call = e.0 }, e.1)) o) (spelled_again spelling c.call r fine)
 
-module _ {C R : Type 0} (word_of : C → List ℕ) (arguments : C → List Data) (ret_form : R → List Data)
-    (arguments_have_no_float : (c : C) → HaveNoFloats (arguments c)) (ret_has_no_float : (r : R) → HaveNoFloats (ret_form r)) where
   pub keyed_has_no_float : (c : KeyedCall C) (r : Option R) → has_float (keyed_form word_of arguments ret_form c r) ≡ false
-  keyed_has_no_float c r = rest_has_no_float arguments ret_form arguments_have_no_float ret_has_no_float c.call r
+  keyed_has_no_float c r = rest_has_no_float spelling c.call r

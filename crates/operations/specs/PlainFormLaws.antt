@@ -1,14 +1,14 @@
 -- Reading undoes the form of an operation without a key, and nothing else is read: for each object by its own laws.
-use Rattle.std.specs.Prelude.{◌≡◌, ◌≢◌, ℕ, List, [], ◌∷◌, ◌++◌, Bool, true, false, Option, Some, option_and_then, refl}
+use Rattle.std.specs.Prelude.{◌≡◌, ℕ, List, [], ◌∷◌, Bool, false, Option, Some, option_and_then, refl}
 use Rattle.std.proofs.Common.{ap, ◌∙◌}
 use Rattle.std.proofs.lemmas.Option.{same_Some}
 use Rattle.serde_json.specs.Data.{Data, string}
 use Rattle.serde_json.specs.Find.{as_str}
 use Rattle.serde_json.specs.Written.{has_float}
 use Rattle.operations.specs.Form.{Fits, HaveNoFloats}
-use Rattle.operations.specs.Json.{list, elements, unknown}
+use Rattle.operations.specs.Json.{list, elements}
 use Rattle.operations.specs.JsonLaws.{elements-list, list_from_elements, and_then_from, map_from, as_str-read}
-use Rattle.operations.specs.SpelledLaws.{spelled_read, spelled_again, rest_has_no_float}
+use Rattle.operations.specs.SpelledLaws.{IsSpelling, spelled_read, spelled_again, rest_has_no_float}
 use Rattle.operations.specs.Spelling.{word_rest, rest_form, plain_form, spelled_at, plain_at, plain_start_form, plain_start_at}
 
 -- two parts of a list, and the parts of a pair
@@ -21,23 +21,6 @@ word_rest-read (w ∷ rest) p e =
     let text = map_from (λ (word : List ℕ). (word, rest)) (as_str w) p e in
     parts_are w rest text.0 p (as_str-read w text.0 text.1) text.2
 
--- reading undoes the spelling of calls and returns, nothing else is read, and no number in it is a float
-pub record IsSpelling {C R : Type 0} (word_of : C → List ℕ) (arguments : C → List Data) (ret_form : R → List Data)
-    (call_at : List ℕ → List Data → Option (C × List Data)) (ret_at : C → List Data → Option R) (fits : C → R → Bool) : Type 0 where
-  pub call_read : (w : List ℕ) (ds rest : List Data) (c : C) → call_at w ds ≡ Some (c, rest) → (w ≡ word_of c) × (ds ≡ arguments c ++ rest)
-  pub call_again : (c : C) (rest : List Data) → call_at (word_of c) (arguments c ++ rest) ≡ Some (c, rest)
-  pub ret_read : (c : C) (ds : List Data) (r : R) → ret_at c ds ≡ Some r → (ds ≡ ret_form r) × (fits c r ≡ true)
-  pub ret_again : (c : C) (r : R) → fits c r ≡ true → ret_at c (ret_form r) ≡ Some r
-  pub ret_is_known : (r : R) → ret_form r ≢ unknown ∷ []
-  pub arguments_have_no_float : (c : C) → HaveNoFloats (arguments c)
-  pub ret_has_no_float : (r : R) → HaveNoFloats (ret_form r)
-
--- reading undoes the form of a start that isn't the plain one, nothing else is read, and no number in it is a float
-pub record IsStartSpelling {S : Type 0} (plain : S) (is_start : S → Type 0) (start_form : S → Data) (start_at : Data → Option S) : Type 0 where
-  pub start_read : (d : Data) (s : S) → start_at d ≡ Some s → (d ≡ start_form s) × is_start s × (s ≢ plain)
-  pub start_again : (s : S) → is_start s → s ≢ plain → start_at (start_form s) ≡ Some s
-  pub start_has_no_float : (s : S) → has_float (start_form s) ≡ false
-
 module _ {C R : Type 0} {word_of : C → List ℕ} {arguments : C → List Data} {ret_form : R → List Data}
     {call_at : List ℕ → List Data → Option (C × List Data)} {ret_at : C → List Data → Option R} {fits : C → R → Bool}
     (spelling : IsSpelling word_of arguments ret_form call_at ret_at fits) where
@@ -45,7 +28,7 @@ module _ {C R : Type 0} {word_of : C → List ℕ} {arguments : C → List Data}
   plain_read d c r e =
       let p = and_then_from (λ (q : List ℕ × List Data). spelled_at call_at ret_at q.0 q.1) (option_and_then word_rest (elements d)) (c, r) e in
       let q = and_then_from word_rest (elements d) p.0 p.1 in
-      let spelled = spelled_read word_of arguments ret_form call_at ret_at fits spelling.call_read spelling.ret_read p.0.0 p.0.1 c r p.2 in
+      let spelled = spelled_read spelling p.0.0 p.0.1 c r p.2 in
       let word : p.0.0 ≡ word_of c = spelled.0 in
       let rest : p.0.1 ≡ rest_form arguments ret_form c r = spelled.1 in
       (list_from_elements d q.0 q.1 ∙ ap list (word_rest-read q.0 p.0 q.2) ∙ (λ i. list (string (word i) ∷ rest i)), spelled.2)
@@ -54,10 +37,10 @@ module _ {C R : Type 0} {word_of : C → List ℕ} {arguments : C → List Data}
   plain_again c r _ fine =
       ap (λ (o : Option (List Data)). option_and_then (λ (q : List ℕ × List Data). spelled_at call_at ret_at q.0 q.1) (option_and_then word_rest o))
       (elements-list (string (word_of c) ∷ rest_form arguments ret_form c r))
-      ∙ spelled_again word_of arguments ret_form call_at ret_at fits spelling.call_again spelling.ret_again spelling.ret_is_known c r fine
+      ∙ spelled_again spelling c r fine
 
   pub plain_has_no_float : (c : C) (r : Option R) → has_float (plain_form word_of arguments ret_form c r) ≡ false
-  plain_has_no_float c r = rest_has_no_float arguments ret_form spelling.arguments_have_no_float spelling.ret_has_no_float c r
+  plain_has_no_float c r = rest_has_no_float spelling c r
 
 -- ---- a start of which nothing is written
 

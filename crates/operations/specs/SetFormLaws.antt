@@ -11,7 +11,7 @@ use Rattle.objects.specs.declared.add_remove_set.SetRet.TheVariants.{Done, Has a
 use Rattle.operations.specs.CallLaws.{by_word, with_number_read, said_read, done_read}
 use Rattle.operations.specs.Form.{HaveNoFloats}
 use Rattle.operations.specs.Json.{unknown}
-use Rattle.operations.specs.PlainFormLaws.{IsSpelling}
+use Rattle.operations.specs.SpelledLaws.{IsSpelling}
 use Rattle.operations.specs.SetForm.{word_of, arguments, ret_form, call_at, ret_at}
 use Rattle.operations.specs.Spelling.{call_with}
 

@@ -48,18 +48,17 @@ impl<O: Spelled> Named for Keyed<O> {
 
     ghost has_form = { λ _. Unit {0} };
 
-    ghost operation_read = { keyed_read O.word_of O.arguments O.ret_form O.call_at O.ret_at O.matches O.is_spelling.call_read O.is_spelling.ret_read };
+    ghost operation_read = { keyed_read O.is_spelling };
 
     ghost operation_is_call = { keyed_is_call O.call_at O.ret_at };
 
-    ghost operation_again = { keyed_again O.word_of O.arguments O.ret_form O.call_at O.ret_at O.matches
-        O.is_spelling.call_again O.is_spelling.ret_again O.is_spelling.ret_is_known };
+    ghost operation_again = { keyed_again O.is_spelling };
 
     ghost start_read = { table_read O.plain_start O.is_start O.Start.start_form O.Start.start_at O.is_start_spelling.start_read };
 
     ghost start_again = { table_again O.plain_start O.is_start O.Start.start_form O.Start.start_at O.is_start_spelling.start_again };
 
-    ghost operation_has_no_float = { keyed_has_no_float O.word_of O.arguments O.ret_form O.is_spelling.arguments_have_no_float O.is_spelling.ret_has_no_float };
+    ghost operation_has_no_float = { keyed_has_no_float O.is_spelling };
 
     ghost start_has_no_float = { table_has_no_float O.Start.start_form O.is_start_spelling.start_has_no_float };
 
