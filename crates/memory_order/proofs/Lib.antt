@@ -34,6 +34,7 @@ pub mod Raises
 pub mod Ranges
 pub mod RaisesMade
 pub mod RaiseLists
+pub mod RaisedSince
 pub mod RightRaises
 pub mod RaisesCaused
 pub mod Released

@@ -30,6 +30,7 @@ use Rattle.memory_order.proofs.HappenedBeforeLaws.{HB-earlier, HB-inside, in_pas
 use Rattle.memory_order.proofs.HappenedBeforeVectors.{IsFixed, fixed-exact, supported-strict}
 use Rattle.causal_order.proofs.OrdersLaws.{same_op, session-of_history}
 use Rattle.memory_order.proofs.Raises.{TellsCycles, grows-bounded, grows-cyclic, grows-most, grows-outside, grows-rises, grows-sums, grows-supported, grows-untouched, settled-within}
+use Rattle.memory_order.proofs.RaisedSince.{grows-since}
 use Rattle.memory_order.proofs.RaisesCaused.{grows-few, grows-right}
 use Rattle.memory_order.proofs.RightRaises.{right-later}
 use Rattle.causal_order.proofs.PathsLaws.{leads-edge, leads-leads}
@@ -330,6 +331,7 @@ module _ (h : MemoryHistory) where
       taken = refl;
       most = refl;
       counts = λ p s. omega arith;
+      same = λ p s. inl refl;
       outcome = given-outcome;
       few = λ distinct not. absurd (not given);
       raised = λ distinct n below. given-pairs distinct n (let few = made.few in omega arith);
@@ -651,6 +653,7 @@ module _ (h : MemoryHistory) where
             taken = let taken = same-taken in omega arith;
             most = grows-most h Always (program_past o) a.order b.order steps;
             counts = λ p s. grows-rises h Always (program_past o) a.order b.order steps p s;
+            same = grows-since h Always (program_past o) a.order b.order steps;
             outcome = outcome-next;
             few = λ distinct not. few-next (waits-none not) distinct b.order.most not;
             raised = λ distinct n below. added-pairs distinct n (let few = few-raises in omega arith);

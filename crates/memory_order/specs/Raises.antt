@@ -21,6 +21,10 @@ IsReached v raises n b s c =
 abbrev pub AreReached : Counts → List Raise → Counts → Type 0
 AreReached v raises now = (b : OpId) (s : ℕ) → IsReached v raises (length raises) b s (count now b s)
 
+-- a raise behind the first n is of the vector of b
+abbrev pub IsRaisedSince : List Raise → ℕ → OpId → Type 0
+IsRaisedSince raises n b = (j : ℕ) × (e : Raise) × (n ≤ j) × (slice_get raises j ≡ Some e) × (e.op ≡ b)
+
 -- the operation that a cause names
 abbrev pub operation_of : Cause → OpId
 operation_of (Through m) = m

@@ -14,7 +14,7 @@ use Rattle.memory_order.specs.HappenedBeforeVectors.{IsHBVectors}
 use Rattle.memory_order.specs.Memory.{MemoryHistory, IsDifferentiated, Writes}
 use Rattle.causal_order.specs.Orders.{op, IsEarlier, program_past}
 use Rattle.memory_order.specs.Relations.{IsPast, HB}
-use Rattle.memory_order.specs.Raises.{AreReached, AreRightRaises}
+use Rattle.memory_order.specs.Raises.{AreReached, AreRightRaises, IsRaisedSince}
 use Rattle.memory_order.specs.SourceOrder.{CountsSourceOrder, IsSource, ListsSourcesBelow}
 use Rattle.memory_order.specs.Steps.GrowingOrders.{AreHeldVectors}
 use Rattle.memory_order.specs.Steps.GrowthSteps.{Always, IsIn, Waits, NoMore, IsGrowing, IsGivenUp, Grows}
@@ -176,14 +176,17 @@ Tells happened Cyclic = (¬ IsGivenUp happened.order) × (happened.order.is_cycl
 Tells happened GivenUp = IsGivenUp happened.order
 
 module _ (h : MemoryHistory) where
-  -- one operation more of the session is taken in: no vector counts less than before, what is told of its relation is so, and it
-  -- has at least as many pairs that the causal order doesn't have as counts were raised
+  -- one operation more of the session is taken in: no vector counts less than before, and one that no further raise is of counts
+  -- the same; what is told of its relation is so, and it has at least as many pairs that the causal order doesn't have as counts
+  -- were raised
   pub record TakesNext (before after : HappenedBefore) : Type 0 where
     pub made : IsMade h after
     pub session : session_of after ≡ session_of before
     pub taken : taken_of after ≡ taken_of before + 1
     pub most : most_of after ≡ most_of before
     pub counts : (o : OpId) (s : ℕ) → count (vectors_of before) o s ≤ count (vectors_of after) o s
+    pub same : (o : OpId) (s : ℕ)
+        → (count (vectors_of after) o s ≡ count (vectors_of before) o s) ⊎ IsRaisedSince (raises_of after) (length (raises_of before)) o
     pub outcome : IsDifferentiated h → (told : Saturation) → Tells after told
         → IsOutcome h (op (session_of before) (taken_of before)) (most_of after) (vectors_of after) told
     pub few : IsDifferentiated h → ¬ IsGivenUp after.order → HasFewPairs h (op (session_of before) (taken_of before)) (most_of after)
