@@ -2,6 +2,7 @@ pub mod Flat
 pub mod Items
 pub mod OwnVectors
 pub mod Walked
+pub mod TakenBack
 pub mod GatheredLaws
 pub mod OrdersLaws
 pub mod PushedLaws

@@ -1,4 +1,4 @@
-ghost use Rattle.std.specs.Prelude.{◌≡◌, ◌≢◌, ◌∷◌, ◌++◌, ◌<◌, ◌≤◌, ◌↔◌, ℕ, [], length, max, slice_index_or};
+ghost use Rattle.std.specs.Prelude.{◌≡◌, ◌≢◌, ◌∷◌, ◌++◌, ◌-◌, ◌<◌, ◌≤◌, ◌↔◌, ℕ, [], length, max, take, slice_index_or};
 ghost use Rattle.std.specs.Prelude.{MatchOption, OnErr, OnOk, IsTrue};
 ghost use Rattle.causal_order.specs.Schedules.{placed};
 ghost use Rattle.causal_order.specs.Topological.{AreSeen, AreSquare, CanGoOn, IsFullWalk, IsNext, IsWalk};
@@ -77,6 +77,24 @@ impl Walk {
         self.schedule.push(session as u8)?;
         self.placed[session] += 1;
         Ok(())
+    }
+
+    /// Takes back what was placed last, until no more than so many operations are placed. O(m) for m operations that are taken back.
+    pub fn cut(&mut self, len: usize)
+        ensures { self.new ≡ take len self.old }
+    {
+        while self.schedule.len() > len {
+            self.take_back();
+        }
+    }
+
+    /// Takes back the operation that was placed last, if there is one.
+    fn take_back(&mut self)
+        ensures { self.new ≡ take (length self.old - 1) self.old }
+    {
+        if let Some(session) = self.schedule.pop() {
+            self.placed[session as usize] -= 1;
+        }
     }
 
     /// Places operations by the topological rule: again and again the next one of the least session that can go on,
