@@ -4,7 +4,7 @@ use Rattle.history.specs.declared.op_id.OpId.{OpId}
 use Rattle.history.specs.declared.advice.Advice.{Advice}
 use Rattle.history.specs.History.{HistoryValue, entry, session}
 use Rattle.recorder.specs.Lanes.{Cells, Returned}
-use Rattle.recorder.specs.Sessions.{LanesState, ReceiptState, SessionState, after_finish, fresh_session, op, receipt_of}
+use Rattle.recorder.specs.Sessions.{LanesState, ReceiptState, SessionState, after_finish, fresh_session, receipt_of, session_operation}
 use Rattle.replica.specs.Replicas.{ReplicaState}
 use Rattle.snapshot.specs.Seals.{IsReceiptOf, IsSealOf, SealState}
 use Rattle.driver.specs.Drives.{StaysOpen}
@@ -71,7 +71,8 @@ module _ {S C R : Type 0} where
   pub record IsPlayed (lanes : LanesState S) (stop : Option ℕ) (input : HistoryValue S C R) (s : ℕ) (p : PlayedState S C R) : Type 0 where
     pub told : (r : ReceiptState C R) → p.receipt ≡ Some r → IsReceiptOf lanes r
     pub seals : AreSealsOf lanes p.seals
-    pub calls : (i : ℕ) (c : C) (known : Option R) → entry input (op s i) ≡ Some (c, known) → ¬ StaysOpen stop input (op s i) → (r : ReceiptState C R) × (p.receipt ≡ Some r) × StandsFor r s i c
+    pub calls : (i : ℕ) (c : C) (known : Option R) → entry input (session_operation s i) ≡ Some (c, known) → ¬ StaysOpen stop input (session_operation s i)
+      → (r : ReceiptState C R) × (p.receipt ≡ Some r) × StandsFor r s i c
 
   -- each session of a recorder is fresh, and they stand in order
   abbrev pub AreFresh : LanesState S → HistoryValue S C R → List (SessionState C R) → Type 0

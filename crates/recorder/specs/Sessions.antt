@@ -22,8 +22,9 @@ pub record LanesState (S : Type 0) : Type 0 where
   pub start : S
   pub cells : List Cells
 
-abbrev pub op : ℕ → ℕ → OpId
-op s i = record { session = s; index = i }
+-- the operation with this index of this session
+abbrev pub session_operation : ℕ → ℕ → OpId
+session_operation s i = record { session = s; index = i }
 
 module _ {C R : Type 0} where
   -- the calls that a session began

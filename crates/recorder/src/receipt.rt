@@ -1,6 +1,6 @@
 ghost use Rattle.std.specs.Prelude.{◌≡◌, ◌-◌, ◌<◌, ℕ, length, map, option_map, slice_get, Some};
 ghost use Rattle.recorder.specs.Lanes.{operations, shown};
-ghost use Rattle.recorder.specs.Sessions.{IsReceipt, last_of, op};
+ghost use Rattle.recorder.specs.Sessions.{IsReceipt, last_of, session_operation};
 
 use crate::note_list::NoteList;
 use crate::recorded::Recorded;
@@ -50,7 +50,7 @@ impl<O: Recorded> Receipt<O> {
 
     /// The operation.
     pub fn op(&self) -> OpId
-        ensures { result ≡ op self.now.lane (length self.now.operations - 1) }
+        ensures { result ≡ session_operation self.now.lane (length self.now.operations - 1) }
     {
         OpId {
             session: self.session,

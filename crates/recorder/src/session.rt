@@ -1,7 +1,7 @@
 ghost use Rattle.std.specs.Prelude.{◌≡◌, ◌<◌, ◌≤◌, ◌↔◌, ◌⊎◌, ℕ, [], length, IfOk, IfErr, OnErr, IsTrue, Some, None, slice_get};
 ghost use Rattle.recorder.specs.Lanes.{shown};
 ghost use Rattle.std.specs.Arc.{arc_value};
-ghost use Rattle.recorder.specs.Sessions.{op, begun, fresh_session, after_begin, receipt_of, CanReturn, HasFinished};
+ghost use Rattle.recorder.specs.Sessions.{session_operation, begun, fresh_session, after_begin, receipt_of, CanReturn, HasFinished};
 ghost use Rattle.recorder.specs.Refusals.{HasPlace, RefusesCall, RefusesReturn};
 
 use crate::lane::Lane;
@@ -118,7 +118,7 @@ impl<O: Recorded> Session<O> {
     /// place left, `Memory`, and `CellGaveBack`, which no run meets. Each refusal leaves the session as it was. O(1) for
     /// what is set, and O(n) steps without bytes for the n operations that the receipt will stand for.
     pub fn begin(&mut self, call: O::Call) -> Result<OpId, RecordError>
-        ensures op { IfOk result (λ o. o ≡ op self.old.lane (length self.old.done)) }
+        ensures op { IfOk result (λ o. o ≡ session_operation self.old.lane (length self.old.done)) }
         ensures placed { IfOk result (λ _. HasPlace self.old) }
         ensures begun { IfOk result (λ _. self.new ≡ after_begin self.old call) }
         ensures refused { IfErr result (λ e. RefusesCall self.old e) }
@@ -136,7 +136,7 @@ impl<O: Recorded> Session<O> {
     // Sets the next call cell, of a session with a place and nothing pending.
     fn set_next_call(&mut self, call: O::Call) -> Result<OpId, RecordError>
         requires { HasPlace self.old }
-        ensures op { IfOk result (λ o. o ≡ op self.old.lane (length self.old.done)) }
+        ensures op { IfOk result (λ o. o ≡ session_operation self.old.lane (length self.old.done)) }
         ensures begun { IfOk result (λ _. self.new ≡ after_begin self.old call) }
         ensures refused { IfErr result (λ e. (e ≡ RecordError.Memory) ⊎ (e ≡ RecordError.CellGaveBack)) }
         ensures unchanged { OnErr result (self.new ≡ self.old) }

@@ -10,7 +10,7 @@ use Rattle.history.specs.History.{HistoryValue, session, entry}
 use Rattle.history.specs.declared.advice.Advice.{Advice}
 use Rattle.history.specs.declared.op_id.OpId.{OpId}
 use Rattle.recorder.specs.Lanes.{Entry, Returned}
-use Rattle.recorder.specs.Sessions.{SessionState, op}
+use Rattle.recorder.specs.Sessions.{SessionState, session_operation}
 use Rattle.recorder.proofs.Telling.{get_map, length_map}
 use Rattle.snapshot.specs.Seals.{SealState, IsAdvised, advice_of}
 use Rattle.snapshot.specs.Steps.Tables.{SealedNotes, IsSealedSession, advice_shown, no_advice, advised, names}
@@ -65,7 +65,7 @@ module _ {C R : Type 0} where
 
 -- the advice that a seal and a session of one recorder both have
 pub meet_advice : {S C R : Type 0} (seal : SealState S C R) (mine : SessionState C R) (k : ℕ) (l : SealedNotes C R) → k ≡ mine.lane → slice_get seal.advice k ≡ Some (advised l) → (many : ℕ) → many ≤ length l.returns → many ≤ length mine.done
-    → ((i : ℕ) → i < many → ReturnAgrees l.returns i (slice_get mine.done i)) → (i : ℕ) → i < many → advice_of seal (op mine.lane i) ≡ option_map (λ (o : Returned C R). Some o.2) (slice_get mine.done i)
+    → ((i : ℕ) → i < many → ReturnAgrees l.returns i (slice_get mine.done i)) → (i : ℕ) → i < many → advice_of seal (session_operation mine.lane i) ≡ option_map (λ (o : Returned C R). Some o.2) (slice_get mine.done i)
 meet_advice {C = C} {R = R} seal mine k l lane at many held done agree i h =
     let w : i < many = h in let p : many ≤ length l.returns = held in let q : many ≤ length mine.done = done in
     let o = get_in mine.done i (omega arith) in

@@ -7,7 +7,7 @@ use Rattle.std.proofs.lemmas.List.{take-append-le}
 use Rattle.std.proofs.lemmas.Option.{slice_get_within}
 use Rattle.history.specs.declared.op_id.OpId.{OpId}
 use Rattle.history.specs.History.{HistoryValue, IsOp, session}
-use Rattle.recorder.specs.Sessions.{op}
+use Rattle.recorder.specs.Sessions.{session_operation}
 use Rattle.snapshot.specs.declared.cell.Cell.TheVariants.{Call}
 use Rattle.snapshot.specs.Plans.{Look, Plan, answer, was_full, return_cell, call_cell, returns_found, calls_found, next_return, next_call, next_cell, fresh_plan, after_looks, Follows, IsFinished}
 use Rattle.snapshot.specs.Runs.{Event, call_of, return_of, look_of, begun, ended, looks, IsAt, IsRun, HasSealed, operations, sealed, sealed_session, sealed_sessions}
@@ -202,7 +202,7 @@ module _ {C R : Type 0} (k cap : ℕ) (es : List (Event C R)) (run : IsRun k cap
           let reached : length (begun a.session (take j es)) ≤ calls_found plan a.session = reached_calls a.session j (calls_over plan finished a.session place.0) (λ q look.
           elim (cases_lt q j) [
             | inl earlier ↦
-                let given : returns_found plan o.session ≤ length (ended o.session (take q es)) = returns_given follows q (op a.session (calls_found plan a.session)) false o.session f.0 look in
+                let given : returns_found plan o.session ≤ length (ended o.session (take q es)) = returns_given follows q (session_operation a.session (calls_found plan a.session)) false o.session f.0 look in
                 let more : length (ended o.session (take q es)) ≤ length (ended o.session (take j es)) = picked_more (return_of o.session) es q j (let e : q < j = earlier in omega arith) in
                 absurd (omega arith)
             | inr later ↦ later
@@ -241,12 +241,12 @@ found_are_held k cap es z p start run h s l =
 
 -- and holds, with its return, each operation that its sealer was told of
 pub told_are_held : {S C R : Type 0} (k cap : ℕ) (es : List (Event C R)) (z : ℕ) (p : Plan) (start : S) → IsRun k cap es → HasSealed k cap es z p
-    → (j : ℕ) (told : List ℕ) → IsAt es j (Started z told) → (s n : ℕ) → n < slice_index told s → HasReturn (sealed start es p) (op s n)
+    → (j : ℕ) (told : List ℕ) → IsAt es j (Started z told) → (s n : ℕ) → n < slice_index told s → HasReturn (sealed start es p) (session_operation s n)
 told_are_held k cap es z p start run h j told at s n l =
     let t : slice_index told s ≤ length (ended s (take j es)) = (run j (Started z told) at).2 s in
     let e = ended_there k cap (take j es) (run_front k cap es j run) s n (omega arith) in
-    let f = take-from j es e.0 (Ended (op s n) e.1) e.2 in
-    (seals_are_cuts k cap es z p start run h).returns_before_start e.0 j (op s n) e.1 told f.0 f.1 at
+    let f = take-from j es e.0 (Ended (session_operation s n) e.1) e.2 in
+    (seals_are_cuts k cap es z p start run h).returns_before_start e.0 j (session_operation s n) e.1 told f.0 f.1 at
 
 -- what was found at some place of a run stays the same behind it
 module _ {C R : Type 0} (k cap : ℕ) (es : List (Event C R)) (run : IsRun k cap es) (z j : ℕ) (p : Plan) (h : HasSealed k cap (take j es) z p) where

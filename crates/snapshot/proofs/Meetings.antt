@@ -7,7 +7,7 @@ use Rattle.std.proofs.Math.Nat.{min-eq_left, min-eq_right}
 use Rattle.std.proofs.lemmas.List.Elements.{filter_map-append}
 use Rattle.history.specs.History.{session, entry}
 use Rattle.recorder.specs.Lanes.{Cells, Entry, Returned}
-use Rattle.recorder.specs.Sessions.{SessionState, begun, op}
+use Rattle.recorder.specs.Sessions.{SessionState, begun, session_operation}
 use Rattle.recorder.proofs.Telling.{get_map, length_map, length_push, get_push_before}
 use Rattle.snapshot.specs.Seals.{SealState, AreReadFrom, known_returns, met_calls, AreOfOne}
 use Rattle.snapshot.specs.Steps.Tables.{SealedNotes, IsSealedSession, AreNotesOf, names}
@@ -133,11 +133,11 @@ module _ {S C R : Type 0} (fits : C → R → Bool) (seal : SealState S C R) (mi
 
   -- the first returns that agree
   module _ (many : ℕ) (held : many ≤ length l.returns) (done : many ≤ length mine.done) (agree : (i : ℕ) → i < many → ReturnAgrees l.returns i (slice_get mine.done i)) where
-    pub meet_returns : (i : ℕ) → i < many → entry seal.history (op mine.lane i) ≡ option_map (λ (o : Returned C R). (o.0, Some o.1)) (slice_get mine.done i)
+    pub meet_returns : (i : ℕ) → i < many → entry seal.history (session_operation mine.lane i) ≡ option_map (λ (o : Returned C R). (o.0, Some o.1)) (slice_get mine.done i)
     meet_returns i h = return_at fits (session seal.history mine.lane) l is_sealed i (slice_get mine.done i) (let a : i < many = h in let b : many ≤ length l.returns = held in omega arith) (agree i h)
 
-    pub meet_first_calls : (i : ℕ) → i < many → option_map (λ (e : C × Option R). e.0) (entry seal.history (op mine.lane i)) ≡ slice_get (begun mine.done mine.pending) i
-    meet_first_calls i h = calls_of_returns (entry seal.history (op mine.lane i)) (slice_get mine.done i) (meet_returns i h) ∙ sym (begun_first mine.done mine.pending i (let a : i < many = h in let b : many ≤ length mine.done = done in omega arith))
+    pub meet_first_calls : (i : ℕ) → i < many → option_map (λ (e : C × Option R). e.0) (entry seal.history (session_operation mine.lane i)) ≡ slice_get (begun mine.done mine.pending) i
+    meet_first_calls i h = calls_of_returns (entry seal.history (session_operation mine.lane i)) (slice_get mine.done i) (meet_returns i h) ∙ sym (begun_first mine.done mine.pending i (let a : i < many = h in let b : many ≤ length mine.done = done in omega arith))
 
   -- the seal holds more returns than the session
   module _ (d e : ℕ) (is_d : d ≡ length mine.done) (is_e : e ≡ length l.returns) (less : d < e) where
@@ -172,13 +172,13 @@ module _ {S C R : Type 0} (fits : C → R → Bool) (seal : SealState S C R) (mi
 
     -- calls of returns, and those behind them
     pub meet_calls : (n b : ℕ) → n ≡ length l.calls → b ≤ n → ((i : ℕ) → i < e → ReturnAgrees l.returns i (slice_get mine.done i)) → ((i : ℕ) → i < b → CallAgrees l.calls i (slice_get (begun mine.done mine.pending) (length l.returns + i)))
-        → (i : ℕ) → i < e + b → option_map (λ (x : C × Option R). x.0) (entry seal.history (op mine.lane i)) ≡ slice_get (begun mine.done mine.pending) i
+        → (i : ℕ) → i < e + b → option_map (λ (x : C × Option R). x.0) (entry seal.history (session_operation mine.lane i)) ≡ slice_get (begun mine.done mine.pending) i
     meet_calls n b is_n within first behind i h = elim (cases_lt i e) [
       | inl c ↦ meet_first_calls e (let f : e ≡ length l.returns = is_e in let x : e ≤ length l.returns = omega arith in x) (let a : d ≡ length mine.done = is_d in let m : e ≤ d = more in let x : e ≤ length mine.done = omega arith in x) first i c
       | inr c ↦
           let at : length l.returns + (i - e) ≡ i = (let f : e ≡ length l.returns = is_e in let c' : e ≤ i = c in omega arith) in
           let place : i - e < b = (let h' : i < e + b = h in let c' : e ≤ i = c in omega arith) in
           let there : i - e < length l.calls = (let p : i - e < b = place in let w : b ≤ n = within in let q : n ≡ length l.calls = is_n in omega arith) in
-          subst (λ (j : ℕ). option_map (λ (x : C × Option R). x.0) (entry seal.history (op mine.lane j)) ≡ slice_get (begun mine.done mine.pending) j) at
+          subst (λ (j : ℕ). option_map (λ (x : C × Option R). x.0) (entry seal.history (session_operation mine.lane j)) ≡ slice_get (begun mine.done mine.pending) j) at
           (call_at fits (session seal.history mine.lane) l is_sealed (i - e) (slice_get (begun mine.done mine.pending) (length l.returns + (i - e))) there (behind (i - e) place))
     ]

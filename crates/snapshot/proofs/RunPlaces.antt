@@ -5,7 +5,7 @@ use Rattle.std.proofs.lemmas.Bool.{cases_lt}
 use Rattle.std.proofs.lemmas.List.{take-append-le, take_at}
 use Rattle.std.proofs.lemmas.Option.{slice_get_within}
 use Rattle.history.specs.declared.op_id.OpId.{OpId}
-use Rattle.recorder.specs.Sessions.{op}
+use Rattle.recorder.specs.Sessions.{session_operation}
 use Rattle.recorder.proofs.Telling.{get_pushed, get_push_cases}
 use Rattle.snapshot.specs.declared.cell.Cell.{Cell}
 use Rattle.snapshot.specs.declared.cell.Cell.TheVariants.{Return, Call}
@@ -82,7 +82,7 @@ module _ {C R : Type 0} (k cap : ℕ) where
         let l : length (ended o.session (take h.0 es)) < length (ended o.session es) = picked_before (return_of o.session) es h.0 (Ended o h.1) h.1 h.2 (return_picked C R o h.1) in
         omega arith
 
-    pub begun_there : (s n : ℕ) → n < length (begun s es) → HasBegun es (op s n)
+    pub begun_there : (s n : ℕ) → n < length (begun s es) → HasBegun es (session_operation s n)
     begun_there s n l =
         let x = get_in (begun s es) n l in let p = picked_at (call_of s) es n x.0 x.1 in let c = called s p.1 x.0 p.3 in
         let at : IsAt es p.0 (Began c.0 x.0) = p.2 ∙ ap Some c.1 in
@@ -91,7 +91,7 @@ module _ {C R : Type 0} (k cap : ℕ) where
         let index : c.0.index ≡ n = sym m ∙ (ap (λ (t : ℕ). length (begun t (take p.0 es))) c.2 ∙ here) in
         (p.0, x.0, subst (λ (o : OpId). IsAt es p.0 (Began o x.0)) (λ i. record { session = c.2 i; index = index i }) at)
 
-    pub ended_there : (s n : ℕ) → n < length (ended s es) → HasEnded es (op s n)
+    pub ended_there : (s n : ℕ) → n < length (ended s es) → HasEnded es (session_operation s n)
     ended_there s n l =
         let x = get_in (ended s es) n l in let p = picked_at (return_of s) es n x.0 x.1 in let c = returned s p.1 x.0 p.3 in
         let at : IsAt es p.0 (Ended c.0 x.0) = p.2 ∙ ap Some c.1 in
@@ -102,12 +102,12 @@ module _ {C R : Type 0} (k cap : ℕ) where
 
     -- a session that has begun an operation is one of k, and the operation has a place
     pub has_place : (s n : ℕ) → n < length (begun s es) → (s < k) × (n < cap)
-    has_place s n l = let b = begun_there s n l in let f = run b.0 (Began (op s n) b.1) b.2 in (f.0, f.1)
+    has_place s n l = let b = begun_there s n l in let f = run b.0 (Began (session_operation s n) b.1) b.2 in (f.0, f.1)
 
     -- what has ended has begun
     pub ended_begun : (s n : ℕ) → n < length (ended s es) → n < length (begun s es)
     ended_begun s n l =
-        let b = ended_there s n l in let m : length (begun s (take b.0 es)) ≡ n + 1 = (run b.0 (Ended (op s n) b.1) b.2).0 in
+        let b = ended_there s n l in let m : length (begun s (take b.0 es)) ≡ n + 1 = (run b.0 (Ended (session_operation s n) b.1) b.2).0 in
         let w : length (begun s (take b.0 es)) ≤ length (begun s es) = picked_whole (call_of s) es b.0 in
         omega arith
 
@@ -122,7 +122,7 @@ module _ {C R : Type 0} (k cap : ℕ) where
       | inl l ↦
           let l' : length (ended s es) < length (begun s es) = l in
           let b = begun_there s (length (begun s es) - 1) (omega arith) in
-          let m : length (ended s (take b.0 es)) ≡ length (begun s es) - 1 = (run b.0 (Began (op s (length (begun s es) - 1)) b.1) b.2).3 in
+          let m : length (ended s (take b.0 es)) ≡ length (begun s es) - 1 = (run b.0 (Began (session_operation s (length (begun s es) - 1)) b.1) b.2).3 in
           let w : length (ended s (take b.0 es)) ≤ length (ended s es) = picked_whole (return_of s) es b.0 in
           omega arith
       | inr l ↦ let l' : length (begun s es) ≤ length (ended s es) = l in omega arith
@@ -152,24 +152,24 @@ module _ {C R : Type 0} (k cap : ℕ) where
 
   module _ (es : List (Event C R)) (run : IsRun k cap es) where
     -- where a look found a cell empty, the session has not come so far
-    pub empty_return : (z i s n : ℕ) → IsAt es i (Looked z (Return (op s n)) false) → length (ended s (take i es)) ≤ n
+    pub empty_return : (z i s n : ℕ) → IsAt es i (Looked z (Return (session_operation s n)) false) → length (ended s (take i es)) ≤ n
     empty_return z i s n look = elim (cases_lt n (length (ended s (take i es)))) [
-      | inl l ↦ let full : false ≡ true = (run i (Looked z (Return (op s n)) false) look).1.1 (ended_there (take i es) (run_front es i run) s n l) in absurd (cc)
+      | inl l ↦ let full : false ≡ true = (run i (Looked z (Return (session_operation s n)) false) look).1.1 (ended_there (take i es) (run_front es i run) s n l) in absurd (cc)
       | inr l ↦ l
     ]
 
-    pub empty_call : (z i s n : ℕ) → IsAt es i (Looked z (Call (op s n)) false) → length (begun s (take i es)) ≤ n
+    pub empty_call : (z i s n : ℕ) → IsAt es i (Looked z (Call (session_operation s n)) false) → length (begun s (take i es)) ≤ n
     empty_call z i s n look = elim (cases_lt n (length (begun s (take i es)))) [
-      | inl l ↦ let full : false ≡ true = (run i (Looked z (Call (op s n)) false) look).1.1 (begun_there (take i es) (run_front es i run) s n l) in absurd (cc)
+      | inl l ↦ let full : false ≡ true = (run i (Looked z (Call (session_operation s n)) false) look).1.1 (begun_there (take i es) (run_front es i run) s n l) in absurd (cc)
       | inr l ↦ l
     ]
 
     -- where it found a cell full, it has
-    pub full_return : (z i s n : ℕ) → IsAt es i (Looked z (Return (op s n)) true) → n < length (ended s (take i es))
-    full_return z i s n look = ended_counted (take i es) (run_front es i run) (op s n) ((run i (Looked z (Return (op s n)) true) look).1.0 refl)
+    pub full_return : (z i s n : ℕ) → IsAt es i (Looked z (Return (session_operation s n)) true) → n < length (ended s (take i es))
+    full_return z i s n look = ended_counted (take i es) (run_front es i run) (session_operation s n) ((run i (Looked z (Return (session_operation s n)) true) look).1.0 refl)
 
-    pub full_call : (z i s n : ℕ) → IsAt es i (Looked z (Call (op s n)) true) → n < length (begun s (take i es))
-    full_call z i s n look = begun_counted (take i es) (run_front es i run) (op s n) ((run i (Looked z (Call (op s n)) true) look).1.0 refl)
+    pub full_call : (z i s n : ℕ) → IsAt es i (Looked z (Call (session_operation s n)) true) → n < length (begun s (take i es))
+    full_call z i s n look = begun_counted (take i es) (run_front es i run) (session_operation s n) ((run i (Looked z (Call (session_operation s n)) true) look).1.0 refl)
 
     -- an operation that began or ended at one place has done so at each later one
     pub begun_by : (i j : ℕ) (o : OpId) (c : C) → i < j → IsAt es i (Began o c) → o.index < length (begun o.session (take j es))

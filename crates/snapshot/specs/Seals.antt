@@ -5,7 +5,7 @@ use Rattle.history.specs.History.{HistoryValue, session, entry}
 use Rattle.history.specs.declared.advice.Advice.{Advice}
 use Rattle.history.specs.declared.op_id.OpId.{OpId}
 use Rattle.recorder.specs.Lanes.{Cells}
-use Rattle.recorder.specs.Sessions.{LanesState, ReceiptState, SessionState, begun, op}
+use Rattle.recorder.specs.Sessions.{LanesState, ReceiptState, SessionState, begun, session_operation}
 use Rattle.snapshot.specs.Plans.{Look, Plan, after_looks, calls_found, fresh_plan, returns_found, Follows, IsFinished}
 
 -- a seal: its history, for each session the cells whose returns it holds and those whose calls it holds behind them, and for
@@ -45,7 +45,7 @@ module _ {S C R : Type 0} where
 
   -- a history holds each operation that a receipt stands for, with its call and return
   abbrev pub Holds : HistoryValue S C R → ReceiptState C R → Type 0
-  Holds h r = (i : ℕ) (c : C) (x : R) (a : Advice) → slice_get r.operations i ≡ Some (c, x, a) → entry h (op r.lane i) ≡ Some (c, Some x)
+  Holds h r = (i : ℕ) (c : C) (x : R) (a : Advice) → slice_get r.operations i ≡ Some (c, x, a) → entry h (session_operation r.lane i) ≡ Some (c, Some x)
 
   abbrev pub HoldsAll : HistoryValue S C R → List (ReceiptState C R) → Type 0
   HoldsAll h rs = (j : ℕ) (r : ReceiptState C R) → slice_get rs j ≡ Some r → Holds h r
@@ -56,7 +56,7 @@ module _ {S C R : Type 0} where
 
   -- a seal has the advice of each operation that a receipt stands for
   abbrev pub Advises : SealState S C R → ReceiptState C R → Type 0
-  Advises seal r = (i : ℕ) (c : C) (x : R) (a : Advice) → slice_get r.operations i ≡ Some (c, x, a) → advice_of seal (op r.lane i) ≡ Some (Some a)
+  Advises seal r = (i : ℕ) (c : C) (x : R) (a : Advice) → slice_get r.operations i ≡ Some (c, x, a) → advice_of seal (session_operation r.lane i) ≡ Some (Some a)
 
   abbrev pub AdvisesAll : SealState S C R → List (ReceiptState C R) → Type 0
   AdvisesAll seal rs = (j : ℕ) (r : ReceiptState C R) → slice_get rs j ≡ Some r → Advises seal r

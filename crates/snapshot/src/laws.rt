@@ -2,7 +2,7 @@
 
 ghost use Rattle.std.specs.Prelude.{◌≡◌, ◌↔◌, ℕ, ◌+◌, ◌<◌, ◌≤◌, ◌++◌, ◌∷◌, [], Bool, List, Some, length, slice_get, slice_index, take};
 ghost use Rattle.history.specs.History.{session};
-ghost use Rattle.recorder.specs.Sessions.{op};
+ghost use Rattle.recorder.specs.Sessions.{session_operation};
 ghost use Rattle.snapshot.specs.Plans.{Plan, fresh_plan, after_looks, next_cell, returns_found, calls_found, Follows};
 ghost use Rattle.snapshot.specs.Seals.{known_returns};
 ghost use Rattle.snapshot.specs.Walks.{Stands, WalksToTheEnd};
@@ -73,7 +73,7 @@ pub fn seals_hold_what_was_found<O: SeqObject>()
 pub fn seals_hold_what_was_told<O: SeqObject>()
     ensures { (k cap : ℕ) (es : List (Event O.Call O.Ret)) (z : ℕ) (plan : Plan) (start : O.Start) → IsRun k cap es
         → HasSealed k cap es z plan → (j : ℕ) (told : List ℕ) → IsAt es j (Started z told)
-        → (s i : ℕ) → i < slice_index told s → HasReturn (sealed start es plan) (op s i) }
+        → (s i : ℕ) → i < slice_index told s → HasReturn (sealed start es plan) (session_operation s i) }
 {}
 
 /// Such a seal stays as it is, whatever happens behind it: so it holds nothing that had not happened by then.

@@ -1,6 +1,6 @@
 ghost use Rattle.std.specs.Prelude.{◌≡◌, ◌<◌, ◌≤◌, ℕ, length, min, option_map, slice_get, Some};
 ghost use Rattle.history.specs.History.{entry};
-ghost use Rattle.recorder.specs.Sessions.{begun, op};
+ghost use Rattle.recorder.specs.Sessions.{begun, session_operation};
 ghost use Rattle.snapshot.specs.Seals.{AreOfOne, advice_of, known_returns, met_calls};
 
 use crate::comparing::{compare_calls, compare_returns};
@@ -25,11 +25,12 @@ pub fn meet<O: SeqObject>(sealed: &Sealed<O>, session: &Session<O>) -> Met
     ensures returns { result.returns ≡ min (known_returns sealed.now.history session.now.lane) (length session.now.done) }
     ensures calls { result.calls ≡ met_calls sealed.now.history session.now }
     ensures same_returns { (i : ℕ) → i < result.returns
-        → entry sealed.now.history (op session.now.lane i) ≡ option_map (λ o. (o.0, Some o.1)) (slice_get session.now.done i) }
+        → entry sealed.now.history (session_operation session.now.lane i)
+        ≡ option_map (λ o. (o.0, Some o.1)) (slice_get session.now.done i) }
     ensures same_advice { (i : ℕ) → i < result.returns
-        → advice_of sealed.now (op session.now.lane i) ≡ option_map (λ o. Some o.2) (slice_get session.now.done i) }
+        → advice_of sealed.now (session_operation session.now.lane i) ≡ option_map (λ o. Some o.2) (slice_get session.now.done i) }
     ensures same_calls { (i : ℕ) → i < result.calls
-        → option_map (λ e. e.0) (entry sealed.now.history (op session.now.lane i))
+        → option_map (λ e. e.0) (entry sealed.now.history (session_operation session.now.lane i))
         ≡ slice_get (begun session.now.done session.now.pending) i }
 {
     let lane = sealed.lane(session.lane() as usize);
