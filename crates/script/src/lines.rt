@@ -3,7 +3,7 @@
 ghost use Rattle.std.specs.Prelude.{◌≡◌, ◌++◌, codes, IfOk, string_bytes};
 ghost use Rattle.serde_json.specs.Written.{compact_text};
 ghost use Rattle.operations.specs.Form.{history_form};
-ghost use Rattle.script.specs.ReplyLines.{answer_text, line_for, placed, verdict_text};
+ghost use Rattle.script.specs.ReplyLines.{answer_text, line_for, operation_text, verdict_text};
 
 use board::Answer;
 use cert_check::Outcome;
@@ -46,7 +46,7 @@ pub fn reply_line<O: Named>(alloc: Global, reply: &Reply<O>) -> Result<String, A
 
 /// The line of an operation that began or ended.
 fn placed_line(alloc: Global, op: OpId) -> Result<String, AllocError>
-    ensures { IfOk result (λ text. string_bytes text ≡ codes "ok " ++ placed op) }
+    ensures { IfOk result (λ text. string_bytes text ≡ codes "ok " ++ operation_text op) }
 {
     let OpId { session, index } = op;
     format!(in alloc; "ok {session}.{index}\n")
