@@ -43,7 +43,7 @@ impl<M: Mark> Model for Board<M> {
 impl<M: Mark> Board<M> {
     /// A board without cases, with room for 64.
     ///
-    /// Fails for want of memory alone.
+    /// Fails for want of memory alone. O(1).
     pub fn new(alloc: Global) -> Result<Board<M>, AllocError>
         ensures { IfOk result (λ b. b ≡ []) }
     {

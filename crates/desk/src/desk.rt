@@ -48,7 +48,7 @@ impl<O: Refutable, K: ShelfName> Model for Desk<O, K> {
 impl<O: Refutable, K: ShelfName> Desk<O, K> {
     /// A desk without cases, on a shelf that `K` names.
     ///
-    /// Fails for want of memory alone: room for 64 cases is made here.
+    /// Fails for want of memory alone: room for 64 cases is made here. O(1).
     pub fn on(alloc: Global, shelf: Shelf<O>) -> Result<Desk<O, K>, AllocError>
         requires { shelf ≡ K.shelf }
     {
@@ -94,7 +94,8 @@ impl<O: Refutable, K: ShelfName> Desk<O, K> {
         }
     }
 
-    /// Files a case as `file` does: the `Err` has the file where 64 cases are filed, and none where memory runs out.
+    /// Files a case as `file` does: the `Err` has the file where 64 cases are filed, and none where memory runs out. O(n) for n
+    /// operations.
     pub fn file_or_back(
         &self,
         rt: &impl Wait,
@@ -139,6 +140,8 @@ impl<O: Refutable, K: ShelfName> Desk<O, K> {
 
     /// Hands out the next piece: the first operation, by session and then by index, that was not handed out and has no
     /// verdict, of the first case that no pattern refutes and that has such a row. `None` where there is none.
+    ///
+    /// O(c k + n) for c cases of k sessions and n rows that got a verdict without being handed out.
     pub fn take(&self, rt: &impl Wait) -> Option<(Ticket<O, K>, OpId)>
         ensures { IfSome result (λ r. HasPiece r.0.file r.1) }
     {
@@ -148,7 +151,7 @@ impl<O: Refutable, K: ShelfName> Desk<O, K> {
     /// Puts a verdict into its row.
     ///
     /// `Stranger` exactly where it is of another case than the ticket's; else `Doubled` where the row has a verdict. The board
-    /// is then as before. `NoSuch` where the board has no such case, which no run meets.
+    /// is then as before. `NoSuch` where the board has no such case, which no run meets. O(1).
     pub fn put(
         &self,
         rt: &impl Wait,
@@ -172,7 +175,7 @@ impl<O: Refutable, K: ShelfName> Desk<O, K> {
     /// Takes a pattern against a case. A second good pattern changes nothing.
     ///
     /// `NotThatPattern` where it does not pass its test, which is made outside the lock, and `Memory`. The board is then as
-    /// before. `NoSuch` where the board has no such case, which no run meets.
+    /// before. `NoSuch` where the board has no such case, which no run meets. The cost is that of `check_pattern`.
     pub fn refute(
         &self,
         rt: &impl Wait,
@@ -197,7 +200,7 @@ impl<O: Refutable, K: ShelfName> Desk<O, K> {
     /// Refuted: `No`, with the kind of the pattern. Else without a certificate `Unknown(None)`. Else `Open` with the number of
     /// rows that have no verdict, where there are any. Else `Yes` where every verdict explains its operation, or `Unknown` with
     /// the first operation that its verdict does not explain. Where the board has no such case, which no run meets, it answers
-    /// as if its rows had no verdict.
+    /// as if its rows had no verdict. O(n) for n rows.
     pub fn ask(&self, rt: &impl Wait, ticket: &Ticket<O, K>) -> Answer
         ensures truth { IsTrueAnswer O.answer O.passes ticket.now.file result }
         ensures met { result ≡ Answer.Yes → Meets O.answer ticket.now.file.0 ticket.now.file.1 }
@@ -221,7 +224,8 @@ impl<O: Refutable, K: ShelfName> Desk<O, K> {
 
     /// A copy of the pattern that was accepted against a case, where there is one.
     ///
-    /// Fails for want of memory alone. `None` also where the board has no such case, which no run meets.
+    /// Fails for want of memory alone. `None` also where the board has no such case, which no run meets. O(n) for n operations
+    /// and lines of the pattern.
     pub fn pattern(
         &self,
         rt: &impl Wait,

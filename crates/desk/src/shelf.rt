@@ -26,7 +26,7 @@ impl<O: SeqObject> Model for Shelf<O> {
 impl<O: SeqObject> Shelf<O> {
     /// An empty shelf.
     ///
-    /// Fails for want of memory alone.
+    /// Fails for want of memory alone. O(1).
     pub fn new(alloc: Global) -> Result<Shelf<O>, AllocError> {
         let files = boxcar::Vec::new(alloc)?;
         Ok(Shelf { files })

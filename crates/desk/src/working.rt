@@ -65,7 +65,8 @@ impl<O: Refutable, K: ShelfName> Desk<O, K> {
     /// Checks each piece of a case whose row has no verdict yet, outside the lock, and puts the verdicts.
     ///
     /// A verdict that comes second is passed over. Fails for want of memory alone: the verdicts already put stay. Once it has
-    /// come back without an error, each row of the case had a verdict when it was looked at.
+    /// come back without an error, each row of the case had a verdict when it was looked at. O(n) for n operations, and what
+    /// `check` takes for each piece that is checked.
     pub fn settle(&self, rt: &impl Wait, ticket: &Ticket<O, K>) -> Result<(), DeskError>
         ensures { IfErr result (λ e. e ≡ DeskError.Memory) }
     {

@@ -37,7 +37,7 @@ pub(crate) fn most_calls<O: SeqObject>(input: &History<O>) -> usize
     most
 }
 
-/// How many calls there are.
+/// How many calls there are. O(k) for k sessions.
 pub fn calls_in<O: SeqObject>(input: &History<O>) -> u64 {
     let mut calls = 0u64;
     for s in 0..input.sessions() {

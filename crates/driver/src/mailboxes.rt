@@ -13,7 +13,7 @@ pub struct Mailboxes<C: Copy> {
 }
 
 impl<C: Copy> Mailboxes<C> {
-    /// So many empty mailboxes. Fails for want of memory alone.
+    /// So many empty mailboxes. Fails for want of memory alone. O(k) for k sessions.
     pub fn new(alloc: Global, sessions: usize) -> Result<Mailboxes<C>, AllocError> {
         let mut boxes = Vec::with_capacity(alloc, sessions)?;
         for _ in 0..sessions {

@@ -23,8 +23,8 @@ use std::io::Write;
 use std::sync::Wait;
 use std::thread::Threads;
 
-/// Judges the history in the input as [`run`](crate::run) does for `judge`, with the same output and the same errors, and returns
-/// what comes of the report that was written.
+/// Judges the history in the input as [`run`](crate::run) does for `judge`, with the same output, the same errors and the same cost,
+/// and returns what comes of the report that was written.
 #[tactic(auto, using(crate::proofs::Reported::judge_fails))]
 pub fn judge_expecting<P: Threads + Wait + Sync + AllocGlobal, R: Source, W: Write>(
     rt: &P,

@@ -24,7 +24,8 @@ use std::thread::Threads;
 /// The picture of the history in the input, as an SVG text: with the pattern of the first criterion that is not met, where one is
 /// at hand, and else all of the history, with the first operation that a certificate does not explain drawn out.
 ///
-/// Refuses what is no history, and fails for want of memory. It judges as [`report_on`](crate::report_on) does.
+/// Refuses what is no history, and fails for want of memory. It judges as [`report_on`](crate::report_on) does, at the same cost
+/// beside reading the input and drawing the picture.
 pub fn explain_as_picture<T: Threads + Wait + Sync>(
     rt: &T,
     alloc: Global,

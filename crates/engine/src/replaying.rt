@@ -9,6 +9,8 @@ use script::read_script;
 use std::alloc::Global;
 
 /// The lines of the replies to the steps of the script in the input.
+///
+/// Refuses what is no script, and fails for want of memory. O(n) for n bytes, and what [`script::replay`] takes.
 pub fn replay(alloc: Global, input: &[u8]) -> Result<String, RunError>
     ensures answer { IfOk result (λ text. IsAnswer Order.Replay input.now (string_bytes text)) }
     ensures error { IfErr result (IsAnswerError Order.Replay input.now) }

@@ -26,7 +26,7 @@ fn read_count(value: &Value) -> Option<u16>
     }
 }
 
-/// The counts that a value is the list of, one for each of `k` sessions.
+/// The counts that a value is the list of, one for each of `k` sessions. O(k).
 pub fn read_told(alloc: Global, k: usize, value: &Value) -> Result<Option<Told>, AllocError>
     ensures { IfOk result (IsReadWithin (IsTold k) (list_form number_form) (view value.now)) }
 {

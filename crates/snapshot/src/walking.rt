@@ -7,7 +7,8 @@ use std::alloc::AllocError;
 
 /// Looks at each cell that the plan names, once, in the plan's order.
 ///
-/// Fails where a look fails, and then keeps the looks made before, in the looker and in the plan.
+/// Fails where a look fails, and then keeps the looks made before, in the looker and in the plan. O(n k) for n looks in k
+/// lanes, and what the looks take.
 pub fn walk<L: Looker>(plan: &mut CutPlan, looker: &mut L) -> Result<(), AllocError>
     ensures walked { IfOk result (λ _. WalksToTheEnd plan.old (L.looks looker.old) plan.new (L.looks looker.new)) }
     ensures broken_off { OnErr result (Walks plan.old (L.looks looker.old) plan.new (L.looks looker.new)) }

@@ -39,7 +39,7 @@ impl<O: Refutable> Model for Cases<O> {
 impl<O: Refutable> Cases<O> {
     /// No case and no verdict.
     ///
-    /// Fails for want of memory alone.
+    /// Fails for want of memory alone. O(1).
     #[tactic(auto, using(crate::proofs::FileSteps::no_cases))]
     pub fn new(alloc: Global) -> Result<Cases<O>, AllocError>
         ensures { IfOk result (λ c. (start : O.Start) (k : ℕ) → ShowsCases O.answer start k [] c) }
