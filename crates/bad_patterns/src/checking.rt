@@ -1,8 +1,7 @@
 ghost use Rattle.std.specs.Prelude.{◌↔◌, IfOk, IsTrue};
 ghost use Rattle.bad_patterns.specs.Kinds.{IsTrueNo};
 ghost use Rattle.bad_patterns.specs.Patterns.{IsBadPattern, IsShownBy, kind_of};
-ghost use Rattle.memory_order.specs.Memory.{IsDifferentiated};
-ghost use Rattle.memory_order.specs.Steps.Written.{AreInOrder, IsSorted, ListsWrites};
+ghost use Rattle.bad_patterns.specs.Steps.DistinctWrites.{AreDistinctWrites};
 
 use crate::cycle::is_cycle;
 use crate::happened_before::{is_derivation_of_cycle, is_derivation_of_initial_read};
@@ -53,10 +52,7 @@ pub fn is_shown(
     writes: &[Write],
     pattern: &Pattern,
 ) -> Result<bool, AllocError>
-    requires writes { ListsWrites h.now writes.now }
-    requires sorted { IsSorted writes.now }
-    requires in_order { AreInOrder writes.now }
-    requires differentiated { IsDifferentiated h.now }
+    requires { AreDistinctWrites h.now writes.now }
     ensures { IfOk result (λ yes. IsTrue yes ↔ IsShownBy h.now pattern.now) }
 {
     match pattern {

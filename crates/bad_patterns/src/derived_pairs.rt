@@ -2,11 +2,10 @@
 
 ghost use Rattle.std.specs.Prelude.{◌≡◌, ◌↔◌, IfOk, IsTrue, MatchOption, slice_get};
 ghost use Rattle.history.specs.declared.op_id.OpId.{OpId};
-ghost use Rattle.memory_order.specs.Memory.{IsDifferentiated};
 ghost use Rattle.causal_order.specs.Orders.{program_past};
 ghost use Rattle.memory_order.specs.Relations.{AreRivalWrites};
-ghost use Rattle.memory_order.specs.Steps.Written.{AreInOrder, IsSorted, ListsWrites};
 ghost use Rattle.bad_patterns.specs.Derivations.{Gives, GivesCausalPair, GivesJoinedPair, GivesRivalPair, IsDerivation};
+ghost use Rattle.bad_patterns.specs.Steps.DistinctWrites.{AreDistinctWrites};
 
 use crate::derivation::Line;
 use crate::edges::are_rival_writes;
@@ -34,10 +33,7 @@ pub fn derived_pair(
     op: OpId,
     lines: &[Line],
 ) -> Result<Option<Pair>, AllocError>
-    requires writes { ListsWrites h.now writes.now }
-    requires sorted { IsSorted writes.now }
-    requires in_order { AreInOrder writes.now }
-    requires differentiated { IsDifferentiated h.now }
+    requires { AreDistinctWrites h.now writes.now }
     ensures { IfOk result (λ found. MatchOption found ((a b : OpId) → ¬ IsDerivation h.now op lines.now a b)
         (λ pair. IsDerivation h.now op lines.now pair.0 pair.1)) }
 {
@@ -62,10 +58,7 @@ fn given_pair(
     pairs: &[Pair],
     line: &Line,
 ) -> Option<Pair>
-    requires writes { ListsWrites h.now writes.now }
-    requires sorted { IsSorted writes.now }
-    requires in_order { AreInOrder writes.now }
-    requires differentiated { IsDifferentiated h.now }
+    requires { AreDistinctWrites h.now writes.now }
     ensures { MatchOption result ((a b : OpId) → ¬ Gives h.now op pairs.now line.now a b)
         (λ pair. Gives h.now op pairs.now line.now pair.0 pair.1) }
 {
@@ -115,10 +108,7 @@ fn rival_pair(
     i: u64,
     read: OpId,
 ) -> Option<Pair>
-    requires writes { ListsWrites h.now writes.now }
-    requires sorted { IsSorted writes.now }
-    requires in_order { AreInOrder writes.now }
-    requires differentiated { IsDifferentiated h.now }
+    requires { AreDistinctWrites h.now writes.now }
     ensures { MatchOption result ((a b : OpId) → ¬ GivesRivalPair h.now op pairs.now i read a b)
         (λ pair. GivesRivalPair h.now op pairs.now i read pair.0 pair.1) }
 {

@@ -1,9 +1,8 @@
 //! What the derivation of a pattern shows.
 
 ghost use Rattle.std.specs.Prelude.{◌↔◌, IfOk, IsTrue};
-ghost use Rattle.memory_order.specs.Memory.{IsDifferentiated};
-ghost use Rattle.memory_order.specs.Steps.Written.{AreInOrder, IsSorted, ListsWrites};
 ghost use Rattle.bad_patterns.specs.Patterns.{IsDerivationOfCycle, IsDerivationOfInitialRead};
+ghost use Rattle.bad_patterns.specs.Steps.DistinctWrites.{AreDistinctWrites};
 
 use crate::derivation::Derivation;
 use crate::derived_pairs::derived_pair;
@@ -15,7 +14,7 @@ use std::alloc::{AllocError, Global};
 
 /// Whether a derivation for the operation gives one operation twice.
 ///
-/// Fails for want of memory alone.
+/// Fails for want of memory alone. The cost is that of `derived_pair`.
 pub fn is_derivation_of_cycle(
     alloc: Global,
     h: &History<Memory>,
@@ -23,10 +22,7 @@ pub fn is_derivation_of_cycle(
     op: OpId,
     derivation: &Derivation,
 ) -> Result<bool, AllocError>
-    requires writes { ListsWrites h.now writes.now }
-    requires sorted { IsSorted writes.now }
-    requires in_order { AreInOrder writes.now }
-    requires differentiated { IsDifferentiated h.now }
+    requires { AreDistinctWrites h.now writes.now }
     ensures { IfOk result (λ yes. IsTrue yes ↔ IsDerivationOfCycle h.now op derivation.now) }
 {
     let Some(pair) = derived_pair(alloc, h, writes, op, derivation.lines())? else {
@@ -38,7 +34,7 @@ pub fn is_derivation_of_cycle(
 /// Whether a derivation for the operation gives a write and a read of the initial value of its variable, which is the
 /// operation or before it in program order.
 ///
-/// Fails for want of memory alone.
+/// Fails for want of memory alone. The cost is that of `derived_pair`.
 pub fn is_derivation_of_initial_read(
     alloc: Global,
     h: &History<Memory>,
@@ -46,10 +42,7 @@ pub fn is_derivation_of_initial_read(
     op: OpId,
     derivation: &Derivation,
 ) -> Result<bool, AllocError>
-    requires writes { ListsWrites h.now writes.now }
-    requires sorted { IsSorted writes.now }
-    requires in_order { AreInOrder writes.now }
-    requires differentiated { IsDifferentiated h.now }
+    requires { AreDistinctWrites h.now writes.now }
     ensures { IfOk result (λ yes. IsTrue yes ↔ IsDerivationOfInitialRead h.now op derivation.now) }
 {
     let Some(pair) = derived_pair(alloc, h, writes, op, derivation.lines())? else {

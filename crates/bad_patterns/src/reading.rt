@@ -157,6 +157,8 @@ impl WordedPair for Link {
 }
 
 /// The path that a value is the form of.
+///
+/// Fails for want of memory alone. O(n) for n operations.
 pub fn read_path(alloc: Global, value: &Value) -> Result<Option<Path>, AllocError>
     ensures { IfOk result (IsRead path_form (view value.now)) }
 {

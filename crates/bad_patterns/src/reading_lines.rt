@@ -13,7 +13,7 @@ use std::alloc::{AllocError, Global};
 
 /// The derivation that a value is the form of: a list of `["co",path,path]`, `["tr",i,j]` and `["rf",i,op]`.
 ///
-/// A line may refer to any line. Fails for want of memory alone.
+/// A line may refer to any line. Fails for want of memory alone. O(n) for n lines and operations of their paths.
 pub fn read_lines(alloc: Global, value: &Value) -> Result<Option<Derivation>, AllocError>
     ensures { IfOk result (IsRead lines_form (view value.now)) }
 {

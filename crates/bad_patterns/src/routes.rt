@@ -40,7 +40,7 @@ pub fn ends_of(h: &History<Memory>, path: &Path) -> Option<(OpId, OpId)>
     Some((*first, *last))
 }
 
-/// Whether a path with an edge ends where it begins.
+/// Whether a path with an edge ends where it begins. The cost is that of `ends_of`.
 pub fn is_cyclic_path(h: &History<Memory>, path: &Path) -> bool
     ensures { IsTrue result ↔ IsCyclicPath h.now path.now }
 {
@@ -50,7 +50,7 @@ pub fn is_cyclic_path(h: &History<Memory>, path: &Path) -> bool
     path.ops().len() > 1 && ends.0 == ends.1
 }
 
-/// Whether a path goes from a write to a read of the initial value of its variable.
+/// Whether a path goes from a write to a read of the initial value of its variable. The cost is that of `ends_of`.
 pub fn is_path_to_initial_read(h: &History<Memory>, path: &Path) -> bool
     ensures { IsTrue result ↔ IsPathToInitialRead h.now path.now }
 {
@@ -61,7 +61,7 @@ pub fn is_path_to_initial_read(h: &History<Memory>, path: &Path) -> bool
 }
 
 /// Whether the first path goes from a write to another write of its variable, and the second from there to a read that
-/// reads from the first write.
+/// reads from the first write. The cost is that of `ends_of` for both.
 pub fn are_paths_to_overwritten_read(h: &History<Memory>, first: &Path, second: &Path) -> bool
     ensures { IsTrue result ↔ ArePathsToOverwrittenRead h.now first.now second.now }
 {
