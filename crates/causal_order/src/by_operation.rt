@@ -89,7 +89,7 @@ impl<T: Copy> ByOperation<T> {
 
     /// Puts a session with no operations behind the others.
     ///
-    /// Fails for want of memory alone, and the sessions are then as they were.
+    /// Fails for want of memory alone, and the sessions are then as they were. O(1), on average.
     pub fn push_session(&mut self) -> Result<(), AllocError>
         ensures ok { OnOk result (self.new ≡ self.old ++ [] ∷ []) }
         ensures err { OnErr result (self.new ≡ self.old) }
@@ -99,7 +99,7 @@ impl<T: Copy> ByOperation<T> {
 
     /// Puts a session whose operations have these lists behind the others.
     ///
-    /// Fails for want of memory alone, and the sessions are then as they were.
+    /// Fails for want of memory alone, and the sessions are then as they were. O(1), on average.
     pub fn push_rows(&mut self, rows: Rows<T>) -> Result<(), AllocError>
         ensures ok { OnOk result (self.new ≡ self.old ++ rows ∷ []) }
         ensures err { OnErr result (self.new ≡ self.old) }
@@ -110,7 +110,7 @@ impl<T: Copy> ByOperation<T> {
 
     /// Puts the list of one operation more behind those of its session.
     ///
-    /// Fails for want of memory alone, and the lists are then as they were.
+    /// Fails for want of memory alone, and the lists are then as they were. O(m) for m items, on average.
     pub fn push(&mut self, session: usize, list: &[T]) -> Result<(), AllocError>
         requires { session < length self.old }
         ensures ok { OnOk result (self.new ≡ slice_set self.old session (slice_index_or self.old session [] ++ list.now ∷ [])) }

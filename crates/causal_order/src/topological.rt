@@ -67,7 +67,7 @@ impl Walk {
 
     /// Places the next operation of a session, whether it can follow or not.
     ///
-    /// Fails for want of memory alone, and the walk is then as it was.
+    /// Fails for want of memory alone, and the walk is then as it was. O(1), on average.
     pub fn place(&mut self, session: usize) -> Result<(), AllocError>
         requires few { session < MAX_SESSIONS }
         requires room { placed self.old session < MAX_PLACED }

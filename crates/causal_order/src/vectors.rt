@@ -58,7 +58,7 @@ pub fn has_counted_other(v: &Vectors, op: OpId, earlier: OpId) -> bool
     earlier != op && has_counted(v, op, earlier)
 }
 
-/// Whether each of some counts is at most the one at its place, where a place past the end has 0.
+/// Whether each of some counts is at most the one at its place, where a place past the end has 0. O(k) for k counts.
 pub fn is_at_most(counts: &[u16], bounds: &[u16]) -> bool
     ensures { IsTrue result ↔ ((s : ℕ) → slice_index_or counts.now s 0 ≤ slice_index_or bounds.now s 0) }
 {

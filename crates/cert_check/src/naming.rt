@@ -20,7 +20,7 @@ pub struct Naming {
 }
 
 impl Naming {
-    /// Nothing is named.
+    /// Nothing is named. O(k) for k sessions.
     pub fn new<O: SeqObject>(alloc: Global, h: &History<O>) -> Result<Naming, AllocError>
         ensures { IfOk result (λ naming. (list : List ℕ) → AreCountsAt list 0 (length h.now.1) naming.counts.items) }
     {
@@ -149,7 +149,7 @@ impl Naming {
     }
 }
 
-/// How many numbers two lists have in common from the front.
+/// How many numbers two lists have in common from the front. O(p) for p such numbers.
 pub fn shared_front(left: &[u8], right: &[u8]) -> usize
     ensures left { result ≤ length left.now }
     ensures right { result ≤ length right.now }

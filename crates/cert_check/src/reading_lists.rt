@@ -10,7 +10,7 @@ use operations::elements_of;
 use serde_json::Value;
 use std::alloc::{AllocError, Global};
 
-/// The numbers that a value is the list of.
+/// The numbers that a value is the list of. O(n) for n numbers.
 pub fn read_numbers<T: Number>(alloc: Global, value: &Value) -> Result<Option<Vec<T>>, AllocError>
     ensures { IfOk result
         (λ read. IsReadWithin (All T.fits) (list_form T.form) (view value.now) (option_map (λ numbers. numbers.items) read)) }

@@ -32,7 +32,7 @@ impl TakenIn {
         &self.sessions
     }
 
-    /// An equal order. Fails for want of memory alone.
+    /// An equal order. Fails for want of memory alone. O(n) for n operations.
     pub fn copy(&self, alloc: Global) -> Result<TakenIn, AllocError>
         ensures { IfOk result (λ o. o ≡ self.now) }
     {
@@ -53,7 +53,7 @@ pub struct Advice {
 }
 
 impl Advice {
-    /// Equal advice. Fails for want of memory alone.
+    /// Equal advice. Fails for want of memory alone. O(n) for n operations in its order.
     pub fn copy(&self, alloc: Global) -> Result<Advice, AllocError>
         ensures { IfOk result (λ a. a ≡ self.now) }
     {
