@@ -6,9 +6,6 @@ ghost use Rattle.operations.specs.Reads.{number_form, IsReadWithin};
 use history::MAX_SESSIONS;
 use serde_json::Value;
 
-/// Session numbers are below this.
-const SESSIONS: u8 = 16;
-
 /// A number in the lists of a certificate: a count of a vector, or a session number.
 pub trait Number: Copy {
     /// Its form.
@@ -42,7 +39,7 @@ impl Number for u8 {
 
     fn read(value: &Value) -> Option<u8> {
         let session = u8::try_from(value.as_u64()?).ok()?;
-        if session < SESSIONS {
+        if usize::from(session) < MAX_SESSIONS {
             Some(session)
         } else {
             None
