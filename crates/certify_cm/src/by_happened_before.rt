@@ -11,9 +11,9 @@ ghost use Rattle.causal_order.specs.Vectors.{HasOneEach, list_of};
 ghost use Rattle.cert_check.specs.Certificates.{criterion_of, HasShapeOf, IsExplainedThroughout, vectors_of};
 ghost use Rattle.certify_cm.specs.ByTurns.{HasNoTurns, IsByTurns, TakesTurns};
 
-use crate::schedule::schedule_of;
+use crate::turns::{Turns, standing};
 use cert_check::{Certificate, Criterion, Schedules};
-use history::{History, MAX_SESSIONS, OpId};
+use history::{History, MAX_SESSIONS};
 use memory_order::{CausalOrder, HappenedBefore, IndexedMemory, MAX_PAIRS, Saturation};
 use objects::Memory;
 use std::alloc::{AllocError, Global};
@@ -98,6 +98,8 @@ fn schedules_by_happened_before(
 
 /// Puts the schedules of a session behind those of the sessions before it. Whether none of the session's happened-before
 /// relations is cyclic or given up.
+///
+/// The schedule of an operation goes on from that of the operation before it, from the first turn that doesn't stand.
 fn push_schedules(
     alloc: Global,
     order: &CausalOrder,
@@ -112,19 +114,18 @@ fn push_schedules(
 {
     let h = order.history();
     let mut happened = HappenedBefore::of(alloc, order, session, Some(MAX_PAIRS))?;
+    let mut turns = Turns::new(alloc);
     schedules.push_session()?;
     for index in 0..h.len(session) {
+        let raises = happened.raises().len();
         happened = happened.take_next(order)?;
         match happened.saturation() {
             Saturation::Saturated => {}
             Saturation::Cyclic | Saturation::GivenUp => return Ok(false),
         }
-        let op = OpId {
-            session: session as u64,
-            index: index as u64,
-        };
-        let walk = schedule_of(alloc, h, happened.vectors(), op)?;
-        schedules.push(session, walk.schedule())?;
+        turns.keep(standing(h, &happened, session, index, raises));
+        turns.go_on(h, happened.vectors(), session, index + 1)?;
+        schedules.push(session, turns.schedule())?;
     }
     Ok(true)
 }

@@ -4,7 +4,7 @@
 mod as_advised;
 mod by_happened_before;
 pub mod laws;
-mod schedule;
+mod turns;
 
 pub use as_advised::{make, make_memory};
 pub use by_happened_before::{make_by_order, make_by_sources};

@@ -7,11 +7,16 @@ use Rattle.memory_order.specs.declared.happened_before.Saturation.{Saturation}
 use Rattle.memory_order.specs.declared.happened_before.Saturation.TheVariants.{Saturated, Cyclic, GivenUp}
 use Rattle.memory_order.specs.HappenedBeforeVectors.{IsHBVectors}
 use Rattle.causal_order.specs.Orders.{op}
+use Rattle.memory_order.specs.Raises.{IsRaisedSince}
 use Rattle.memory_order.specs.Relations.{HB}
-use Rattle.memory_order.specs.Steps.HappenedBefores.{HasFewPairs, Tells, IsOutcome, session_of, taken_of, most_of, vectors_of}
+use Rattle.memory_order.specs.declared.growing_order.Raise.{Raise}
+use Rattle.memory_order.specs.Steps.HappenedBefores.{HasFewPairs, Tells, IsOutcome, session_of, taken_of, most_of, raises_of, vectors_of}
 use Rattle.causal_order.specs.Vectors.{Counts}
 use Rattle.causal_order.proofs.GatheredLaws.{gathered-session, gathered-push, gathered-end}
+use Rattle.certify_cm.proofs.RisingTurns.{made-rising}
+use Rattle.certify_cm.proofs.TurnsKept.{AreUnraised, kept-started}
 use Rattle.certify_cm.specs.ByTurns.{TakesTurns}
+use Rattle.certify_cm.specs.Started.{AreRising, AreStarted}
 use Rattle.certify_cm.specs.Turns.{AreTurns}
 use Rattle.certify_cm.proofs.by_happened_before.push_schedules.Goals as goal
 
@@ -22,6 +27,7 @@ loop-index-init c = record {
   session = c.in_ok-happened.ensures.session;
   taken = c.in_ok-happened.ensures.taken;
   most = c.in_ok-happened.ensures.most;
+  started = c.new-turns.ensures (vectors_of c.in_ok-happened.happened) c.args.session;
 }
 
 pub loop-index-preserved : goal.loop-index-preserved
@@ -39,7 +45,7 @@ loop-index-preserved c =
       record {
         vectors = v;
         happened = subst₂ (λ (o : OpId) (now : Counts). IsHBVectors h o now) is (sym c.vectors.ensures) outcome.0;
-        turns = subst (λ (xs : List ℕ). AreTurns v s (i + 1) xs) (sym c.schedule.ensures) c.in_ok-walk.ensures;
+        turns = subst (λ (xs : List ℕ). AreTurns v s (i + 1) xs) (sym c.schedule.ensures) c.in_ok-go_on.ensures.turns;
       },
       record {
         acyclic = subst (λ (o : OpId). (a : OpId) → ¬ HB h o a a) is outcome.1;
@@ -53,7 +59,33 @@ loop-index-preserved c =
       session = let same = taken.session in let was = before.session in omega arith;
       taken = let more = taken.taken in let was = before.taken in omega arith;
       most = taken.most ∙ before.most;
+      started = subst (λ (w : Counts). AreStarted w s (i + 1) c.go_on.new.self.walk c.go_on.new.self.starts.items) c.vectors.ensures c.in_ok-go_on.ensures;
     }
+
+pub standing-requires-clause-rising : goal.standing-requires-clause-rising
+standing-requires-clause-rising c =
+    let before = c.loop-index.invariant in
+    let taken = c.in_ok-happened-2.ensures in
+    let happened = c.in_ok-happened-2.happened in
+    let told : Tells happened Saturated = rw c.in-Saturated.is at c.saturation.ensures in
+    let more = taken.taken in
+    let was = before.taken in
+    subst (λ (t : ℕ). AreRising (vectors_of happened) t c.loop-index.index) (taken.session ∙ before.session)
+    (made-rising c.args.order.now happened taken.made told.0 c.loop-index.index (omega arith))
+
+pub go_on-requires-clause-started : goal.go_on-requires-clause-started
+go_on-requires-clause-started c =
+    let s = c.args.session in
+    let before = c.loop-index.invariant in
+    let turns = c.loop-index.turns in
+    let happened = c.in_ok-happened-2.happened in
+    let kept = c.keep.new.self in
+    let unraised : AreUnraised c.loop-index.happened happened s c.standing.result = λ m p below since.
+    c.standing.ensures.unraised m p below
+    (subst (λ (es : List Raise). IsRaisedSince (raises_of happened) (length es) p) (sym c.raises-raises.ensures) since) in
+    subst (λ (w : Counts). AreStarted w s (length kept.starts.items) kept.walk kept.starts.items) (sym c.vectors.ensures)
+    (kept-started c.args.order.now c.loop-index.happened happened before.made c.in_ok-happened-2.ensures s c.standing.result c.loop-index.index
+    c.standing.ensures.ordered unraised turns.walk turns.starts.items kept.walk kept.starts.items before.started c.keep.ensures)
 
 pub returns-in-Cyclic : goal.returns-in-Cyclic
 returns-in-Cyclic c = record {

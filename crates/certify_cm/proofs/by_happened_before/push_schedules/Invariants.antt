@@ -1,7 +1,8 @@
 use Rattle.std.proofs.Common.{◌≡◌, Some}
 use Rattle.causal_order.specs.Steps.Gathered.{AreGatheredUpTo}
-use Rattle.memory_order.specs.Steps.HappenedBefores.{IsMade, session_of, taken_of, most_of}
+use Rattle.memory_order.specs.Steps.HappenedBefores.{IsMade, session_of, taken_of, most_of, vectors_of}
 use Rattle.certify_cm.specs.ByTurns.{TakesTurns}
+use Rattle.certify_cm.specs.Started.{AreStarted}
 use Rattle.certify_cm.proofs.by_happened_before.push_schedules.Given as goal
 
 -- the operations so far are taken in and have their schedules
@@ -12,4 +13,5 @@ invariant-loop-index l = record {
   session : session_of l.happened ≡ l.session;
   taken : taken_of l.happened ≡ l.index;
   most : most_of l.happened ≡ Some 100000;
+  started : AreStarted (vectors_of l.happened) l.session l.index l.turns.walk l.turns.starts.items;
 }
