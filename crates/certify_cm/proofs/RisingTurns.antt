@@ -11,7 +11,7 @@ use Rattle.memory_order.specs.Steps.GrowthSteps.{IsGivenUp}
 use Rattle.memory_order.specs.Steps.HappenedBefores.{IsMade, past_count, vectors_of, session_of, taken_of}
 use Rattle.memory_order.proofs.GrowingSteps.{monotone-to}
 use Rattle.memory_order.proofs.SourceVectors.{own-count}
-use Rattle.certify_cm.specs.Started.{AreRising}
+use Rattle.certify_cm.specs.Steps.Started.{AreRising}
 
 -- of its own session the past of the first n operations has n
 own-past : (h : MemoryHistory) (v : Counts) → CountsSourceOrder h v → (s n : ℕ) → n ≤ length (session h s) → past_count v s n s ≡ n

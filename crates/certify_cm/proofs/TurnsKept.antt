@@ -14,7 +14,7 @@ use Rattle.memory_order.specs.Memory.{MemoryHistory}
 use Rattle.memory_order.specs.Raises.{IsRaisedSince}
 use Rattle.memory_order.specs.Steps.GrowingOrders.{AreHeldVectors}
 use Rattle.memory_order.specs.Steps.HappenedBefores.{IsMade, TakesNext, raises_of, vectors_of}
-use Rattle.certify_cm.specs.Started.{AreStarted}
+use Rattle.certify_cm.specs.Steps.Started.{AreStarted}
 use Rattle.certify_cm.specs.Turns.{AreTurns}
 
 -- vectors of the same operations, and limits, that are the same below the limits

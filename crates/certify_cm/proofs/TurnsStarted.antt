@@ -7,7 +7,7 @@ use Rattle.causal_order.proofs.FullWalks.{walk-longer}
 use Rattle.causal_order.proofs.Fronts.{front-take}
 use Rattle.causal_order.specs.Orders.{op}
 use Rattle.causal_order.specs.Vectors.{Counts, list_of}
-use Rattle.certify_cm.specs.Started.{AreStarted}
+use Rattle.certify_cm.specs.Steps.Started.{AreStarted}
 use Rattle.certify_cm.specs.Turns.{IsTurn, AreTurns}
 
 module _ (v : Counts) (s : ℕ) where

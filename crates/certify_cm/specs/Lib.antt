@@ -1,3 +1,3 @@
 pub mod Turns
-pub mod Started
 pub mod ByTurns
+pub mod Steps

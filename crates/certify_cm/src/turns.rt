@@ -8,7 +8,7 @@ ghost use Rattle.causal_order.specs.Vectors.{Counts, IsCounted};
 ghost use Rattle.memory_order.specs.Raises.{IsRaisedSince};
 ghost use Rattle.memory_order.specs.Steps.GrowingOrders.{AreHeldVectors};
 ghost use Rattle.memory_order.specs.Steps.HappenedBefores.{raises_of, vectors_of};
-ghost use Rattle.certify_cm.specs.Started.{AreRising, AreStarted};
+ghost use Rattle.certify_cm.specs.Steps.Started.{AreRising, AreStarted};
 
 use causal_order::{Vectors, Walk};
 use history::{History, MAX_OPERATIONS, MAX_SESSIONS, OpId};

@@ -16,7 +16,7 @@ use Rattle.causal_order.proofs.GatheredLaws.{gathered-session, gathered-push, ga
 use Rattle.certify_cm.proofs.RisingTurns.{made-rising}
 use Rattle.certify_cm.proofs.TurnsKept.{AreUnraised, kept-started}
 use Rattle.certify_cm.specs.ByTurns.{TakesTurns}
-use Rattle.certify_cm.specs.Started.{AreRising, AreStarted}
+use Rattle.certify_cm.specs.Steps.Started.{AreRising, AreStarted}
 use Rattle.certify_cm.specs.Turns.{AreTurns}
 use Rattle.certify_cm.proofs.by_happened_before.push_schedules.Goals as goal
 

@@ -2,7 +2,7 @@ use Rattle.std.proofs.Common.{◌≡◌, Some}
 use Rattle.causal_order.specs.Steps.Gathered.{AreGatheredUpTo}
 use Rattle.memory_order.specs.Steps.HappenedBefores.{IsMade, session_of, taken_of, most_of, vectors_of}
 use Rattle.certify_cm.specs.ByTurns.{TakesTurns}
-use Rattle.certify_cm.specs.Started.{AreStarted}
+use Rattle.certify_cm.specs.Steps.Started.{AreStarted}
 use Rattle.certify_cm.proofs.by_happened_before.push_schedules.Given as goal
 
 -- the operations so far are taken in and have their schedules

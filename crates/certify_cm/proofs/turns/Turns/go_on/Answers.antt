@@ -5,7 +5,7 @@ use Rattle.causal_order.specs.Topological.{IsFullWalk}
 use Rattle.causal_order.specs.Vectors.{count, list_of}
 use Rattle.certify_cm.proofs.TurnsKept.{turns-few}
 use Rattle.certify_cm.proofs.TurnsStarted.{started-next}
-use Rattle.certify_cm.specs.Started.{AreStarted}
+use Rattle.certify_cm.specs.Steps.Started.{AreStarted}
 use Rattle.certify_cm.specs.Turns.{IsTurn}
 use Rattle.certify_cm.proofs.turns.Turns.go_on.Goals as goal
 

@@ -1,4 +1,4 @@
-use Rattle.certify_cm.specs.Started.{AreStarted}
+use Rattle.certify_cm.specs.Steps.Started.{AreStarted}
 use Rattle.certify_cm.proofs.turns.Turns.go_on.Given as goal
 
 -- the operations so far have had their turns
