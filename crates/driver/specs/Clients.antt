@@ -72,7 +72,7 @@ module _ {S C R : Type 0} where
     pub told : (r : ReceiptState C R) → p.receipt ≡ Some r → IsReceiptOf lanes r
     pub seals : AreSealsOf lanes p.seals
     pub calls : (i : ℕ) (c : C) (known : Option R) → entry input (session_operation s i) ≡ Some (c, known) → ¬ StaysOpen stop input (session_operation s i)
-      → (r : ReceiptState C R) × (p.receipt ≡ Some r) × StandsFor r s i c
+        → (r : ReceiptState C R) × (p.receipt ≡ Some r) × StandsFor r s i c
 
   -- each session of a recorder is fresh, and they stand in order
   abbrev pub AreFresh : LanesState S → HistoryValue S C R → List (SessionState C R) → Type 0
