@@ -10,6 +10,10 @@ counts what comes before it in its session and what it read from, and what comes
 list of causal convergence, has the order of the run.
 
 One file for each size and criterion: OUTDIR/memory-SESSIONSxOPERATIONS-CRITERION.json, with `[history, certificate]`.
+
+Beside them stand OUTDIR/apart-SESSIONSxOPERATIONS-CRITERION.json for causal consistency and causal memory: sessions that write and
+read a key of their own, where each operation counts all earlier ones, and whose schedules go round the sessions up and down in turn,
+so that no two neighbours begin alike.
 """
 
 import json
@@ -18,7 +22,7 @@ import sys
 from pathlib import Path
 from typing import NamedTuple
 
-SIZES = [(16, 256), (16, 64)]
+SIZES = [(16, 256), (16, 64), (16, 16)]
 KEYS = 24
 SEED = 2017
 
@@ -105,17 +109,38 @@ def inputs(sessions, operations):
     return history, [["cc", vectors, schedules], ["cm", vectors, schedules], ["ccv", vectors, arbitration]]
 
 
+def apart(sessions, operations):
+    """A history, and certificates of it of which no two neighbouring schedules begin alike."""
+    indices = range(operations)
+    forms = [
+        [["r" if index % 2 else "w", session, 1 + index // 2 * sessions + session] for index in indices]
+        for session in range(sessions)
+    ]
+    vectors = [
+        [[index + (other == session) for other in range(sessions)] for index in indices] for session in range(sessions)
+    ]
+    rounds = list(range(sessions)), list(range(sessions - 1, -1, -1))
+    schedules = [[rounds[index % 2] * index + [session] for index in indices] for session in range(sessions)]
+    return ["memory", forms], [["cc", vectors, schedules], ["cm", vectors, schedules]]
+
+
+def write(folder, name, sessions, operations, made):
+    """Writes a history with each of its certificates."""
+    history, certificates = made
+    for certificate in certificates:
+        path = folder / f"{name}-{sessions}x{operations}-{certificate[0]}.json"
+        path.write_text(json.dumps([history, certificate], separators=(",", ":")))
+        print(path, path.stat().st_size, "bytes")
+
+
 def main():
     if len(sys.argv) != 2:
         sys.exit("usage: certificates.py OUTDIR")
     folder = Path(sys.argv[1])
     folder.mkdir(parents=True, exist_ok=True)
     for sessions, operations in SIZES:
-        history, certificates = inputs(sessions, operations)
-        for certificate in certificates:
-            path = folder / f"memory-{sessions}x{operations}-{certificate[0]}.json"
-            path.write_text(json.dumps([history, certificate], separators=(",", ":")))
-            print(path, path.stat().st_size, "bytes")
+        write(folder, "memory", sessions, operations, inputs(sessions, operations))
+        write(folder, "apart", sessions, operations, apart(sessions, operations))
 
 
 if __name__ == "__main__":
