@@ -1,15 +1,19 @@
 #!/usr/bin/env python3
 """Measures what certificates take, by one program beside another.
 
-    beside.py CERTIFICATES HISTORIES [--rounds N] [--only WORD] -- BEFORE NOW
+    beside.py CERTIFICATES HISTORIES [--count] [--rounds N] [--only WORD] -- BEFORE NOW
 
-CERTIFICATES is a folder that certificates.py made, and HISTORIES one that histories.py made; BEFORE and NOW are programs. A table has
-a row for each input, by size: `make` is `explain --json --certificates` of a healthy history, which makes the certificates and writes
-them; `judge` is that of a history in which a value is written twice, so that nothing decides it, and three certificates are made and
-checked; and of one path through all operations. `check` is that of a certificate of each criterion, also of such as have no
-schedules that begin alike. The columns are the million instructions by one worker (callgrind; no other program changes them), and the
-milliseconds from the start of the process to its end by 1, 2 and 4 workers, the least of N rounds (3 by default). Each is given as
-what it was and what it is, and both have to write the same.
+CERTIFICATES is a folder that certificates.py made, and HISTORIES one that histories.py made; BEFORE and NOW are programs. A table has a
+row for each input whose name has the word, by size:
+
+- `make` is `explain --json --certificates` of a healthy history, which makes the certificates and writes them;
+- `judge` is that of a history in which a value is written twice, so that nothing decides it, and three certificates are made and
+  checked; and so of one path through all operations;
+- `check` is that of a certificate of each criterion, and of such as have no neighbouring schedules that begin alike.
+
+The columns are what it was and what it is: the milliseconds from the start of the process to its end by 1, 2 and 4 workers, the least
+of N rounds (3 by default), or with --count the million instructions by one worker (callgrind), which no other program changes. Both
+programs have to write the same.
 """
 
 import argparse
@@ -32,8 +36,7 @@ def instructions(command, path):
         how = {"stdin": text, "stdout": subprocess.DEVNULL, "stderr": subprocess.PIPE}
         valgrind = ["valgrind", "--tool=callgrind", "--callgrind-out-file=/dev/null"]
         said = subprocess.run([*valgrind, *command], check=False, **how).stderr.decode()
-    found = re.search(r"Collected : ([0-9]+)", said)
-    return f"{int(found.group(1)) / 1e6:.1f}" if found else "-"
+    return f"{int(re.search(r'Collected : ([0-9]+)', said).group(1)) / 1e6:.1f}"
 
 
 def words(word, workers):
@@ -43,11 +46,9 @@ def words(word, workers):
     return [word, "--workers", str(workers)]
 
 
-def cells(programs, word, path, rounds):
-    """The cells of a row."""
+def times(programs, word, path, rounds):
+    """The milliseconds by each number of workers, what it was and what it is."""
     row, written = [], set()
-    for program in programs:
-        row.append(instructions([program, *words(word, 1)], path))
     for workers in WORKERS if word != "make" else (1,):
         for program in programs:
             runs = [run_once([program, *words(word, workers)], path, 0) for _ in range(rounds)]
@@ -81,19 +82,24 @@ def main():
     parser = argparse.ArgumentParser()
     parser.add_argument("certificates", type=pathlib.Path)
     parser.add_argument("histories", type=pathlib.Path)
+    parser.add_argument("--count", action="store_true")
     parser.add_argument("--rounds", type=int, default=3)
     parser.add_argument("--only", default="")
     parser.add_argument("programs", nargs=2)
     given = parser.parse_args()
-    head = ["input", "command", "instructions", ""]
-    for workers in WORKERS:
-        head += [f"by {workers}", ""]
+    names = ["instructions"] if given.count else [f"by {workers}" for workers in WORKERS]
+    head = ["command", "input", *(cell for name in names for cell in (name, "now"))]
     print("| " + " | ".join(head) + " |")
     print("|" + "---|" * len(head))
     with tempfile.TemporaryDirectory() as room:
         for word, path in inputs(given.certificates, given.histories, pathlib.Path(room)):
-            if given.only in f"{word} {path.name}":
-                print("| " + " | ".join([path.stem, word, *cells(given.programs, word, path, given.rounds)]) + " |", flush=True)
+            if given.only not in path.stem:
+                continue
+            if given.count:
+                row = [instructions([program, *words(word, 1)], path) for program in given.programs]
+            else:
+                row = times(given.programs, word, path, given.rounds)
+            print("| " + " | ".join([word, path.stem, *row]) + " |", flush=True)
 
 
 if __name__ == "__main__":
