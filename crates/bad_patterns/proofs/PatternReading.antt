@@ -4,7 +4,7 @@ use Rattle.std.specs.Prelude.{◌≢◌, Some}
 use Rattle.std.proofs.lemmas.List.{length-map}
 use Rattle.serde_json.specs.Data.{Data}
 use Rattle.operations.specs.Json.{list, elements, whole_number}
-use Rattle.operations.specs.JsonLaws.{whole_number-read}
+use Rattle.operations.specs.Laws.Json.{whole_number-read}
 use Rattle.operations.specs.Reads.{worded}
 use Rattle.operations.proofs.ReadForms.{is_list, one_word, sized}
 use Rattle.bad_patterns.specs.declared.kind.Kind.{Kind}

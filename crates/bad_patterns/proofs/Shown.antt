@@ -3,7 +3,7 @@ use Rattle.std.proofs.Common.{◌≡◌, ℕ, zero, suc, ◌+◌, ◌-◌, ◌�
 use Rattle.std.specs.Prelude.{IsTrue, Some, slice_get, option_map}
 use Rattle.std.proofs.lemmas.Option.{same_Some, slice_get_within, get_or_from_slice_get, slice_get-map}
 use Rattle.history.specs.declared.op_id.OpId.{OpId}
-use Rattle.operations.specs.JsonLaws.{map_from}
+use Rattle.operations.specs.Laws.Json.{map_from}
 use Rattle.causal_order.specs.Orders.{StandsAt}
 use Rattle.memory_order.specs.Memory.{MemoryHistory, memory_answer, IsDifferentiated}
 use Rattle.memory_order.specs.Relations.{CO, CF}

@@ -1,1 +1,1 @@
-pub mod OrderLaws
+pub mod Laws

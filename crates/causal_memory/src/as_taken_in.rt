@@ -1,5 +1,5 @@
 ghost use Rattle.std.specs.Prelude.{length, refl, true};
-ghost use Rattle.causal_memory.specs.OrderLaws.{length_within};
+ghost use Rattle.causal_memory.specs.Laws.Order.{length_within};
 
 use replica::{UpdateOf, UpdateOrder};
 

@@ -9,23 +9,23 @@ use Rattle.operations.specs.declared.any_history.AnyHistory.TheVariants as histo
 use Rattle.operations.specs.declared.object_name.ObjectName.TheVariants as names
 use Rattle.operations.specs.declared.read_error.ReadError.{ReadError}
 use Rattle.operations.specs.AnyForm.{IsAnyHistory, IsPlainHistory, IsKeyedHistory, form_of, first_refusal, parts_refusal}
-use Rattle.operations.specs.CallLaws.{no_start_again}
+use Rattle.operations.specs.Laws.Call.{no_start_again}
 use Rattle.operations.specs.CounterForm as counter
-use Rattle.operations.specs.CounterFormLaws as counter_laws
+use Rattle.operations.specs.Laws.CounterForm as counter_laws
 use Rattle.operations.specs.Form.{session_form}
-use Rattle.operations.specs.KeyedFormLaws.{keyed_again}
+use Rattle.operations.specs.Laws.KeyedForm.{keyed_again}
 use Rattle.operations.specs.ObjectNames.{text_of}
-use Rattle.operations.specs.PlainFormLaws.{plain_again}
+use Rattle.operations.specs.Laws.PlainForm.{plain_again}
 use Rattle.operations.specs.QueueForm as queue
-use Rattle.operations.specs.QueueFormLaws as queue_laws
+use Rattle.operations.specs.Laws.QueueForm as queue_laws
 use Rattle.operations.specs.Reading.{named_refusal, parts_of, start_refusal}
 use Rattle.operations.specs.RegisterForm as register
-use Rattle.operations.specs.RegisterFormLaws as register_laws
+use Rattle.operations.specs.Laws.RegisterForm as register_laws
 use Rattle.operations.specs.SetForm as set
-use Rattle.operations.specs.SetFormLaws as set_laws
-use Rattle.operations.specs.SpelledLaws.{IsSpelling}
+use Rattle.operations.specs.Laws.SetForm as set_laws
+use Rattle.operations.specs.Laws.Spelled.{IsSpelling}
 use Rattle.operations.specs.Spelling.{plain_form, plain_at, plain_start_at, keyed_form, keyed_at, entry_form, table_form, table_at, no_start_form, no_start_at}
-use Rattle.operations.specs.TableFormLaws.{table_again}
+use Rattle.operations.specs.Laws.TableForm.{table_again}
 use Rattle.operations.proofs.HistoryForm.{sessions_fine, sessions_read}
 use Rattle.operations.proofs.PartsForm.{formed, parts_again, parts_again_with_start}
 

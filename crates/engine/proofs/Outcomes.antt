@@ -7,7 +7,7 @@ use Rattle.operations.specs.declared.read_error.ReadError.{ReadError}
 use Rattle.operations.specs.declared.read_error.ReadError.TheVariants as errors
 use Rattle.operations.specs.AnyForm.{IsAnyHistory, IsJson, IsRefusedFor, first_refusal, form_of}
 use Rattle.operations.specs.Json.{elements, list}
-use Rattle.operations.specs.JsonLaws.{elements-list}
+use Rattle.operations.specs.Laws.Json.{elements-list}
 use Rattle.operations.specs.Refusals.{IsFirst}
 use Rattle.operations.proofs.AnyForms.{any_forms_are_distinct}
 use Rattle.cert_check.specs.declared.certificate.Certificate.{Certificate}

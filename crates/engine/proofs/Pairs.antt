@@ -6,7 +6,7 @@ use Rattle.operations.specs.declared.read_error.ReadError.TheVariants as errors
 use Rattle.operations.specs.declared.any_history.AnyHistory.{AnyHistory}
 use Rattle.operations.specs.AnyForm.{first_refusal, form_of, IsAnyHistory}
 use Rattle.operations.specs.Json.{elements, list}
-use Rattle.operations.specs.JsonLaws.{list_from_elements}
+use Rattle.operations.specs.Laws.Json.{list_from_elements}
 use Rattle.operations.specs.Refusals.{IsFirst}
 use Rattle.cert_check.specs.declared.cert_error.CertError.{CertError}
 use Rattle.cert_check.specs.declared.cert_error.CertError.TheVariants as certificates

@@ -6,7 +6,7 @@ use Rattle.std.proofs.lemmas.Option.{same_Some}
 use Rattle.serde_json.specs.Data.{Data}
 use Rattle.history.specs.declared.op_id.OpId.{OpId}
 use Rattle.operations.specs.Json.{elements, whole_number}
-use Rattle.operations.specs.JsonLaws.{elements-list}
+use Rattle.operations.specs.Laws.Json.{elements-list}
 use Rattle.operations.specs.Reads.{list_form, number_form, worded}
 use Rattle.operations.proofs.ReadForms.{one_word}
 use Rattle.cert_check.specs.declared.criterion.Criterion.{Criterion}

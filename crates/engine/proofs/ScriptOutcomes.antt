@@ -17,7 +17,7 @@ use Rattle.operations.specs.RegisterForm as register
 use Rattle.operations.specs.Spelling.{entry_form, no_start_form, plain_start_form, table_form}
 use Rattle.operations.specs.declared.object_name.ObjectName.{ObjectName}
 use Rattle.operations.specs.declared.object_name.ObjectName.TheVariants as names
-use Rattle.operations.specs.JsonLaws.{elements-list, map_from}
+use Rattle.operations.specs.Laws.Json.{elements-list, map_from}
 use Rattle.world.specs.declared.step.StepOf.TheVariants.{Begin, End, Start, Look, Show, File, Take, Work, Put, Refute, Ask}
 use Rattle.script.specs.declared.script_error.ScriptError.{ScriptError}
 use Rattle.script.specs.declared.script_error.ScriptError.TheVariants.{NotJson, BadShape, UnknownObject, BadLimits, BadStep, TooManySteps, BadInitial, Memory}

@@ -1,5 +1,6 @@
 ghost use Rattle.std.specs.Prelude.{◌≡◌, IfOk};
 
+use crate::limits::MAX_SESSIONS;
 use std::alloc::{AllocError, Global};
 use std::marker::Model;
 
@@ -45,7 +46,7 @@ impl TakenIn {
 #[derive(Debug, Drop)]
 pub struct Advice {
     /// For each session, how many of its operations the store had taken in, the operation itself included.
-    pub counts: [u16; 16],
+    pub counts: [u16; MAX_SESSIONS],
     /// The store's clock.
     pub stamp: u64,
     /// What the store had taken in, in its order.

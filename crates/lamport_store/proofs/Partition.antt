@@ -9,7 +9,7 @@ use Rattle.std.proofs.lemmas.Option.{slice_get-get_or, slice_get-map}
 use Rattle.replica.specs.declared.update.UpdateOf.{UpdateOf}
 use Rattle.replica.specs.Updates.{key}
 use Rattle.lamport_store.specs.Stamps.{IsRising, goes_before, place_by_stamp}
-use Rattle.lamport_store.specs.StampLaws.{before-trans, first-ones, place_within}
+use Rattle.lamport_store.specs.Laws.Stamp.{before-trans, first-ones, place_within}
 
 module _ {C : Type 0} where
   key-at : (us : List (UpdateOf C)) (i : ℕ) (d : UpdateOf C) → i < length us → slice_get (map key us) i ≡ Some (key (get_or us i d))

@@ -1,2 +1,2 @@
+pub mod Laws
 pub mod Stamps
-pub mod StampLaws

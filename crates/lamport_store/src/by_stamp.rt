@@ -1,6 +1,6 @@
 ghost use Rattle.std.specs.Prelude.{◌≡◌, false, map};
 ghost use Rattle.lamport_store.specs.Stamps.{IsRising, goes_before, place_by_stamp};
-ghost use Rattle.lamport_store.specs.StampLaws.{not_behind, place_within, rising_latest, rising_none, rising_taken};
+ghost use Rattle.lamport_store.specs.Laws.Stamp.{not_behind, place_within, rising_latest, rising_none, rising_taken};
 ghost use Rattle.replica.specs.Updates.{key};
 
 use replica::{UpdateOf, UpdateOrder};

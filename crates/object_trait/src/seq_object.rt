@@ -70,6 +70,10 @@ pub trait SeqObject: Drop + Sized {
     fn depends_on(call: &Self::Call, other: &Self::Call) -> bool
         ensures { result ≡ depends call.now other.now };
 
+    /// Whether the answer to the call may depend on any that came before it.
+    fn depends_on_any(call: &Self::Call) -> bool
+        ensures { result ≡ false → (other : Self.Call) → depends call.now other ≡ false };
+
     /// Whether the return is of a kind that the call may have.
     fn fits(call: &Self::Call, ret: &Self::Ret) -> bool
         ensures { result ≡ matches call.now ret.now };

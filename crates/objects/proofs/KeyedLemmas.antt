@@ -9,7 +9,7 @@ use Rattle.std.proofs.lemmas.List.{append-nil}
 use Rattle.objects.specs.declared.keyed.KeyedCall.{KeyedCall}
 use Rattle.objects.specs.Table.{value_at, start_at}
 use Rattle.objects.specs.Keyed.{calls_at, Stands}
-use Rattle.objects.specs.KeyedLaws.{calls_at-append, calls_at-here, calls_at-apart}
+use Rattle.objects.specs.Laws.Keyed.{calls_at-append, calls_at-here, calls_at-apart}
 use Rattle.objects.proofs.TableLemmas.{value_at-by_cmp}
 
 module _ {S C O : Type 0} (plain : S) (stands : O → S → List C → Type 0) where

@@ -1,13 +1,8 @@
 pub mod AddRemoveSet
-pub mod AddRemoveSetLaws
 pub mod Counter
-pub mod CounterLaws
 pub mod Equal
 pub mod Keyed
-pub mod KeyedLaws
+pub mod Laws
 pub mod Queue
-pub mod QueueLaws
 pub mod Register
-pub mod RegisterLaws
 pub mod Table
-pub mod TableLaws

@@ -1,7 +1,7 @@
 ghost use Rattle.std.specs.Prelude.{◌≡◌, ℕ, List, Bool, refl};
 ghost use Rattle.objects.specs.AddRemoveSet.{HoldsAfter, answer as set_answer, depends as set_depends, is_has, matches as set_matches};
-ghost use Rattle.objects.specs.AddRemoveSetLaws.{answer_fits, others_change_nothing, query_changes_nothing, variant_of_call, variant_of_ret};
-ghost use Rattle.objects.specs.AddRemoveSetLaws.{same_adds, same_removes, same_hases, same_answers};
+ghost use Rattle.objects.specs.Laws.AddRemoveSet.{answer_fits, others_change_nothing, query_changes_nothing, variant_of_call, variant_of_ret};
+ghost use Rattle.objects.specs.Laws.AddRemoveSet.{same_adds, same_removes, same_hases, same_answers};
 ghost use Rattle.objects.specs.Equal.{alike, apart, same_units};
 ghost use Rattle.objects.specs.declared.add_remove_set.SetCall.TheVariants.{Add, Remove, Has};
 ghost use Rattle.objects.specs.declared.add_remove_set.SetRet.TheVariants.{Done, Has as HasAnswer};
@@ -133,6 +133,10 @@ impl SeqObject for AddRemoveSet {
             }
             _ => false,
         }
+    }
+
+    fn depends_on_any(call: &SetCall) -> bool {
+        matches!(call, SetCall::Has(_))
     }
 
     fn fits(call: &SetCall, ret: &SetRet) -> bool {

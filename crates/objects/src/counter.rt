@@ -1,8 +1,8 @@
 ghost use Rattle.std.specs.Prelude.{◌≡◌, ◌≤◌, ℕ, List, Bool, refl};
 ghost use Rattle.objects.specs.Counter.{GREATEST, increments, count_of, answer as counter_answer, is_get};
 ghost use Rattle.objects.specs.Counter.{depends as counter_depends, matches as counter_matches};
-ghost use Rattle.objects.specs.CounterLaws.{answer_fits, query_changes_nothing, variant_of_call, variant_of_ret};
-ghost use Rattle.objects.specs.CounterLaws.{others_change_nothing, same_values};
+ghost use Rattle.objects.specs.Laws.Counter.{answer_fits, query_changes_nothing, variant_of_call, variant_of_ret};
+ghost use Rattle.objects.specs.Laws.Counter.{others_change_nothing, same_values};
 ghost use Rattle.objects.specs.Equal.{alike, apart, same_units};
 ghost use Rattle.objects.specs.declared.counter.CounterCall.{CounterCall};
 ghost use Rattle.objects.specs.declared.counter.CounterCall.TheVariants.{Increment, Get};
@@ -116,6 +116,10 @@ impl SeqObject for Counter {
 
     fn depends_on(call: &CounterCall, other: &CounterCall) -> bool {
         matches!((call, other), (CounterCall::Get, CounterCall::Increment))
+    }
+
+    fn depends_on_any(call: &CounterCall) -> bool {
+        matches!(call, CounterCall::Get)
     }
 
     fn fits(call: &CounterCall, ret: &CounterRet) -> bool {

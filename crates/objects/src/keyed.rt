@@ -1,8 +1,8 @@
 ghost use Rattle.std.specs.Prelude.{◌≡◌, ℕ, List, [], IfOk};
 ghost use Rattle.objects.specs.Table.{IsTable, start_at};
 ghost use Rattle.objects.specs.Keyed.{answer as keyed_answer, calls_at, depends as keyed_depends, Stands};
-ghost use Rattle.objects.specs.KeyedLaws.{empty_is_table, keyed_query_changes_nothing, keyed_others_change_nothing, equal_keyed_calls};
-ghost use Rattle.objects.specs.TableLaws.{equal_tables_decide};
+ghost use Rattle.objects.specs.Laws.Keyed.{empty_is_table, keyed_query_changes_nothing, keyed_others_change_nothing, equal_keyed_calls};
+ghost use Rattle.objects.specs.Laws.Table.{equal_tables_decide};
 
 use crate::table::Table;
 use object_trait::SeqObject;
@@ -125,6 +125,10 @@ impl<O: SeqObject> SeqObject for Keyed<O> {
 
     fn depends_on(call: &KeyedCall<O::Call>, other: &KeyedCall<O::Call>) -> bool {
         other.key == call.key && O::depends_on(&call.call, &other.call)
+    }
+
+    fn depends_on_any(call: &KeyedCall<O::Call>) -> bool {
+        O::depends_on_any(&call.call)
     }
 
     fn fits(call: &KeyedCall<O::Call>, ret: &O::Ret) -> bool {

@@ -1,7 +1,7 @@
 ghost use Rattle.std.specs.Prelude.{◌≡◌, ℕ, List, Bool, refl};
 ghost use Rattle.objects.specs.Queue.{left, answer as queue_answer, depends as queue_depends, is_query, matches as queue_matches};
-ghost use Rattle.objects.specs.QueueLaws.{answer_fits, query_changes_nothing, variant_of_call, variant_of_ret};
-ghost use Rattle.objects.specs.QueueLaws.{others_change_nothing, same_pushes, same_popped};
+ghost use Rattle.objects.specs.Laws.Queue.{answer_fits, query_changes_nothing, variant_of_call, variant_of_ret};
+ghost use Rattle.objects.specs.Laws.Queue.{others_change_nothing, same_pushes, same_popped};
 ghost use Rattle.objects.specs.Equal.{alike, apart, same_units};
 ghost use Rattle.objects.specs.declared.queue.QueueCall.TheVariants.{Push, Pop};
 ghost use Rattle.objects.specs.declared.queue.QueueRet.TheVariants.{Done, Popped};
@@ -117,6 +117,10 @@ impl SeqObject for Queue {
     }
 
     fn depends_on(call: &QueueCall, _other: &QueueCall) -> bool {
+        matches!(call, QueueCall::Pop)
+    }
+
+    fn depends_on_any(call: &QueueCall) -> bool {
         matches!(call, QueueCall::Pop)
     }
 

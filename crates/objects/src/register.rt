@@ -2,8 +2,8 @@ ghost use Rattle.std.specs.Prelude.{◌≡◌, ◌⊎◌, ℕ, List, Bool};
 ghost use Rattle.std.proofs.Common.{rules};
 ghost use Rattle.objects.specs.Register.{answer as register_answer, depends as register_depends, is_read};
 ghost use Rattle.objects.specs.Register.{last_written, matches as register_matches};
-ghost use Rattle.objects.specs.RegisterLaws.{answer_fits, others_change_nothing, query_changes_nothing, same_writes, write_and_read};
-ghost use Rattle.objects.specs.RegisterLaws.{read_and_write, same_values, done_and_value, value_and_done};
+ghost use Rattle.objects.specs.Laws.Register.{answer_fits, others_change_nothing, query_changes_nothing, same_writes, write_and_read};
+ghost use Rattle.objects.specs.Laws.Register.{read_and_write, same_values, done_and_value, value_and_done};
 ghost use Rattle.objects.specs.Equal.{alike, same_numbers};
 ghost use Rattle.objects.specs.declared.register.RegisterCall.TheVariants.{Write, Read};
 ghost use Rattle.objects.specs.declared.register.RegisterRet.TheVariants.{Done, Value};
@@ -104,6 +104,10 @@ impl SeqObject for Register {
 
     fn depends_on(call: &RegisterCall, other: &RegisterCall) -> bool {
         matches!((call, other), (RegisterCall::Read, RegisterCall::Write(_)))
+    }
+
+    fn depends_on_any(call: &RegisterCall) -> bool {
+        matches!(call, RegisterCall::Read)
     }
 
     fn fits(call: &RegisterCall, ret: &RegisterRet) -> bool {

@@ -2,7 +2,7 @@ ghost use Rattle.std.specs.Prelude.{◌≡◌, ◌↔◌, ◌++◌, ◌∷◌, [
 ghost use Rattle.std.specs.Cmp.{on_per};
 ghost use Rattle.std.specs.Option.{option_copied};
 ghost use Rattle.objects.specs.Table.{IsRising, value_at, equal_tables};
-ghost use Rattle.objects.specs.TableLaws.{equal_tables_per, equal_tables_equiv};
+ghost use Rattle.objects.specs.Laws.Table.{equal_tables_per, equal_tables_equiv};
 
 use std::alloc::{AllocError, Global};
 use std::marker::Model;

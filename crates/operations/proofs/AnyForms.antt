@@ -10,24 +10,24 @@ use Rattle.operations.specs.declared.object_name.ObjectName.TheVariants as names
 use Rattle.operations.specs.declared.read_error.ReadError.{ReadError}
 use Rattle.operations.specs.declared.read_error.ReadError.TheVariants as errors
 use Rattle.operations.specs.AnyForm.{IsAnyHistory, IsPlainHistory, IsKeyedHistory, form_of, first_refusal, IsJson, IsRefusedFor}
-use Rattle.operations.specs.CallLaws.{no_start_again, no_start_has_no_float}
+use Rattle.operations.specs.Laws.Call.{no_start_again, no_start_has_no_float}
 use Rattle.operations.specs.CounterForm as counter
-use Rattle.operations.specs.CounterFormLaws as counter_laws
+use Rattle.operations.specs.Laws.CounterForm as counter_laws
 use Rattle.operations.specs.Form.{Fits, EachCall, session_form, HaveNoFloats}
 use Rattle.history.specs.History.{HistoryValue, IsHistory}
-use Rattle.operations.specs.KeyedFormLaws.{keyed_again, keyed_has_no_float}
+use Rattle.operations.specs.Laws.KeyedForm.{keyed_again, keyed_has_no_float}
 use Rattle.operations.specs.ObjectNames.{text_of}
-use Rattle.operations.specs.PlainFormLaws.{plain_again, plain_has_no_float}
+use Rattle.operations.specs.Laws.PlainForm.{plain_again, plain_has_no_float}
 use Rattle.operations.specs.QueueForm as queue
-use Rattle.operations.specs.QueueFormLaws as queue_laws
+use Rattle.operations.specs.Laws.QueueForm as queue_laws
 use Rattle.operations.specs.Refusals.{IsFirst}
 use Rattle.operations.specs.RegisterForm as register
-use Rattle.operations.specs.RegisterFormLaws as register_laws
+use Rattle.operations.specs.Laws.RegisterForm as register_laws
 use Rattle.operations.specs.SetForm as set
-use Rattle.operations.specs.SetFormLaws as set_laws
-use Rattle.operations.specs.SpelledLaws.{IsSpelling}
+use Rattle.operations.specs.Laws.SetForm as set_laws
+use Rattle.operations.specs.Laws.Spelled.{IsSpelling}
 use Rattle.operations.specs.Spelling.{plain_form, plain_at, keyed_form, keyed_at, table_form, table_at, no_start_form, no_start_at}
-use Rattle.operations.specs.TableFormLaws.{table_again, table_has_no_float}
+use Rattle.operations.specs.Laws.TableForm.{table_again, table_has_no_float}
 use Rattle.operations.proofs.AnyHistories.{only_with_name}
 use Rattle.operations.proofs.HistoryForm.{same_sessions, sessions_read}
 use Rattle.operations.proofs.PartsForm.{formed}

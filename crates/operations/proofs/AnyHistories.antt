@@ -17,7 +17,7 @@ use Rattle.operations.specs.declared.any_history.AnyHistory.TheVariants as histo
 use Rattle.operations.specs.declared.object_name.ObjectName.{ObjectName}
 use Rattle.operations.specs.declared.object_name.ObjectName.TheVariants as names
 use Rattle.operations.specs.AnyForm.{IsAnyHistory, form_of}
-use Rattle.operations.specs.CallLaws.{by_word}
+use Rattle.operations.specs.Laws.Call.{by_word}
 use Rattle.operations.specs.CounterForm as counter
 use Rattle.operations.specs.Form.{session_form}
 use Rattle.history.specs.History.{HistoryValue}

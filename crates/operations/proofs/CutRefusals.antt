@@ -19,24 +19,24 @@ use Rattle.operations.specs.declared.object_name.ObjectName.TheVariants as names
 use Rattle.operations.specs.declared.read_error.ReadError.{ReadError}
 use Rattle.operations.specs.declared.read_error.ReadError.TheVariants.{TooManyOps, TooManySessions}
 use Rattle.operations.specs.AnyForm.{first_refusal, parts_refusal, refusal_by_name, refusal_of_object}
-use Rattle.operations.specs.CallLaws.{no_start_read}
+use Rattle.operations.specs.Laws.Call.{no_start_read}
 use Rattle.operations.specs.CounterForm as counter
-use Rattle.operations.specs.CounterFormLaws as counter_laws
+use Rattle.operations.specs.Laws.CounterForm as counter_laws
 use Rattle.operations.specs.Json.{list, listed, elements}
-use Rattle.operations.specs.KeyedFormLaws.{keyed_read}
+use Rattle.operations.specs.Laws.KeyedForm.{keyed_read}
 use Rattle.operations.specs.ObjectNames.{name_at}
 use Rattle.operations.specs.Places.{inside_of, limit_of}
-use Rattle.operations.specs.PlainFormLaws.{plain_read}
+use Rattle.operations.specs.Laws.PlainForm.{plain_read}
 use Rattle.operations.specs.QueueForm as queue
-use Rattle.operations.specs.QueueFormLaws as queue_laws
+use Rattle.operations.specs.Laws.QueueForm as queue_laws
 use Rattle.operations.specs.Reading.{first_among, is_unknown_return, entry_refusal, operation_refusal, operations_refusal, session_refusal, sessions_refusal, start_refusal, named_parts, parts_of, named_refusal}
 use Rattle.operations.specs.RegisterForm as register
-use Rattle.operations.specs.RegisterFormLaws as register_laws
+use Rattle.operations.specs.Laws.RegisterForm as register_laws
 use Rattle.operations.specs.SetForm as set
-use Rattle.operations.specs.SetFormLaws as set_laws
-use Rattle.operations.specs.SpelledLaws.{IsSpelling}
+use Rattle.operations.specs.Laws.SetForm as set_laws
+use Rattle.operations.specs.Laws.Spelled.{IsSpelling}
 use Rattle.operations.specs.Spelling.{plain_form, plain_at, plain_start_at, keyed_form, keyed_at, entry_form, table_form, table_at, no_start_form, no_start_at}
-use Rattle.operations.specs.TableFormLaws.{table_read}
+use Rattle.operations.specs.Laws.TableForm.{table_read}
 use Rattle.operations.proofs.JsonLists.{elements-list, items_of-listed}
 use Rattle.operations.proofs.KeptForms.{IsWholeAt, plain_kept, keyed_kept, entries_kept, register_argument, register_return, counter_return, set_argument, set_return, queue_argument, queue_return}
 use Rattle.operations.proofs.PartsForm.{Parts}

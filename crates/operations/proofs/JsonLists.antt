@@ -6,7 +6,7 @@ use Rattle.serde_json.specs.View.{view, items_of}
 use Rattle.serde_json.specs.declared.value.Value.{Value, Array}
 use Rattle.serde_json.proofs.Views.{view-Array}
 use Rattle.operations.specs.Json.{list, listed, elements}
-pub use Rattle.operations.specs.JsonLaws.{listed-items_of, items_of-listed, elements-list, list_from_elements}
+pub use Rattle.operations.specs.Laws.Json.{listed-items_of, items_of-listed, elements-list, list_from_elements}
 
 pub elements_from_array : (d : Data) (ds : List Data) → as_array d ≡ Some (items_of ds) → elements d ≡ Some ds
 elements_from_array null ds e = absurd cc

@@ -6,8 +6,8 @@ use Rattle.std.proofs.lemmas.Option.{same_Some}
 use Rattle.serde_json.specs.Data.{Data, string}
 use Rattle.objects.specs.declared.keyed.KeyedCall.{KeyedCall}
 use Rattle.operations.specs.Json.{elements, list}
-use Rattle.operations.specs.JsonLaws.{and_then_from, elements-list, list_from_elements}
-use Rattle.operations.specs.KeyedFormLaws.{word_key_rest-read, word_key_rest-small, word_key_rest-again}
+use Rattle.operations.specs.Laws.Json.{and_then_from, elements-list, list_from_elements}
+use Rattle.operations.specs.Laws.KeyedForm.{word_key_rest-read, word_key_rest-small, word_key_rest-again}
 use Rattle.operations.specs.LoneForm.{plain_call_form, keyed_call_form, is_nothing, whole_call_at}
 use Rattle.operations.specs.Reads.{number_form, worded, IsReadWithin}
 use Rattle.operations.specs.Spelling.{word_key_rest}

@@ -6,7 +6,7 @@ use Rattle.std.proofs.lemmas.Option.{same_Some, slice_get-map, slice_get-get_or}
 use Rattle.serde_json.specs.Data.{Data, string}
 use Rattle.serde_json.specs.Find.{as_str}
 use Rattle.operations.specs.Json.{list, elements}
-use Rattle.operations.specs.JsonLaws.{map_from, as_str-read, elements-list, list_from_elements}
+use Rattle.operations.specs.Laws.Json.{map_from, as_str-read, elements-list, list_from_elements}
 use Rattle.operations.specs.Reads.{list_form, worded}
 
 -- equal lists behind a word have the same word, and the same elements behind it

@@ -2,8 +2,8 @@
 
 ghost use Rattle.std.specs.Prelude.{codes};
 ghost use Rattle.operations.specs.CounterForm as counter;
-ghost use Rattle.operations.specs.CounterFormLaws as laws;
-ghost use Rattle.operations.specs.CallLaws.{no_start_is_spelling};
+ghost use Rattle.operations.specs.Laws.CounterForm as laws;
+ghost use Rattle.operations.specs.Laws.Call.{no_start_is_spelling};
 
 use crate::lone::is_done;
 use crate::spelled::Spelled;

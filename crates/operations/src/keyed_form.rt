@@ -4,9 +4,9 @@ ghost use Rattle.std.specs.Prelude.{◌≡◌, ◌<◌, ◌^◌, [], ◌∷◌, 
 ghost use Rattle.serde_json.specs.View.{view};
 ghost use Rattle.operations.specs.Json.{elements};
 ghost use Rattle.operations.specs.Spelling.{keyed_form, keyed_at, table_elements, table_form, table_at};
-ghost use Rattle.operations.specs.KeyedFormLaws.{keyed_read, keyed_is_call, keyed_again, keyed_has_no_float};
+ghost use Rattle.operations.specs.Laws.KeyedForm.{keyed_read, keyed_is_call, keyed_again, keyed_has_no_float};
 ghost use Rattle.operations.specs.LoneForm.{keyed_call_form, lone_return_form};
-ghost use Rattle.operations.specs.TableFormLaws.{table_read, table_again, table_has_no_float};
+ghost use Rattle.operations.specs.Laws.TableForm.{table_read, table_again, table_has_no_float};
 
 use crate::json::elements_of;
 use crate::keys::{keyed_parts, word_and_key};

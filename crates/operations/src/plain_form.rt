@@ -3,8 +3,8 @@
 ghost use Rattle.std.specs.Prelude.{◌≡◌, IfOk};
 ghost use Rattle.serde_json.specs.View.{view};
 ghost use Rattle.operations.specs.LoneForm.{lone_return_form, plain_call_form};
-ghost use Rattle.operations.specs.PlainFormLaws.{plain_read, plain_again, plain_has_no_float};
-ghost use Rattle.operations.specs.PlainFormLaws.{plain_start_read, plain_start_again, plain_start_has_no_float};
+ghost use Rattle.operations.specs.Laws.PlainForm.{plain_read, plain_again, plain_has_no_float};
+ghost use Rattle.operations.specs.Laws.PlainForm.{plain_start_read, plain_start_again, plain_start_has_no_float};
 ghost use Rattle.operations.specs.Spelling.{plain_form, plain_at, plain_start_form, plain_start_at};
 
 use crate::named::Named;

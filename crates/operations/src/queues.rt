@@ -4,8 +4,8 @@ ghost use Rattle.std.specs.Prelude.{◌≡◌, codes};
 ghost use Rattle.serde_json.specs.View.{view};
 ghost use Rattle.operations.specs.QueueForm.{popped_at};
 ghost use Rattle.operations.specs.QueueForm as queue;
-ghost use Rattle.operations.specs.QueueFormLaws as laws;
-ghost use Rattle.operations.specs.CallLaws.{no_start_is_spelling};
+ghost use Rattle.operations.specs.Laws.QueueForm as laws;
+ghost use Rattle.operations.specs.Laws.Call.{no_start_is_spelling};
 
 use crate::lone::is_done;
 use crate::spelled::Spelled;

@@ -2,7 +2,7 @@
 
 ghost use Rattle.std.specs.Prelude.{codes};
 ghost use Rattle.operations.specs.RegisterForm as register;
-ghost use Rattle.operations.specs.RegisterFormLaws as laws;
+ghost use Rattle.operations.specs.Laws.RegisterForm as laws;
 
 use crate::lone::is_done;
 use crate::spelled::Spelled;

@@ -4,8 +4,8 @@ ghost use Rattle.serde_json.specs.View.{view};
 ghost use Rattle.operations.specs.LoneForm.{lone_return_form, whole_call_at};
 ghost use Rattle.operations.specs.Reads.{IsRead};
 ghost use Rattle.operations.specs.Spelling.{rest_form, spelled_at};
-ghost use Rattle.operations.specs.SpelledLaws.{IsSpelling};
-ghost use Rattle.operations.specs.TableFormLaws.{IsStartSpelling};
+ghost use Rattle.operations.specs.Laws.Spelled.{IsSpelling};
+ghost use Rattle.operations.specs.Laws.TableForm.{IsStartSpelling};
 
 use crate::lone::is_nothing;
 use crate::spelled_start::SpelledStart;

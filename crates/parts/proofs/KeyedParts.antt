@@ -8,7 +8,7 @@ use Rattle.std.proofs.lemmas.Option.{same_Some}
 use Rattle.objects.specs.declared.keyed.KeyedCall.{KeyedCall}
 use Rattle.objects.specs.Table.{start_at}
 use Rattle.objects.specs.Keyed.{calls_at, answer}
-use Rattle.objects.specs.KeyedLaws.{calls_at-here, calls_at-apart}
+use Rattle.objects.specs.Laws.Keyed.{calls_at-here, calls_at-apart}
 use Rattle.history.specs.declared.op_id.OpId.{OpId}
 use Rattle.history.specs.History.{HistoryValue, entry, calls}
 use Rattle.cert_check.specs.declared.criterion.Criterion.{Criterion}

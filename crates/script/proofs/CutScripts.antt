@@ -13,7 +13,7 @@ use Rattle.bounded_json.proofs.CutLaws.{alone, kept}
 use Rattle.bounded_json.proofs.CutLists.{cut_list}
 use Rattle.history.specs.declared.limits.TheConstants.{MAX_SESSIONS}
 use Rattle.operations.specs.Json.{elements, list, listed, whole_number}
-use Rattle.operations.specs.JsonLaws.{elements-list, items_of-listed, map_from}
+use Rattle.operations.specs.Laws.Json.{elements-list, items_of-listed, map_from}
 use Rattle.operations.specs.declared.history_place.HistoryPlace.TheVariants as histories
 use Rattle.cert_check.proofs.Named.{slice_get-from_take}
 use Rattle.script.specs.declared.script.TheConstants.{MAX_STEPS}

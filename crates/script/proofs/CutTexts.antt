@@ -9,7 +9,7 @@ use Rattle.history.specs.declared.limits.TheConstants.{MAX_SESSIONS}
 use Rattle.operations.specs.AnyForm.{IsJson}
 use Rattle.operations.specs.CounterForm as counter
 use Rattle.operations.specs.Json.{list}
-use Rattle.operations.specs.JsonLaws.{map_from}
+use Rattle.operations.specs.Laws.Json.{map_from}
 use Rattle.operations.specs.LoneForm.{keyed_call_form, lone_return_form, plain_call_form}
 use Rattle.operations.specs.ObjectNames.{text_of}
 use Rattle.operations.specs.QueueForm as queue

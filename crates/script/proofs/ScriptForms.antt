@@ -6,7 +6,7 @@ use Rattle.history.specs.declared.limits.TheConstants.{MAX_SESSIONS}
 use Rattle.serde_json.specs.Data.{Data, string}
 use Rattle.serde_json.specs.Find.{as_str}
 use Rattle.operations.specs.Json.{elements, list, whole_number}
-use Rattle.operations.specs.JsonLaws.{and_then_from, map_from, chosen, as_str-read, whole_number-read, list_from_elements, listed-items_of}
+use Rattle.operations.specs.Laws.Json.{and_then_from, map_from, chosen, as_str-read, whole_number-read, list_from_elements, listed-items_of}
 use Rattle.operations.specs.ObjectNames.{name_at, text_of}
 use Rattle.operations.specs.Reads.{number_form}
 use Rattle.operations.specs.declared.object_name.ObjectName.{ObjectName}

@@ -6,7 +6,7 @@ use Rattle.std.proofs.lemmas.List.{length-map}
 use Rattle.std.proofs.lemmas.Option.{same_Some}
 use Rattle.serde_json.specs.Data.{Data}
 use Rattle.operations.specs.Json.{elements}
-use Rattle.operations.specs.JsonLaws.{elements-list}
+use Rattle.operations.specs.Laws.Json.{elements-list}
 use Rattle.operations.specs.Reads.{number_form, list_form, worded, IsReadWithin}
 use Rattle.operations.proofs.ReadForms.{one_word}
 use Rattle.cert_check.specs.declared.criterion.Criterion.{Criterion}

@@ -6,10 +6,10 @@ use Rattle.objects.specs.declared.queue.QueueCall.{QueueCall}
 use Rattle.objects.specs.declared.queue.QueueCall.TheVariants.{Push, Pop}
 use Rattle.objects.specs.declared.queue.QueueRet.{QueueRet}
 use Rattle.objects.specs.declared.queue.QueueRet.TheVariants.{Done, Popped}
-use Rattle.operations.specs.CallLaws.{number_or_alone_read, number_said, done_read}
+use Rattle.operations.specs.Laws.Call.{number_or_alone_read, number_said, done_read}
 use Rattle.operations.specs.Form.{HaveNoFloats}
 use Rattle.operations.specs.Json.{unknown, whole_number}
-use Rattle.operations.specs.SpelledLaws.{IsSpelling}
+use Rattle.operations.specs.Laws.Spelled.{IsSpelling}
 use Rattle.operations.specs.QueueForm.{word_of, arguments, ret_form, call_at, popped_at, ret_at}
 
 pub call_read : (w : List ℕ) (ds rest : List Data) (c : QueueCall) → call_at w ds ≡ Some (c, rest) → (w ≡ word_of c) × (ds ≡ arguments c ++ rest)

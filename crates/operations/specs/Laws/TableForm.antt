@@ -10,12 +10,12 @@ use Rattle.std.proofs.lemmas.Option.{same_Some}
 use Rattle.serde_json.specs.Data.{Data, number, unsigned}
 use Rattle.serde_json.specs.Written.{has_float}
 use Rattle.objects.specs.Table.{IsTable}
-use Rattle.objects.specs.KeyedLaws.{empty_is_table}
+use Rattle.objects.specs.Laws.Keyed.{empty_is_table}
 use Rattle.objects.specs.declared.table.TheConstants.{MAX_ENTRIES}
 use Rattle.operations.specs.Form.{HaveNoFloats}
 use Rattle.operations.specs.Json.{list, elements}
-use Rattle.operations.specs.JsonLaws.{elements-list, list_from_elements, and_then_from, map_from, chosen}
-use Rattle.operations.specs.KeyedFormLaws.{key_at-read, key_at-again}
+use Rattle.operations.specs.Laws.Json.{elements-list, list_from_elements, and_then_from, map_from, chosen}
+use Rattle.operations.specs.Laws.KeyedForm.{key_at-read, key_at-again}
 use Rattle.operations.specs.Spelling.{key_at, is_above, entry_form, table_form, entry_parts_at, entry_at, entries_at, table_elements, table_at}
 
 -- reading undoes the form of a start that isn't the plain one, nothing else is read, and no number in it is a float

@@ -12,10 +12,10 @@ use Rattle.objects.specs.declared.register.RegisterRet.{RegisterRet}
 use Rattle.objects.specs.declared.register.RegisterRet.TheVariants.{Done, Value}
 use Rattle.operations.specs.Form.{HaveNoFloats}
 use Rattle.operations.specs.Json.{whole_number, unknown}
-use Rattle.operations.specs.JsonLaws.{whole_number-read}
-use Rattle.operations.specs.CallLaws.{number_or_alone_read, number_said, done_read}
-use Rattle.operations.specs.SpelledLaws.{IsSpelling}
-use Rattle.operations.specs.TableFormLaws.{IsStartSpelling}
+use Rattle.operations.specs.Laws.Json.{whole_number-read}
+use Rattle.operations.specs.Laws.Call.{number_or_alone_read, number_said, done_read}
+use Rattle.operations.specs.Laws.Spelled.{IsSpelling}
+use Rattle.operations.specs.Laws.TableForm.{IsStartSpelling}
 use Rattle.operations.specs.RegisterForm.{word_of, arguments, ret_form, call_at, ret_at, start_form, start_at}
 
 pub call_read : (w : List ℕ) (ds rest : List Data) (c : RegisterCall) → call_at w ds ≡ Some (c, rest) → (w ≡ word_of c) × (ds ≡ arguments c ++ rest)

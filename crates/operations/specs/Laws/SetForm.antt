@@ -8,10 +8,10 @@ use Rattle.objects.specs.declared.add_remove_set.SetCall.{SetCall}
 use Rattle.objects.specs.declared.add_remove_set.SetCall.TheVariants.{Add, Remove, Has}
 use Rattle.objects.specs.declared.add_remove_set.SetRet.{SetRet}
 use Rattle.objects.specs.declared.add_remove_set.SetRet.TheVariants.{Done, Has as HasAnswer}
-use Rattle.operations.specs.CallLaws.{by_word, with_number_read, said_read, done_read}
+use Rattle.operations.specs.Laws.Call.{by_word, with_number_read, said_read, done_read}
 use Rattle.operations.specs.Form.{HaveNoFloats}
 use Rattle.operations.specs.Json.{unknown}
-use Rattle.operations.specs.SpelledLaws.{IsSpelling}
+use Rattle.operations.specs.Laws.Spelled.{IsSpelling}
 use Rattle.operations.specs.SetForm.{word_of, arguments, ret_form, call_at, ret_at}
 use Rattle.operations.specs.Spelling.{call_with}
 

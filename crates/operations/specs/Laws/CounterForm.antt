@@ -7,11 +7,11 @@ use Rattle.objects.specs.declared.counter.CounterCall.{CounterCall}
 use Rattle.objects.specs.declared.counter.CounterCall.TheVariants.{Increment, Get}
 use Rattle.objects.specs.declared.counter.CounterRet.{CounterRet}
 use Rattle.objects.specs.declared.counter.CounterRet.TheVariants.{Done, Value}
-use Rattle.operations.specs.CallLaws.{by_word, alone_read, number_said, done_read}
+use Rattle.operations.specs.Laws.Call.{by_word, alone_read, number_said, done_read}
 use Rattle.operations.specs.CounterForm.{word_of, arguments, ret_form, call_at, ret_at}
 use Rattle.operations.specs.Form.{HaveNoFloats}
 use Rattle.operations.specs.Json.{unknown}
-use Rattle.operations.specs.SpelledLaws.{IsSpelling}
+use Rattle.operations.specs.Laws.Spelled.{IsSpelling}
 
 pub call_read : (w : List ℕ) (ds rest : List Data) (c : CounterCall) → call_at w ds ≡ Some (c, rest) → (w ≡ word_of c) × (ds ≡ arguments c ++ rest)
 call_read w ds rest c e =

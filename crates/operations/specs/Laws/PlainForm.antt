@@ -7,8 +7,8 @@ use Rattle.serde_json.specs.Find.{as_str}
 use Rattle.serde_json.specs.Written.{has_float}
 use Rattle.operations.specs.Form.{Fits, HaveNoFloats}
 use Rattle.operations.specs.Json.{list, elements}
-use Rattle.operations.specs.JsonLaws.{elements-list, list_from_elements, and_then_from, map_from, as_str-read}
-use Rattle.operations.specs.SpelledLaws.{IsSpelling, spelled_read, spelled_again, rest_has_no_float}
+use Rattle.operations.specs.Laws.Json.{elements-list, list_from_elements, and_then_from, map_from, as_str-read}
+use Rattle.operations.specs.Laws.Spelled.{IsSpelling, spelled_read, spelled_again, rest_has_no_float}
 use Rattle.operations.specs.Spelling.{word_rest, rest_form, plain_form, spelled_at, plain_at, plain_start_form, plain_start_at}
 
 -- two parts of a list, and the parts of a pair

@@ -9,7 +9,7 @@ use Rattle.serde_json.specs.View.{items_of}
 use Rattle.serde_json.specs.Written.{has_float, items_have_float}
 use Rattle.operations.specs.Form.{Fits, HaveNoFloats}
 use Rattle.operations.specs.Json.{unknown}
-use Rattle.operations.specs.JsonLaws.{and_then_from, map_from, is_unknown-read}
+use Rattle.operations.specs.Laws.Json.{and_then_from, map_from, is_unknown-read}
 use Rattle.operations.specs.Spelling.{is_unknown_alone, rest_form, return_at, spelled_at}
 
 -- ---- `"?"` or a return

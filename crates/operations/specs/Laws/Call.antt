@@ -7,9 +7,9 @@ use Rattle.std.proofs.lemmas.Option.{same_Some}
 use Rattle.serde_json.specs.Data.{Data, number, unsigned}
 use Rattle.serde_json.specs.Written.{has_float}
 use Rattle.operations.specs.Json.{whole_number}
-use Rattle.operations.specs.JsonLaws.{map_from, whole_number-read}
+use Rattle.operations.specs.Laws.Json.{map_from, whole_number-read}
 use Rattle.operations.specs.Spelling.{first_number, call_with, no_start_form, no_start_at}
-use Rattle.operations.specs.TableFormLaws.{IsStartSpelling}
+use Rattle.operations.specs.Laws.TableForm.{IsStartSpelling}
 
 -- what is read by a word is read for this word, or for another one
 pub by_word : {A : Type 0} (w word : List ℕ) (here other : Option A) (a : A) → (if pointwise nat_eq w word then here else other) ≡ Some a

@@ -9,8 +9,8 @@ use Rattle.serde_json.specs.Written.{has_float}
 use Rattle.objects.specs.declared.keyed.KeyedCall.{KeyedCall}
 use Rattle.operations.specs.Form.{Fits}
 use Rattle.operations.specs.Json.{list, elements, whole_number}
-use Rattle.operations.specs.JsonLaws.{elements-list, list_from_elements, and_then_from, map_from, chosen, whole_number-read, as_str-read}
-use Rattle.operations.specs.SpelledLaws.{IsSpelling, spelled_read, spelled_again, rest_has_no_float}
+use Rattle.operations.specs.Laws.Json.{elements-list, list_from_elements, and_then_from, map_from, chosen, whole_number-read, as_str-read}
+use Rattle.operations.specs.Laws.Spelled.{IsSpelling, spelled_read, spelled_again, rest_has_no_float}
 use Rattle.operations.specs.Spelling.{key_at, word_key_rest, rest_form, keyed_form, spelled_at, keyed_parts_at, keyed_at}
 
 -- ---- a word, a key and the rest
