@@ -26,6 +26,9 @@ pub trait SeqObject: Drop + Sized {
     /// The answer to the first call may depend on whether the second came before it.
     ghost depends: { Self.Call → Self.Call → Bool };
 
+    /// The second call settles the answer to the first: what came before it makes no difference any more.
+    ghost settles: { Self.Call → Self.Call → Bool };
+
     /// A return is of a kind that the call may have.
     ghost matches: { Self.Call → Self.Ret → Bool };
 
@@ -70,6 +73,10 @@ pub trait SeqObject: Drop + Sized {
     fn depends_on(call: &Self::Call, other: &Self::Call) -> bool
         ensures { result ≡ depends call.now other.now };
 
+    /// Whether another call settles the answer to the call.
+    fn is_settled_by(call: &Self::Call, other: &Self::Call) -> bool
+        ensures { result ≡ settles call.now other.now };
+
     /// Whether the answer to the call may depend on any that came before it.
     fn depends_on_any(call: &Self::Call) -> bool
         ensures { result ≡ false → (other : Self.Call) → depends call.now other ≡ false };
@@ -87,6 +94,9 @@ pub trait SeqObject: Drop + Sized {
 
     ghost others_change_nothing: { (s : Self.Start) (before after : List Self.Call) (o c : Self.Call) → depends c o ≡ false
         → answer s (before ++ o ∷ after) c ≡ answer s (before ++ after) c };
+
+    ghost settled: { (s : Self.Start) (before after : List Self.Call) (o c : Self.Call) → settles c o ≡ true
+        → answer s (before ++ o ∷ after) c ≡ answer s (o ∷ after) c };
 
     ghost equal_calls: { (a b : Self.Call) → (Self.Call.eq a b ≡ true) ↔ (a ≡ b) };
 

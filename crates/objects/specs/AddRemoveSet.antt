@@ -47,6 +47,10 @@ depends (Add e) other = false
 depends (Remove e) other = false
 depends (Has e) other = changes e other
 
+-- an add or a remove of its element settles the answer to a has behind it
+abbrev pub settles : SetCall → SetCall → Bool
+settles call other = depends call other
+
 -- an add or a remove answers Done, and a has whether the element is there
 abbrev pub matches : SetCall → SetRet → Bool
 matches (Add e) Done = true

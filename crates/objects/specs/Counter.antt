@@ -34,6 +34,10 @@ abbrev pub depends : CounterCall → CounterCall → Bool
 depends Increment other = false
 depends Get other = is_increment other
 
+-- each increment counts, so none settles an answer
+abbrev pub settles : CounterCall → CounterCall → Bool
+settles call other = false
+
 -- an increment answers Done, and a get a value
 abbrev pub matches : CounterCall → CounterRet → Bool
 matches Increment Done = true

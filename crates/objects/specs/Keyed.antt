@@ -25,6 +25,10 @@ module _ {S C R : Type 0} where
 abbrev pub depends : {C : Type 0} → (C → C → Bool) → KeyedCall C → KeyedCall C → Bool
 depends inner c other = (other.key == c.key) && inner c.call other.call
 
+-- a call settles answers at its key alone
+abbrev pub settles : {C : Type 0} → (C → C → Bool) → KeyedCall C → KeyedCall C → Bool
+settles inner c other = (other.key == c.key) && inner c.call other.call
+
 module _ {S C O : Type 0} where
   -- a table of starts and a list of states stand for a start and calls: the table is the start, and the state at a key
   -- stands for the start and the calls at that key, of which there are none where there is no state

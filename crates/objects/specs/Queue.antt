@@ -27,6 +27,10 @@ abbrev pub depends : QueueCall → QueueCall → Bool
 depends (Push v) other = false
 depends Pop other = true
 
+-- each item that is left counts, so no call settles an answer
+abbrev pub settles : QueueCall → QueueCall → Bool
+settles call other = false
+
 -- a push answers Done, and a pop what was popped
 abbrev pub matches : QueueCall → QueueRet → Bool
 matches (Push v) Done = true

@@ -25,6 +25,10 @@ depends (Write v) other = false
 depends Read (Write u) = true
 depends Read Read = false
 
+-- a write settles the answer to a read behind it
+abbrev pub settles : RegisterCall → RegisterCall → Bool
+settles call other = depends call other
+
 -- a write answers Done, and a read a value
 abbrev pub matches : RegisterCall → RegisterRet → Bool
 matches (Write v) Done = true

@@ -1,6 +1,7 @@
 ghost use Rattle.std.specs.Prelude.{◌≡◌, ℕ, List, Bool, refl};
-ghost use Rattle.objects.specs.AddRemoveSet.{HoldsAfter, answer as set_answer, depends as set_depends, is_has, matches as set_matches};
-ghost use Rattle.objects.specs.Laws.AddRemoveSet.{answer_fits, others_change_nothing, query_changes_nothing, variant_of_call, variant_of_ret};
+ghost use Rattle.objects.specs.AddRemoveSet.{HoldsAfter, answer as set_answer, is_has, matches as set_matches};
+ghost use Rattle.objects.specs.AddRemoveSet.{depends as set_depends, settles as set_settles};
+ghost use Rattle.objects.specs.Laws.AddRemoveSet.{answer_fits, others_change_nothing, query_changes_nothing, settled, variant_of_call, variant_of_ret};
 ghost use Rattle.objects.specs.Laws.AddRemoveSet.{same_adds, same_removes, same_hases, same_answers};
 ghost use Rattle.objects.specs.Equal.{alike, apart, same_units};
 ghost use Rattle.objects.specs.declared.add_remove_set.SetCall.TheVariants.{Add, Remove, Has};
@@ -48,6 +49,8 @@ impl SeqObject for AddRemoveSet {
 
     ghost depends = { set_depends };
 
+    ghost settles = { set_settles };
+
     ghost matches = { set_matches };
 
     ghost plain_start = { tt };
@@ -61,6 +64,8 @@ impl SeqObject for AddRemoveSet {
     ghost query_changes_nothing = { query_changes_nothing };
 
     ghost others_change_nothing = { others_change_nothing };
+
+    ghost settled = { settled };
 
     ghost equal_calls = { elim [
       | Add u ↦ elim [
@@ -133,6 +138,10 @@ impl SeqObject for AddRemoveSet {
             }
             _ => false,
         }
+    }
+
+    fn is_settled_by(call: &SetCall, other: &SetCall) -> bool {
+        AddRemoveSet::depends_on(call, other)
     }
 
     fn depends_on_any(call: &SetCall) -> bool {

@@ -1,8 +1,8 @@
 ghost use Rattle.std.specs.Prelude.{◌≡◌, ◌≤◌, ℕ, List, Bool, refl};
 ghost use Rattle.objects.specs.Counter.{GREATEST, increments, count_of, answer as counter_answer, is_get};
-ghost use Rattle.objects.specs.Counter.{depends as counter_depends, matches as counter_matches};
+ghost use Rattle.objects.specs.Counter.{depends as counter_depends, matches as counter_matches, settles as counter_settles};
 ghost use Rattle.objects.specs.Laws.Counter.{answer_fits, query_changes_nothing, variant_of_call, variant_of_ret};
-ghost use Rattle.objects.specs.Laws.Counter.{others_change_nothing, same_values};
+ghost use Rattle.objects.specs.Laws.Counter.{others_change_nothing, same_values, settled};
 ghost use Rattle.objects.specs.Equal.{alike, apart, same_units};
 ghost use Rattle.objects.specs.declared.counter.CounterCall.{CounterCall};
 ghost use Rattle.objects.specs.declared.counter.CounterCall.TheVariants.{Increment, Get};
@@ -58,6 +58,8 @@ impl SeqObject for Counter {
 
     ghost depends = { counter_depends };
 
+    ghost settles = { counter_settles };
+
     ghost matches = { counter_matches };
 
     ghost plain_start = { tt };
@@ -71,6 +73,8 @@ impl SeqObject for Counter {
     ghost query_changes_nothing = { query_changes_nothing };
 
     ghost others_change_nothing = { others_change_nothing };
+
+    ghost settled = { settled };
 
     ghost equal_calls = { elim [
       | Increment ↦ elim [ Increment ↦ alike Increment | Get ↦ apart variant_of_call Increment Get refl ]
@@ -116,6 +120,10 @@ impl SeqObject for Counter {
 
     fn depends_on(call: &CounterCall, other: &CounterCall) -> bool {
         matches!((call, other), (CounterCall::Get, CounterCall::Increment))
+    }
+
+    fn is_settled_by(_call: &CounterCall, _other: &CounterCall) -> bool {
+        false
     }
 
     fn depends_on_any(call: &CounterCall) -> bool {

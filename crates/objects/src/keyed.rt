@@ -1,7 +1,7 @@
 ghost use Rattle.std.specs.Prelude.{◌≡◌, ℕ, List, [], IfOk};
 ghost use Rattle.objects.specs.Table.{IsTable, start_at};
-ghost use Rattle.objects.specs.Keyed.{answer as keyed_answer, calls_at, depends as keyed_depends, Stands};
-ghost use Rattle.objects.specs.Laws.Keyed.{empty_is_table, keyed_query_changes_nothing, keyed_others_change_nothing, equal_keyed_calls};
+ghost use Rattle.objects.specs.Keyed.{answer as keyed_answer, calls_at, depends as keyed_depends, settles as keyed_settles, Stands};
+ghost use Rattle.objects.specs.Laws.Keyed.{empty_is_table, keyed_query_changes_nothing, keyed_others_change_nothing, keyed_settled, equal_keyed_calls};
 ghost use Rattle.objects.specs.Laws.Table.{equal_tables_decide};
 
 use crate::table::Table;
@@ -52,6 +52,8 @@ impl<O: SeqObject> SeqObject for Keyed<O> {
 
     ghost depends = { keyed_depends O.depends };
 
+    ghost settles = { keyed_settles O.settles };
+
     ghost matches = { λ c. O.matches c.call };
 
     ghost plain_start = { [] };
@@ -65,6 +67,8 @@ impl<O: SeqObject> SeqObject for Keyed<O> {
     ghost query_changes_nothing = { keyed_query_changes_nothing O.plain_start O.answer O.query O.query_changes_nothing };
 
     ghost others_change_nothing = { keyed_others_change_nothing O.plain_start O.answer O.depends O.others_change_nothing };
+
+    ghost settled = { keyed_settled O.plain_start O.answer O.settles O.settled };
 
     ghost equal_calls = { equal_keyed_calls O.Call.eq O.equal_calls };
 
@@ -125,6 +129,10 @@ impl<O: SeqObject> SeqObject for Keyed<O> {
 
     fn depends_on(call: &KeyedCall<O::Call>, other: &KeyedCall<O::Call>) -> bool {
         other.key == call.key && O::depends_on(&call.call, &other.call)
+    }
+
+    fn is_settled_by(call: &KeyedCall<O::Call>, other: &KeyedCall<O::Call>) -> bool {
+        other.key == call.key && O::is_settled_by(&call.call, &other.call)
     }
 
     fn depends_on_any(call: &KeyedCall<O::Call>) -> bool {

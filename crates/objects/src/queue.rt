@@ -1,7 +1,7 @@
 ghost use Rattle.std.specs.Prelude.{◌≡◌, ℕ, List, Bool, refl};
-ghost use Rattle.objects.specs.Queue.{left, answer as queue_answer, depends as queue_depends, is_query, matches as queue_matches};
+ghost use Rattle.objects.specs.Queue.{left, answer as queue_answer, depends as queue_depends, is_query, matches as queue_matches, settles as queue_settles};
 ghost use Rattle.objects.specs.Laws.Queue.{answer_fits, query_changes_nothing, variant_of_call, variant_of_ret};
-ghost use Rattle.objects.specs.Laws.Queue.{others_change_nothing, same_pushes, same_popped};
+ghost use Rattle.objects.specs.Laws.Queue.{others_change_nothing, same_pushes, same_popped, settled};
 ghost use Rattle.objects.specs.Equal.{alike, apart, same_units};
 ghost use Rattle.objects.specs.declared.queue.QueueCall.TheVariants.{Push, Pop};
 ghost use Rattle.objects.specs.declared.queue.QueueRet.TheVariants.{Done, Popped};
@@ -56,6 +56,8 @@ impl SeqObject for Queue {
 
     ghost depends = { queue_depends };
 
+    ghost settles = { queue_settles };
+
     ghost matches = { queue_matches };
 
     ghost plain_start = { tt };
@@ -69,6 +71,8 @@ impl SeqObject for Queue {
     ghost query_changes_nothing = { query_changes_nothing };
 
     ghost others_change_nothing = { others_change_nothing };
+
+    ghost settled = { settled };
 
     ghost equal_calls = { elim [
       | Push u ↦ elim [ Push v ↦ same_pushes u v | Pop ↦ apart variant_of_call (Push u) Pop refl ]
@@ -118,6 +122,10 @@ impl SeqObject for Queue {
 
     fn depends_on(call: &QueueCall, _other: &QueueCall) -> bool {
         matches!(call, QueueCall::Pop)
+    }
+
+    fn is_settled_by(_call: &QueueCall, _other: &QueueCall) -> bool {
+        false
     }
 
     fn depends_on_any(call: &QueueCall) -> bool {

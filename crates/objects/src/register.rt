@@ -1,9 +1,9 @@
 ghost use Rattle.std.specs.Prelude.{◌≡◌, ◌⊎◌, ℕ, List, Bool};
 ghost use Rattle.std.proofs.Common.{rules};
-ghost use Rattle.objects.specs.Register.{answer as register_answer, depends as register_depends, is_read};
+ghost use Rattle.objects.specs.Register.{answer as register_answer, depends as register_depends, is_read, settles as register_settles};
 ghost use Rattle.objects.specs.Register.{last_written, matches as register_matches};
 ghost use Rattle.objects.specs.Laws.Register.{answer_fits, others_change_nothing, query_changes_nothing, same_writes, write_and_read};
-ghost use Rattle.objects.specs.Laws.Register.{read_and_write, same_values, done_and_value, value_and_done};
+ghost use Rattle.objects.specs.Laws.Register.{read_and_write, same_values, settled, done_and_value, value_and_done};
 ghost use Rattle.objects.specs.Equal.{alike, same_numbers};
 ghost use Rattle.objects.specs.declared.register.RegisterCall.TheVariants.{Write, Read};
 ghost use Rattle.objects.specs.declared.register.RegisterRet.TheVariants.{Done, Value};
@@ -46,6 +46,8 @@ impl SeqObject for Register {
 
     ghost depends = { register_depends };
 
+    ghost settles = { register_settles };
+
     ghost matches = { register_matches };
 
     ghost plain_start = { 0 };
@@ -59,6 +61,8 @@ impl SeqObject for Register {
     ghost query_changes_nothing = { query_changes_nothing };
 
     ghost others_change_nothing = { others_change_nothing };
+
+    ghost settled = { settled };
 
     ghost equal_calls = { elim [
       | Write u ↦ elim [ Write v ↦ same_writes u v | Read ↦ write_and_read u ]
@@ -104,6 +108,10 @@ impl SeqObject for Register {
 
     fn depends_on(call: &RegisterCall, other: &RegisterCall) -> bool {
         matches!((call, other), (RegisterCall::Read, RegisterCall::Write(_)))
+    }
+
+    fn is_settled_by(call: &RegisterCall, other: &RegisterCall) -> bool {
+        Register::depends_on(call, other)
     }
 
     fn depends_on_any(call: &RegisterCall) -> bool {

@@ -1,11 +1,11 @@
 -- What holds of the answers of a set: the laws of an object, and that equality is equality of values.
-use Rattle.std.specs.Prelude.{◌≡◌, ℕ, ◌==◌, List, ◌∷◌, ◌++◌, filter, unwrap_or, option_map, Bool, true, false, None, refl}
+use Rattle.std.specs.Prelude.{◌≡◌, ℕ, ◌==◌, List, [], ◌∷◌, ◌++◌, filter, unwrap_or, option_map, Bool, true, false, Option, None, Some, refl}
 use Rattle.std.specs.List.{last_or}
 use Rattle.std.specs.Bool.{beq}
 use Rattle.std.proofs.Common.{ap, sym, ◌∙◌}
-use Rattle.std.proofs.lemmas.Bool.{cond-false}
+use Rattle.std.proofs.lemmas.Bool.{cond-false, cond-true}
 use Rattle.std.proofs.lemmas.List.Elements.{filter-append}
-use Rattle.objects.specs.AddRemoveSet.{changes, is_add, has, answer, is_has, depends, matches}
+use Rattle.objects.specs.AddRemoveSet.{changes, is_add, has, answer, is_has, depends, matches, settles}
 use Rattle.objects.specs.Equal.{same_of_part, same_numbers, same_truths}
 use Rattle.objects.specs.declared.add_remove_set.SetCall.{SetCall}
 use Rattle.objects.specs.declared.add_remove_set.SetCall.TheVariants.{Add, Remove, Has}
@@ -44,6 +44,25 @@ pub others_change_nothing : (start : Unit {0}) (before after : List SetCall) (ot
 others_change_nothing start before after other (Add e) h = refl
 others_change_nothing start before after other (Remove e) h = refl
 others_change_nothing start before after other (Has e) h = ap HasAnswer (has-other e before after other h)
+
+pub last-settled : (d e : Option SetCall) (before after : List SetCall) (other : SetCall) → last_or d (before ++ other ∷ after) ≡ last_or e (other ∷ after)
+last-settled d e [] after other = refl
+last-settled d e (c ∷ before) after other = last-settled (Some c) e before after other
+
+pub has-settled : (element : ℕ) (before after : List SetCall) (other : SetCall) → changes element other ≡ true
+    → has element (before ++ other ∷ after) ≡ has element (other ∷ after)
+has-settled element before after other e =
+    let kept : filter (changes element) (other ∷ after) ≡ other ∷ filter (changes element) after = cond-true (changes element other) (other ∷ filter (changes element) after) (filter (changes element) after) e in
+    ap (λ last. unwrap_or (option_map is_add last) false)
+    (ap (last_or None) (filter-append (changes element) before (other ∷ after) ∙ ap (λ calls. filter (changes element) before ++ calls) kept)
+    ∙ last-settled None None (filter (changes element) before) (filter (changes element) after) other
+    ∙ ap (last_or None) (sym kept))
+
+pub settled : (start : Unit {0}) (before after : List SetCall) (other call : SetCall) → settles call other ≡ true
+    → answer start (before ++ other ∷ after) call ≡ answer start (other ∷ after) call
+settled start before after other (Add e) h = refl
+settled start before after other (Remove e) h = refl
+settled start before after other (Has e) h = ap HasAnswer (has-settled e before after other h)
 
 -- equality of calls and of returns is equality of values, by constructors
 

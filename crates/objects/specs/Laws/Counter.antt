@@ -2,7 +2,7 @@
 use Rattle.std.specs.Prelude.{◌≡◌, min, ℕ, List, ◌∷◌, ◌++◌, true, false, refl}
 use Rattle.std.proofs.Common.{ap, cond, ◌+◌, ◌==◌}
 use Rattle.std.proofs.lemmas.List.Sums.{sum_by-append, sum_by-cons}
-use Rattle.objects.specs.Counter.{GREATEST, is_increment, increments, answer, is_get, depends, matches}
+use Rattle.objects.specs.Counter.{GREATEST, is_increment, increments, answer, is_get, depends, matches, settles}
 use Rattle.objects.specs.Equal.{same_of_part, same_numbers}
 use Rattle.objects.specs.declared.counter.CounterCall.{CounterCall}
 use Rattle.objects.specs.declared.counter.CounterCall.TheVariants.{Increment, Get}
@@ -31,6 +31,10 @@ pub others_change_nothing : (start : Unit {0}) (before after : List CounterCall)
 others_change_nothing start before after other Increment e = refl
 others_change_nothing start before after Get Get e = query_changes_nothing start before after Get Get refl
 others_change_nothing start before after Increment Get e = absurd cc
+
+pub settled : (start : Unit {0}) (before after : List CounterCall) (other call : CounterCall) → settles call other ≡ true
+    → answer start (before ++ other ∷ after) call ≡ answer start (other ∷ after) call
+settled start before after other call e = absurd cc
 
 -- equality of calls and of returns is equality of values, by constructors
 

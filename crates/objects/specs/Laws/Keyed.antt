@@ -6,7 +6,7 @@ use Rattle.std.proofs.lemmas.List.{map-append}
 use Rattle.std.proofs.lemmas.List.Elements.{All-nil, filter-append}
 use Rattle.objects.specs.declared.keyed.KeyedCall.{KeyedCall}
 use Rattle.objects.specs.Table.{IsTable, start_at}
-use Rattle.objects.specs.Keyed.{calls_at, answer, depends}
+use Rattle.objects.specs.Keyed.{calls_at, answer, depends, settles}
 
 pub empty_is_table : {S : Type 0} (plain : S) (is_start : S → Type 0) → IsTable plain is_start []
 empty_is_table plain is_start = record {
@@ -50,6 +50,15 @@ module _ {S C R : Type 0} (plain : S) (inner : S → List C → C → R) (inner_
       rw (calls_at-here c.key o after here) (silent (start_at plain start c.key) (calls_at c.key before) (calls_at c.key after) o.call c.call not_inner))
       (λ (apart : (o.key == c.key) ≡ false). rw (calls_at-apart c.key o after apart) refl)
       (cases_Bool (o.key == c.key)))
+
+module _ {S C R : Type 0} (plain : S) (inner : S → List C → C → R) (inner_settles : C → C → Bool)
+    (final : (s : S) (before after : List C) (o c : C) → inner_settles c o ≡ true → inner s (before ++ o ∷ after) c ≡ inner s (o ∷ after) c) where
+  pub keyed_settled : (start : List (ℕ × S)) (before after : List (KeyedCall C)) (o c : KeyedCall C) → settles inner_settles c o ≡ true
+      → answer plain inner start (before ++ o ∷ after) c ≡ answer plain inner start (o ∷ after) c
+  keyed_settled start before after o c e =
+      let parts = and_parts (o.key == c.key) (inner_settles c.call o.call) e in
+      rw (calls_at-append c.key before (o ∷ after), calls_at-here c.key o after parts.0)
+      (final (start_at plain start c.key) (calls_at c.key before) (calls_at c.key after) o.call c.call parts.1)
 
 module _ {C : Type 0} (eq : C → C → Bool) (decides : (a b : C) → (eq a b ≡ true) ↔ (a ≡ b)) where
   pub equal_keyed_calls : (a b : KeyedCall C) → (((a.key == b.key) && eq a.call b.call) ≡ true) ↔ (a ≡ b)

@@ -3,7 +3,7 @@ use Rattle.std.specs.Prelude.{◌≡◌, ℕ, List, ◌∷◌, ◌++◌, true, f
 use Rattle.std.specs.Option.{option_eq}
 use Rattle.std.proofs.Common.{◌==◌}
 use Rattle.objects.specs.Equal.{same_of_part, same_numbers, same_options}
-use Rattle.objects.specs.Queue.{answer, is_query, depends, matches}
+use Rattle.objects.specs.Queue.{answer, is_query, depends, matches, settles}
 use Rattle.objects.specs.declared.queue.QueueCall.{QueueCall}
 use Rattle.objects.specs.declared.queue.QueueCall.TheVariants.{Push, Pop}
 use Rattle.objects.specs.declared.queue.QueueRet.{QueueRet}
@@ -21,6 +21,10 @@ pub others_change_nothing : (start : Unit {0}) (before after : List QueueCall) (
     → answer start (before ++ other ∷ after) call ≡ answer start (before ++ after) call
 others_change_nothing start before after other (Push v) e = refl
 others_change_nothing start before after other Pop e = absurd cc
+
+pub settled : (start : Unit {0}) (before after : List QueueCall) (other call : QueueCall) → settles call other ≡ true
+    → answer start (before ++ other ∷ after) call ≡ answer start (other ∷ after) call
+settled start before after other call e = absurd cc
 
 -- equality of calls and of returns is equality of values, by constructors
 

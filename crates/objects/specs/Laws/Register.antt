@@ -2,7 +2,7 @@
 use Rattle.std.specs.Prelude.{◌≡◌, ℕ, List, [], ◌∷◌, ◌++◌, true, false, refl}
 use Rattle.std.proofs.Common.{ap, eqb, eq-eqb}
 use Rattle.std.proofs.lemmas.Bool.{eqb-true}
-use Rattle.objects.specs.Register.{last_written, answer, is_read, depends, matches}
+use Rattle.objects.specs.Register.{last_written, answer, is_read, depends, matches, settles}
 use Rattle.objects.specs.declared.register.RegisterCall.{RegisterCall}
 use Rattle.objects.specs.declared.register.RegisterCall.TheVariants.{Write, Read}
 use Rattle.objects.specs.declared.register.RegisterRet.TheVariants.{Done, Value}
@@ -28,6 +28,17 @@ pub others_change_nothing : (start : ℕ) (before after : List RegisterCall) (ot
 others_change_nothing start before after other (Write v) e = refl
 others_change_nothing start before after Read Read e = rw (last_written-query start before after Read refl) refl
 others_change_nothing start before after (Write u) Read e = absurd cc
+
+pub last_written-settled : (start : ℕ) (before after : List RegisterCall) (v : ℕ) → last_written start (before ++ Write v ∷ after) ≡ last_written v after
+last_written-settled start [] after v = refl
+last_written-settled start (Write u ∷ before) after v = last_written-settled u before after v
+last_written-settled start (Read ∷ before) after v = last_written-settled start before after v
+
+pub settled : (start : ℕ) (before after : List RegisterCall) (other call : RegisterCall) → settles call other ≡ true
+    → answer start (before ++ other ∷ after) call ≡ answer start (other ∷ after) call
+settled start before after other (Write v) e = refl
+settled start before after (Write u) Read e = rw (last_written-settled start before after u) refl
+settled start before after Read Read e = absurd cc
 
 pub last_written-push : (start : ℕ) (calls : List RegisterCall) (v : ℕ) → last_written start (calls ++ Write v ∷ []) ≡ v
 last_written-push start [] v = refl
