@@ -1,15 +1,16 @@
 -- What an object is asked to take in for one answer: the calls on which that may depend, and no others.
-use Rattle.std.proofs.Common.{◌≡◌, ◌↔◌, Bool, true, false, List, [], ◌∷◌, ◌++◌, refl, sym, ap, ◌∙◌, subst, ⊎_elim, append_assoc}
-use Rattle.std.specs.Prelude.{IsTrue, Option, Some, filter, option_map}
+use Rattle.std.proofs.Common.{◌≡◌, Bool, true, false, ℕ, ◌+◌, List, [], ◌∷◌, ◌++◌, take, drop, reverse, refl, sym, ap, ◌∙◌, subst, ⊎_elim, append_assoc}
+use Rattle.std.specs.List.{cons_option}
+use Rattle.std.specs.Prelude.{IsTrue, Option, Some, filter, option_map, slice_get}
 use Rattle.std.proofs.lemmas.Bool.{cases_Bool, cond-true, cond-false}
-use Rattle.std.proofs.lemmas.Option.{same_Some}
+use Rattle.std.proofs.lemmas.List.{take-append-drop, drop_more, reverse-append}
+use Rattle.std.proofs.lemmas.List.Elements.{filter-append, filter_map-append}
+use Rattle.std.proofs.lemmas.Option.{same_Some, slice_get_within, get_or_from_slice_get}
 use Rattle.history.specs.declared.op_id.OpId.{OpId}
 use Rattle.history.specs.History.{HistoryValue, calls, entry}
 use Rattle.causal_order.specs.Vectors.{Counts}
 use Rattle.cert_check.specs.Certificates.{counted}
-use Rattle.cert_check.specs.Steps.Replays.{considered, IsAnsweredAfter, IsAnsweredBy, IsCallOf}
-use Rattle.cert_check.proofs.CutSteps.{filter_push_yes, filter_push_no}
-use Rattle.cert_check.proofs.ReplaySteps.{calls_push}
+use Rattle.cert_check.specs.Steps.Replays.{considered, IsAnsweredBy, IsCallOf}
 
 module _ {S C R : Type 0} (answer : S → List C → C → R) (depends : C → C → Bool)
     (silent : (s : S) (before after : List C) (o c : C) → depends c o ≡ false → answer s (before ++ o ∷ after) c ≡ answer s (before ++ after) c) where
@@ -31,39 +32,78 @@ module _ {S C R : Type 0} (answer : S → List C → C → R) (depends : C → C
   pub dropped : (s : S) (c : C) (cs : List C) → answer s (filter (depends c) cs) c ≡ answer s cs c
   dropped s c cs = dropped_behind s c [] cs
 
-  module _ (h : HistoryValue S C R) (v : Counts) (o : OpId) (c : C) (is : IsCallOf h o c) (ops : List OpId) where
-    -- so the known return of an operation is the answer after the considered calls where it is the answer after all
-    pub considered_answers : IsAnsweredBy answer h (considered depends h v o c ops) o ↔ IsAnsweredAfter answer h (filter (counted v o) ops) o
-    considered_answers = (
-      (λ answered c' r known.
-          let same = same_call c' r known in
-          answered c' r known ∙ subst (λ (x : C). answer h.0 (considered depends h v o c ops) x ≡ answer h.0 (calls h (filter (counted v o) ops)) x) same
-          (dropped h.0 c (calls h (filter (counted v o) ops)))),
-      λ answered c' r known.
-          let same = same_call c' r known in
-          answered c' r known ∙ sym (subst (λ (x : C). answer h.0 (considered depends h v o c ops) x ≡ answer h.0 (calls h (filter (counted v o) ops)) x) same
-          (dropped h.0 c (calls h (filter (counted v o) ops)))),
-    )
-      where
-        same_call : (d : C) (r : R) → entry h o ≡ Some (d, Some r) → c ≡ d
-        same_call d r known = same_Some c d (sym is ∙ ap (λ found. option_map (λ (e : C × Option R). e.0) found) known)
+-- a known return is the answer after some calls where it is after others that are answered alike
+module _ {S C R : Type 0} (answer : S → List C → C → R) (h : HistoryValue S C R) (o : OpId) (c : C) (is : IsCallOf h o c) where
+  same_call : (d : C) (r : R) → entry h o ≡ Some (d, Some r) → c ≡ d
+  same_call d r known = same_Some c d (sym is ∙ ap (λ found. option_map (λ (e : C × Option R). e.0) found) known)
 
-module _ {S C R : Type 0} (depends : C → C → Bool) (h : HistoryValue S C R) (v : Counts) (o : OpId) (c : C) (ops : List OpId) (next : OpId) (d : C) (is : IsCallOf h next d) where
-  -- one operation more, that is considered, or not counted, or counted and of no weight
-  pub considered_push : IsTrue (counted v o next) → IsTrue (depends c d) → considered depends h v o c (ops ++ next ∷ []) ≡ considered depends h v o c ops ++ d ∷ []
-  considered_push counts weighs =
-      ap (λ xs. filter (depends c) (calls h xs)) (filter_push_yes (counted v o) ops next counts)
-      ∙ ap (filter (depends c)) (calls_push h (filter (counted v o) ops) next d is)
-      ∙ filter_push_yes (depends c) (calls h (filter (counted v o) ops)) d weighs
+  pub answered_alike : (xs ys : List C) → answer h.0 xs c ≡ answer h.0 ys c → IsAnsweredBy answer h ys o → IsAnsweredBy answer h xs o
+  answered_alike xs ys same answered d r known =
+      answered d r known ∙ sym (subst (λ (x : C). answer h.0 xs x ≡ answer h.0 ys x) (same_call d r known) same)
 
-  pub considered_light : depends c d ≡ false → considered depends h v o c (ops ++ next ∷ []) ≡ considered depends h v o c ops
-  considered_light light = ⊎_elim
-      (λ (counts : counted v o next ≡ true).
-      ap (λ xs. filter (depends c) (calls h xs)) (filter_push_yes (counted v o) ops next counts)
-      ∙ ap (filter (depends c)) (calls_push h (filter (counted v o) ops) next d is)
-      ∙ filter_push_no (depends c) (calls h (filter (counted v o) ops)) d light)
-      (λ (apart : counted v o next ≡ false). ap (λ xs. filter (depends c) (calls h xs)) (filter_push_no (counted v o) ops next apart))
-      (cases_Bool (counted v o next))
+-- what passes no test is left out of a list
+pub none_kept : {X : Type 0} (p : X → Bool) → ((x : X) → p x ≡ false) → (xs : List X) → filter p xs ≡ []
+none_kept p none [] = refl
+none_kept p none (x ∷ xs) = cond-false (p x) (x ∷ filter p xs) (filter p xs) (none x) ∙ none_kept p none xs
 
-  pub considered_apart : counted v o next ≡ false → considered depends h v o c (ops ++ next ∷ []) ≡ considered depends h v o c ops
-  considered_apart apart = ap (λ xs. filter (depends c) (calls h xs)) (filter_push_no (counted v o) ops next apart)
+-- a list to which one element was pushed, last first
+pub reverse_push : {X : Type 0} (xs : List X) (x : X) → reverse (xs ++ x ∷ []) ≡ x ∷ reverse xs
+reverse_push xs x = reverse-append xs (x ∷ [])
+
+-- a list from the place of one of its elements on
+pub drop_at : {X : Type 0} (xs : List X) (k : ℕ) (x : X) → slice_get xs k ≡ Some x → drop k xs ≡ x ∷ drop (k + 1) xs
+drop_at xs k x there = drop_more xs k x (slice_get_within xs k x there) ∙ ap (λ y. y ∷ drop (k + 1) xs) (get_or_from_slice_get xs k x x there)
+
+module _ {S C R : Type 0} (depends : C → C → Bool) (h : HistoryValue S C R) (v : Counts) (o : OpId) (c : C) where
+  -- what is considered of two lists, one behind the other
+  pub considered-append : (xs ys : List OpId) → considered depends h v o c (xs ++ ys) ≡ considered depends h v o c xs ++ considered depends h v o c ys
+  considered-append xs ys =
+      let call : OpId → Option C = λ a. option_map (λ (e : C × Option R). e.0) (entry h a) in
+      ap (λ (ops : List OpId). filter (depends c) (calls h ops)) (filter-append (counted v o) xs ys)
+      ∙ ap (filter (depends c)) (filter_map-append call (filter (counted v o) xs) (filter (counted v o) ys))
+      ∙ filter-append (depends c) (calls h (filter (counted v o) xs)) (calls h (filter (counted v o) ys))
+
+  -- one that is not counted is not considered
+  pub considered_apart : (next : OpId) → counted v o next ≡ false → (ops : List OpId) → considered depends h v o c (next ∷ ops) ≡ considered depends h v o c ops
+  considered_apart next apart ops = ap (λ xs. filter (depends c) (calls h xs)) (cond-false (counted v o next) (next ∷ filter (counted v o) ops) (filter (counted v o) ops) apart)
+
+  module _ (next : OpId) (d : C) (is : IsCallOf h next d) where
+    -- an operation before others: its call is considered, or of no weight
+    pub considered_first : IsTrue (counted v o next) → IsTrue (depends c d) → (ops : List OpId)
+        → considered depends h v o c (next ∷ ops) ≡ d ∷ considered depends h v o c ops
+    considered_first counts weighs ops =
+        ap (λ xs. filter (depends c) (calls h xs)) (cond-true (counted v o next) (next ∷ filter (counted v o) ops) (filter (counted v o) ops) counts)
+        ∙ ap (λ (found : Option C). filter (depends c) (cons_option found (calls h (filter (counted v o) ops)))) is
+        ∙ cond-true (depends c d) (d ∷ considered depends h v o c ops) (considered depends h v o c ops) weighs
+
+    pub considered_light : depends c d ≡ false → (ops : List OpId) → considered depends h v o c (next ∷ ops) ≡ considered depends h v o c ops
+    considered_light light ops = ⊎_elim
+        (λ (counts : counted v o next ≡ true).
+        ap (λ xs. filter (depends c) (calls h xs)) (cond-true (counted v o next) (next ∷ filter (counted v o) ops) (filter (counted v o) ops) counts)
+        ∙ ap (λ (found : Option C). filter (depends c) (cons_option found (calls h (filter (counted v o) ops)))) is
+        ∙ cond-false (depends c d) (d ∷ considered depends h v o c ops) (considered depends h v o c ops) light)
+        (λ (apart : counted v o next ≡ false). considered_apart next apart ops)
+        (cases_Bool (counted v o next))
+
+  -- what is considered from the place before one on, where the rest was found last first
+  pub more_behind : (ops : List OpId) (k : ℕ) (next : OpId) (d : C) (found : List C) → slice_get ops k ≡ Some next
+      → ((xs : List OpId) → considered depends h v o c (next ∷ xs) ≡ d ∷ considered depends h v o c xs)
+      → reverse found ≡ considered depends h v o c (drop (k + 1) ops) → considered depends h v o c (drop k ops) ≡ d ∷ reverse found
+  more_behind ops k next d found there adds behind =
+      ap (considered depends h v o c) (drop_at ops k next there) ∙ adds (drop (k + 1) ops) ∙ ap (λ (xs : List C). d ∷ xs) (sym behind)
+
+  pub same_behind : (ops : List OpId) (k : ℕ) (next : OpId) (found : List C) → slice_get ops k ≡ Some next
+      → ((xs : List OpId) → considered depends h v o c (next ∷ xs) ≡ considered depends h v o c xs)
+      → reverse found ≡ considered depends h v o c (drop (k + 1) ops) → reverse found ≡ considered depends h v o c (drop k ops)
+  same_behind ops k next found there adds_none behind =
+      behind ∙ sym (ap (considered depends h v o c) (drop_at ops k next there) ∙ adds_none (drop (k + 1) ops))
+
+  -- from a call that settles the answer on, the answer is that after all that is considered
+  module _ (answer : S → List C → C → R) (settles : C → C → Bool)
+      (final : (s : S) (before after : List C) (o c : C) → settles c o ≡ true → answer s (before ++ o ∷ after) c ≡ answer s (o ∷ after) c) where
+    pub settled_behind : (s : S) (ops : List OpId) (k : ℕ) (d : C) (after : List C) → settles c d ≡ true
+        → considered depends h v o c (drop k ops) ≡ d ∷ after → answer s (d ∷ after) c ≡ answer s (considered depends h v o c ops) c
+    settled_behind s ops k d after settles_it behind =
+        sym (ap (λ (xs : List OpId). answer s (considered depends h v o c xs) c) (sym (take-append-drop k ops))
+        ∙ ap (λ (xs : List C). answer s xs c) (considered-append (take k ops) (drop k ops) ∙ ap (λ (xs : List C). considered depends h v o c (take k ops) ++ xs) behind)
+        ∙ final s (considered depends h v o c (take k ops)) after d c settles_it)

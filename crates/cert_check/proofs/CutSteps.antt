@@ -1,7 +1,7 @@
 -- A replay over the one list up to an operation: what it takes in, and that it comes to the operation.
-use Rattle.std.proofs.Common.{◌≡◌, ◌≢◌, ℕ, ◌+◌, ◌<◌, ◌≤◌, ◌↔◌, Bool, false, List, [], ◌∷◌, ◌++◌, length, take, drop, get_or, refl, sym, ap, ◌∙◌, subst, arith, ⊎_elim, lt-ltb, append-nil}
+use Rattle.std.proofs.Common.{◌≡◌, ◌≢◌, ℕ, ◌+◌, ◌<◌, ◌≤◌, ◌↔◌, Bool, List, [], ◌∷◌, ◌++◌, length, take, drop, get_or, refl, sym, ap, ◌∙◌, subst, arith, ⊎_elim, lt-ltb}
 use Rattle.std.specs.Prelude.{IsTrue, Some, filter, slice_get}
-use Rattle.std.proofs.lemmas.Bool.{cases_eq, cases_lt, cond-true, cond-false}
+use Rattle.std.proofs.lemmas.Bool.{cases_eq, cases_lt, cond-true}
 use Rattle.std.proofs.lemmas.List.{take-append-drop, drop_more, take_at}
 use Rattle.std.proofs.lemmas.List.Elements.{filter-append}
 use Rattle.std.proofs.lemmas.Option.{slice_get_within, get_or_from_slice_get}
@@ -22,15 +22,6 @@ use Rattle.cert_check.proofs.Pasts.{only-itself}
 use Rattle.cert_check.proofs.NamingSteps.{after_from_within, within_from_after}
 
 module _ {X : Type 0} (p : X → Bool) where
-  -- one element more, where it passes and where it doesn't
-  pub filter_push_yes : (xs : List X) (x : X) → IsTrue (p x) → filter p (xs ++ x ∷ []) ≡ filter p xs ++ x ∷ []
-  filter_push_yes xs x passes =
-      filter-append p xs (x ∷ []) ∙ ap (λ (ys : List X). filter p xs ++ ys) (cond-true (p x) (x ∷ []) [] passes)
-
-  pub filter_push_no : (xs : List X) (x : X) → p x ≡ false → filter p (xs ++ x ∷ []) ≡ filter p xs
-  filter_push_no xs x fails =
-      filter-append p xs (x ∷ []) ∙ ap (λ (ys : List X). filter p xs ++ ys) (cond-false (p x) (x ∷ []) [] fails) ∙ append-nil (filter p xs)
-
   -- a list about one of its elements, and what a filter that keeps the element makes of it
   split_at : (xs : List X) (i : ℕ) (x : X) → slice_get xs i ≡ Some x → xs ≡ take i xs ++ x ∷ drop (i + 1) xs
   split_at xs i x here =
@@ -105,7 +96,7 @@ module _ {S C R : Type 0} (answer : S → List C → C → R) (h : HistoryValue 
   counts_itself : IsTrue (counted v o o)
   counts_itself = let own = good.own in lt-ltb o.index (count v o o.session) (omega arith)
 
-  arbitrated-from : ((s : ℕ) → count v o s ≤ get_or counts s 0) → IsAnsweredAfter answer h (filter (counted v o) (take i (named list))) o
+  pub arbitrated-from : ((s : ℕ) → count v o s ≤ get_or counts s 0) → IsAnsweredAfter answer h (filter (counted v o) (take i (named list))) o
       → IsArbitratedPiece answer h v list o
   arbitrated-from within answered = record {
     vector = good;
@@ -125,7 +116,7 @@ module _ {S C R : Type 0} (answer : S → List C → C → R) (h : HistoryValue 
         (answered c r (subst (λ (y : OpId). entry h y ≡ Some (c, Some r)) is known));
   }
 
-  arbitrated-within : IsArbitratedPiece answer h v list o → (s : ℕ) → count v o s ≤ get_or counts s 0
+  pub arbitrated-within : IsArbitratedPiece answer h v list o → (s : ℕ) → count v o s ≤ get_or counts s 0
   arbitrated-within piece =
       within_from_after v list i (length h.1) o stands counts at (λ a. piece.after_counted i a stands)
 

@@ -1,5 +1,5 @@
 -- One operation more that a list of session numbers names: what the running counts say of it.
-use Rattle.std.proofs.Common.{◌≡◌, ◌≢◌, ℕ, ◌+◌, ◌-◌, ◌<◌, ◌≤◌, List, length, take, get_or, set, refl, sym, ap, ◌∙◌, subst, arith, ⊎_elim, get_or-set_same, get_or-set_other}
+use Rattle.std.proofs.Common.{◌≡◌, ◌≢◌, ℕ, zero, suc, ◌+◌, ◌-◌, ◌<◌, ◌≤◌, List, [], ◌∷◌, ◌++◌, length, take, get_or, set, refl, sym, ap, ◌∙◌, subst, arith, ⊎_elim, get_or-set_same, get_or-set_other}
 use Rattle.std.specs.Prelude.{Some, slice_get}
 use Rattle.std.proofs.lemmas.Bool.{cases_eq, cases_lt}
 use Rattle.std.proofs.lemmas.List.{length-set, get_or_past}
@@ -14,7 +14,7 @@ use Rattle.causal_order.specs.Vectors.{Counts, count, IsCounted}
 use Rattle.cert_check.specs.Schedules.{named, StandsBefore}
 use Rattle.causal_order.specs.Schedules.{placed}
 use Rattle.cert_check.specs.Steps.Namings.{AreCountsAt, AreNamedWell, IsNamedWell}
-use Rattle.cert_check.proofs.Named.{placed-next, placed-one, placed-none, named_at, named_is, take-named, counted_from_before, before_from_counted}
+use Rattle.cert_check.proofs.Named.{placed-next, placed-one, placed-none, named_at, named_is, take_next, take-named, counted_from_before, before_from_counted}
 
 module _ (list : List ℕ) (i n s : ℕ) (here : slice_get list i ≡ Some s) (counts : List ℕ) (at : AreCountsAt list i n counts) where
   -- the operation that is named next
@@ -173,6 +173,51 @@ module _ (list : List ℕ) (k n s : ℕ) (past_start : 0 < k) (within : k ≤ le
 
   pub counting_back : (m : ℕ) → m ≡ get_or counts s 0 → AreCountsAt list (k - 1) n (set counts s (m - 1))
   counting_back m same = subst (λ (c : ℕ). AreCountsAt list (k - 1) n (set counts s (c - 1))) (sym same) (counted_off list (k - 1) n s there counts before_it)
+
+-- what stands at the place before one
+module _ (list : List ℕ) (i n s : ℕ) (within : i < length list) (is : s ≡ get_or list i 0) (counts : List ℕ) (at : AreCountsAt list (i + 1) n counts) where
+  stands_here : slice_get list i ≡ Some s
+  stands_here = slice_get-get_or list i 0 within ∙ ap (λ (t : ℕ). Some t) (sym is)
+
+  pub session_inside : s < length counts
+  session_inside = last_inside list i n s stands_here counts at
+
+  pub named_last : (later : List ℕ) → later ≡ set counts s (get_or counts s 0 - 1) → StandsAt (named list) i (op s (get_or later s 0))
+  named_last later off =
+      next_stands list i n s stands_here later (subst (AreCountsAt list i n) (sym off) (counted_off list i n s stands_here counts at))
+
+-- an operation that is named up to a place, but not there, is named before it
+pub named_before : (list : List ℕ) (i : ℕ) (next o : OpId) → StandsAt (named list) i next → next ≢ o
+    → o.index < placed (take (i + 1) list) o.session → o.index < placed (take i list) o.session
+named_before list i next o stands apart named_by =
+    let is = named_is list i next stands in
+    let index = is.1 in
+    let one_more = placed-next o.session list i next.session is.0 in
+    ⊎_elim
+    (λ (same : next.session ≡ o.session).
+    let one = placed-one o.session next.session same in
+    let own = ap (λ (t : ℕ). placed (take i list) t) same in
+    ⊎_elim
+    (λ (equal : next.index ≡ o.index). absurd (apart (same_op next o same equal)))
+    (λ (other : next.index ≡ o.index → ⊥). omega arith)
+    (cases_eq next.index o.index))
+    (λ (other : next.session ≡ o.session → ⊥). let none = placed-none o.session next.session other in omega arith)
+    (cases_eq next.session o.session)
+
+-- two lists with the same front and the same block behind it
+pub take_block : (xs ys : List ℕ) (n m : ℕ) → n + m ≤ length xs → n + m ≤ length ys → take n xs ≡ take n ys
+    → ((k : ℕ) → n ≤ k → k < n + m → slice_get xs k ≡ slice_get ys k) → take (n + m) xs ≡ take (n + m) ys
+take_block xs ys n zero long also same each =
+    let none : n + 0 ≡ n = omega arith in
+    subst (λ (k : ℕ). take k xs ≡ take k ys) (sym none) same
+take_block xs ys n (suc m) long also same each =
+    let next : n + suc m ≡ (n + m) + 1 = omega arith in
+    let front = take_block xs ys n m (omega arith) (omega arith) same (λ k from below. each k from (omega arith)) in
+    let x = get_or xs (n + m) 0 in
+    let here : slice_get xs (n + m) ≡ Some x = slice_get-get_or xs (n + m) 0 (omega arith) in
+    let there : slice_get ys (n + m) ≡ Some x = sym (each (n + m) (omega arith) (omega arith)) ∙ here in
+    subst (λ (k : ℕ). take k xs ≡ take k ys) (sym next)
+    (take_next xs (n + m) x here ∙ ap (λ (zs : List ℕ). zs ++ x ∷ []) front ∙ sym (take_next ys (n + m) x there))
 
 -- two lists with the same front name the same operations in it
 module _ (xs ys : List ℕ) (n : ℕ) (same : take n xs ≡ take n ys) where

@@ -1,11 +1,15 @@
 -- What a checker of pieces holds, and what it says of a piece.
-use Rattle.std.proofs.Common.{◌≡◌, Bool, List, sym, ap, subst, ◌∙◌}
+use Rattle.std.proofs.Common.{◌≡◌, Bool, ℕ, List, length, sym, ap, subst, ◌∙◌}
 use Rattle.std.specs.Prelude.{◌↔◌, IsTrue, Some}
 use Rattle.std.proofs.lemmas.Option.{same_Some}
 use Rattle.history.specs.declared.op_id.OpId.{OpId}
 use Rattle.history.specs.History.{HistoryValue}
+use Rattle.causal_order.specs.Vectors.{Counts}
 use Rattle.cert_check.specs.declared.certificate.Certificate.{Certificate}
+use Rattle.cert_check.specs.declared.certificate.Certificate.TheVariants.{Cc, Cm, Ccv}
 use Rattle.cert_check.specs.Certificates.{CaseRecord, IsExplainedPiece}
+use Rattle.cert_check.specs.Steps.Namings.{AreCountsAt}
+use Rattle.cert_check.specs.Steps.Walks.{IsListWalkOf}
 
 module _ {S C R : Type 0} where
   -- the certificate that is held is that of the case file
@@ -18,3 +22,19 @@ module _ {S C R : Type 0} where
   decided_as answer o explained h now same held certificate is exactly =
       subst (λ (x : HistoryValue S C R). IsTrue explained ↔ IsExplainedPiece answer x certificate o) same
       (subst (λ (k : Certificate). IsTrue explained ↔ IsExplainedPiece answer h k o) is exactly)
+
+  -- a walk over the one list, at its front
+  pub list_begins : (h : HistoryValue S C R) (held : Certificate) (place : ℕ) (counts : List ℕ) → place ≡ 0
+      → ((list : List ℕ) → AreCountsAt list 0 (length h.1) counts) → IsListWalkOf h held place counts
+  list_begins h (Cc v schedules) place counts front begins = tt
+  list_begins h (Cm v schedules) place counts front begins = tt
+  list_begins h (Ccv v arbitration) place counts front begins = subst (λ (k : ℕ). AreCountsAt arbitration k (length h.1) counts) (sym front) (begins arbitration)
+
+  -- and where the certificate has one
+  pub list_walk_at : (h : HistoryValue S C R) (held : Certificate) (v : Counts) (arbitration : List ℕ) → held ≡ Ccv v arbitration → (place : ℕ) (counts : List ℕ)
+      → IsListWalkOf h held place counts → AreCountsAt arbitration place (length h.1) counts
+  list_walk_at h held v arbitration is place counts walked = subst (λ (k : Certificate). IsListWalkOf h k place counts) is walked
+
+  pub list_walk_on : (h : HistoryValue S C R) (held : Certificate) (v : Counts) (arbitration : List ℕ) → held ≡ Ccv v arbitration → (place : ℕ) (counts : List ℕ)
+      → AreCountsAt arbitration place (length h.1) counts → IsListWalkOf h held place counts
+  list_walk_on h held v arbitration is place counts at = subst (λ (k : Certificate). IsListWalkOf h k place counts) (sym is) at

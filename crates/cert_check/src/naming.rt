@@ -1,9 +1,13 @@
-ghost use Rattle.std.specs.Prelude.{◌≡◌, ◌+◌, ◌-◌, ◌<◌, ◌≤◌, ◌↔◌, ℕ, List, length, slice_get, slice_index_or, slice_set, take, IfOk, IsTrue, MatchOption, Some};
+ghost use Rattle.std.specs.Prelude.{◌≡◌, ◌+◌, ◌-◌, ◌<◌, ◌≤◌, ◌↔◌, ℕ, List, length, slice_get, slice_index_or, slice_set, take};
+ghost use Rattle.std.specs.Prelude.{IfOk, IsTrue, MatchOption, Some};
 ghost use Rattle.history.specs.History.{IsOp};
-ghost use Rattle.causal_order.specs.Orders.{op};
+ghost use Rattle.causal_order.specs.Orders.{op, StandsAt};
+ghost use Rattle.causal_order.specs.Schedules.{placed};
 ghost use Rattle.causal_order.specs.Vectors.{count, AreVectorsOf, HasListOf};
 ghost use Rattle.cert_check.specs.Steps.Namings.{AreCountsAt, AreNamedWell, IsNamedWell};
+ghost use Rattle.cert_check.specs.Schedules.{named};
 ghost use Rattle.cert_check.specs.Steps.Needs.{AreNeedsOf};
+ghost use Rattle.cert_check.specs.Steps.Replays.{NamesOperations};
 
 use crate::at_most::are_at_most;
 use crate::need::Needs;
@@ -26,6 +30,22 @@ impl Naming {
     {
         let counts = vec![in alloc; 0; h.sessions()]?;
         Ok(Naming { counts })
+    }
+
+    /// As many operations of each session are named as these counts say. O(k) for k sessions.
+    pub fn at(alloc: Global, counts: &[u16]) -> Result<Naming, AllocError>
+        ensures { IfOk result (λ naming. naming.counts.items ≡ counts.now) }
+    {
+        Ok(Naming {
+            counts: Vec::from_slice(alloc, counts)?,
+        })
+    }
+
+    /// The same operations are named.
+    pub fn copy(&self, alloc: Global) -> Result<Naming, AllocError>
+        ensures { IfOk result (λ naming. naming.counts.items ≡ self.now.counts.items) }
+    {
+        Naming::at(alloc, &self.counts)
     }
 
     /// Names nothing again.
@@ -53,6 +73,14 @@ impl Naming {
         }
         self.counts[place] = index + 1;
         Some(OpId::at(place, usize::from(index)))
+    }
+
+    /// Whether an operation was named.
+    pub fn has_named(&self, op: OpId) -> bool
+        ensures { IsTrue result ↔ (op.index < slice_index_or self.now.counts.items op.session 0) }
+    {
+        let count = self.counts.get(op.session as usize).copied().unwrap_or(0);
+        op.index < u64::from(count)
     }
 
     /// Whether all operations that the vector of an operation counts were named.
@@ -135,6 +163,61 @@ impl Naming {
         self.counts[session] = count - 1;
     }
 
+    /// Goes back over a place of a list, and gives the operation that is named there.
+    pub fn back(&mut self, list: &[u8], place: usize) -> OpId
+        requires within { place < length list.now }
+        requires counts { AreCountsAt list.now (place + 1) (length self.old.counts.items) self.old.counts.items }
+        ensures named { StandsAt (named list.now) place result }
+        ensures counts { AreCountsAt list.now place (length self.old.counts.items) self.new.counts.items }
+    {
+        let session = usize::from(list[place]);
+        self.count_off(session);
+        let index = self.counts.get(session).copied().unwrap_or(0);
+        OpId::at(session, usize::from(index))
+    }
+
+    /// Goes back from the end of a list to the place of an operation in it. O(p) for p numbers from there on.
+    pub fn back_to(&mut self, list: &[u8], op: OpId) -> usize
+        requires counts { AreCountsAt list.now (length list.now) (length self.old.counts.items) self.old.counts.items }
+        requires named { op.index < placed list.now op.session }
+        ensures within { result < length list.now }
+        ensures place { StandsAt (named list.now) result op }
+        ensures counts { AreCountsAt list.now result (length self.old.counts.items) self.new.counts.items }
+    {
+        let mut place = list.len();
+        while place > 0 {
+            place -= 1;
+            if self.back(list, place) == op {
+                return place;
+            }
+        }
+        unreachable!()
+    }
+
+    /// Goes on from a place of a list to that of an operation behind it, and names that too. O(p) for p numbers up to there.
+    pub fn on_to<O: SeqObject>(
+        &mut self,
+        h: &History<O>,
+        list: &[u8],
+        from: usize,
+        op: OpId,
+    ) -> usize
+        requires names { NamesOperations h.now list.now }
+        requires counts { AreCountsAt list.now from (length h.now.1) self.old.counts.items }
+        requires behind { slice_index_or self.old.counts.items op.session 0 ≤ op.index }
+        requires named { op.index < placed list.now op.session }
+        ensures within { result < length list.now }
+        ensures place { StandsAt (named list.now) result op }
+        ensures counts { AreCountsAt list.now (result + 1) (length h.now.1) self.new.counts.items }
+    {
+        for place in from..list.len() {
+            if self.name_next(h, list[place]).unwrap() == op {
+                return place;
+            }
+        }
+        unreachable!()
+    }
+
     /// Goes back from the end of a list to a place in it.
     fn go_back(&mut self, list: &[u8], to: usize)
         requires within { to ≤ length list.now }
@@ -149,15 +232,45 @@ impl Naming {
     }
 }
 
+/// So many numbers of two lists are compared at once.
+const BLOCK: usize = 64;
+
 /// How many numbers two lists have in common from the front. O(p) for p such numbers.
 pub fn shared_front(left: &[u8], right: &[u8]) -> usize
     ensures left { result ≤ length left.now }
     ensures right { result ≤ length right.now }
     ensures same { take result left.now ≡ take result right.now }
 {
-    let mut shared = 0;
+    let mut shared = shared_blocks(left, right);
     while shared < left.len() && shared < right.len() && left[shared] == right[shared] {
         shared += 1;
     }
     shared
+}
+
+/// How many numbers two lists have in common in whole blocks from the front.
+fn shared_blocks(left: &[u8], right: &[u8]) -> usize
+    ensures left { result ≤ length left.now }
+    ensures right { result ≤ length right.now }
+    ensures same { take result left.now ≡ take result right.now }
+{
+    let most = left.len().min(right.len());
+    let mut shared = 0;
+    while most - shared >= BLOCK && are_same_in_block(left, right, shared) {
+        shared += BLOCK;
+    }
+    shared
+}
+
+/// Whether two lists have the same block at a place: without an early end, so that several numbers are compared at once.
+fn are_same_in_block(left: &[u8], right: &[u8], place: usize) -> bool
+    requires left { place + BLOCK ≤ length left.now }
+    requires right { place + BLOCK ≤ length right.now }
+    ensures { IsTrue result → (k : ℕ) → place ≤ k → k < place + BLOCK → slice_get left.now k ≡ slice_get right.now k }
+{
+    let mut all = true;
+    for at in place..place + BLOCK {
+        all &= left[at] == right[at];
+    }
+    all
 }

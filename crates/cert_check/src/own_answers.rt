@@ -5,7 +5,8 @@ ghost use Rattle.causal_order.specs.Vectors.{AreVectorsOf, IsVectorOk};
 ghost use Rattle.cert_check.specs.Criteria.{Explains};
 ghost use Rattle.cert_check.specs.Schedules.{named, IsSchedule};
 
-use crate::replay_to::replay_to;
+use crate::considered::is_answered_at;
+use crate::naming::Naming;
 use causal_order::Vectors;
 use history::{History, OpId};
 use object_trait::SeqObject;
@@ -13,7 +14,8 @@ use std::alloc::{AllocError, Global};
 
 /// Whether what the schedule of an operation names explains its own known return.
 ///
-/// Fails for want of memory alone. O(p) for p numbers, and one call of the object for each that may change the answer.
+/// Fails for want of memory alone. O(p + k) for k sessions and p numbers from the last call before it on that settles the answer, and
+/// O(k) where the answer depends on no call.
 pub fn explains_own<O: SeqObject>(
     alloc: Global,
     h: &History<O>,
@@ -30,6 +32,7 @@ pub fn explains_own<O: SeqObject>(
     if h.ret(op).is_none() {
         return Ok(true);
     }
-    let mut replay = replay_to(alloc, h, v, schedule, op)?;
-    replay.take_in(h, op)
+    let mut naming = Naming::at(alloc, v.get(op))?;
+    let place = naming.back_to(schedule, op);
+    is_answered_at(alloc, h, v, schedule, &mut naming, place, op)
 }

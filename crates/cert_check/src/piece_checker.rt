@@ -12,6 +12,7 @@ use crate::arbitrated::is_arbitrated_piece;
 use crate::case_file::CaseFile;
 use crate::certificate::Certificate;
 use crate::checking::Outcome;
+use crate::list_walk::ListWalk;
 use crate::need::Needs;
 use crate::own_answers::explains_own;
 use crate::past_replay::PastReplay;
@@ -30,6 +31,7 @@ pub struct PieceChecker<'a, O: SeqObject> {
     certificate: &'a Certificate,
     walk: ScheduleWalk<'a, O>,
     past: PastReplay<'a, O>,
+    list: ListWalk,
 }
 
 impl<'a, O: SeqObject> Model for PieceChecker<'a, O> {
@@ -40,7 +42,8 @@ impl<'a, O: SeqObject> Model for PieceChecker<'a, O> {
 
     ghost view = { λ checker. checker.file.now };
 
-    ghost invariant = { λ checker. IsCheckerOf checker.file.now checker.certificate.now checker.walk checker.past };
+    ghost invariant = { λ checker. IsCheckerOf checker.file.now checker.certificate.now checker.walk checker.past
+        checker.list.place checker.list.naming.counts.items };
 }
 
 impl<'a, O: SeqObject> PieceChecker<'a, O> {
@@ -81,11 +84,13 @@ impl<'a, O: SeqObject> PieceChecker<'a, O> {
     {
         let _is_case_file = file.certificate();
         let walk = ScheduleWalk::new(alloc, file.history(), certificate.vectors(), needs)?;
+        let list = ListWalk::new(alloc, file.history())?;
         Ok(PieceChecker {
             file,
             certificate,
             walk,
             past: PastReplay::new(file.history()),
+            list,
         })
     }
 
@@ -135,7 +140,7 @@ impl<'a, O: SeqObject> PieceChecker<'a, O> {
                 is_past_piece(alloc, &mut self.walk, &mut self.past, schedules.get(op), op)
             }
             Certificate::Ccv(v, arbitration) => {
-                is_arbitrated_piece(alloc, h, v, arbitration.sessions(), op)
+                is_arbitrated_piece(alloc, &mut self.list, h, v, arbitration.sessions(), op)
             }
         }
     }

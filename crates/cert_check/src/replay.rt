@@ -3,14 +3,12 @@ ghost use Rattle.std.specs.Prelude.{MatchOption, slice_index_or, slice_set, take
 ghost use Rattle.history.specs.declared.op_id.OpId.{OpId};
 ghost use Rattle.history.specs.History.{IsOp, calls};
 ghost use Rattle.causal_order.specs.Orders.{op};
-ghost use Rattle.causal_order.specs.Vectors.{count, HasListOf};
 ghost use Rattle.cert_check.specs.Schedules.{named};
-ghost use Rattle.cert_check.specs.Steps.Replays.{considered, kept_of, AreAnswered, IsAnsweredAfter, IsAnsweredBy};
+ghost use Rattle.cert_check.specs.Steps.Replays.{kept_of, AreAnswered, IsAnsweredAfter, IsAnsweredBy};
 ghost use Rattle.cert_check.specs.Steps.Replays.{IsReplayAt, NamesOperations};
 
 use crate::kept::Kept;
 use crate::naming::Naming;
-use causal_order::{Vectors, count_of};
 use history::{History, OpId};
 use object_trait::SeqObject;
 use std::alloc::{AllocError, Global};
@@ -55,11 +53,7 @@ impl<O: SeqObject> Replay<O> {
         ensures state { (taken : List OpId) → O.stands self.old.object h.now.0 (calls h.now taken)
             → IfOk result (λ _. O.stands self.new.object h.now.0 (calls h.now (taken ++ next ∷ []))) }
     {
-        let answer = self.object.apply(h.call(next))?;
-        Ok(match h.ret(next) {
-            Some(known) => known == answer,
-            None => true,
-        })
+        take_in_call(&mut self.object, h, next)
     }
 
     /// Takes in the call of an operation. Whether its return, where it is kept and known, is the answer.
@@ -73,40 +67,6 @@ impl<O: SeqObject> Replay<O> {
     {
         let answered = self.take_in(h, next)?;
         Ok(answered || !kept.keeps(next))
-    }
-
-    /// Takes in the call of an operation where the vector of another counts it and the answer to a call may depend on it.
-    pub fn take_in_considered(
-        &mut self,
-        h: &History<O>,
-        v: &Vectors,
-        of: OpId,
-        asked: &O::Call,
-        next: OpId,
-    ) -> Result<(), AllocError>
-        requires of { HasListOf v.now of }
-        requires is_op { IsOp h.now next }
-        ensures counts { self.new.naming.counts.items ≡ self.old.naming.counts.items }
-        ensures state { (taken : List OpId)
-            → O.stands self.old.object h.now.0 (considered O.depends h.now v.now of asked.now taken)
-            → IfOk result (λ _. O.stands self.new.object h.now.0 (considered O.depends h.now v.now of asked.now (taken ++ next ∷ []))) }
-    {
-        if next.index >= u64::from(count_of(v, of, next.session)) {
-            return Ok(());
-        }
-        let call = h.call(next);
-        if O::depends_on(asked, &call) {
-            self.object.apply(call)?;
-        }
-        Ok(())
-    }
-
-    /// Whether all operations that the vector of an operation counts were named.
-    pub fn has_named_all(&self, v: &Vectors, of: OpId) -> bool
-        requires { HasListOf v.now of }
-        ensures { IsTrue result ↔ ((s : ℕ) → count v.now of s ≤ slice_index_or self.now.naming.counts.items s 0) }
-    {
-        self.naming.has_named_all(v, of)
     }
 
     /// Takes in what a list names from a place on, until a known return that is kept is not the answer. Whether there is
@@ -136,4 +96,24 @@ impl<O: SeqObject> Replay<O> {
         }
         Ok(true)
     }
+}
+
+/// Has an object take in the call of an operation. Whether its return, where it is known, is the answer.
+///
+/// Fails for want of memory alone. One call of the object.
+pub fn take_in_call<O: SeqObject>(
+    object: &mut O,
+    h: &History<O>,
+    next: OpId,
+) -> Result<bool, AllocError>
+    requires { IsOp h.now next }
+    ensures answer { (cs : List O.Call) → O.stands object.old h.now.0 cs → IfOk result (λ yes. IsTrue yes ↔ IsAnsweredBy O.answer h.now cs next) }
+    ensures state { (taken : List OpId) → O.stands object.old h.now.0 (calls h.now taken)
+        → IfOk result (λ _. O.stands object.new h.now.0 (calls h.now (taken ++ next ∷ []))) }
+{
+    let answer = object.apply(h.call(next))?;
+    Ok(match h.ret(next) {
+        Some(known) => known == answer,
+        None => true,
+    })
 }

@@ -1,31 +1,56 @@
-use Rattle.std.proofs.Common.{take, rules}
+use Rattle.std.proofs.Common.{Bool, not, refl, ap, take, ◌∙◌}
 use Rattle.std.specs.Prelude.{IsTrue, ◌↔◌, filter}
-use Rattle.cert_check.specs.Certificates.{counted}
+use Rattle.std.proofs.lemmas.Bool.{both_ways}
+use Rattle.std.proofs.lemmas.Result.{IfOk-weaker}
+use Rattle.cert_check.specs.Certificates.{counted, IsArbitratedPiece}
 use Rattle.cert_check.specs.Schedules.{named}
-use Rattle.cert_check.specs.Steps.Replays.{considered, IsAnsweredAfter}
-use Rattle.cert_check.proofs.ConsideredCalls.{considered_answers}
-use Rattle.cert_check.proofs.CutSteps.{arbitrated-tests, whole_names}
+use Rattle.cert_check.specs.Steps.Replays.{IsAnsweredAfter}
+use Rattle.cert_check.proofs.CutSteps.{arbitrated-from, arbitrated-tests, arbitrated-within, whole_names}
+use Rattle.cert_check.proofs.ReplaySteps.{unknown_return}
 use Rattle.cert_check.proofs.arbitrated.is_arbitrated_piece.Goals as goal
 
-pub replay_to-requires-clause-names : goal.replay_to-requires-clause-names
-replay_to-requires-clause-names g c = λ _ _. whole_names c.args.h.now c.args.list.now c.requires.whole
+pub go_behind-place-requires-clause-names : goal.go_behind-place-requires-clause-names
+go_behind-place-requires-clause-names g c = λ _ _. whole_names c.args.h.now c.args.list.now c.requires.whole
 
-pub returns : goal.returns
-returns g c =
+pub is_answered_at-requires-clause-names : goal.is_answered_at-requires-clause-names
+is_answered_at-requires-clause-names g c = λ _ _. whole_names c.args.h.now c.args.list.now c.requires.whole
+
+pub returns-then-not-has_named_all-clause-exact : goal.returns-then-not-has_named_all-clause-exact
+returns-then-not-has_named_all-clause-exact g c =
+    let good = c.vector_ok.ensures.0 c.if-not-vector_ok.false in
+    let reached = c.go_behind-place.ensures in (
+      (λ t. absurd cc),
+      λ piece. absurd (both_ways c.has_named_all.result c.if-not-has_named_all.true
+          (c.has_named_all.ensures.1 (arbitrated-within g.O.SeqObject.answer c.args.h.now c.args.v.now c.args.list.now c.args.op good
+          c.go_behind-place.result reached.stands c.go_behind-place.new.self.naming.counts.items reached.counts piece))),
+    )
+
+pub returns-then-is_none-clause-exact : goal.returns-then-is_none-clause-exact
+returns-then-is_none-clause-exact g c =
+    let good = c.vector_ok.ensures.0 c.if-not-vector_ok.false in
+    let reached = c.go_behind-place.ensures in (
+      (λ _. arbitrated-from g.O.SeqObject.answer c.args.h.now c.args.v.now c.args.list.now c.args.op good
+          c.go_behind-place.result reached.stands c.go_behind-place.new.self.naming.counts.items reached.counts
+          (c.has_named_all.ensures.0 c.if-not-has_named_all.false)
+          (λ call r known. absurd (unknown_return c.args.h.now c.args.op c.ret.result c.ret.ensures (c.is_none.ensures ∙ ap not c.if-is_none.true) c.args.op refl call r known))),
+      λ _. refl,
+    )
+
+pub returns-clause-exact : goal.returns-clause-exact
+returns-clause-exact g c =
     let answer = g.O.SeqObject.answer in
-    let depends = g.O.SeqObject.depends in
     let h = c.args.h.now in
     let v = c.args.v.now in
     let o = c.args.op in
     let list = c.args.list.now in
     let good = c.vector_ok.ensures.0 c.if-not-vector_ok.false in
-    let reached = c.in_ok-replay.ensures in
-    let ops = take reached.0 (named list) in
-    let asked = reached.3 in
-    let considers = considered_answers answer depends g.met.O.SeqObject.others_change_nothing h v o asked reached.4 ops in
-    let answered = c.in_ok-answered.ensures.answer (considered depends h v o asked ops) reached.5 in
-    let after : IsTrue c.in_ok-answered.answered ↔ IsAnsweredAfter answer h (filter (counted v o) ops) o =
-    ((λ t. considers.0 (answered.0 t)), λ known. answered.1 (considers.1 known)) in
-    let tests = arbitrated-tests answer h v list o good reached.0 reached.1 c.in_ok-replay.replay.naming.counts.items reached.2
-    c.has_named_all-complete.result c.in_ok-answered.answered c.has_named_all-complete.ensures after in
-    search rules
+    let reached = c.go_behind-place.ensures in
+    let place = c.go_behind-place.result in
+    IfOk-weaker c.is_answered_at.result
+    (λ (yes : Bool). IsTrue yes ↔ IsAnsweredAfter answer h (filter (counted v o) (take place (named list))) o)
+    (λ (yes : Bool). IsTrue yes ↔ IsArbitratedPiece answer h v list o)
+    (λ yes after.
+    let tests = arbitrated-tests answer h v list o good place reached.stands c.go_behind-place.new.self.naming.counts.items reached.counts
+    c.has_named_all.result yes c.has_named_all.ensures after in
+    ((λ t. tests.0 (c.if-not-has_named_all.false, t)), λ piece. (tests.1 piece).1))
+    c.is_answered_at.ensures

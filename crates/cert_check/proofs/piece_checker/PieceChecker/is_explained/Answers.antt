@@ -49,4 +49,4 @@ returns-in-Ccv-clause-exact g c =
     let held : Ccv c.in-Ccv.v c.in-Ccv.arbitration ≡ certificate = sym c.in-Ccv.is ∙ held_is c.self.inside.file.now c.args.self.now c.self.view_is c.self.inside.certificate.now certificate c.self.invariant.certificate is in
     decided_as answer o yes h c.args.self.now.0 history (Ccv c.in-Ccv.v c.in-Ccv.arbitration) certificate held
     (subst (λ (xs : List ℕ). IsTrue yes ↔ IsArbitratedPiece answer h c.in-Ccv.v xs o) c.sessions.ensures exactly))
-    c.is_arbitrated_piece.ensures
+    c.is_arbitrated_piece.ensures.exact

@@ -1,7 +1,7 @@
 use Rattle.std.proofs.Common.{sym, subst}
 use Rattle.history.specs.History.{calls}
 use Rattle.cert_check.proofs.ReplaySteps.{calls_push}
-use Rattle.cert_check.proofs.replay.Replay.take_in.Goals as goal
+use Rattle.cert_check.proofs.replay.take_in_call.Goals as goal
 
 pub returns-in-Some-clause-state : goal.returns-in-Some-clause-state
 returns-in-Some-clause-state g c = λ taken stands.

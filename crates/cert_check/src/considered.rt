@@ -1,0 +1,109 @@
+//! The calls on which the answer to a known return rests.
+
+ghost use Rattle.std.specs.Prelude.{◌≡◌, ◌≤◌, ◌↔◌, ◌∷◌, List, length, filter, take, IfOk, IsTrue, MatchOption};
+ghost use Rattle.history.specs.declared.op_id.OpId.{OpId as Operation};
+ghost use Rattle.history.specs.History.{IsOp, calls};
+ghost use Rattle.causal_order.specs.Vectors.{AreVectorsOf, HasListOf};
+ghost use Rattle.cert_check.specs.Certificates.{counted};
+ghost use Rattle.cert_check.specs.Schedules.{named};
+ghost use Rattle.cert_check.specs.Steps.Namings.{AreCountsAt};
+ghost use Rattle.cert_check.specs.Steps.Replays.{considered, IsAnsweredAfter, IsCallOf, NamesOperations};
+
+use crate::naming::Naming;
+use crate::replay::take_in_call;
+use causal_order::{Vectors, count_of};
+use history::{History, OpId};
+use object_trait::{SeqObject, replay};
+use std::alloc::{AllocError, Global};
+
+/// Whether the return of an operation, where it is known, is the answer after the operations before a place of a list, of those
+/// that its vector counts.
+///
+/// Fails for want of memory alone. O(p) for p numbers between that place and the last call before it that settles the answer, or
+/// before it where none does; O(1) where the answer depends on no call.
+pub fn is_answered_at<O: SeqObject>(
+    alloc: Global,
+    h: &History<O>,
+    v: &Vectors,
+    list: &[u8],
+    naming: &mut Naming,
+    place: usize,
+    op: OpId,
+) -> Result<bool, AllocError>
+    requires shape { AreVectorsOf h.now v.now }
+    requires names { NamesOperations h.now list.now }
+    requires is_op { IsOp h.now op }
+    requires within { place ≤ length list.now }
+    requires counts { AreCountsAt list.now place (length h.now.1) naming.old.counts.items }
+    ensures { IfOk result (λ yes. IsTrue yes ↔ IsAnsweredAfter O.answer h.now (filter (counted v.now op) (take place (named list.now))) op) }
+{
+    let asked = h.call(op);
+    let before = calls_before(alloc, h, v, list, naming, place, op, &asked)?;
+    let mut object: O = replay(alloc, h.start(), &before)?;
+    take_in_call(&mut object, h, op)
+}
+
+/// Calls after which the answer to a call is the one after the operations before a place of a list, of those that the vector of
+/// an operation counts: the calls from the last one on that settles the answer, of those on which it may depend.
+fn calls_before<O: SeqObject>(
+    alloc: Global,
+    h: &History<O>,
+    v: &Vectors,
+    list: &[u8],
+    naming: &mut Naming,
+    place: usize,
+    of: OpId,
+    asked: &O::Call,
+) -> Result<Vec<O::Call>, AllocError>
+    requires listed { HasListOf v.now of }
+    requires names { NamesOperations h.now list.now }
+    requires within { place ≤ length list.now }
+    requires counts { AreCountsAt list.now place (length h.now.1) naming.old.counts.items }
+    ensures { IfOk result (λ before. O.answer h.now.0 before.items asked.now
+        ≡ O.answer h.now.0 (considered O.depends h.now v.now of asked.now (take place (named list.now))) asked.now) }
+{
+    let mut found = Vec::new(alloc);
+    if !O::depends_on_any(asked) {
+        return Ok(found);
+    }
+    let mut at = place;
+    while at > 0 {
+        at -= 1;
+        let next = naming.back(list, at);
+        if let Some(call) = considered_call(h, v, of, asked, next) {
+            found.push(call)?;
+            if O::is_settled_by(asked, &call) {
+                found.reverse();
+                return Ok(found);
+            }
+        }
+    }
+    found.reverse();
+    Ok(found)
+}
+
+/// The call of an operation, where the vector of another counts it and the answer to a call may depend on it.
+fn considered_call<O: SeqObject>(
+    h: &History<O>,
+    v: &Vectors,
+    of: OpId,
+    asked: &O::Call,
+    next: OpId,
+) -> Option<O::Call>
+    requires of { HasListOf v.now of }
+    requires is_op { IsOp h.now next }
+    ensures { MatchOption result
+        ((ops : List Operation) → considered O.depends h.now v.now of asked.now (next ∷ ops) ≡ considered O.depends h.now v.now of asked.now ops)
+        (λ call. (ops : List Operation)
+        → considered O.depends h.now v.now of asked.now (next ∷ ops) ≡ call ∷ considered O.depends h.now v.now of asked.now ops) }
+{
+    if next.index >= u64::from(count_of(v, of, next.session)) {
+        return None;
+    }
+    let call = h.call(next);
+    if O::depends_on(asked, &call) {
+        Some(call)
+    } else {
+        None
+    }
+}
