@@ -1,9 +1,11 @@
 -- Why reading stops, passed on from a part to the whole.
-use Rattle.std.proofs.Common.{◌≡◌, ℕ, ◌-◌, ◌<◌, List, ◌∷◌, None, ap, ◌∙◌}
-use Rattle.json.specs.Json.{parse_map}
+use Rattle.std.proofs.Common.{◌≡◌, ℕ, ◌-◌, ◌<◌, List, [], ◌∷◌, None, option_and_then, ap, ◌∙◌}
+use Rattle.json.specs.Json.{if_last, parse_map, value}
+use Rattle.json.specs.Lex.{tokens}
 use Rattle.json.specs.Token.{Token}
-use Rattle.json.proofs.Grammar.{left_none}
+use Rattle.json.proofs.Grammar.{left_none, value_is}
 use Rattle.serde_json.specs.Data.{array, object}
+use Rattle.serde_json.specs.Read.{max_depth, of_json, read}
 use Rattle.bounded_json.specs.Steps.Behind.{behind_members}
 use Rattle.bounded_json.specs.Steps.Reading.{AreRefused, IsRefused}
 use Rattle.bounded_json.specs.Text.{StopsFor}
@@ -25,3 +27,7 @@ module _ (depth : ℕ) (ts : List Token) (some : 0 < depth) where
 
   pub object_refused : behind_members (depth - 1) ts ≡ None → next depth (Token.begin_object ∷ ts) ≡ None
   object_refused none = at_begin_object depth ts some ∙ ap (parse_map object) (left_none _ none)
+
+-- a text without tokens is no value
+pub nothing_whole : (text : List ℕ) → tokens text ≡ [] → read text ≡ None
+nothing_whole text none = ap (λ ts. option_and_then of_json (option_and_then (λ p. if_last p.0 p.1) (value max_depth ts))) none ∙ ap (λ o. option_and_then of_json (option_and_then (λ p. if_last p.0 p.1) o)) (value_is max_depth [])

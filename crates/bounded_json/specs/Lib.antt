@@ -1,3 +1,4 @@
+pub mod Compact
 pub mod Cut
 pub mod Steps
 pub mod Text

@@ -3,14 +3,22 @@
 //! A form says by its [`Place`]s how many elements a list may have, and where each element stands. [`read_bounded`] reads
 //! a text once, by `serde_json`'s own rule of what a text is, and keeps of each list no more than its place asks for, and
 //! of an object nothing. So memory is bounded by the form and the length of the text, whatever the text nests.
+//! [`read_compact`] reads the same into a [`Compact`] value, for texts with long lists of small numbers.
 #![tactic(auto)]
 
+mod compact;
+mod elements;
+mod kept;
+mod leaf;
 mod number;
 mod place;
 mod read;
+mod small_number;
 mod text_error;
 mod walk;
 
+pub use compact::Compact;
+pub use leaf::Leaf;
 pub use place::Place;
-pub use read::read_bounded;
+pub use read::{read_bounded, read_compact};
 pub use text_error::TextError;

@@ -1,0 +1,11 @@
+use serde_json::Number;
+
+/// What is kept of a JSON value that is no list: of an object nothing but that it is one.
+#[derive(Drop)]
+pub enum Leaf {
+    Null,
+    Bool(bool),
+    Number(Number),
+    Text(String),
+    Object,
+}
