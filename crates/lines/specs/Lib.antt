@@ -1,3 +1,4 @@
+pub mod Clerks
 pub mod Outcomes
 pub mod ReadCalls
 pub mod Lines
