@@ -1,7 +1,8 @@
 ghost use Rattle.std.specs.Prelude.{◌≡◌, ℕ, List, [], IfOk};
 ghost use Rattle.objects.specs.Table.{IsTable, start_at};
 ghost use Rattle.objects.specs.Keyed.{answer as keyed_answer, calls_at, depends as keyed_depends, settles as keyed_settles, Stands};
-ghost use Rattle.objects.specs.Laws.Keyed.{empty_is_table, keyed_query_changes_nothing, keyed_others_change_nothing, keyed_settled, equal_keyed_calls};
+ghost use Rattle.objects.specs.Laws.Keyed.{empty_is_table, equal_keyed_calls};
+ghost use Rattle.objects.specs.Laws.Keyed.{keyed_query_changes_nothing, keyed_others_change_nothing, keyed_settled};
 ghost use Rattle.objects.specs.Laws.Table.{equal_tables_decide};
 
 use crate::table::Table;

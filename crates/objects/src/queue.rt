@@ -1,5 +1,6 @@
 ghost use Rattle.std.specs.Prelude.{◌≡◌, ℕ, List, Bool, refl};
-ghost use Rattle.objects.specs.Queue.{left, answer as queue_answer, depends as queue_depends, is_query, matches as queue_matches, settles as queue_settles};
+ghost use Rattle.objects.specs.Queue.{left, answer as queue_answer, is_query, matches as queue_matches};
+ghost use Rattle.objects.specs.Queue.{depends as queue_depends, settles as queue_settles};
 ghost use Rattle.objects.specs.Laws.Queue.{answer_fits, query_changes_nothing, variant_of_call, variant_of_ret};
 ghost use Rattle.objects.specs.Laws.Queue.{others_change_nothing, same_pushes, same_popped, settled};
 ghost use Rattle.objects.specs.Equal.{alike, apart, same_units};
