@@ -185,6 +185,11 @@ no_together w value _ _ _ _ settings.Json says = says
 no_together w value _ _ _ _ settings.Certificates says = says
 no_together w value _ _ _ _ settings.Svg says = says
 
+-- why a word says nothing alone, and why it says nothing with the value behind it
+pub ruleset nothing_alone = (no_alone, no_seals, no_workers, no_expect, no_stop)
+
+pub ruleset nothing_together = (no_together, no_seals_behind, no_workers_behind, no_expect_behind, no_stop_behind)
+
 -- a word names one command
 abbrev command_of : Text → CommandName
 command_of word =

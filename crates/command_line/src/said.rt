@@ -1,8 +1,8 @@
 //! All that the words behind a command say, and the order that they give.
 
 ghost use Rattle.std.specs.Prelude.{◌≡◌};
-ghost use Rattle.command_line.specs.Options.{and_also, delivery_for, drive_for, drive_of, form_for, judge_for, judging_for, order_for, says, unsaid};
-ghost use Rattle.command_line.specs.Options.{with_setting, workers_for};
+ghost use Rattle.command_line.specs.Options.{and_also, delivery_for, drive_for, drive_of, form_for, judge_for, judging_for, order_for};
+ghost use Rattle.command_line.specs.Options.{says, unsaid, with_setting, workers_for};
 
 use crate::drive::{Drive, Store};
 use crate::expected::Expected;

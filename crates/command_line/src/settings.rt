@@ -141,7 +141,7 @@ pub fn setting_alone(word: &str) -> Option<Setting>
 }
 
 // What a word with a value says.
-#[tactic(auto, using(crate::proofs::SettingWords::no_alone, crate::proofs::SettingWords::no_seals, crate::proofs::SettingWords::no_workers, crate::proofs::SettingWords::no_expect, crate::proofs::SettingWords::no_stop))]
+#[tactic(auto, using(crate::proofs::SettingWords::nothing_alone))]
 fn value_alone(word: &str) -> Option<Setting>
     requires { IsNoBareWord word.now }
     ensures { MatchOption result ((setting : Setting) → ¬ SaysAlone setting word.now) (λ setting. SaysAlone setting word.now) }
@@ -162,7 +162,7 @@ fn value_alone(word: &str) -> Option<Setting>
 }
 
 /// What a word and the value behind it say.
-#[tactic(auto, using(crate::proofs::SettingWords::no_together, crate::proofs::SettingWords::no_seals_behind, crate::proofs::SettingWords::no_workers_behind, crate::proofs::SettingWords::no_expect_behind, crate::proofs::SettingWords::no_stop_behind))]
+#[tactic(auto, using(crate::proofs::SettingWords::nothing_together))]
 pub fn setting_together(word: &str, value: &str) -> Option<Setting>
     ensures { MatchOption result ((setting : Setting) → ¬ SaysTogether setting word.now value.now)
         (λ setting. SaysTogether setting word.now value.now) }
