@@ -1,5 +1,5 @@
 -- A value is the form of one certificate, and of none where one of its parts is the form of nothing.
-use Rattle.std.proofs.Common.{◌≡◌, ℕ, ◌^◌, List, [], ◌∷◌, length, map, refl, ap, sym, ◌∙◌, arith}
+use Rattle.std.proofs.Common.{◌≡◌, ℕ, ◌^◌, ◌<◌, List, [], ◌∷◌, All, length, map, refl, ap, sym, ◌∙◌, arith}
 use Rattle.std.specs.Prelude.{◌≢◌, Option, Some, nat_eq, codes, if◌then◌else◌}
 use Rattle.std.specs.Cmp.Lexicographic.{pointwise}
 use Rattle.std.proofs.lemmas.List.{length-map}
@@ -143,3 +143,10 @@ module _ (v e : Data) where
   no_cm_certificate none (Cc vectors schedules) good same = let no = of_criterion criteria.Cm v e (Cc vectors schedules) same in absurd cc
   no_cm_certificate none (Cm vectors schedules) good same = none schedules good.1 (of_explained criteria.Cm v e (Cm vectors schedules) same)
   no_cm_certificate none (Ccv vectors arbitration) good same = let no = of_criterion criteria.Cm v e (Ccv vectors arbitration) same in absurd cc
+
+  -- or the form of no list of sessions
+  pub no_ccv_certificate : ((sessions : List ℕ) → All (λ s. s < 16) sessions → e ≢ list_form number_form sessions)
+      → (c : Certificate) → IsCertificate c → worded (name_of criteria.Ccv) (v ∷ e ∷ []) ≢ form_of c
+  no_ccv_certificate none (Cc vectors schedules) good same = let no = of_criterion criteria.Ccv v e (Cc vectors schedules) same in absurd cc
+  no_ccv_certificate none (Cm vectors schedules) good same = let no = of_criterion criteria.Ccv v e (Cm vectors schedules) same in absurd cc
+  no_ccv_certificate none (Ccv vectors arbitration) good same = none arbitration good.1 (of_explained criteria.Ccv v e (Ccv vectors arbitration) same)

@@ -19,3 +19,4 @@ pub mod CertificateForms
 pub mod ConvergentLaws
 pub mod FilteredLaws
 pub mod CutCertificates
+pub mod CompactWords

@@ -1,31 +1,29 @@
 ghost use Rattle.std.specs.Prelude.{ℕ, ◌<◌, ◌^◌};
-ghost use Rattle.serde_json.specs.Data.{Data};
-ghost use Rattle.serde_json.specs.View.{view};
 ghost use Rattle.operations.specs.Reads.{number_form, IsReadWithin};
 
+use crate::source::Source;
 use history::MAX_SESSIONS;
-use serde_json::Value;
 
 /// A number in the lists of a certificate: a count of a vector, or a session number.
-pub trait Number: Copy {
-    /// Its form.
-    ghost form: { Self → Data };
+pub(crate) trait Number: Copy {
+    /// The whole number that it is.
+    ghost whole: { Self → ℕ };
 
     /// It is in range.
     ghost fits: { Self → Type 0 };
 
-    fn read(value: &Value) -> Option<Self>
-        ensures { IsReadWithin fits form (view value.now) result };
+    fn of(number: u64) -> Option<Self>
+        ensures { IsReadWithin fits (λ n. number_form (Self.whole n)) (number_form number) result };
 }
 
 /// A count.
 impl Number for u16 {
-    ghost form = { number_form };
+    ghost whole = { λ n. n };
 
     ghost fits = { λ n. n < 2 ^ 16 };
 
-    fn read(value: &Value) -> Option<u16> {
-        u16::try_from(value.as_u64()?).ok()
+    fn of(number: u64) -> Option<u16> {
+        u16::try_from(number).ok()
     }
 }
 
@@ -33,16 +31,26 @@ impl Number for u16 {
 impl Number for u8 {
     ghost use Rattle.history.specs.declared.limits.TheConstants.{MAX_SESSIONS};
 
-    ghost form = { number_form };
+    ghost whole = { λ n. n };
 
     ghost fits = { λ n. n < MAX_SESSIONS };
 
-    fn read(value: &Value) -> Option<u8> {
-        let session = u8::try_from(value.as_u64()?).ok()?;
+    fn of(number: u64) -> Option<u8> {
+        let session = u8::try_from(number).ok()?;
         if usize::from(session) < MAX_SESSIONS {
             Some(session)
         } else {
             None
         }
+    }
+}
+
+/// The number whose form a value is.
+pub(crate) fn read_number<T: Number, S: Source>(value: &S) -> Option<T>
+    ensures { IsReadWithin T.fits (λ n. number_form (T.whole n)) (S.stands_for value.now) result }
+{
+    match value.whole_number() {
+        Some(number) => T::of(number),
+        None => None,
     }
 }

@@ -2,6 +2,7 @@
 
 ghost use Rattle.std.specs.Prelude.{◌≡◌, ◌∷◌, [], map, IfOk, IfErr, MatchResult};
 ghost use Rattle.serde_json.specs.View.{view};
+ghost use Rattle.bounded_json.specs.Compact.{compact_view};
 ghost use Rattle.operations.specs.Reads.{worded, IsReadWithin};
 ghost use Rattle.cert_check.specs.CriterionNames.{name_of};
 ghost use Rattle.cert_check.specs.CertificateForm.{form_of, IsCertificate, IsRefusedFor};
@@ -11,7 +12,8 @@ use crate::cert_error::CertError;
 use crate::certificate::Certificate;
 use crate::criterion::Criterion;
 use crate::reading_lists::{read_lists, read_numbers};
-use operations::word_and_rest;
+use crate::source::Source;
+use bounded_json::Compact;
 use serde_json::Value;
 use std::alloc::{AllocError, Global};
 
@@ -31,6 +33,33 @@ pub fn read_certificate(alloc: Global, value: &Value) -> Result<Certificate, Cer
         → MatchResult result (λ d. d ≡ c) (λ e. e ≡ CertError.Memory) }
     ensures refused { IfErr result (IsRefusedFor (view value.now)) }
 {
+    read_from(alloc, value)
+}
+
+/// The certificate whose form a compact value is, as [`read_certificate`] says it.
+///
+/// `BadCertificate` for every value that is the form of none, `Memory` only where an allocation was refused. O(n) for n
+/// numbers.
+pub fn read_compact_certificate(alloc: Global, value: &Compact) -> Result<Certificate, CertError>
+    ensures form { IfOk result (λ c. compact_view value.now ≡ form_of c) }
+    ensures ranges { IfOk result IsCertificate }
+
+    // The form of a certificate is read as that certificate, unless memory runs out.
+    ensures only { (c : Certificate) → IsCertificate c → compact_view value.now ≡ form_of c
+        → MatchResult result (λ d. d ≡ c) (λ e. e ≡ CertError.Memory) }
+    ensures refused { IfErr result (IsRefusedFor (compact_view value.now)) }
+{
+    read_from(alloc, value)
+}
+
+/// The certificate whose form a value is, however the value is kept.
+fn read_from<S: Source>(alloc: Global, value: &S) -> Result<Certificate, CertError>
+    ensures form { IfOk result (λ c. S.stands_for value.now ≡ form_of c) }
+    ensures ranges { IfOk result IsCertificate }
+    ensures only { (c : Certificate) → IsCertificate c → S.stands_for value.now ≡ form_of c
+        → MatchResult result (λ d. d ≡ c) (λ e. e ≡ CertError.Memory) }
+    ensures refused { IfErr result (IsRefusedFor (S.stands_for value.now)) }
+{
     match read_form(alloc, value)? {
         Some(certificate) => Ok(certificate),
         None => Err(CertError::BadCertificate),
@@ -38,10 +67,10 @@ pub fn read_certificate(alloc: Global, value: &Value) -> Result<Certificate, Cer
 }
 
 /// The certificate that a value is the form of.
-fn read_form(alloc: Global, value: &Value) -> Result<Option<Certificate>, AllocError>
-    ensures { IfOk result (IsReadWithin IsCertificate form_of (view value.now)) }
+fn read_form<S: Source>(alloc: Global, value: &S) -> Result<Option<Certificate>, AllocError>
+    ensures { IfOk result (IsReadWithin IsCertificate form_of (S.stands_for value.now)) }
 {
-    let Some((word, rest)) = word_and_rest(value) else {
+    let Some((word, rest)) = value.word_and_rest() else {
         return Ok(None);
     };
     match Criterion::named(word) {
@@ -51,12 +80,12 @@ fn read_form(alloc: Global, value: &Value) -> Result<Option<Certificate>, AllocE
 }
 
 /// The certificate for a criterion, of what stands behind its name.
-fn read_parts(
+fn read_parts<S: Source>(
     alloc: Global,
     criterion: Criterion,
-    rest: &[Value],
+    rest: &[S],
 ) -> Result<Option<Certificate>, AllocError>
-    ensures { IfOk result (IsReadWithin IsCertificate form_of (worded (name_of criterion) (map view rest.now))) }
+    ensures { IfOk result (IsReadWithin IsCertificate form_of (worded (name_of criterion) (map S.stands_for rest.now))) }
 {
     match rest {
         [vectors, explained] => read_vectors(alloc, criterion, vectors, explained),
@@ -65,27 +94,27 @@ fn read_parts(
 }
 
 /// The certificate for a criterion, of the vectors and what stands behind them.
-fn read_vectors(
+fn read_vectors<S: Source>(
     alloc: Global,
     criterion: Criterion,
-    vectors: &Value,
-    explained: &Value,
+    vectors: &S,
+    explained: &S,
 ) -> Result<Option<Certificate>, AllocError>
-    ensures { IfOk result (IsReadWithin IsCertificate form_of (worded (name_of criterion) (view vectors.now ∷ view explained.now ∷ []))) }
+    ensures { IfOk result (IsReadWithin IsCertificate form_of (worded (name_of criterion) (S.stands_for vectors.now ∷ S.stands_for explained.now ∷ []))) }
 {
-    let Some(vectors) = read_lists::<u16>(alloc, vectors)? else {
+    let Some(vectors) = read_lists::<u16, S>(alloc, vectors)? else {
         return Ok(None);
     };
     match criterion {
-        Criterion::Cc => match read_lists::<u8>(alloc, explained)? {
+        Criterion::Cc => match read_lists::<u8, S>(alloc, explained)? {
             Some(schedules) => Ok(Some(Certificate::Cc(vectors, schedules))),
             None => Ok(None),
         },
-        Criterion::Cm => match read_lists::<u8>(alloc, explained)? {
+        Criterion::Cm => match read_lists::<u8, S>(alloc, explained)? {
             Some(schedules) => Ok(Some(Certificate::Cm(vectors, schedules))),
             None => Ok(None),
         },
-        Criterion::Ccv => match read_numbers::<u8>(alloc, explained)? {
+        Criterion::Ccv => match read_numbers::<u8, S>(alloc, explained)? {
             Some(sessions) => Ok(Some(Certificate::Ccv(vectors, Arbitration::of(sessions)))),
             None => Ok(None),
         },
