@@ -1,4 +1,5 @@
 pub mod CutWalks
+pub mod CutsGoOn
 pub mod SourceLimits
 pub mod SourceSchedules
 pub mod Explained

@@ -12,9 +12,10 @@ ghost use Rattle.cert_check.specs.Certificates.{criterion_of, HasShapeOf, IsExpl
 ghost use Rattle.certify_cc.specs.BySources.{IsBySources, IsScheduleFor};
 ghost use Rattle.certify_cc.specs.Steps.Cuts.{IsWalkOfAll};
 
-use crate::cutting::walk_of_all;
+use crate::cutting::Cutting;
 use crate::schedule::schedule_of;
-use causal_order::{Rows, Vectors, Walk};
+use crate::whole_walk::{WholeWalk, walk_of_all};
+use causal_order::{Rows, Vectors};
 use cert_check::{Certificate, Criterion, Schedules};
 use history::{History, MAX_SESSIONS, OpId};
 use memory_order::{CausalOrder, IndexedMemory};
@@ -89,12 +90,12 @@ fn schedules_by_sources(
     )
 }
 
-/// The schedules of the operations of a session.
+/// The schedules of the operations of a session, each cut from where the one before it parts from it.
 fn schedules_of(
     alloc: Global,
     order: &CausalOrder,
     vectors: &Vectors,
-    whole: &Walk,
+    whole: &WholeWalk,
     session: usize,
 ) -> Result<Rows<u8>, AllocError>
     requires counts { CountsSourceOrder order.now vectors.now }
@@ -103,10 +104,12 @@ fn schedules_of(
     requires exists { session < length order.now.1 }
     ensures { IfOk result (AreListsOf order.now (IsScheduleFor order.now vectors.now) session) }
 {
+    let mut cutting = Cutting::new(alloc, vectors.sessions())?;
     let mut schedules = Rows::new(alloc);
     for index in 0..order.memory().history().len(session) {
-        let walk = schedule_of(alloc, order, vectors, whole, OpId::at(session, index))?;
-        schedules.push(walk.schedule())?;
+        let op = OpId::at(session, index);
+        schedule_of(alloc, order, vectors, whole, op, &mut cutting)?;
+        schedules.push(cutting.schedule())?;
     }
     Ok(schedules)
 }

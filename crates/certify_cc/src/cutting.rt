@@ -1,76 +1,138 @@
-//! The one walk through all operations, and walks through closed sets of them, which are cut from it.
+//! Walks through closed sets of operations, each cut from the one walk through all operations.
 
-ghost use Rattle.std.specs.Prelude.{◌≡◌, ◌≤◌, ◌<◌, ℕ, [], length, slice_index_or, IfOk};
+ghost use Rattle.std.specs.Prelude.{◌≡◌, ◌≤◌, ◌<◌, ◌-◌, ◌∷◌, ◌++◌, ℕ, List, [], length, slice_index_or, IfOk, OnOk};
+ghost use Rattle.causal_order.specs.Schedules.{placed};
 ghost use Rattle.causal_order.specs.Topological.{AreSquare, IsFullWalk};
-ghost use Rattle.causal_order.specs.Vectors.{AreVectorsOf};
 ghost use Rattle.causal_order.proofs.Walked.{room};
-ghost use Rattle.certify_cc.specs.Steps.Cuts.{AreClosed, IsWalkOfAll};
+ghost use Rattle.certify_cc.specs.Steps.Cuts.{AreClosed, IsCut, IsWalkOfAll};
 
+use crate::whole_walk::WholeWalk;
 use causal_order::{MAX_PLACED, Vectors, Walk};
-use history::{History, MAX_SESSIONS};
-use object_trait::SeqObject;
+use history::MAX_SESSIONS;
 use std::alloc::{AllocError, Global};
 
-/// A walk through all operations of a history by the topological rule.
-///
-/// Fails for want of memory alone. O(n k) for n operations of k sessions.
-pub fn walk_of_all<O: SeqObject>(
-    alloc: Global,
-    h: &History<O>,
-    vectors: &Vectors,
-) -> Result<Walk, AllocError>
-    requires shape { AreVectorsOf h.now vectors.now }
-    requires square { AreSquare vectors.now }
-    ensures { IfOk result (IsWalkOfAll vectors.now) }
-{
-    let mut ends = Vec::new(alloc);
-    for session in 0..h.sessions() {
-        ends.push(h.len(session) as u16)?;
-    }
-    let mut walk = Walk::new(alloc);
-    walk.run_to(vectors, &ends)?;
-    Ok(walk)
+/// What a walk through all operations places below some limits, in its order, perhaps with more behind it. It goes over to other
+/// limits from where the walk places the first operation that only one of them has.
+#[derive(Drop)]
+pub struct Cutting {
+    walk: Walk,
+    limits: Vec<u16>,
+    /// For each operation of the whole walk that was looked at, how many are placed before it; and at last how many in all.
+    starts: Vec<usize>,
 }
 
-/// The full walk to limits that have with each operation all that its vector counts: what a walk through all operations
-/// places below them, in its order.
-///
-/// Fails for want of memory alone. O(n) for the operations that the whole walk places before the last of these.
-pub fn cut_to(
-    alloc: Global,
-    vectors: &Vectors,
-    whole: &Walk,
-    limits: &[u16],
-) -> Result<Walk, AllocError>
-    requires few { length vectors.now ≤ MAX_SESSIONS }
-    requires whole { IsWalkOfAll vectors.now whole.now }
-    requires limits { length limits.now ≡ length vectors.now }
-    requires closed { AreClosed vectors.now limits.now }
-    ensures full { IfOk result (IsFullWalk vectors.now limits.now []) }
-{
-    let mut cut = Walk::new(alloc);
-    let mut left = total(limits);
-    for session in whole.schedule() {
-        let session = usize::from(*session);
-        if left == 0 {
-            return Ok(cut);
-        }
-        if cut.placed(session) < usize::from(limits[session]) {
-            cut.place(session)?;
-            left -= 1;
-        }
+impl Cutting {
+    /// Nothing, which is what is below limits of 0.
+    ///
+    /// Fails for want of memory alone.
+    pub fn new(alloc: Global, sessions: usize) -> Result<Cutting, AllocError>
+        ensures size { IfOk result (λ cutting. length cutting.limits.items ≡ sessions) }
+        ensures cut { IfOk result (λ cutting. (whole : List ℕ) → IsCut whole cutting.limits.items cutting.starts.items cutting.walk) }
+    {
+        let limits = vec![in alloc; 0; sessions]?;
+        let starts = vec![in alloc; 0]?;
+        Ok(Cutting {
+            walk: Walk::new(alloc),
+            limits,
+            starts,
+        })
     }
-    Ok(cut)
+
+    /// For each placed operation its session, in order.
+    pub fn schedule(&self) -> &[u8]
+        ensures { result.now ≡ self.now.walk }
+    {
+        self.walk.schedule()
+    }
+
+    /// Goes over to the full walk to other limits, which have with each operation all that its vector counts.
+    ///
+    /// Fails for want of memory alone. O(k + m) for k sessions and m operations of the whole walk from the first one that is
+    /// below the limits before or these and not below both, up to the last one that is below either.
+    pub fn cut_to(
+        &mut self,
+        vectors: &Vectors,
+        whole: &WholeWalk,
+        limits: Vec<u16>,
+    ) -> Result<(), AllocError>
+        requires few { length vectors.now ≤ MAX_SESSIONS }
+        requires whole { IsWalkOfAll vectors.now whole.now }
+        requires limits { length limits.items ≡ length vectors.now }
+        requires closed { AreClosed vectors.now limits.items }
+        requires size { length self.old.limits.items ≡ length vectors.now }
+        requires cut { IsCut whole.now self.old.limits.items self.old.starts.items self.old.walk }
+        ensures size { OnOk result (length self.new.limits.items ≡ length vectors.now) }
+        ensures cut { OnOk result (IsCut whole.now self.new.limits.items self.new.starts.items self.new.walk) }
+        ensures full { OnOk result (IsFullWalk vectors.now limits.items [] self.new.walk) }
+    {
+        let common = whole
+            .common(&self.limits, &limits)
+            .min(self.starts.len() - 1);
+        self.walk.cut(self.starts[common]);
+        self.starts.truncate(common + 1);
+        self.limits = limits;
+        self.go_on(vectors, whole)
+    }
+
+    /// Goes on over the whole walk until the limits are reached.
+    fn go_on(&mut self, vectors: &Vectors, whole: &WholeWalk) -> Result<(), AllocError>
+        requires few { length vectors.now ≤ MAX_SESSIONS }
+        requires whole { IsWalkOfAll vectors.now whole.now }
+        requires limits { length self.old.limits.items ≡ length vectors.now }
+        requires closed { AreClosed vectors.now self.old.limits.items }
+        requires cut { IsCut whole.now self.old.limits.items self.old.starts.items self.old.walk }
+        requires end { length self.old.walk ≡ slice_index_or self.old.starts.items (length self.old.starts.items - 1) 0 }
+        ensures limits { self.new.limits.items ≡ self.old.limits.items }
+        ensures cut { OnOk result (IsCut whole.now self.old.limits.items self.new.starts.items self.new.walk) }
+        ensures full { OnOk result (IsFullWalk vectors.now self.old.limits.items [] self.new.walk) }
+    {
+        let mut left = room_of(&self.limits, &self.walk);
+        for place in self.starts.len() - 1..whole.schedule().len() {
+            if left == 0 {
+                return Ok(());
+            }
+            let session = usize::from(whole.schedule()[place]);
+            if self.walk.placed(session) < usize::from(self.limits[session]) {
+                self.walk.place(session)?;
+                left -= 1;
+            }
+            self.starts.push(self.walk.schedule().len())?;
+        }
+        Ok(())
+    }
+
+    /// Places the next operation of a session behind what is cut, and then goes on by the topological rule up to some limits.
+    ///
+    /// Fails for want of memory alone. O(p k + k^2) for p operations that are placed and k sessions.
+    pub fn run_behind(
+        &mut self,
+        vectors: &Vectors,
+        session: usize,
+        limits: &[u16],
+    ) -> Result<(), AllocError>
+        requires few { length vectors.now ≤ MAX_SESSIONS }
+        requires square { AreSquare vectors.now }
+        requires limits { length limits.now ≡ length vectors.now }
+        requires exists { session < MAX_SESSIONS }
+        requires room { placed self.old.walk session < MAX_PLACED }
+        ensures limits { self.new.limits.items ≡ self.old.limits.items }
+        ensures cut { (whole : List ℕ) → IsCut whole self.old.limits.items self.old.starts.items self.old.walk
+            → OnOk result (IsCut whole self.new.limits.items self.new.starts.items self.new.walk) }
+        ensures rule { OnOk result (IsFullWalk vectors.now limits.now (self.old.walk ++ session ∷ []) self.new.walk) }
+    {
+        self.walk.place(session)?;
+        self.walk.run_to(vectors, limits)
+    }
 }
 
-/// The sum of some limits.
-fn total(limits: &[u16]) -> usize
+/// How many operations limits leave behind a walk.
+fn room_of(limits: &[u16], walk: &Walk) -> usize
     requires { length limits.now ≤ MAX_SESSIONS }
-    ensures { room (length limits.now) limits.now [] ≤ result }
+    ensures { room (length limits.now) limits.now walk.now ≤ result }
 {
-    let mut sum: usize = 0;
-    for limit in limits {
-        sum += usize::from(*limit);
+    let mut room: usize = 0;
+    for (session, limit) in limits.iter().enumerate() {
+        room += usize::from(*limit).saturating_sub(walk.placed(session));
     }
-    sum
+    room
 }

@@ -6,6 +6,7 @@ mod by_sources;
 mod cutting;
 pub mod laws;
 mod schedule;
+mod whole_walk;
 
 pub use as_advised::{make, make_memory};
 pub use by_sources::{make_by_order, make_by_sources};

@@ -1,45 +1,50 @@
 //! Schedules of the past of an operation.
 
-ghost use Rattle.std.specs.Prelude.{◌<◌, ◌≤◌, ℕ, length, IfOk, slice_index_or};
+ghost use Rattle.std.specs.Prelude.{◌≡◌, ◌<◌, ◌≤◌, ℕ, length, IfOk, OnOk, slice_index_or};
 ghost use Rattle.history.specs.History.{IsOp};
 ghost use Rattle.causal_order.specs.Vectors.{IsListed};
 ghost use Rattle.causal_order.specs.Topological.{AreSquare};
 ghost use Rattle.memory_order.specs.SourceOrder.{CountsSourceOrder};
 ghost use Rattle.certify_cc.specs.BySources.{AreApart, IsApart, IsScheduleFor};
-ghost use Rattle.certify_cc.specs.Steps.Cuts.{IsCountedOn, IsWalkOfAll};
+ghost use Rattle.certify_cc.specs.Steps.Cuts.{IsCountedOn, IsCut, IsWalkOfAll};
 
-use crate::cutting::cut_to;
-use causal_order::{MAX_PLACED, Vectors, Walk, has_counted};
+use crate::cutting::Cutting;
+use crate::whole_walk::WholeWalk;
+use causal_order::{MAX_PLACED, Vectors, has_counted};
 use history::{MAX_SESSIONS, OpId};
 use memory_order::CausalOrder;
 use std::alloc::{AllocError, Global};
 
-/// The schedule of an operation: a walk through its past by the topological rule. Where it has a source, what isn't after
-/// the source comes first, then the source, then the rest.
+/// Goes over to the schedule of an operation: a walk through its past by the topological rule. Where it has a source, what
+/// isn't after the source comes first, then the source, then the rest.
 ///
-/// Fails for want of memory alone. O(n + p k) for n operations of k sessions, p of which are in the past and count the
-/// source.
+/// Fails for want of memory alone. O(m + p k + k^2 + k log n) for n operations of k sessions, p of which are in the past and
+/// count the source, and m operations of the whole walk from the first one that only one of this cut and the one before has.
 pub fn schedule_of(
     alloc: Global,
     order: &CausalOrder,
     vectors: &Vectors,
-    whole: &Walk,
+    whole: &WholeWalk,
     op: OpId,
-) -> Result<Walk, AllocError>
+    cutting: &mut Cutting,
+) -> Result<(), AllocError>
     requires counts { CountsSourceOrder order.now vectors.now }
     requires few { length vectors.now ≤ MAX_SESSIONS }
     requires whole { IsWalkOfAll vectors.now whole.now }
     requires is_op { IsOp order.now op }
-    ensures { IfOk result (IsScheduleFor order.now vectors.now op) }
+    requires size { length cutting.old.limits.items ≡ length vectors.now }
+    requires cut { IsCut whole.now cutting.old.limits.items cutting.old.starts.items cutting.old.walk }
+    ensures size { OnOk result (length cutting.new.limits.items ≡ length vectors.now) }
+    ensures cut { OnOk result (IsCut whole.now cutting.new.limits.items cutting.new.starts.items cutting.new.walk) }
+    ensures schedule { OnOk result (IsScheduleFor order.now vectors.now op cutting.new.walk) }
 {
     let Some(write) = order.source(op) else {
-        return cut_to(alloc, vectors, whole, vectors.get(op));
+        let past = Vec::from_slice(alloc, vectors.get(op))?;
+        return cutting.cut_to(vectors, whole, past);
     };
     let limits = limits_apart_from(alloc, vectors, op, write)?;
-    let mut walk = cut_to(alloc, vectors, whole, &limits)?;
-    walk.place(write.session as usize)?;
-    walk.run_to(vectors, vectors.get(op))?;
-    Ok(walk)
+    cutting.cut_to(vectors, whole, limits)?;
+    cutting.run_behind(vectors, write.session as usize, vectors.get(op))
 }
 
 /// For each session, how many of its operations are in the past of an operation and before a write and what is after it.

@@ -12,7 +12,12 @@ pub loop-index-preserved : goal.loop-index-preserved
 loop-index-preserved c =
     let o = op c.args.session c.loop-index.index in
     let holds = IsScheduleFor c.args.order.now c.args.vectors.now in
-    rw c.in_ok-push.ensures.ok
-    (lists-push holds c.args.session c.loop-index.index c.loop-index.schedules c.schedule.result.now c.loop-index.invariant
-    (subst (λ (xs : List ℕ). holds o xs) (sym c.schedule.ensures)
-    (subst (λ (x : OpId). holds x c.in_ok-walk.walk) c.at.ensures c.in_ok-walk.ensures)))
+    let goes = c.in_ok-schedule_of.ensures in
+    record {
+      so_far = rw c.in_ok-push.ensures.ok
+          (lists-push holds c.args.session c.loop-index.index c.loop-index.schedules c.schedule.result.now c.loop-index.invariant.so_far
+          (subst (λ (xs : List ℕ). holds o xs) (sym c.schedule.ensures)
+          (subst (λ (x : OpId). holds x c.schedule_of.new.cutting.walk) c.at-op.ensures goes.schedule)));
+      size = goes.size;
+      cut = goes.cut;
+    }

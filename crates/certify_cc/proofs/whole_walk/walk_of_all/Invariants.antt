@@ -1,6 +1,6 @@
 use Rattle.std.proofs.Common.{◌≡◌, ◌<◌, ℕ, length, get_or}
 use Rattle.history.specs.History.{session}
-use Rattle.certify_cc.proofs.cutting.walk_of_all.Given as goal
+use Rattle.certify_cc.proofs.whole_walk.walk_of_all.Given as goal
 
 -- the sessions so far have their ends
 abbrev pub invariant-loop-session : goal.invariant-loop-session

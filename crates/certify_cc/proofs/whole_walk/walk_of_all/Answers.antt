@@ -1,7 +1,7 @@
 use Rattle.std.proofs.Common.{◌≡◌, List, [], ℕ, length, subst, ◌∙◌, arith}
 use Rattle.causal_order.specs.Topological.{IsFullWalk}
 use Rattle.certify_cc.proofs.CutWalks.{all_ends}
-use Rattle.certify_cc.proofs.cutting.walk_of_all.Goals as goal
+use Rattle.certify_cc.proofs.whole_walk.walk_of_all.Goals as goal
 
 pub returns : goal.returns
 returns g c =
