@@ -1,4 +1,5 @@
 pub mod BoardErrors
 pub mod Boards
+pub mod CaseFiles
 pub mod Events
 pub mod Steps

@@ -1,7 +1,9 @@
 ghost use Rattle.std.specs.Prelude.{◌≡◌, ◌≤◌, [], true, false, length, IfOk};
 ghost use Rattle.board.specs.Boards.{AreRowsOf};
+ghost use Rattle.board.specs.CaseFiles.{AreRowsFor};
 
 use crate::case_session::CaseSession;
+use cert_check::CaseFile;
 use history::{History, MAX_SESSIONS};
 use object_trait::SeqObject;
 use std::alloc::{AllocError, Global};
@@ -27,6 +29,19 @@ impl Model for CaseRows {
 }
 
 impl CaseRows {
+    /// The rows of a file that is to be filed.
+    ///
+    /// Fails for want of memory alone. O(n) for n operations.
+    pub fn of<O: SeqObject>(alloc: Global, file: &CaseFile<O>) -> Result<CaseRows, AllocError>
+        ensures { IfOk result (AreRowsFor file.now) }
+    {
+        if file.certificate().is_some() {
+            CaseRows::certified(alloc, file.history())
+        } else {
+            Ok(CaseRows::uncertified(alloc))
+        }
+    }
+
     /// The rows of a case with a certificate for a history.
     ///
     /// Fails for want of memory alone. O(n) for n operations.

@@ -5,6 +5,7 @@
 mod answer;
 mod board;
 mod board_error;
+mod case_pieces;
 mod case_rows;
 mod case_session;
 mod filed_case;
@@ -15,6 +16,7 @@ mod piece;
 pub use answer::Answer;
 pub use board::{Board, MAX_CASES};
 pub use board_error::BoardError;
+pub use case_pieces::has_piece;
 pub use case_rows::CaseRows;
 pub use mark::Mark;
 pub use piece::Piece;

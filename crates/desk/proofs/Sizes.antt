@@ -9,7 +9,8 @@ use Rattle.history.specs.declared.op_id.OpId.{OpId}
 use Rattle.cert_check.specs.Certificates.{CaseRecord}
 use Rattle.board.specs.Boards.{CaseState, SessionRows, no_rows, session_of, open_of, open_rows}
 use Rattle.board.specs.Events.{IsRow}
-use Rattle.desk.specs.Files.{FileAt, HasPiece, sizes, file_sizes}
+use Rattle.board.specs.CaseFiles.{HasPiece}
+use Rattle.desk.specs.Files.{FileAt, sizes, file_sizes}
 use Rattle.desk.specs.Answers.{operations_of}
 
 abbrev row_count : SessionRows → ℕ

@@ -18,7 +18,8 @@ use Rattle.board.specs.Events.{IsChanged, IsRow, IsDueOf, put_refusal, ask_refus
 use Rattle.board.proofs.BoardsLaws.{verdict_row, verdict_others, taking_rows}
 use Rattle.board.proofs.Due.{waiting_row, due_is_row}
 use Rattle.board.specs.declared.piece.Piece.{Piece}
-use Rattle.desk.specs.Files.{FileAt, CaseOf, VerdictOf, AreRowsFor, AreTrueCases, IsOutcome, IsTrueCase, HasPiece, PassesFor, file_at, file_sizes, place_of, sizes}
+use Rattle.board.specs.CaseFiles.{AreRowsFor, IsOutcome, HasPiece}
+use Rattle.desk.specs.Files.{FileAt, CaseOf, VerdictOf, AreTrueCases, IsTrueCase, PassesFor, file_at, file_sizes, place_of, sizes}
 use Rattle.desk.proofs.Sizes.{sizes-set, counted_at, row-has_piece}
 
 -- what stands in a list of which one element was changed

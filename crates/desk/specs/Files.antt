@@ -1,13 +1,13 @@
 -- The case files of a desk, and what its board keeps true of them. (This project's profile.)
-use Rattle.std.specs.Prelude.{◌≡◌, ◌↔◌, ℕ, Bool, true, false, List, [], map, length, Some, None, IsSome, is_some, slice_get}
+use Rattle.std.specs.Prelude.{◌≡◌, ℕ, List, [], map, length, Some, None, is_some, slice_get}
 use Rattle.history.specs.declared.op_id.OpId.{OpId}
-use Rattle.history.specs.History.{HistoryValue, IsOp}
+use Rattle.history.specs.History.{HistoryValue}
 use Rattle.cert_check.specs.declared.criterion.Criterion.{Criterion}
 use Rattle.cert_check.specs.declared.checking.Outcome.{Outcome}
-use Rattle.cert_check.specs.declared.checking.Outcome.TheVariants.{Explained}
-use Rattle.cert_check.specs.Certificates.{CaseRecord, IsExplainedIn}
+use Rattle.cert_check.specs.Certificates.{CaseRecord}
 use Rattle.bad_patterns.specs.declared.pattern.Pattern.{Pattern}
-use Rattle.board.specs.Boards.{CaseState, SessionRows, row_of, AreRowsOf}
+use Rattle.board.specs.Boards.{CaseState, SessionRows, row_of}
+use Rattle.board.specs.CaseFiles.{IsOutcome}
 
 -- a case file, and its place on the shelf
 pub record FileAt (S C R : Type 0) : Type 0 where
@@ -41,23 +41,10 @@ module _ {S C R : Type 0} where
   abbrev pub IsSameCase : CaseOf S C R → CaseOf S C R → Type 0
   IsSameCase a b = (a.number ≡ b.number) × (a.place ≡ b.place)
 
-  -- the file has a certificate, and so a piece for each operation of its history
-  abbrev pub HasPiece : CaseRecord S C R → OpId → Type 0
-  HasPiece file o = IsSome file.2 × IsOp file.0 o
-
   -- how many rows each session of a case has: one for each operation, and no sessions without a certificate
   abbrev pub file_sizes : CaseRecord S C R → List ℕ
   file_sizes (h, criterion, None) = []
   file_sizes (h, criterion, Some certificate) = map length h.1
-
-  -- the rows of a file that is to be filed: whether it has a certificate, and rows without a verdict
-  abbrev pub AreRowsFor : CaseRecord S C R → Bool × List SessionRows → Type 0
-  AreRowsFor (h, criterion, None) rows = rows ≡ (false, [])
-  AreRowsFor (h, criterion, Some certificate) rows = (rows.0 ≡ true) × AreRowsOf h rows.1
-
-  -- what the check of the piece of o comes to
-  abbrev pub IsOutcome : (S → List C → C → R) → CaseRecord S C R → OpId → Outcome → Type 0
-  IsOutcome answer file o outcome = (outcome ≡ Explained) ↔ IsExplainedIn answer file o
 
   -- a pattern that was accepted passes its test for the history and the criterion of a file
   abbrev pub PassesFor : (HistoryValue S C R → Criterion → Pattern → Type 0) → CaseRecord S C R → Pattern → Type 0

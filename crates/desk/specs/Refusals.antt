@@ -4,7 +4,8 @@ use Rattle.history.specs.declared.op_id.OpId.{OpId}
 use Rattle.cert_check.specs.declared.desk_error.DeskError.{DeskError}
 use Rattle.cert_check.specs.declared.desk_error.DeskError.TheVariants.{Memory, Full, NotThatPattern, Doubled, Stranger, NoSuch}
 use Rattle.cert_check.specs.Certificates.{CaseRecord}
-use Rattle.desk.specs.Files.{CaseOf, VerdictOf, HasPiece, IsSameCase}
+use Rattle.board.specs.CaseFiles.{HasPiece}
+use Rattle.desk.specs.Files.{CaseOf, VerdictOf, IsSameCase}
 
 -- why a case file is not filed: memory ran out, or the board was full when the lock was held
 abbrev pub RefusesFile : DeskError → Type 0

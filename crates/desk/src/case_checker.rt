@@ -1,7 +1,7 @@
 //! What a worker holds between two pieces of a case.
 
 ghost use Rattle.std.specs.Prelude.{◌≡◌, IfOk, IsSome};
-ghost use Rattle.desk.specs.Files.{HasPiece};
+ghost use Rattle.board.specs.CaseFiles.{HasPiece};
 
 use crate::desk::Desk;
 use crate::shelf_name::ShelfName;

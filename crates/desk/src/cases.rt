@@ -2,7 +2,8 @@ ghost use Rattle.std.specs.Prelude.{◌≡◌, ◌≢◌, ◌<◌, ◌≤◌, �
 ghost use Rattle.std.specs.Prelude.{IfOk, IfErr, IfSome, IsNone, IsTrue, MatchOption, None, OnOk, OnErr, Some};
 ghost use Rattle.board.specs.Boards.{CaseState, fresh_case, row_of, handed_out, refuted};
 ghost use Rattle.board.specs.Events.{IsChanged, IsIdleAt, IsDueOf, IsStanding};
-ghost use Rattle.desk.specs.Files.{AreRowsFor, HasPiece, PassesFor};
+ghost use Rattle.board.specs.CaseFiles.{AreRowsFor, HasPiece};
+ghost use Rattle.desk.specs.Files.{PassesFor};
 ghost use Rattle.desk.specs.Answers.{IsTrueAnswer};
 ghost use Rattle.desk.specs.Steps.Cases.{IsPut, refusal_of_ticket, refusal_of_verdict};
 

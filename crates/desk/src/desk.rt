@@ -1,19 +1,20 @@
 ghost use Rattle.std.specs.Prelude.{◌≡◌, ◌↔◌, IfOk, IfErr, IfSome, IsTrue, OnOk, Err};
 ghost use Rattle.bad_patterns.specs.declared.kind.Kind.{Kind as Kinds};
 ghost use Rattle.cert_check.specs.Criteria.{Meets};
-ghost use Rattle.desk.specs.Files.{HasPiece, IsSameCase, PassesFor};
+ghost use Rattle.board.specs.CaseFiles.{HasPiece};
+ghost use Rattle.desk.specs.Files.{IsSameCase, PassesFor};
 ghost use Rattle.desk.specs.Answers.{IsTrueAnswer};
 ghost use Rattle.desk.specs.Refusals.{RefusesCheck, RefusesFile, RefusesPattern, RefusesVerdict};
 
 use crate::cases::Cases;
-use crate::file_rows::{has_piece, rows_of, unfiled_answer};
+use crate::file_rows::unfiled_answer;
 use crate::shelf::Shelf;
 use crate::shelf_name::ShelfName;
 use crate::ticket::Ticket;
 use crate::token::Token;
 use crate::verdict::Verdict;
 use bad_patterns::Pattern;
-use board::{Answer, BoardError};
+use board::{Answer, BoardError, CaseRows, has_piece};
 use cert_check::laws::explained_certificates_show_their_criterion;
 use cert_check::{CaseFile, DeskError, check_piece};
 use history::OpId;
@@ -104,7 +105,7 @@ impl<O: Refutable, K: ShelfName> Desk<O, K> {
         ensures file { IfOk result (λ t. t.file ≡ file) }
         ensures back { IfErr result (λ back. IfSome back (λ f. f ≡ file)) }
     {
-        let Ok(rows) = rows_of(self.alloc, &file) else {
+        let Ok(rows) = CaseRows::of(self.alloc, &file) else {
             return Err(None);
         };
         let mut cases = self.cases.lock(rt);

@@ -1,5 +1,5 @@
 ghost use Rattle.std.specs.Prelude.{◌≡◌};
-ghost use Rattle.desk.specs.Files.{HasPiece, IsOutcome};
+ghost use Rattle.board.specs.CaseFiles.{HasPiece, IsOutcome};
 
 use crate::shelf_name::ShelfName;
 use crate::ticket::Ticket;
@@ -17,7 +17,8 @@ pub struct Verdict<O: SeqObject, K: ShelfName> {
 }
 
 impl<O: SeqObject, K: ShelfName> Model for Verdict<O, K> {
-    ghost use Rattle.desk.specs.Files.{VerdictOf, HasPiece, IsOutcome};
+    ghost use Rattle.board.specs.CaseFiles.{HasPiece, IsOutcome};
+    ghost use Rattle.desk.specs.Files.{VerdictOf};
 
     ghost Value = { VerdictOf O.Start O.Call O.Ret };
 

@@ -1,7 +1,7 @@
 //! What workers do at a desk.
 
 ghost use Rattle.std.specs.Prelude.{◌≡◌, ◌≤◌, IfErr, IfOk, IsSome};
-ghost use Rattle.desk.specs.Files.{HasPiece};
+ghost use Rattle.board.specs.CaseFiles.{HasPiece};
 
 use crate::case_checker::CaseChecker;
 use crate::desk::Desk;
