@@ -8,7 +8,7 @@ use Rattle.cert_check.specs.Certificates.{CaseRecord}
 use Rattle.board.specs.Boards.{CaseState}
 use Rattle.board.specs.Events.{IsRow}
 use Rattle.world.specs.declared.place.Place.{Place}
-use Rattle.world.specs.BoardReplies.{HasPiece}
+use Rattle.board.specs.CaseFiles.{HasPiece}
 use Rattle.world.specs.Steps.KeptCases.{Log, IsCase, rows_for}
 
 module _ {S C R : Type 0} (h : HistoryValue S C R) where

@@ -20,19 +20,20 @@ use Rattle.world.specs.declared.reply.ReplyOf.TheVariants.{Case, Refused}
 use Rattle.world.specs.declared.refusal.Refusal.TheVariants.{ShapeMismatch, Full}
 use Rattle.world.specs.Cases.{filings, case_file}
 use Rattle.world.specs.BoardReplies.{IsFileReply, next_case}
-use Rattle.world.specs.Steps.KeptCases.{Log, log_of, CasesState, IsCase, IsVerdict, AreCases, ShowsCases, Files, AreRowsFor, IsAdded, with_board, with_file, with_one_file}
+use Rattle.board.specs.CaseFiles.{AreRowsFor}
+use Rattle.world.specs.Steps.KeptCases.{Log, log_of, CasesState, IsCase, IsVerdict, AreCases, ShowsCases, Files, IsAdded, with_board, with_file, with_one_file}
 use Rattle.world.proofs.Logs.{log_more, filed_known}
 use Rattle.world.proofs.CaseRows.{AreFresh, fresh_none, fresh_some}
 use Rattle.world.proofs.KeptCase.{case_new}
 use Rattle.world.proofs.FiledFiles.{files_filed}
 use Rattle.world.proofs.BoardChanges.{shows_refused}
 
-fresh_for : {S C R : Type 0} (h : HistoryValue S C R) (x : Option Certificate) (rows : Bool × List SessionRows) → AreRowsFor h x rows → AreFresh h x rows
-fresh_for h None rows are = fresh_none h rows are
-fresh_for h (Some x) rows are = fresh_some h rows x are.0 are.1
+fresh_for : {S C R : Type 0} (f : CaseRecord S C R) (rows : Bool × List SessionRows) → AreRowsFor f rows → AreFresh f.0 f.2 rows
+fresh_for (h, criterion, None) rows are = fresh_none h rows are
+fresh_for (h, criterion, Some x) rows are = fresh_some h rows x are.0 are.1
 
 -- a board that is not full takes a case
-module _ {S C R : Type 0} (w : CasesState S C R) (f : CaseRecord S C R) (rows : Bool × List SessionRows) (n : ℕ) (is : n ≡ length w.files) (are : AreRowsFor f.0 f.2 rows) (room : length w.board < 64) where
+module _ {S C R : Type 0} (w : CasesState S C R) (f : CaseRecord S C R) (rows : Bool × List SessionRows) (n : ℕ) (is : n ≡ length w.files) (are : AreRowsFor f rows) (room : length w.board < 64) where
   added_to : (v u : CasesState S C R) (result : Result ℕ BoardError) → v ≡ with_one_file w f → OnOk result (u ≡ with_board v (v.board ++ fresh_case record { number = n } rows ∷ []))
       → IfErr result (λ e. 64 ≤ length v.board) → IsAdded f w u
   added_to v u (Ok m) came became full =
@@ -121,7 +122,7 @@ module _ {S C R : Type 0} (answer : S → List C → C → R) (passes : HistoryV
       let f : CaseRecord S C R = (h, q, x) in
       let reply : ◌≡◌ {A = ReplyOf (HistoryValue S C R)} (Case n) (next_case es) =
       ap {B = ReplyOf (HistoryValue S C R)} (λ (m : ℕ). Case m) (is ∙ b) ∙ sym (ap {B = ReplyOf (HistoryValue S C R)} (λ (t : Bool). if t then Case (length (filings es)) else Refused Full) below) in
-      let this = case_new answer (log_of es) (length w.files) shows.cases.known f added.0 (fresh_for h x added.0 added.1) in
+      let this = case_new answer (log_of es) (length w.files) shows.cases.known f added.0 (fresh_for f added.0 added.1) in
       let are = cases_filed answer (log_of es) w shows.cases f (fresh_case record { number = length w.files } added.0) this in (
         subst (λ (o : Option (HistoryValue S C R)). IsFileReply es q x o (Case n)) (sym sealed) (inl (fits, reply)),
         subst (λ (y : CasesState S C R). ShowsCases answer start k (es ++ (File z q x, Case n) ∷ []) y) (sym added.2) record {

@@ -14,7 +14,8 @@ use Rattle.board.specs.Events.{IsRow, IsDue}
 use Rattle.board.proofs.BoardsLaws.{verdict_row, verdict_others, taking_rows}
 use Rattle.board.proofs.Due.{waiting_row}
 use Rattle.world.specs.declared.place.Place.{Place}
-use Rattle.world.specs.Steps.KeptCases.{Log, with_put, with_taken, with_pattern, WasTakenIn, HasVerdictIn, IsKnown, IsOutcome, IsCase}
+use Rattle.board.specs.CaseFiles.{IsOutcome}
+use Rattle.world.specs.Steps.KeptCases.{Log, with_put, with_taken, with_pattern, WasTakenIn, HasVerdictIn, IsKnown, IsCase}
 use Rattle.world.proofs.Logs.{IsSameOf, put_here, put_from, put_to, taken_to, taken_here, taken_from, pattern_here}
 use Rattle.world.proofs.CaseRows.{AreFresh, op_cases, verdict_sizes, verdict_next, taken_sizes, taken_next, taken_next_elsewhere, row_there}
 

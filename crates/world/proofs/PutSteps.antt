@@ -23,8 +23,9 @@ use Rattle.world.specs.declared.refusal.Refusal.{Refusal}
 use Rattle.world.specs.declared.refusal.Refusal.TheVariants.{Doubled, NoSuch}
 use Rattle.world.specs.Refusals.{refusal_of}
 use Rattle.world.specs.Cases.{Filing, filings, verdicts, HasVerdict}
-use Rattle.world.specs.BoardReplies.{HasPiece, IsPutTo, IsPutReply}
-use Rattle.world.specs.Steps.KeptCases.{log_of, CasesState, IsCase, IsOutcome, AreCases, ShowsCases, TakesOn, place_of, accepted_unless, with_case, with_put}
+use Rattle.board.specs.CaseFiles.{HasPiece, IsOutcome}
+use Rattle.world.specs.BoardReplies.{IsPutTo, IsPutReply}
+use Rattle.world.specs.Steps.KeptCases.{log_of, CasesState, IsCase, AreCases, ShowsCases, TakesOn, place_of, accepted_unless, with_case, with_put}
 use Rattle.world.proofs.Logs.{put_same, put_known}
 use Rattle.world.proofs.CaseRows.{row_there}
 use Rattle.world.proofs.CasePieces.{piece_row}

@@ -18,8 +18,9 @@ use Rattle.world.specs.declared.reply.ReplyOf.{ReplyOf}
 use Rattle.world.specs.declared.reply.ReplyOf.TheVariants.{Verdict, Refused}
 use Rattle.world.specs.declared.refusal.Refusal.TheVariants.{NoSuch}
 use Rattle.world.specs.Cases.{verdicts, case_file}
-use Rattle.world.specs.BoardReplies.{HasPiece, IsWorkReply}
-use Rattle.world.specs.Steps.KeptCases.{Log, log_of, CasesState, HasPieceAt, IsVerdict, IsOutcome, AreCases, ShowsCases, TakesOn, with_given, with_verdict_given}
+use Rattle.board.specs.CaseFiles.{HasPiece, IsOutcome}
+use Rattle.world.specs.BoardReplies.{IsWorkReply}
+use Rattle.world.specs.Steps.KeptCases.{Log, log_of, CasesState, HasPieceAt, IsVerdict, AreCases, ShowsCases, TakesOn, with_given, with_verdict_given}
 use Rattle.world.proofs.Logs.{given_same, given_known}
 use Rattle.world.proofs.KeptCase.{case_same}
 use Rattle.world.proofs.BoardChanges.{shows_more, shows_refused}

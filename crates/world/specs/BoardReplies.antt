@@ -1,5 +1,5 @@
 -- Which reply a step of a worker or of the desk's users has, read off the steps and replies before.
-use Rattle.std.specs.Prelude.{◌≡◌, ◌≢◌, ◌↔◌, ◌⊎◌, ℕ, ◌<◌, if◌then◌else◌, List, [], length, Option, Some, None, IsSome, option_map, slice_get, nat_lt}
+use Rattle.std.specs.Prelude.{◌≡◌, ◌≢◌, ◌⊎◌, ℕ, ◌<◌, if◌then◌else◌, List, [], length, Option, Some, None, option_map, slice_get, nat_lt}
 use Rattle.board.specs.declared.board.TheConstants.{MAX_CASES}
 use Rattle.history.specs.declared.op_id.OpId.{OpId}
 use Rattle.history.specs.History.{HistoryValue, IsOp}
@@ -7,10 +7,10 @@ use Rattle.causal_order.specs.Orders.{IsEarlier}
 use Rattle.cert_check.specs.declared.criterion.Criterion.{Criterion}
 use Rattle.cert_check.specs.declared.certificate.Certificate.{Certificate}
 use Rattle.cert_check.specs.declared.checking.Outcome.{Outcome}
-use Rattle.cert_check.specs.declared.checking.Outcome.TheVariants.{Explained}
-use Rattle.cert_check.specs.Certificates.{CaseRecord, IsCaseFile, IsExplainedIn, IsExplainedThroughout, IsFirstUnexplained}
+use Rattle.cert_check.specs.Certificates.{CaseRecord, IsCaseFile, IsExplainedThroughout, IsFirstUnexplained}
 use Rattle.bad_patterns.specs.declared.pattern.Pattern.{Pattern}
 use Rattle.bad_patterns.specs.Patterns.{kind_of}
+use Rattle.board.specs.CaseFiles.{HasPiece, IsOutcome}
 use Rattle.board.specs.declared.piece.Piece.{Piece}
 use Rattle.board.specs.declared.answer.Answer.{Answer as Standing}
 use Rattle.board.specs.declared.answer.Answer.TheVariants.{Yes, No, Unknown, Open}
@@ -22,11 +22,6 @@ use Rattle.world.specs.declared.refusal.Refusal.TheVariants.{ShapeMismatch, Full
 use Rattle.world.specs.Happened.{events}
 use Rattle.world.specs.LaneReplies.{seal}
 use Rattle.world.specs.Cases.{Filing, filings, verdicts, patterns, case_file, WasTaken, HasVerdict}
-
-module _ {S C R : Type 0} where
-  -- the case has a certificate and the operation, so it has a piece of it
-  abbrev pub HasPiece : CaseRecord S C R → OpId → Type 0
-  HasPiece f o = IsSome f.2 × IsOp f.0 o
 
 module _ {S C R : Type 0} (es : List (StepOf C R × ReplyOf (HistoryValue S C R))) where
   -- the next case, where 64 are not filed
@@ -69,7 +64,7 @@ module _ {S C R : Type 0} (answer : S → List C → C → R) (es : List (StepOf
   IsWorkReply o None r = r ≡ Refused NoSuch
   IsWorkReply o (Some f) r =
       ((¬ HasPiece f o) × (r ≡ Refused NoSuch))
-      ⊎ (HasPiece f o × ((outcome : Outcome) × (r ≡ Verdict (length (verdicts es)) outcome) × ((outcome ≡ Explained) ↔ IsExplainedIn answer f o)))
+      ⊎ (HasPiece f o × ((outcome : Outcome) × (r ≡ Verdict (length (verdicts es)) outcome) × IsOutcome answer f o outcome))
 
   -- no pattern was accepted against the case, and it has this certificate
   abbrev pub IsUndecided : ℕ → CaseRecord S C R → Certificate → Type 0

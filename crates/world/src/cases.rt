@@ -2,8 +2,8 @@ ghost use Rattle.std.specs.Prelude.{◌≡◌, ◌↔◌, ◌<◌, ◌≤◌, �
 ghost use Rattle.std.specs.Prelude.{IfErr, IfOk, IfSome, IsNone, IsTrue, MatchOption, None, OnErr, OnOk, Some};
 ghost use Rattle.board.specs.Boards.{CaseState, fresh_case, handed_out, refuted, with_verdict};
 ghost use Rattle.board.specs.Events.{IsDueOf, IsIdleAt, IsStanding, ask_refusal, put_refusal, refute_refusal};
-ghost use Rattle.world.specs.BoardReplies.{HasPiece};
-ghost use Rattle.world.specs.Steps.KeptCases.{AreRowsFor, Files, HasPieceAt, IsAdded, IsRefusal, ShowsCases, TakesOn, place_of};
+ghost use Rattle.board.specs.CaseFiles.{HasPiece};
+ghost use Rattle.world.specs.Steps.KeptCases.{Files, HasPieceAt, IsAdded, IsRefusal, ShowsCases, TakesOn, place_of};
 ghost use Rattle.world.specs.Steps.KeptCases.{with_board, with_case, with_one_file, with_verdict_given};
 
 use crate::given_verdict::GivenVerdict;
@@ -12,10 +12,9 @@ use crate::refusal::Refusal;
 use crate::reply::{Reply, ReplyOf};
 use crate::step::StepOf;
 use bad_patterns::Pattern;
-use board::{Answer, Board, BoardError, CaseRows, MAX_CASES, Piece};
+use board::{Answer, Board, BoardError, CaseRows, MAX_CASES, Piece, has_piece};
 use cert_check::{CaseFile, Certificate, Criterion, check_piece};
 use history::{History, OpId};
-use object_trait::SeqObject;
 use refutable::Refutable;
 use std::alloc::{AllocError, Global};
 use std::marker::Model;
@@ -99,7 +98,7 @@ impl<O: Refutable> Cases<O> {
         requires { length self.old.board < MAX_CASES }
         ensures { OnOk result (IsAdded file self.old self.new) }
     {
-        let rows = rows_of(alloc, &file)?;
+        let rows = CaseRows::of(alloc, &file)?;
         let number = self.filed();
         self.push_file(file)?;
         let _number = self.push_case(Place { number }, rows);
@@ -329,24 +328,6 @@ impl<O: Refutable> Cases<O> {
         let place = Place { number: c };
         self.board.ask(c, &place)
     }
-}
-
-/// The rows of a file that is to be filed.
-fn rows_of<O: SeqObject>(alloc: Global, file: &CaseFile<O>) -> Result<CaseRows, AllocError>
-    ensures { IfOk result (λ rows. AreRowsFor file.now.0 file.now.2 rows) }
-{
-    if file.certificate().is_some() {
-        CaseRows::certified(alloc, file.history())
-    } else {
-        Ok(CaseRows::uncertified(alloc))
-    }
-}
-
-/// Whether the file has a certificate, and so a piece for the operation.
-fn has_piece<O: SeqObject>(file: &CaseFile<O>, op: OpId) -> bool
-    ensures { IsTrue result ↔ HasPiece file.now op }
-{
-    file.certificate().is_some() && file.history().contains(op)
 }
 
 /// Whether a pattern passes for the history and the criterion of a file.

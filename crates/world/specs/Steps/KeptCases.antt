@@ -1,16 +1,16 @@
 -- What the cases of a running world keep, and that it is what the steps before say of them.
-use Rattle.std.specs.Prelude.{◌≡◌, ◌↔◌, ◌⊎◌, ℕ, ◌<◌, ◌≤◌, ◌==◌, Bool, true, false, if◌then◌else◌, List, [], ◌∷◌, ◌++◌, map, length, Option, Some, None, is_some, slice_get, slice_set}
+use Rattle.std.specs.Prelude.{◌≡◌, ◌⊎◌, ℕ, ◌<◌, ◌≤◌, ◌==◌, Bool, if◌then◌else◌, List, [], ◌∷◌, ◌++◌, map, length, Option, Some, None, is_some, slice_get, slice_set}
 use Rattle.history.specs.declared.op_id.OpId.{OpId}
 use Rattle.history.specs.History.{HistoryValue, session}
 use Rattle.cert_check.specs.declared.criterion.Criterion.{Criterion}
 use Rattle.cert_check.specs.declared.certificate.Certificate.{Certificate}
 use Rattle.cert_check.specs.declared.checking.Outcome.{Outcome}
-use Rattle.cert_check.specs.declared.checking.Outcome.TheVariants.{Explained}
-use Rattle.cert_check.specs.Certificates.{CaseRecord, IsExplainedIn}
+use Rattle.cert_check.specs.Certificates.{CaseRecord}
 use Rattle.bad_patterns.specs.declared.pattern.Pattern.{Pattern}
 use Rattle.board.specs.declared.piece.Piece.{Piece}
 use Rattle.board.specs.declared.board_error.BoardError.{BoardError}
-use Rattle.board.specs.Boards.{CaseState, SessionRows, AreRowsOf, fresh_case, session_of, row_of}
+use Rattle.board.specs.Boards.{CaseState, SessionRows, fresh_case, session_of, row_of}
+use Rattle.board.specs.CaseFiles.{AreRowsFor, HasPiece, IsOutcome}
 use Rattle.board.specs.Events.{IsRow}
 use Rattle.world.specs.declared.place.Place.{Place}
 use Rattle.world.specs.declared.given_verdict.GivenVerdict.{GivenVerdict}
@@ -24,7 +24,7 @@ use Rattle.world.specs.Refusals.{refusal_of}
 use Rattle.world.specs.Happened.{events}
 use Rattle.world.specs.LaneReplies.{seal}
 use Rattle.world.specs.Cases.{filings, verdicts, puts, patterns, taken, case_file}
-use Rattle.world.specs.BoardReplies.{HasPiece, IsBoardReply}
+use Rattle.world.specs.BoardReplies.{IsBoardReply}
 use Rattle.world.specs.Steps.Recordings.{after}
 
 -- accepted, where the board refuses nothing
@@ -108,14 +108,9 @@ module _ {S C R : Type 0} where
   abbrev pub with_one_file : CasesState S C R → CaseRecord S C R → CasesState S C R
   with_one_file w f = record { files = w.files ++ f ∷ []; board = w.board; verdicts = w.verdicts }
 
-  -- the rows of a case that is to be filed: whether it has a certificate, and rows without a verdict
-  abbrev pub AreRowsFor : HistoryValue S C R → Option Certificate → Bool × List SessionRows → Type 0
-  AreRowsFor h None rows = rows ≡ (false, [])
-  AreRowsFor h (Some certificate) rows = (rows.0 ≡ true) × AreRowsOf h rows.1
-
   -- one more case was filed, with such rows
   abbrev pub IsAdded : CaseRecord S C R → CasesState S C R → CasesState S C R → Type 0
-  IsAdded f old new = (rows : Bool × List SessionRows) × AreRowsFor f.0 f.2 rows × (new ≡ with_file old f (fresh_case record { number = length old.files } rows))
+  IsAdded f old new = (rows : Bool × List SessionRows) × AreRowsFor f rows × (new ≡ with_file old f (fresh_case record { number = length old.files } rows))
 
   -- why a pattern is refused, at a case that is there or is not
   abbrev pub IsRefusal : (HistoryValue S C R → Criterion → Pattern → Type 0) → Pattern → Option (CaseRecord S C R) → Option Refusal → Type 0
@@ -123,16 +118,12 @@ module _ {S C R : Type 0} where
   IsRefusal passes pattern (Some f) r = (passes f.0 f.1 pattern × (r ≡ None)) ⊎ ((¬ passes f.0 f.1 pattern) × (r ≡ Some NotThatPattern))
 
 module _ {S C R : Type 0} (answer : S → List C → C → R) where
-  -- what the check of a piece comes to
-  abbrev pub IsOutcome : CaseRecord S C R → OpId → Outcome → Type 0
-  IsOutcome f o outcome = (outcome ≡ Explained) ↔ IsExplainedIn answer f o
-
   -- a verdict is on a piece of one of these files, and true
   pub record IsVerdict (files : List (CaseRecord S C R)) (g : GivenVerdict) : Type 0 where
     pub file : CaseRecord S C R
     pub filed : slice_get files g.piece.number ≡ Some file
     pub piece : HasPiece file g.piece.op
-    pub outcome : IsOutcome file g.piece.op g.outcome
+    pub outcome : IsOutcome answer file g.piece.op g.outcome
 
   -- a case of the board is what is known of the case of this number and file: a row for each piece, filled where a verdict was
   -- put, with what the check of the piece comes to; the first pattern; and in each session no row before the next is free
@@ -141,7 +132,7 @@ module _ {S C R : Type 0} (answer : S → List C → C → R) where
     pub certificate : s.has_certificate ≡ is_some f.2
     pub sizes : (t : ℕ) → length (session_of s t).rows ≡ rows_for f.0 f.2 t
     pub empty : (o : OpId) → row_of s o ≡ Some None → ¬ HasVerdictIn l c o
-    pub filled : (o : OpId) (outcome : Outcome) → row_of s o ≡ Some (Some outcome) → HasVerdictIn l c o × IsOutcome f o outcome
+    pub filled : (o : OpId) (outcome : Outcome) → row_of s o ≡ Some (Some outcome) → HasVerdictIn l c o × IsOutcome answer f o outcome
     pub pattern : s.pattern ≡ slice_get (l.patterns c) 0
     pub behind : (o : OpId) → WasTakenIn l c o → o.index < (session_of s o.session).next
     pub passed : (o : OpId) → IsRow s o → o.index < (session_of s o.session).next → WasTakenIn l c o ⊎ HasVerdictIn l c o
