@@ -7,6 +7,7 @@ use Rattle.cert_check.specs.declared.certificate.Certificate.{Certificate}
 use Rattle.cert_check.specs.declared.criterion.Criterion.{Criterion}
 use Rattle.cert_check.specs.declared.desk_error.DeskError.{DeskError}
 use Rattle.cert_check.specs.declared.desk_error.DeskError.TheVariants.{BadWorkers, Memory}
+use Rattle.cert_check.specs.Criteria.{Meets}
 use Rattle.cert_check.specs.Certificates.{CaseRecord, HasShapeOf, IsExplainedThroughout, IsFirstUnexplained, criterion_of}
 use Rattle.bad_patterns.specs.declared.kind.Kind.{Kind}
 use Rattle.board.specs.declared.answer.Answer.{Answer}
@@ -39,6 +40,10 @@ IsFounded met excluded unexplained (No kind) = excluded kind
 IsFounded met excluded unexplained (Unknown None) = ⊤
 IsFounded met excluded unexplained (Unknown (Some o)) = unexplained o
 IsFounded met excluded unexplained (Open n) = ⊥
+
+-- an answer is founded by a certificate of a history, which excludes no criterion
+abbrev pub IsFoundedByCertificate : {S C R : Type 0} → (S → List C → C → R) → HistoryValue S C R → Criterion → Answer → Type 0
+IsFoundedByCertificate answer h criterion said = IsFounded (Meets answer h criterion) (λ kind. ⊥) (IsUnexplainedOf answer h criterion) said
 
 -- an answer is a yes or a no
 abbrev pub IsKnown : Answer → Type 0

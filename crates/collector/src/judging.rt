@@ -4,7 +4,7 @@ ghost use Rattle.std.specs.Prelude.{◌≡◌, ◌↔◌, IfErr, IfOk, IsTrue};
 ghost use Rattle.bad_patterns.specs.declared.kind.Kind.{Kind as AnyKind};
 ghost use Rattle.cert_check.specs.Criteria.{Meets};
 ghost use Rattle.history.specs.Workers.{AreWorkers};
-ghost use Rattle.collector.specs.Judgements.{IsFounded, IsJudgeError, IsKnown, IsSaidOfFile, IsUnexplainedOf};
+ghost use Rattle.collector.specs.Judgements.{IsFounded, IsFoundedByCertificate, IsJudgeError, IsKnown, IsSaidOfFile, IsUnexplainedOf};
 
 use crate::judged::Judged;
 use crate::making::made_file;
@@ -64,7 +64,7 @@ fn judge_by_certificate<O: Judged + Send + Sync, R: Threads + Wait + Sync, G: Ga
     workers: usize,
     gate: &G,
 ) -> Result<Answer, DeskError>
-    ensures founded { IfOk result (IsFounded (Meets O.answer h criterion) (λ kind. ⊥) (IsUnexplainedOf O.answer h criterion)) }
+    ensures founded { IfOk result (IsFoundedByCertificate O.answer h criterion) }
     ensures decided { O.decides h criterion → Meets O.answer h criterion → IfOk result IsKnown }
     ensures error { IfErr result (λ e. e ≡ DeskError.Memory) }
 {
@@ -81,7 +81,7 @@ fn judge_file<O: Judged + Send + Sync, R: Threads + Wait + Sync, G: Gate>(
     gate: &G,
 ) -> Result<Answer, DeskError>
     ensures said { IfOk result (IsSaidOfFile O.answer file) }
-    ensures founded { IfOk result (IsFounded (Meets O.answer file.0 file.1) (λ kind. ⊥) (IsUnexplainedOf O.answer file.0 file.1)) }
+    ensures founded { IfOk result (IsFoundedByCertificate O.answer file.0 file.1) }
     ensures error { IfErr result (λ e. e ≡ DeskError.Memory) }
 {
     explained_certificates_show_their_criterion::<O>();

@@ -3,7 +3,7 @@
 ghost use Rattle.std.specs.Prelude.{◌≡◌, IfErr, IfOk};
 ghost use Rattle.bad_patterns.specs.declared.kind.Kind.{Kind as AnyKind};
 ghost use Rattle.cert_check.specs.Criteria.{Meets};
-ghost use Rattle.collector.specs.Judgements.{IsFounded, IsKnown, IsSaidOfFile, IsUnexplainedOf};
+ghost use Rattle.collector.specs.Judgements.{IsFounded, IsFoundedByCertificate, IsKnown, IsSaidOfFile, IsUnexplainedOf};
 
 use crate::judged::Judged;
 use crate::making::made_file;
@@ -44,7 +44,7 @@ fn judge_by_certificate_alone<O: Judged>(
     advice: &[Option<Advice>],
     criterion: Criterion,
 ) -> Result<Answer, DeskError>
-    ensures founded { IfOk result (IsFounded (Meets O.answer h criterion) (λ kind. ⊥) (IsUnexplainedOf O.answer h criterion)) }
+    ensures founded { IfOk result (IsFoundedByCertificate O.answer h criterion) }
     ensures decided { O.decides h criterion → Meets O.answer h criterion → IfOk result IsKnown }
     ensures error { IfErr result (λ e. e ≡ DeskError.Memory) }
 {
@@ -61,7 +61,7 @@ pub fn judge_alone_with<O: SeqObject>(
     file: &CaseFile<O>,
 ) -> Result<Answer, DeskError>
     ensures said { IfOk result (IsSaidOfFile O.answer file.now) }
-    ensures founded { IfOk result (IsFounded (Meets O.answer file.now.0 file.now.1) (λ kind. ⊥) (IsUnexplainedOf O.answer file.now.0 file.now.1)) }
+    ensures founded { IfOk result (IsFoundedByCertificate O.answer file.now.0 file.now.1) }
     ensures met { IfOk result (λ a. a ≡ Answer.Yes → Meets O.answer file.now.0 file.now.1) }
     ensures error { IfErr result (λ e. e ≡ DeskError.Memory) }
 {
