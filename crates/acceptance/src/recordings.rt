@@ -1,6 +1,6 @@
 //! Steps of sessions that are made again where memory was refused, and what a history says of them.
 
-use history::{Advice, History, TakenIn};
+use history::{Advice, History, MAX_SESSIONS, TakenIn};
 use object_trait::SeqObject;
 use objects::{Register, RegisterCall, RegisterRet};
 use recorder::{RecordError, Session};
@@ -9,7 +9,7 @@ use std::alloc::{AllocError, Global};
 /// Advice that tells nothing but a stamp.
 pub fn advice(alloc: Global, stamp: u64) -> Advice {
     Advice {
-        counts: [0; 16],
+        counts: [0; MAX_SESSIONS],
         stamp,
         order: TakenIn::of(Vec::new(alloc)),
     }
