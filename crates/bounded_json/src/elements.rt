@@ -42,7 +42,8 @@ impl<K: Element> Elements<K> {
     #[inline(always)]
     pub(crate) fn take(&mut self, token: &Token<'_>) -> Result<bool, AllocError>
         ensures taken { IfOk result
-            (λ taken. IsTrue taken → IsTaken (token_of token.now) (elements_view K.stands_for self.old) (elements_view K.stands_for self.new)) }
+            (λ taken. IsTrue taken → IsTaken (token_of token.now) (elements_view K.stands_for self.old)
+            (elements_view K.stands_for self.new)) }
         ensures left { IfOk result (λ taken. taken ≡ false → self.new ≡ self.old) }
     {
         let Token::Number(text) = token else {

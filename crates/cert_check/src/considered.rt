@@ -35,7 +35,8 @@ pub fn is_answered_at<O: SeqObject>(
     requires is_op { IsOp h.now op }
     requires within { place ≤ length list.now }
     requires counts { AreCountsAt list.now place (length h.now.1) naming.old.counts.items }
-    ensures { IfOk result (λ yes. IsTrue yes ↔ IsAnsweredAfter O.answer h.now (filter (counted v.now op) (take place (named list.now))) op) }
+    ensures { IfOk result (λ yes. IsTrue yes
+        ↔ IsAnsweredAfter O.answer h.now (filter (counted v.now op) (take place (named list.now))) op) }
 {
     let asked = h.call(op);
     let before = calls_before(alloc, h, v, list, naming, place, op, &asked)?;
@@ -93,7 +94,8 @@ fn considered_call<O: SeqObject>(
     requires of { HasListOf v.now of }
     requires is_op { IsOp h.now next }
     ensures { MatchOption result
-        ((ops : List Operation) → considered O.depends h.now v.now of asked.now (next ∷ ops) ≡ considered O.depends h.now v.now of asked.now ops)
+        ((ops : List Operation) → considered O.depends h.now v.now of asked.now (next ∷ ops)
+        ≡ considered O.depends h.now v.now of asked.now ops)
         (λ call. (ops : List Operation)
         → considered O.depends h.now v.now of asked.now (next ∷ ops) ≡ call ∷ considered O.depends h.now v.now of asked.now ops) }
 {

@@ -64,7 +64,8 @@ impl<'a, O: SeqObject> PastReplay<'a, O> {
         op: OpId,
     ) -> Result<bool, AllocError>
         requires good { (v : Counts) × IsVectorOk self.old v op × IsSchedule self.old v op schedule.now }
-        ensures exact { IfOk result (λ yes. IsTrue yes ↔ AreAnswered O.answer self.old (program_past op) schedule.now (length schedule.now)) }
+        ensures exact { IfOk result (λ yes. IsTrue yes
+            ↔ AreAnswered O.answer self.old (program_past op) schedule.now (length schedule.now)) }
         ensures same { self.new ≡ self.old }
     {
         let (mut replay, from) = self.begun(alloc, schedule, op)?;
@@ -86,7 +87,8 @@ impl<'a, O: SeqObject> PastReplay<'a, O> {
         op: OpId,
     ) -> Result<(Replay<O>, usize), AllocError>
         ensures within { IfOk result (λ r. r.1 ≤ length schedule.now) }
-        ensures at { IfOk result (λ r. IsReplayAt O.stands self.old schedule.now r.1 (take r.1 (named schedule.now)) r.0.naming.counts.items r.0.object) }
+        ensures at { IfOk result (λ r. IsReplayAt O.stands self.old schedule.now r.1 (take r.1 (named schedule.now))
+            r.0.naming.counts.items r.0.object) }
         ensures answered { IfOk result (λ r. AreAnswered O.answer self.old (program_past op) schedule.now r.1) }
         ensures same { self.new ≡ self.old }
     {

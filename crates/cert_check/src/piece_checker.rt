@@ -128,7 +128,8 @@ impl<'a, O: SeqObject> PieceChecker<'a, O> {
     /// Whether the piece of an operation explains it.
     pub(crate) fn is_explained(&mut self, alloc: Global, op: OpId) -> Result<bool, AllocError>
         requires is_op { IsOp self.old.0 op }
-        ensures exact { IfOk result (λ yes. (c : AnyCertificate) → self.old.2 ≡ Some c → IsTrue yes ↔ IsExplainedPiece O.answer self.old.0 c op) }
+        ensures exact { IfOk result (λ yes. (c : AnyCertificate) → self.old.2 ≡ Some c
+            → IsTrue yes ↔ IsExplainedPiece O.answer self.old.0 c op) }
         ensures same { self.new ≡ self.old }
     {
         let h = self.file.history();

@@ -100,7 +100,8 @@ fn read_vectors<S: Source>(
     vectors: &S,
     explained: &S,
 ) -> Result<Option<Certificate>, AllocError>
-    ensures { IfOk result (IsReadWithin IsCertificate form_of (worded (name_of criterion) (S.stands_for vectors.now ∷ S.stands_for explained.now ∷ []))) }
+    ensures { IfOk result (IsReadWithin IsCertificate form_of (worded (name_of criterion)
+        (S.stands_for vectors.now ∷ S.stands_for explained.now ∷ []))) }
 {
     let Some(vectors) = read_lists::<u16, S>(alloc, vectors)? else {
         return Ok(None);

@@ -16,7 +16,8 @@ fn read_whole_numbers<T: Number>(
     wholes: &[u16],
 ) -> Result<Option<Vec<T>>, AllocError>
     ensures { IfOk result
-        (λ read. IsReadWithin (All T.fits) (list_form (λ n. number_form (T.whole n))) (list (map number_form wholes.now)) (option_map (λ numbers. numbers.items) read)) }
+        (λ read. IsReadWithin (All T.fits) (list_form (λ n. number_form (T.whole n))) (list (map number_form wholes.now))
+        (option_map (λ numbers. numbers.items) read)) }
 {
     let mut numbers = Vec::with_capacity(alloc, wholes.len())?;
     for whole in wholes {
@@ -34,7 +35,8 @@ fn read_each_number<T: Number, S: Source>(
     values: &[S],
 ) -> Result<Option<Vec<T>>, AllocError>
     ensures { IfOk result
-        (λ read. IsReadWithin (All T.fits) (list_form (λ n. number_form (T.whole n))) (list (map S.stands_for values.now)) (option_map (λ numbers. numbers.items) read)) }
+        (λ read. IsReadWithin (All T.fits) (list_form (λ n. number_form (T.whole n))) (list (map S.stands_for values.now))
+        (option_map (λ numbers. numbers.items) read)) }
 {
     let mut numbers = Vec::new(alloc);
     for element in values {
@@ -52,7 +54,8 @@ pub(crate) fn read_numbers<T: Number, S: Source>(
     value: &S,
 ) -> Result<Option<Vec<T>>, AllocError>
     ensures { IfOk result
-        (λ read. IsReadWithin (All T.fits) (list_form (λ n. number_form (T.whole n))) (S.stands_for value.now) (option_map (λ numbers. numbers.items) read)) }
+        (λ read. IsReadWithin (All T.fits) (list_form (λ n. number_form (T.whole n))) (S.stands_for value.now)
+        (option_map (λ numbers. numbers.items) read)) }
 {
     match value.listed() {
         Listed::Numbers(wholes) => read_whole_numbers(alloc, wholes),
@@ -99,7 +102,8 @@ pub(crate) fn read_lists<T: Number, S: Source>(
     value: &S,
 ) -> Result<Option<ByOperation<T>>, AllocError>
     ensures { IfOk result
-        (IsReadWithin (All (All (All T.fits))) (list_form (list_form (list_form (λ n. number_form (T.whole n))))) (S.stands_for value.now)) }
+        (IsReadWithin (All (All (All T.fits))) (list_form (list_form (list_form (λ n. number_form (T.whole n)))))
+        (S.stands_for value.now)) }
 {
     let Some(values) = lists_of(value) else {
         return Ok(None);

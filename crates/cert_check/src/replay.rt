@@ -37,9 +37,11 @@ impl<O: SeqObject> Replay<O> {
         requires { length self.old.naming.counts.items ≡ length h.now.1 }
         ensures object { self.new.object ≡ self.old.object }
         ensures next { MatchOption result
-            ((¬ IsOp h.now (op session (slice_index_or self.old.naming.counts.items session 0))) × (self.new.naming.counts.items ≡ self.old.naming.counts.items))
+            ((¬ IsOp h.now (op session (slice_index_or self.old.naming.counts.items session 0)))
+            × (self.new.naming.counts.items ≡ self.old.naming.counts.items))
             (λ next. (next ≡ op session (slice_index_or self.old.naming.counts.items session 0)) × IsOp h.now next
-            × (self.new.naming.counts.items ≡ slice_set self.old.naming.counts.items session (slice_index_or self.old.naming.counts.items session 0 + 1))) }
+            × (self.new.naming.counts.items ≡ slice_set self.old.naming.counts.items session
+            (slice_index_or self.old.naming.counts.items session 0 + 1))) }
     {
         self.naming.name_next(h, session)
     }
@@ -107,7 +109,8 @@ pub fn take_in_call<O: SeqObject>(
     next: OpId,
 ) -> Result<bool, AllocError>
     requires { IsOp h.now next }
-    ensures answer { (cs : List O.Call) → O.stands object.old h.now.0 cs → IfOk result (λ yes. IsTrue yes ↔ IsAnsweredBy O.answer h.now cs next) }
+    ensures answer { (cs : List O.Call) → O.stands object.old h.now.0 cs
+        → IfOk result (λ yes. IsTrue yes ↔ IsAnsweredBy O.answer h.now cs next) }
     ensures state { (taken : List OpId) → O.stands object.old h.now.0 (calls h.now taken)
         → IfOk result (λ _. O.stands object.new h.now.0 (calls h.now (taken ++ next ∷ []))) }
 {

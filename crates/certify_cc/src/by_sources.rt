@@ -52,7 +52,8 @@ pub fn make_by_sources(
 
 /// The certificate that [`make_by_sources`] makes, for a caller that has the causal order already.
 ///
-/// Fails for want of memory alone. O(n (n + p k)) for n operations of k sessions, where at most p operations of a past count the source of its read.
+/// Fails for want of memory alone. O(n (n + p k)) for n operations of k sessions, where at most p operations of a past count the
+/// source of its read.
 pub fn make_by_order(alloc: Global, order: &CausalOrder) -> Result<Certificate, AllocError>
     ensures criterion { IfOk result (λ c. criterion_of c ≡ Criterion.Cc) }
     ensures shape { IfOk result (HasShapeOf order.now) }
