@@ -46,6 +46,9 @@ module _ (d h c p : Data) (history : AnyHistory) (is : d ≡ list (h ∷ c ∷ p
   claim_without_pattern none =
       (history, c, p, good, is ∙ ap (λ (x : Data). list (x ∷ c ∷ p ∷ [])) same, λ criterion pattern name form shown. none pattern form)
 
+-- why a claim of three elements is refused, by which of them it is
+pub ruleset refused_claims = (claim_refused, claim_without_criterion, claim_without_pattern)
+
 -- or the pattern does not show it: a name is that of one criterion, and a value the form of one pattern
 pub claim_not_shown : (h : AnyHistory) (criterion : Criterion) (pattern : Pattern) → IsAnyHistory h → ¬ IsPatternOf h criterion pattern
     → HasNoSuchPattern (claim_form h criterion pattern)

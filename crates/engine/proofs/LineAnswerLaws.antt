@@ -5,16 +5,17 @@ use Rattle.command_line.specs.declared.expected.Expected.{Expected}
 use Rattle.lines.specs.declared.fault.Fault.{Fault}
 use Rattle.lines.specs.declared.fault.Fault.TheVariants as faults
 use Rattle.lines.specs.declared.outcome.Outcome.{Outcome}
-use Rattle.lines.specs.Lines.{AnswersAs, AreAnswered, ended, lines_of}
+use Rattle.lines.specs.Clerks.{AppendsAnswer}
+use Rattle.lines.specs.Lines.{AnswersAs, AreAnswered, lines_of}
 use Rattle.engine.specs.declared.failure.RunError.{RunError}
 use Rattle.engine.specs.declared.failure.RunError.TheVariants.{WriteFault}
 use Rattle.engine.specs.Failure.{stream_failure}
-use Rattle.engine.specs.LineAnswers.{IsLineAnswer, IsLineError, IsLineRefusal}
+use Rattle.engine.specs.LineAnswers.{IsLineAnswer, IsLineError}
+use Rattle.engine.specs.Steps.LineRefusals.{IsRefusalBy}
 
 -- a line that is refused is answered by the line of its refusal
 pub refusal_answers : (expected : Expected) (line before after : List ℕ) (error : RunError) (r : Result Outcome Fault) → IsLineError line error
-    → IfOk r (λ outcome. (said : List ℕ) × ((any : List ℕ) → IsLineError any error → IsLineRefusal any said outcome) × (after ≡ before ++ ended said))
-    → IfOk r (λ outcome. (said : List ℕ) × IsLineAnswer expected line said outcome × (after ≡ before ++ ended said))
+    → IfOk r (AppendsAnswer (IsRefusalBy error) before after) → IfOk r (AppendsAnswer (IsLineAnswer expected line) before after)
 refusal_answers expected line before after error (Ok outcome) is told = (told.0, inr (told.1 line is), told.2)
 refusal_answers expected line before after error (Err fault) is told = tt
 

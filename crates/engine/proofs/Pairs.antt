@@ -1,12 +1,15 @@
 -- Why a pair of a history and a certificate is refused.
-use Rattle.std.proofs.Common.{◌≡◌, ◌≤◌, ◌<◌, ◌∙◌, ap, sym, subst, refl, arith, List, [], ◌∷◌, length, get_or, map, Option, Some}
+use Rattle.std.proofs.Common.{◌≡◌, ℕ, ◌≤◌, ◌<◌, ◌∙◌, ap, sym, subst, refl, arith, List, [], ◌∷◌, length, get_or, map, Option, Some}
 use Rattle.serde_json.specs.Data.{Data}
+use Rattle.bounded_json.specs.Compact.{leaf_view}
+use Rattle.bounded_json.specs.declared.leaf.Leaf.{Leaf}
+use Rattle.bounded_json.specs.declared.leaf.Leaf.TheVariants as leaves
 use Rattle.operations.specs.declared.read_error.ReadError.{ReadError}
 use Rattle.operations.specs.declared.read_error.ReadError.TheVariants as errors
 use Rattle.operations.specs.declared.any_history.AnyHistory.{AnyHistory}
 use Rattle.operations.specs.AnyForm.{first_refusal, form_of, IsAnyHistory}
 use Rattle.operations.specs.Json.{elements, list}
-use Rattle.operations.specs.Laws.Json.{list_from_elements}
+use Rattle.operations.specs.Reads.{number_form}
 use Rattle.operations.specs.Refusals.{IsFirst}
 use Rattle.cert_check.specs.declared.cert_error.CertError.{CertError}
 use Rattle.cert_check.specs.declared.cert_error.CertError.TheVariants as certificates
@@ -46,11 +49,32 @@ other_length (h ∷ []) other = refl
 other_length (h ∷ c ∷ []) other = absurd (other refl)
 other_length (h ∷ c ∷ d ∷ ds) other = refl
 
+-- values that are not two are no pair
+pub no_two : {A : Type 0} (f : A → Data) (xs : List A) → (length xs ≡ 2 → ⊥) → pair_refusal (elements (list (map f xs))) ≡ Some errors.BadShape
+no_two f [] other = refl
+no_two f (a ∷ []) other = refl
+no_two f (a ∷ b ∷ []) other = absurd (other refl)
+no_two f (a ∷ b ∷ c ∷ xs) other = refl
+
+-- two numbers are no pair, and no other list of numbers is
+pub numbers_no_pair : (ns : List ℕ) → pair_refusal (elements (list (map number_form ns))) ≡ Some errors.BadShape
+numbers_no_pair [] = refl
+numbers_no_pair (m ∷ []) = refl
+numbers_no_pair (m ∷ n ∷ []) = refl
+numbers_no_pair (m ∷ n ∷ o ∷ ns) = refl
+
+pub leaf_no_pair : (l : Leaf) → pair_refusal (elements (leaf_view l)) ≡ Some errors.BadShape
+leaf_no_pair leaves.Null = refl
+leaf_no_pair (leaves.Bool b) = refl
+leaf_no_pair (leaves.Number n) = refl
+leaf_no_pair (leaves.Text s) = refl
+leaf_no_pair leaves.Object = refl
+
 -- the list of two elements is their pair
-pub pair_of-two : {A : Type 0} (f : A → Data) (d : Data) (xs : List A) (h c : A) → Some (map f xs) ≡ elements d → 2 ≤ length xs → length xs < 3
+pub pair_of-two : {A : Type 0} (f : A → Data) (d : Data) (xs : List A) (h c : A) → d ≡ list (map f xs) → 2 ≤ length xs → length xs < 3
     → h ≡ get_or xs 0 h → c ≡ get_or xs 1 c → d ≡ pair_form (f h) (f c)
 pair_of-two f d [] h c is least most first second = absurd (omega arith)
 pair_of-two f d (a ∷ []) h c is least most first second = absurd (omega arith)
 pair_of-two f d (a ∷ b ∷ []) h c is least most first second =
-    list_from_elements d (f a ∷ f b ∷ []) (sym is) ∙ (λ i. list (f (sym first i) ∷ f (sym second i) ∷ []))
+    is ∙ (λ i. list (f (sym first i) ∷ f (sym second i) ∷ []))
 pair_of-two f d (a ∷ b ∷ x ∷ xs) h c is least most first second = absurd (omega arith)

@@ -4,16 +4,21 @@ ghost use Rattle.std.specs.Prelude.{◌≡◌, ◌++◌, codes, IfErr, IfOk, OnO
 ghost use Rattle.serde_json.specs.Written.{compact_text};
 ghost use Rattle.operations.specs.AnyForm.{IsJson};
 ghost use Rattle.decision.specs.Decisions.{IsDecided};
+ghost use Rattle.memory_order.specs.Memory.{memory_answer};
 ghost use Rattle.command_line.specs.declared.form.Form.TheVariants.{Json};
 ghost use Rattle.engine.specs.Explaining.{EachIsReason, IsReason, explanation_form, reason_for};
 ghost use Rattle.engine.specs.Report.{EachIsKnownOnDistinctValues, EachIsTrueOf, EachNamesUnexplained};
 ghost use Rattle.engine.specs.Running.{IsAnswer, IsAnswerError};
+ghost use Rattle.engine.specs.Steps.FileChecks.{ChecksFiles};
 
+use crate::checking::answer_of_file;
 use crate::failure::RunError;
-use crate::judging::{answer_of_memory, report_on};
+use crate::judging::report_on;
+use crate::memory_judging::answer_by;
 use crate::reason::{Explanation, Reason};
 use crate::report::Report;
-use cert_check::Criterion;
+use cert_check::{CaseFile, Criterion};
+use collector::Answer;
 use command_line::{Order, Workers};
 use decision::{Decision, decide_all};
 use memory_order::IndexedMemory;
@@ -58,7 +63,6 @@ pub fn explanation_of<T: Threads + Wait + Sync>(
 }
 
 // The same for the histories of a memory, in which patterns are looked for.
-#[tactic(auto, using(crate::proofs::Reasons::each_reason))]
 pub(crate) fn explanation_of_memory<T: Threads + Wait + Sync>(
     rt: &T,
     alloc: Global,
@@ -68,25 +72,47 @@ pub(crate) fn explanation_of_memory<T: Threads + Wait + Sync>(
     ensures reasons { IfOk result (EachIsReason (AnyHistory.Memory history)) }
     ensures error { IfErr result (λ e. e ≡ RunError.Memory) }
 {
-    let memory = IndexedMemory::of(alloc, &history)?;
+    explanation_by(
+        alloc,
+        &history,
+        &|file| answer_of_file(rt, alloc, file, workers),
+    )
+}
+
+/// Why each criterion is met by a history of a memory, or is not, where `check` says what the certificate of a case file shows.
+///
+/// Fails for want of memory alone.
+#[tactic(auto, using(crate::proofs::Reasons::each_reason))]
+pub(crate) fn explanation_by<F: Fn(CaseFile<Memory>) -> Result<Answer, RunError>>(
+    alloc: Global,
+    history: &History<Memory>,
+    check: &F,
+) -> Result<Explanation, RunError>
+    requires callable { F.IsAlwaysCallable check.now }
+    requires checks { ChecksFiles memory_answer (F.post check.now) }
+    ensures reasons { IfOk result (EachIsReason (AnyHistory.Memory history.now)) }
+    ensures error { IfErr result (λ e. e ≡ RunError.Memory) }
+{
+    let memory = IndexedMemory::of(alloc, history)?;
     let decisions = decide_all(alloc, &memory)?;
-    let cc = reason_of_decision(rt, alloc, &memory, Criterion::Cc, decisions.cc, workers)?;
-    let cm = reason_of_decision(rt, alloc, &memory, Criterion::Cm, decisions.cm, workers)?;
-    let ccv = reason_of_decision(rt, alloc, &memory, Criterion::Ccv, decisions.ccv, workers)?;
+    let cc = reason_of_decision(alloc, &memory, Criterion::Cc, decisions.cc, check)?;
+    let cm = reason_of_decision(alloc, &memory, Criterion::Cm, decisions.cm, check)?;
+    let ccv = reason_of_decision(alloc, &memory, Criterion::Ccv, decisions.ccv, check)?;
     Ok(Explanation { cc, cm, ccv })
 }
 
 // What a decision shows, and where it is open, what the pieces of a certificate show.
 #[tactic(auto, using(crate::proofs::Reasons::answer_is_reason))]
-fn reason_of_decision<T: Threads + Wait + Sync>(
-    rt: &T,
+fn reason_of_decision<F: Fn(CaseFile<Memory>) -> Result<Answer, RunError>>(
     alloc: Global,
     memory: &IndexedMemory,
     criterion: Criterion,
     decision: Decision,
-    workers: Workers,
+    check: &F,
 ) -> Result<Reason, RunError>
     requires decided { IsDecided memory.now criterion decision }
+    requires callable { F.IsAlwaysCallable check.now }
+    requires checks { ChecksFiles memory_answer (F.post check.now) }
     ensures reason { IfOk result (IsReason (AnyHistory.Memory memory.now) criterion) }
     ensures error { IfErr result (λ e. e ≡ RunError.Memory) }
 {
@@ -95,15 +121,7 @@ fn reason_of_decision<T: Threads + Wait + Sync>(
         Decision::Excluded(pattern) => Ok(Reason::Shown(pattern)),
         Decision::ExcludedBy(kind) => Ok(Reason::Present(kind)),
         Decision::Open => {
-            let answer = answer_of_memory(
-                rt,
-                alloc,
-                memory,
-                &[],
-                criterion,
-                Decision::Open,
-                workers,
-            )?;
+            let answer = answer_by(alloc, memory, &[], criterion, Decision::Open, check)?;
             Ok(Reason::of(answer))
         }
     }

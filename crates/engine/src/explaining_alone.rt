@@ -1,16 +1,13 @@
 //! Why a history meets each criterion, or does not, found by the calling thread alone.
 
 ghost use Rattle.std.specs.Prelude.{◌≡◌, IfErr, IfOk};
-ghost use Rattle.decision.specs.Decisions.{IsDecided};
-ghost use Rattle.engine.specs.Explaining.{EachIsReason, IsReason};
+ghost use Rattle.engine.specs.Explaining.{EachIsReason};
 
-use crate::explaining::unshown;
+use crate::checking_alone::answer_of_file_alone;
+use crate::explaining::{explanation_by, unshown};
 use crate::failure::RunError;
-use crate::judging_alone::{answer_of_memory_alone, report_alone};
-use crate::reason::{Explanation, Reason};
-use cert_check::Criterion;
-use decision::{Decision, decide_all};
-use memory_order::IndexedMemory;
+use crate::judging_alone::report_alone;
+use crate::reason::Explanation;
 use objects::Memory;
 use operations::{AnyHistory, History};
 use std::alloc::Global;
@@ -30,7 +27,6 @@ pub fn explanation_alone(alloc: Global, history: AnyHistory) -> Result<Explanati
 }
 
 // The same for the histories of a memory, in which patterns are looked for.
-#[tactic(auto, using(crate::proofs::Reasons::each_reason))]
 fn explanation_of_memory_alone(
     alloc: Global,
     history: History<Memory>,
@@ -38,33 +34,5 @@ fn explanation_of_memory_alone(
     ensures reasons { IfOk result (EachIsReason (AnyHistory.Memory history)) }
     ensures error { IfErr result (λ e. e ≡ RunError.Memory) }
 {
-    let memory = IndexedMemory::of(alloc, &history)?;
-    let decisions = decide_all(alloc, &memory)?;
-    let cc = reason_of_decision_alone(alloc, &memory, Criterion::Cc, decisions.cc)?;
-    let cm = reason_of_decision_alone(alloc, &memory, Criterion::Cm, decisions.cm)?;
-    let ccv = reason_of_decision_alone(alloc, &memory, Criterion::Ccv, decisions.ccv)?;
-    Ok(Explanation { cc, cm, ccv })
-}
-
-// What a decision shows, and where it is open, what the pieces of a certificate show.
-#[tactic(auto, using(crate::proofs::Reasons::answer_is_reason))]
-fn reason_of_decision_alone(
-    alloc: Global,
-    memory: &IndexedMemory,
-    criterion: Criterion,
-    decision: Decision,
-) -> Result<Reason, RunError>
-    requires decided { IsDecided memory.now criterion decision }
-    ensures reason { IfOk result (IsReason (AnyHistory.Memory memory.now) criterion) }
-    ensures error { IfErr result (λ e. e ≡ RunError.Memory) }
-{
-    match decision {
-        Decision::Meets => Ok(Reason::Explained),
-        Decision::Excluded(pattern) => Ok(Reason::Shown(pattern)),
-        Decision::ExcludedBy(kind) => Ok(Reason::Present(kind)),
-        Decision::Open => {
-            let answer = answer_of_memory_alone(alloc, memory, criterion, Decision::Open)?;
-            Ok(Reason::of(answer))
-        }
-    }
+    explanation_by(alloc, &history, &|file| answer_of_file_alone(alloc, &file))
 }

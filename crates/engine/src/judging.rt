@@ -1,24 +1,18 @@
 //! What is known of a history, for each criterion.
 
 ghost use Rattle.std.specs.Prelude.{◌≡◌, IfErr, IfOk};
-ghost use Rattle.memory_order.specs.Memory.{memory_answer};
-ghost use Rattle.bad_patterns.specs.Kinds.{IsTrueNo};
-ghost use Rattle.decision.specs.Decisions.{IsDecided};
-ghost use Rattle.engine.specs.Report.{IsTrueOf, NamesUnexplained, IsKnownOnDistinctValues, answer_for};
+ghost use Rattle.engine.specs.Report.{answer_for};
 ghost use Rattle.engine.specs.Report.{EachIsTrueOf, EachNamesUnexplained, EachIsKnownOnDistinctValues};
 ghost use Rattle.engine.specs.Steps.FoundedAnswers.{IsFoundedOn};
 
 use crate::checking::answer_of_file;
 use crate::failure::RunError;
-use crate::making::file_of_memory;
+use crate::memory_judging::report_by;
 use crate::report::Report;
-use bad_patterns::laws::bad_patterns_exclude_criteria;
 use cert_check::{Criterion, DeskError};
 use collector::{Answer, Judged, OpenGate, judge};
 use command_line::Workers;
-use decision::{Decision, decide_all};
 use history::Advice;
-use memory_order::IndexedMemory;
 use objects::Memory;
 use operations::{AnyHistory, History};
 use std::alloc::Global;
@@ -100,36 +94,12 @@ fn report_on_memory<T: Threads + Wait + Sync>(
     ensures unexplained { IfOk result (EachNamesUnexplained (AnyHistory.Memory history)) }
     ensures error { IfErr result (λ e. e ≡ RunError.Memory) }
 {
-    let memory = IndexedMemory::of(alloc, &history)?;
-    let decisions = decide_all(alloc, &memory)?;
-    let cc = answer_of_memory(
-        rt,
+    report_by(
         alloc,
-        &memory,
+        &history,
         advice,
-        Criterion::Cc,
-        decisions.cc,
-        workers,
-    )?;
-    let cm = answer_of_memory(
-        rt,
-        alloc,
-        &memory,
-        advice,
-        Criterion::Cm,
-        decisions.cm,
-        workers,
-    )?;
-    let ccv = answer_of_memory(
-        rt,
-        alloc,
-        &memory,
-        advice,
-        Criterion::Ccv,
-        decisions.ccv,
-        workers,
-    )?;
-    Ok(Report { cc, cm, ccv })
+        &|file| answer_of_file(rt, alloc, file, workers),
+    )
 }
 
 // The same for the histories of one object, in which no patterns are looked for.
@@ -162,49 +132,6 @@ pub(crate) fn report_on_object<O: Judged + Send + Sync, T: Threads + Wait + Sync
     )?;
     let ccv = answer_of_object(rt, alloc, history, advice, Criterion::Ccv, workers)?;
     Ok(Report { cc, cm, ccv })
-}
-
-/// What is known of a history of a memory and a criterion: what its decision says, and where that is open, what the pieces of
-/// a certificate show.
-#[tactic(auto, using(crate::proofs::Founded::founded_is_true, crate::proofs::Founded::founded_names))]
-pub(crate) fn answer_of_memory<T: Threads + Wait + Sync>(
-    rt: &T,
-    alloc: Global,
-    memory: &IndexedMemory,
-    advice: &[Option<Advice>],
-    criterion: Criterion,
-    decision: Decision,
-    workers: Workers,
-) -> Result<Answer, RunError>
-    requires decided { IsDecided memory.now criterion decision }
-    ensures truth { IfOk result (IsTrueOf (AnyHistory.Memory memory.now) criterion) }
-    ensures unknown { IfOk result (IsKnownOnDistinctValues (AnyHistory.Memory memory.now)) }
-    ensures unexplained { IfOk result (NamesUnexplained (AnyHistory.Memory memory.now) criterion) }
-    ensures error { IfErr result (λ e. e ≡ RunError.Memory) }
-{
-    bad_patterns_exclude_criteria();
-    match decision {
-        Decision::Meets => Ok(Answer::Yes),
-        Decision::Excluded(pattern) => Ok(Answer::No(pattern.kind())),
-        Decision::ExcludedBy(kind) => Ok(Answer::No(kind)),
-        Decision::Open => answer_by_certificate(rt, alloc, memory, advice, criterion, workers),
-    }
-}
-
-// What the pieces of a certificate of a history of a memory show, where one is made.
-fn answer_by_certificate<T: Threads + Wait + Sync>(
-    rt: &T,
-    alloc: Global,
-    memory: &IndexedMemory,
-    advice: &[Option<Advice>],
-    criterion: Criterion,
-    workers: Workers,
-) -> Result<Answer, RunError>
-    ensures founded { IfOk result (IsFoundedOn memory_answer IsTrueNo memory.now criterion) }
-    ensures error { IfErr result (λ e. e ≡ RunError.Memory) }
-{
-    let file = file_of_memory(alloc, memory, advice, criterion)?;
-    answer_of_file(rt, alloc, file, workers)
 }
 
 // What is known of a history of one object and a criterion.

@@ -1,22 +1,16 @@
 //! What is known of a history, for each criterion, found by the calling thread alone.
 
 ghost use Rattle.std.specs.Prelude.{◌≡◌, IfErr, IfOk};
-ghost use Rattle.memory_order.specs.Memory.{memory_answer};
-ghost use Rattle.bad_patterns.specs.Kinds.{IsTrueNo};
-ghost use Rattle.decision.specs.Decisions.{IsDecided};
-ghost use Rattle.engine.specs.Report.{IsTrueOf, NamesUnexplained, IsKnownOnDistinctValues, answer_for};
+ghost use Rattle.engine.specs.Report.{answer_for};
 ghost use Rattle.engine.specs.Report.{EachIsTrueOf, EachNamesUnexplained, EachIsKnownOnDistinctValues};
 ghost use Rattle.engine.specs.Steps.FoundedAnswers.{IsFoundedOn};
 
 use crate::checking_alone::answer_of_file_alone;
 use crate::failure::RunError;
-use crate::making::file_of_memory;
+use crate::memory_judging::report_by;
 use crate::report::Report;
-use bad_patterns::laws::bad_patterns_exclude_criteria;
 use cert_check::Criterion;
 use collector::{Answer, Judged};
-use decision::{Decision, decide_all};
-use memory_order::IndexedMemory;
 use objects::Memory;
 use operations::{AnyHistory, History};
 use std::alloc::Global;
@@ -45,19 +39,18 @@ pub fn report_alone(alloc: Global, history: AnyHistory) -> Result<Report, RunErr
 }
 
 // The same for the histories of a memory, in which patterns are looked for.
-#[tactic(auto, using(crate::proofs::EachAnswer::each_true, crate::proofs::EachAnswer::each_known, crate::proofs::EachAnswer::each_names))]
 fn report_on_memory_alone(alloc: Global, history: History<Memory>) -> Result<Report, RunError>
     ensures truth { IfOk result (EachIsTrueOf (AnyHistory.Memory history)) }
     ensures unknown { IfOk result (EachIsKnownOnDistinctValues (AnyHistory.Memory history)) }
     ensures unexplained { IfOk result (EachNamesUnexplained (AnyHistory.Memory history)) }
     ensures error { IfErr result (λ e. e ≡ RunError.Memory) }
 {
-    let memory = IndexedMemory::of(alloc, &history)?;
-    let decisions = decide_all(alloc, &memory)?;
-    let cc = answer_of_memory_alone(alloc, &memory, Criterion::Cc, decisions.cc)?;
-    let cm = answer_of_memory_alone(alloc, &memory, Criterion::Cm, decisions.cm)?;
-    let ccv = answer_of_memory_alone(alloc, &memory, Criterion::Ccv, decisions.ccv)?;
-    Ok(Report { cc, cm, ccv })
+    report_by(
+        alloc,
+        &history,
+        &[],
+        &|file| answer_of_file_alone(alloc, &file),
+    )
 }
 
 // The same for the histories of one object, in which no patterns are looked for.
@@ -70,43 +63,6 @@ fn report_on_object_alone<O: Judged>(alloc: Global, history: History<O>) -> Resu
     let cm = answer_of_object_alone(alloc, history.copy(alloc)?, Criterion::Cm)?;
     let ccv = answer_of_object_alone(alloc, history, Criterion::Ccv)?;
     Ok(Report { cc, cm, ccv })
-}
-
-/// What is known of a history of a memory and a criterion: what its decision says, and where that is open, what the pieces of
-/// a certificate show.
-#[tactic(auto, using(crate::proofs::Founded::founded_is_true, crate::proofs::Founded::founded_names))]
-pub(crate) fn answer_of_memory_alone(
-    alloc: Global,
-    memory: &IndexedMemory,
-    criterion: Criterion,
-    decision: Decision,
-) -> Result<Answer, RunError>
-    requires decided { IsDecided memory.now criterion decision }
-    ensures truth { IfOk result (IsTrueOf (AnyHistory.Memory memory.now) criterion) }
-    ensures unknown { IfOk result (IsKnownOnDistinctValues (AnyHistory.Memory memory.now)) }
-    ensures unexplained { IfOk result (NamesUnexplained (AnyHistory.Memory memory.now) criterion) }
-    ensures error { IfErr result (λ e. e ≡ RunError.Memory) }
-{
-    bad_patterns_exclude_criteria();
-    match decision {
-        Decision::Meets => Ok(Answer::Yes),
-        Decision::Excluded(pattern) => Ok(Answer::No(pattern.kind())),
-        Decision::ExcludedBy(kind) => Ok(Answer::No(kind)),
-        Decision::Open => answer_by_certificate_alone(alloc, memory, criterion),
-    }
-}
-
-// What the pieces of a certificate of a history of a memory show, where one is made.
-fn answer_by_certificate_alone(
-    alloc: Global,
-    memory: &IndexedMemory,
-    criterion: Criterion,
-) -> Result<Answer, RunError>
-    ensures founded { IfOk result (IsFoundedOn memory_answer IsTrueNo memory.now criterion) }
-    ensures error { IfErr result (λ e. e ≡ RunError.Memory) }
-{
-    let file = file_of_memory(alloc, memory, &[], criterion)?;
-    answer_of_file_alone(alloc, &file)
 }
 
 // What is known of a history of one object and a criterion.

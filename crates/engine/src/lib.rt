@@ -24,6 +24,7 @@ pub mod laws;
 mod line_answers;
 mod line_judge;
 mod making;
+mod memory_judging;
 mod output;
 mod part_lines;
 mod picturing;

@@ -1,7 +1,9 @@
 //! The answer to a line that is to hold a history.
 ghost use Rattle.std.specs.Prelude.{◌≡◌, ◌≤◌, ◌++◌, ℕ, List, length, IfErr, IfOk, OnErr, OnOk};
+ghost use Rattle.lines.specs.Clerks.{AppendsAnswer};
 ghost use Rattle.lines.specs.Lines.{ended};
-ghost use Rattle.engine.specs.LineAnswers.{IsLineAnswer, IsLineError, IsLineRefusal, joined_for, unended};
+ghost use Rattle.engine.specs.LineAnswers.{IsLineAnswer, IsLineError, joined_for, unended};
+ghost use Rattle.engine.specs.Steps.LineRefusals.{IsRefusalBy};
 ghost use Rattle.engine.specs.Report.{IsReportOn};
 
 use crate::expecting::{outcome_of, report_on_input_alone};
@@ -13,8 +15,8 @@ use command_line::Expected;
 use lines::{Fault, Outcome};
 use std::alloc::{AllocError, Global};
 
-/// Appends the answer to a line and a line feed, and returns what comes of it: the lines of the report on its history joined by `; `, or the line of
-/// its refusal.
+/// Appends the answer to a line and a line feed, and returns what comes of it: the lines of the report on its history joined by
+/// `; `, or the line of its refusal.
 ///
 /// Fails for want of memory alone, and then the text is as it was. No thread is started.
 pub(crate) fn append_answer(
@@ -23,8 +25,7 @@ pub(crate) fn append_answer(
     expected: Expected,
     text: &mut Vec<u8>,
 ) -> Result<Outcome, Fault>
-    ensures answered { IfOk result (λ outcome. (said : List ℕ)
-        × IsLineAnswer expected line.now said outcome × (text.new.items ≡ text.old.items ++ ended said)) }
+    ensures answered { IfOk result (AppendsAnswer (IsLineAnswer expected line.now) text.old.items text.new.items) }
     ensures unchanged { OnErr result (text.new.items ≡ text.old.items) }
 {
     match report_on_line(alloc, line) {
@@ -89,8 +90,7 @@ pub(crate) fn append_refusal(
     error: &RunError,
     text: &mut Vec<u8>,
 ) -> Result<Outcome, Fault>
-    ensures answered { IfOk result (λ outcome. (said : List ℕ)
-        × ((line : List ℕ) → IsLineError line error.now → IsLineRefusal line said outcome) × (text.new.items ≡ text.old.items ++ ended said)) }
+    ensures answered { IfOk result (AppendsAnswer (IsRefusalBy error.now) text.old.items text.new.items) }
     ensures unchanged { OnErr result (text.new.items ≡ text.old.items) }
 {
     if status_of(&Err(*error)) != 1 {

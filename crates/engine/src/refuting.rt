@@ -82,7 +82,7 @@ fn read_claim(alloc: Global, input: &[u8]) -> Result<Claim, RunError>
 }
 
 // The claim of a value.
-#[tactic(auto, using(crate::proofs::Claims::claim_refused, crate::proofs::Claims::claim_without_criterion, crate::proofs::Claims::claim_without_pattern))]
+#[tactic(auto, using(crate::proofs::Claims::refused_claims))]
 fn claim_of(alloc: Global, value: &Value) -> Result<Claim, RunError>
     ensures history { IfOk result (λ claim. IsAnyHistory claim.history) }
     ensures read { IfOk result (λ claim. view value.now ≡ claim_form claim.history claim.criterion claim.pattern) }

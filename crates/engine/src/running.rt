@@ -53,8 +53,8 @@ pub fn run<P: Threads + Wait + Sync + AllocGlobal, R: Source, W: Write>(
 /// The whole answer to an input, as the order asks.
 ///
 /// Refuses what is no input of the order, and fails for want of memory. Its cost is that of reading the input, and what
-/// [`report_on`](crate::report_on) or [`answer_of_certificate`](crate::answer_of_certificate) takes for its history, or [`script::replay`] for its
-/// script.
+/// [`report_on`](crate::report_on) or [`answer_of_certificate`](crate::answer_of_certificate) takes for its history, or
+/// [`script::replay`] for its script.
 pub fn answer_to<T: Threads + Wait + Sync>(
     rt: &T,
     alloc: Global,

@@ -6,13 +6,13 @@ use Rattle.memory_order.specs.Memory.{memory_answer}
 use Rattle.cert_check.specs.Criteria.{Meets}
 use Rattle.collector.specs.Judgements.{IsSaidOfFile}
 use Rattle.engine.proofs.Founded.{file_is_founded}
-use Rattle.engine.proofs.judging.answer_by_certificate.Goals as goal
+use Rattle.engine.proofs.memory_judging.answer_by_certificate.Goals as goal
 
 pub returns-clause-founded : goal.returns-clause-founded
 returns-clause-founded g c =
     let h = c.args.memory.now in
     let of_file = c.in_ok-file.ensures in
-    file_is_founded memory_answer h c.args.criterion (IsTrueNo h c.args.criterion) c.in_ok-file.file.2 c.answer_of_file.result
-    of_file.criterion of_file.shape
-    (subst (λ file. IfOk c.answer_of_file.result (IsSaidOfFile memory_answer file)) of_file.file c.answer_of_file.ensures.said)
-    (subst (λ file. IfOk c.answer_of_file.result (λ a. a ≡ Yes → Meets memory_answer file.0 file.1)) of_file.file c.answer_of_file.ensures.met)
+    let said = c.requires.checks c.in_ok-file.file c.check.result c.check.ensures in
+    file_is_founded memory_answer h c.args.criterion (IsTrueNo h c.args.criterion) c.in_ok-file.file.2 c.check.result of_file.criterion of_file.shape
+    (subst (λ file. IfOk c.check.result (IsSaidOfFile memory_answer file)) of_file.file said.0)
+    (subst (λ file. IfOk c.check.result (λ a. a ≡ Yes → Meets memory_answer file.0 file.1)) of_file.file said.1)

@@ -1,0 +1,93 @@
+//! What is known of a history of a memory, whoever checks the pieces of certificates: threads, or the calling thread alone.
+
+ghost use Rattle.std.specs.Prelude.{◌≡◌, IfErr, IfOk};
+ghost use Rattle.memory_order.specs.Memory.{memory_answer};
+ghost use Rattle.bad_patterns.specs.Kinds.{IsTrueNo};
+ghost use Rattle.decision.specs.Decisions.{IsDecided};
+ghost use Rattle.engine.specs.Report.{IsTrueOf, NamesUnexplained, IsKnownOnDistinctValues};
+ghost use Rattle.engine.specs.Report.{EachIsTrueOf, EachNamesUnexplained, EachIsKnownOnDistinctValues};
+ghost use Rattle.engine.specs.Steps.FileChecks.{ChecksFiles};
+ghost use Rattle.engine.specs.Steps.FoundedAnswers.{IsFoundedOn};
+
+use crate::failure::RunError;
+use crate::making::file_of_memory;
+use crate::report::Report;
+use bad_patterns::laws::bad_patterns_exclude_criteria;
+use cert_check::{CaseFile, Criterion};
+use collector::Answer;
+use decision::{Decision, decide_all};
+use history::Advice;
+use memory_order::IndexedMemory;
+use objects::Memory;
+use operations::{AnyHistory, History};
+use std::alloc::Global;
+
+/// What is known of a history of a memory, for each criterion, where `check` says what the certificate of a case file shows.
+///
+/// Fails for want of memory alone.
+#[tactic(auto, using(crate::proofs::EachAnswer::each_true, crate::proofs::EachAnswer::each_known, crate::proofs::EachAnswer::each_names))]
+pub(crate) fn report_by<F: Fn(CaseFile<Memory>) -> Result<Answer, RunError>>(
+    alloc: Global,
+    history: &History<Memory>,
+    advice: &[Option<Advice>],
+    check: &F,
+) -> Result<Report, RunError>
+    requires callable { F.IsAlwaysCallable check.now }
+    requires checks { ChecksFiles memory_answer (F.post check.now) }
+    ensures truth { IfOk result (EachIsTrueOf (AnyHistory.Memory history.now)) }
+    ensures unknown { IfOk result (EachIsKnownOnDistinctValues (AnyHistory.Memory history.now)) }
+    ensures unexplained { IfOk result (EachNamesUnexplained (AnyHistory.Memory history.now)) }
+    ensures error { IfErr result (λ e. e ≡ RunError.Memory) }
+{
+    let memory = IndexedMemory::of(alloc, history)?;
+    let decisions = decide_all(alloc, &memory)?;
+    let cc = answer_by(alloc, &memory, advice, Criterion::Cc, decisions.cc, check)?;
+    let cm = answer_by(alloc, &memory, advice, Criterion::Cm, decisions.cm, check)?;
+    let ccv = answer_by(alloc, &memory, advice, Criterion::Ccv, decisions.ccv, check)?;
+    Ok(Report { cc, cm, ccv })
+}
+
+/// What is known of a history of a memory and a criterion: what its decision says, and where that is open, what the pieces of
+/// a certificate show.
+#[tactic(auto, using(crate::proofs::Founded::founded_is_true, crate::proofs::Founded::founded_names))]
+pub(crate) fn answer_by<F: Fn(CaseFile<Memory>) -> Result<Answer, RunError>>(
+    alloc: Global,
+    memory: &IndexedMemory,
+    advice: &[Option<Advice>],
+    criterion: Criterion,
+    decision: Decision,
+    check: &F,
+) -> Result<Answer, RunError>
+    requires decided { IsDecided memory.now criterion decision }
+    requires callable { F.IsAlwaysCallable check.now }
+    requires checks { ChecksFiles memory_answer (F.post check.now) }
+    ensures truth { IfOk result (IsTrueOf (AnyHistory.Memory memory.now) criterion) }
+    ensures unknown { IfOk result (IsKnownOnDistinctValues (AnyHistory.Memory memory.now)) }
+    ensures unexplained { IfOk result (NamesUnexplained (AnyHistory.Memory memory.now) criterion) }
+    ensures error { IfErr result (λ e. e ≡ RunError.Memory) }
+{
+    bad_patterns_exclude_criteria();
+    match decision {
+        Decision::Meets => Ok(Answer::Yes),
+        Decision::Excluded(pattern) => Ok(Answer::No(pattern.kind())),
+        Decision::ExcludedBy(kind) => Ok(Answer::No(kind)),
+        Decision::Open => answer_by_certificate(alloc, memory, advice, criterion, check),
+    }
+}
+
+// What the pieces of a certificate of a history of a memory show, where one is made.
+fn answer_by_certificate<F: Fn(CaseFile<Memory>) -> Result<Answer, RunError>>(
+    alloc: Global,
+    memory: &IndexedMemory,
+    advice: &[Option<Advice>],
+    criterion: Criterion,
+    check: &F,
+) -> Result<Answer, RunError>
+    requires callable { F.IsAlwaysCallable check.now }
+    requires checks { ChecksFiles memory_answer (F.post check.now) }
+    ensures founded { IfOk result (IsFoundedOn memory_answer IsTrueNo memory.now criterion) }
+    ensures error { IfErr result (λ e. e ≡ RunError.Memory) }
+{
+    let file = file_of_memory(alloc, memory, advice, criterion)?;
+    check(file)
+}
