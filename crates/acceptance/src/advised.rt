@@ -5,7 +5,7 @@ use crate::histories::criterion_first;
 use crate::made_certificates::{explained_by, told};
 use crate::tables::as_wanted;
 use cert_check::{Certificate, Criterion};
-use history::{Advice, MAX_SESSIONS, TakenIn};
+use history::{Advice, TakenIn};
 use object_trait::SeqObject;
 use objects::Memory;
 use operations::{AnyHistory, History, OpId, read_history};
@@ -189,10 +189,10 @@ fn fields(text: &str) -> Option<(&str, u64, &str)> {
     Some((counts, stamp.parse().ok()?, order))
 }
 
-/// The numbers of a text, at most one for each session that a history may have.
-fn counts_of(text: &str) -> [u16; MAX_SESSIONS] {
-    let mut counts = [0; MAX_SESSIONS];
-    for (place, number) in text.split('.').take(MAX_SESSIONS).enumerate() {
+/// The numbers of a text, up to 16 of them.
+fn counts_of(text: &str) -> [u16; 16] {
+    let mut counts = [0; 16];
+    for (place, number) in text.split('.').take(16).enumerate() {
         counts[place] = number.parse().unwrap_or(0);
     }
     counts
