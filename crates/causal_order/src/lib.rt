@@ -1,6 +1,7 @@
 //! Orders on the operations of a history, vectors that count them, and the topological rule.
 #![tactic(auto)]
 
+mod at_most;
 mod by_operation;
 mod limits;
 mod program_vectors;
@@ -12,11 +13,12 @@ mod vectors;
 mod waiting_cycle;
 mod waits;
 
+pub use at_most::is_at_most;
 pub use by_operation::{ByOperation, Vectors};
 pub use program_vectors::program_order;
 pub use rows::Rows;
 pub use shape::{are_vectors_of, has_one_each};
 pub use sorting::{OrderOrCycle, topological_sort};
 pub use topological::{MAX_PLACED, Walk};
-pub use vectors::{count_at, count_of, has_counted, has_counted_other, is_at_most, vector_ok};
+pub use vectors::{count_at, count_of, has_counted, has_counted_other, vector_ok};
 pub use waits::Waits;

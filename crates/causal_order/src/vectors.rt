@@ -3,6 +3,7 @@ ghost use Rattle.history.specs.History.{IsOp, session};
 ghost use Rattle.causal_order.specs.Vectors.{count, AreVectorsOf, IsCounted, IsVectorOk};
 ghost use Rattle.causal_order.specs.Vectors.{CountsHeld, HasListOf, IsPastLastOf, IsPastPredecessor};
 
+use crate::at_most::is_at_most;
 use crate::by_operation::Vectors;
 use history::{History, OpId};
 use object_trait::SeqObject;
@@ -58,18 +59,6 @@ pub fn has_counted_other(v: &Vectors, op: OpId, earlier: OpId) -> bool
     earlier != op && has_counted(v, op, earlier)
 }
 
-/// Whether each of some counts is at most the one at its place, where a place past the end has 0. O(k) for k counts.
-pub fn is_at_most(counts: &[u16], bounds: &[u16]) -> bool
-    ensures { IsTrue result ↔ ((s : ℕ) → slice_index_or counts.now s 0 ≤ slice_index_or bounds.now s 0) }
-{
-    for (session, count) in counts.iter().enumerate() {
-        if *count > bounds.get(session).copied().unwrap_or(0) {
-            return false;
-        }
-    }
-    true
-}
-
 /// Whether the vector of an operation counts it as the last of its session.
 fn counts_itself_last(v: &Vectors, op: OpId) -> bool
     requires { HasListOf v.now op }
@@ -97,14 +86,10 @@ fn counts_with_predecessor(v: &Vectors, op: OpId) -> bool
     requires own { HasListOf v.now op }
     ensures { IsTrue result ↔ IsPastPredecessor v.now op }
 {
-    if op.index == 0 {
-        return true;
+    match op.before() {
+        Some(predecessor) => is_at_most(v.get(predecessor), v.get(op)),
+        None => true,
     }
-    let predecessor = OpId {
-        session: op.session,
-        index: op.index - 1,
-    };
-    is_at_most(v.get(predecessor), v.get(op))
 }
 
 /// Whether the vector of an operation counts all that the last counted operations of the other sessions count, and none

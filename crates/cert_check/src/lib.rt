@@ -4,7 +4,6 @@
 
 mod arbitrated;
 mod arbitration;
-mod at_most;
 mod case_file;
 mod cert_error;
 mod certificate;

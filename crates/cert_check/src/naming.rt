@@ -9,9 +9,8 @@ ghost use Rattle.cert_check.specs.Schedules.{named};
 ghost use Rattle.cert_check.specs.Steps.Needs.{AreNeedsOf};
 ghost use Rattle.cert_check.specs.Steps.Replays.{NamesOperations};
 
-use crate::at_most::are_at_most;
 use crate::need::Needs;
-use causal_order::Vectors;
+use causal_order::{Vectors, is_at_most};
 use history::{History, OpId};
 use object_trait::SeqObject;
 use std::alloc::{AllocError, Global};
@@ -88,14 +87,14 @@ impl Naming {
         requires { HasListOf v.now of }
         ensures { IsTrue result ↔ ((s : ℕ) → count v.now of s ≤ slice_index_or self.now.counts.items s 0) }
     {
-        are_at_most(v.get(of), &self.counts)
+        is_at_most(v.get(of), &self.counts)
     }
 
     /// Whether as many operations of each session were named as a vector counts.
     pub fn ends_at(&self, vector: &[u16]) -> bool
         ensures { IsTrue result ↔ ((s : ℕ) → slice_index_or self.now.counts.items s 0 ≡ slice_index_or vector.now s 0) }
     {
-        are_at_most(&self.counts, vector) && are_at_most(vector, &self.counts)
+        is_at_most(&self.counts, vector) && is_at_most(vector, &self.counts)
     }
 
     /// Names the next operation of a session. Whether it is there and comes after all others that its own vector counts.

@@ -3,8 +3,7 @@ ghost use Rattle.causal_order.specs.Orders.{op};
 ghost use Rattle.causal_order.specs.Vectors.{AreVectorsOf, HasListOf};
 ghost use Rattle.cert_check.specs.Steps.Needs.{vector_before, need_of, AreNeedsOf, IsCountCovered, IsCovered, IsMet, IsNeedOf};
 
-use crate::at_most::are_at_most;
-use causal_order::Vectors;
+use causal_order::{Vectors, is_at_most};
 use history::{History, OpId};
 use object_trait::SeqObject;
 use std::alloc::{AllocError, Global};
@@ -30,7 +29,7 @@ impl Need {
         match self {
             Need::Nothing => true,
             Need::After(session, index) => { index < at(counts, usize::from(session)) }
-            Need::Everything => are_at_most(v.get(of), counts),
+            Need::Everything => is_at_most(v.get(of), counts),
         }
     }
 }
@@ -148,13 +147,10 @@ fn before(v: &Vectors, op: OpId) -> &[u16]
     requires { HasListOf v.now op }
     ensures { result.now ≡ vector_before v.now op.session op.index }
 {
-    if op.index == 0 {
-        return &[];
+    match op.before() {
+        Some(before) => v.get(before),
+        None => &[],
     }
-    v.get(OpId {
-        session: op.session,
-        index: op.index - 1,
-    })
 }
 
 /// The last operation of another session that the vector of an operation counts, where the operation before doesn't and

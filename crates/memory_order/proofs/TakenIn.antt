@@ -38,6 +38,12 @@ before-in a s (suc n) is = omega arith
 pub before-there : (s n j : ℕ) → n ≡ j + 1 → before_at s n ≡ Some (op s j)
 before-there s n j is = ap (λ (k : ℕ). before_at s k) (let next : n ≡ suc j = omega arith in next)
 
+-- which operation is before another one, where there is one
+pub before-of : (o : OpId) (e : Option OpId) → MatchOption e (o.index ≡ 0) (λ m. (m.session ≡ o.session) × (m.index + 1 ≡ o.index))
+    → e ≡ before_at o.session o.index
+before-of o None first = ap (before_at o.session) (sym first)
+before-of o (Some m) is = sym (subst (λ (s : ℕ). before_at o.session o.index ≡ Some (op s m.index)) (sym is.0) (before-there o.session o.index m.index (sym is.1)))
+
 -- a row counts no more than is in, and all that the last operations count that it counts
 pub record IsRowIn (a : GrowingOrder) (f : ℕ → ℕ) : Type 0 where
   pub inside : (y : ℕ) → f y ≤ slice_index a.past.items y

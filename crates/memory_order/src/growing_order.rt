@@ -13,13 +13,13 @@ ghost use Rattle.memory_order.specs.Steps.HappenedBefores.{AreStrictOf};
 ghost use Rattle.memory_order.specs.Steps.Indexed.{ListsSourcesIfAny, listed_source};
 ghost use Rattle.memory_order.specs.Steps.TakingIn.{DropsRaise, IncludesPast, IncludesUpTo, IsJoined, IsNextReady};
 ghost use Rattle.memory_order.specs.Steps.TakingIn.{IsRaisedAlone, IsReady, IsReadyIndex, TakesOne, TakesPast, TakesSome};
-ghost use Rattle.memory_order.specs.Steps.TakingIn.{before_at, row_of};
+ghost use Rattle.memory_order.specs.Steps.TakingIn.{row_of};
 ghost use Rattle.causal_order.specs.Vectors.{count, IsCounted};
 
 use crate::indexed::source_in;
 use crate::placing::Sources;
 use crate::strict::strict_vectors;
-use causal_order::Vectors;
+use causal_order::{Vectors, is_at_most};
 use history::{History, OpId};
 use objects::Memory;
 use std::alloc::{AllocError, Global};
@@ -305,7 +305,7 @@ impl GrowingOrder {
         ensures { OnOk result (TakesOne h.now self.old self.new op) }
     {
         self.include(h, op);
-        self.join(h, op, operation_before(op))?;
+        self.join(h, op, op.before())?;
         self.join(h, op, source_in(sources, op))
     }
 
@@ -352,7 +352,7 @@ impl GrowingOrder {
         requires cause { IsCounted self.old.counts op before ⊎ Precedes before op }
         ensures { OnOk result (IsJoined h.now self.old self.new op (count self.old.counts before)) }
     {
-        if is_within(self.counts.get(before), self.counts.get(op)) {
+        if is_at_most(self.counts.get(before), self.counts.get(op)) {
             return Ok(());
         }
         let mut from = 0;
@@ -485,7 +485,7 @@ impl GrowingOrder {
         ensures within { OnOk result (GrowsWithin h.now NoReads self.old self.new) }
         ensures past { OnOk result (IsPastOf self.new.counts op before) }
     {
-        if is_within(self.counts.get(before), self.counts.get(op)) {
+        if is_at_most(self.counts.get(before), self.counts.get(op)) {
             return Ok(());
         }
         let mut from = 0;
@@ -678,19 +678,6 @@ impl GrowingOrder {
     }
 }
 
-/// The operation before an operation in its session, if there is one.
-fn operation_before(op: OpId) -> Option<OpId>
-    ensures { result ≡ before_at op.session op.index }
-{
-    if op.index == 0 {
-        return None;
-    }
-    Some(OpId {
-        session: op.session,
-        index: op.index - 1,
-    })
-}
-
 /// The first place from a number on at which a count is larger than the one at its place in others, where a place past the end has
 /// 0.
 fn next_above(counts: &[u16], others: &[u16], from: usize) -> Option<usize>
@@ -705,20 +692,4 @@ fn next_above(counts: &[u16], others: &[u16], from: usize) -> Option<usize>
         }
     }
     None
-}
-
-/// Whether each count is at most the one at its place in others, of which there are as many.
-///
-/// All are looked at in any case: where most of them are at most that, this is faster than to stop at the first that is not.
-fn is_within(counts: &[u16], others: &[u16]) -> bool
-    requires { length counts.now ≡ length others.now }
-    ensures { IsTrue result ↔ ((s : ℕ) → slice_index_or counts.now s 0 ≤ slice_index_or others.now s 0) }
-{
-    let mut within = true;
-    for place in 0..counts.len() {
-        if counts[place] > others[place] {
-            within = false;
-        }
-    }
-    within
 }

@@ -1,6 +1,5 @@
 pub mod AddRemoveSet
 pub mod Counter
-pub mod Equal
 pub mod Keyed
 pub mod Laws
 pub mod Queue

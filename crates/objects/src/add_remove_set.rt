@@ -3,7 +3,7 @@ ghost use Rattle.objects.specs.AddRemoveSet.{HoldsAfter, answer as set_answer, i
 ghost use Rattle.objects.specs.AddRemoveSet.{depends as set_depends, settles as set_settles};
 ghost use Rattle.objects.specs.Laws.AddRemoveSet.{answer_fits, others_change_nothing, query_changes_nothing, settled};
 ghost use Rattle.objects.specs.Laws.AddRemoveSet.{same_adds, same_removes, same_hases, same_answers, variant_of_call, variant_of_ret};
-ghost use Rattle.objects.specs.Equal.{alike, apart, same_units};
+ghost use Rattle.objects.specs.Laws.Equal.{alike, apart, same_units};
 ghost use Rattle.objects.specs.declared.add_remove_set.SetCall.TheVariants.{Add, Remove, Has};
 ghost use Rattle.objects.specs.declared.add_remove_set.SetRet.TheVariants.{Done, Has as HasAnswer};
 

@@ -3,7 +3,7 @@ ghost use Rattle.objects.specs.Counter.{GREATEST, increments, count_of, answer a
 ghost use Rattle.objects.specs.Counter.{depends as counter_depends, matches as counter_matches, settles as counter_settles};
 ghost use Rattle.objects.specs.Laws.Counter.{answer_fits, query_changes_nothing, variant_of_call, variant_of_ret};
 ghost use Rattle.objects.specs.Laws.Counter.{others_change_nothing, same_values, settled};
-ghost use Rattle.objects.specs.Equal.{alike, apart, same_units};
+ghost use Rattle.objects.specs.Laws.Equal.{alike, apart, same_units};
 ghost use Rattle.objects.specs.declared.counter.CounterCall.{CounterCall};
 ghost use Rattle.objects.specs.declared.counter.CounterCall.TheVariants.{Increment, Get};
 ghost use Rattle.objects.specs.declared.counter.CounterRet.TheVariants.{Done, Value};

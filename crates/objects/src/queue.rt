@@ -3,7 +3,7 @@ ghost use Rattle.objects.specs.Queue.{left, answer as queue_answer, is_query, ma
 ghost use Rattle.objects.specs.Queue.{depends as queue_depends, settles as queue_settles};
 ghost use Rattle.objects.specs.Laws.Queue.{answer_fits, query_changes_nothing, variant_of_call, variant_of_ret};
 ghost use Rattle.objects.specs.Laws.Queue.{others_change_nothing, same_pushes, same_popped, settled};
-ghost use Rattle.objects.specs.Equal.{alike, apart, same_units};
+ghost use Rattle.objects.specs.Laws.Equal.{alike, apart, same_units};
 ghost use Rattle.objects.specs.declared.queue.QueueCall.TheVariants.{Push, Pop};
 ghost use Rattle.objects.specs.declared.queue.QueueRet.TheVariants.{Done, Popped};
 

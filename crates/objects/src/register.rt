@@ -4,7 +4,7 @@ ghost use Rattle.objects.specs.Register.{answer as register_answer, depends as r
 ghost use Rattle.objects.specs.Register.{last_written, matches as register_matches};
 ghost use Rattle.objects.specs.Laws.Register.{answer_fits, others_change_nothing, query_changes_nothing, same_writes, write_and_read};
 ghost use Rattle.objects.specs.Laws.Register.{read_and_write, same_values, settled, done_and_value, value_and_done};
-ghost use Rattle.objects.specs.Equal.{alike, same_numbers};
+ghost use Rattle.objects.specs.Laws.Equal.{alike, same_numbers};
 ghost use Rattle.objects.specs.declared.register.RegisterCall.TheVariants.{Write, Read};
 ghost use Rattle.objects.specs.declared.register.RegisterRet.TheVariants.{Done, Value};
 

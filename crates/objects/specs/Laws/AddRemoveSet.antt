@@ -6,7 +6,7 @@ use Rattle.std.proofs.Common.{ap, sym, ◌∙◌}
 use Rattle.std.proofs.lemmas.Bool.{cond-false, cond-true}
 use Rattle.std.proofs.lemmas.List.Elements.{filter-append}
 use Rattle.objects.specs.AddRemoveSet.{changes, is_add, has, answer, is_has, depends, matches, settles}
-use Rattle.objects.specs.Equal.{same_of_part, same_numbers, same_truths}
+use Rattle.objects.specs.Laws.Equal.{same_of_part, same_numbers, same_truths}
 use Rattle.objects.specs.declared.add_remove_set.SetCall.{SetCall}
 use Rattle.objects.specs.declared.add_remove_set.SetCall.TheVariants.{Add, Remove, Has}
 use Rattle.objects.specs.declared.add_remove_set.SetRet.{SetRet}

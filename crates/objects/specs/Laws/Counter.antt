@@ -3,7 +3,7 @@ use Rattle.std.specs.Prelude.{◌≡◌, min, ℕ, List, ◌∷◌, ◌++◌, tr
 use Rattle.std.proofs.Common.{ap, cond, ◌+◌, ◌==◌}
 use Rattle.std.proofs.lemmas.List.Sums.{sum_by-append, sum_by-cons}
 use Rattle.objects.specs.Counter.{GREATEST, is_increment, increments, answer, is_get, depends, matches, settles}
-use Rattle.objects.specs.Equal.{same_of_part, same_numbers}
+use Rattle.objects.specs.Laws.Equal.{same_of_part, same_numbers}
 use Rattle.objects.specs.declared.counter.CounterCall.{CounterCall}
 use Rattle.objects.specs.declared.counter.CounterCall.TheVariants.{Increment, Get}
 use Rattle.objects.specs.declared.counter.CounterRet.{CounterRet}

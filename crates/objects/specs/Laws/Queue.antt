@@ -2,7 +2,7 @@
 use Rattle.std.specs.Prelude.{◌≡◌, ℕ, List, ◌∷◌, ◌++◌, true, false, Option, refl}
 use Rattle.std.specs.Option.{option_eq}
 use Rattle.std.proofs.Common.{◌==◌}
-use Rattle.objects.specs.Equal.{same_of_part, same_numbers, same_options}
+use Rattle.objects.specs.Laws.Equal.{same_of_part, same_numbers, same_options}
 use Rattle.objects.specs.Queue.{answer, is_query, depends, matches, settles}
 use Rattle.objects.specs.declared.queue.QueueCall.{QueueCall}
 use Rattle.objects.specs.declared.queue.QueueCall.TheVariants.{Push, Pop}

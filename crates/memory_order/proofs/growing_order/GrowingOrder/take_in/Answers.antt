@@ -1,7 +1,7 @@
 use Rattle.std.proofs.Common.{arith, ap}
 use Rattle.causal_order.specs.Vectors.{Counts, count}
 use Rattle.memory_order.proofs.Outcomes.{on_ok-one}
-use Rattle.memory_order.proofs.TakenIn.{source-cause, taken-one}
+use Rattle.memory_order.proofs.TakenIn.{before-of, source-cause, taken-one}
 use Rattle.memory_order.proofs.growing_order.GrowingOrder.take_in.Goals as goal
 
 pub join-requires-2-clause-before : goal.join-requires-2-clause-before
@@ -18,5 +18,5 @@ pub returns : goal.returns
 returns c =
     on_ok-one c.join-2.result _ _
     (λ second. taken-one c.args.h.now c.args.sources.now c.requires.sources c.args.self.now c.requires.ready c.args.op c.requires.is_op c.requires.next c.requires.source
-    c.include.new.self c.join.new.self c.join-2.new.self c.include.ensures (rw c.operation_before.ensures at c.in_ok-join.ensures) (rw c.source_in.ensures at second))
+    c.include.new.self c.join.new.self c.join-2.new.self c.include.ensures (rw (before-of c.args.op c.before-2.result c.before-2.ensures) at c.in_ok-join.ensures) (rw c.source_in.ensures at second))
     c.join-2.ensures

@@ -1,6 +1,6 @@
 use Rattle.std.proofs.Common.{◌↔◌, ◌<◌, ◌≤◌, ℕ, get_or}
 use Rattle.std.specs.Prelude.{IsTrue}
-use Rattle.cert_check.proofs.at_most.are_at_most.Given as goal
+use Rattle.causal_order.proofs.at_most.is_at_most.Given as goal
 
 -- whether the counts so far are at most their bounds
 abbrev pub invariant-loop-place : goal.invariant-loop-place

@@ -1,5 +1,5 @@
 use Rattle.std.proofs.Common.{ℕ, ◌<◌, ◌≤◌, get_or}
-use Rattle.causal_order.proofs.vectors.is_at_most.Given as goal
+use Rattle.causal_order.proofs.at_most.is_at_most_by_place.Given as goal
 
 -- the counts so far are at most their bounds
 abbrev pub invariant-loop-session : goal.invariant-loop-session
