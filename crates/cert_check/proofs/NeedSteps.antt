@@ -37,6 +37,15 @@ needs_from_lists v needs each = record {
       (cases_lt o.session (length needs));
 }
 
+-- the vector before an operation is that of the one before it in its session, or has no counts where it is the first
+pub list_before : (v : Counts) (o b : OpId) → b.session ≡ o.session → b.index + 1 ≡ o.index → list_of v b ≡ vector_before v o.session o.index
+list_before v o b same next =
+    let after : o.index ≡ suc b.index = omega arith in
+    subst (λ (s : ℕ). list_of v b ≡ vector_before v s o.index) same (sym (ap (λ (i : ℕ). vector_before v b.session i) after))
+
+pub none_before : (v : Counts) (o : OpId) → o.index ≡ 0 → [] ≡ vector_before v o.session o.index
+none_before v o first = ap (λ (i : ℕ). vector_before v o.session i) (sym first)
+
 -- what a vector counts stands before a place
 abbrev ComesBefore : Counts → List ℕ → ℕ → OpId → Type 0
 ComesBefore v list i b = (a : OpId) → IsCounted v b a → a ≢ b → StandsBefore (named list) i a
