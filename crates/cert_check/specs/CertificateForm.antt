@@ -1,6 +1,6 @@
 -- The JSON form of a certificate: `["cc", vectors, schedules]`, `["cm", vectors, schedules]` or `["ccv", vectors, list]`
 -- (this project's profile).
-use Rattle.std.specs.Prelude.{◌≡◌, ⊤, ℕ, ◌<◌, ◌^◌, [], ◌∷◌, All}
+use Rattle.std.specs.Prelude.{◌≡◌, ⊤, ℕ, ◌<◌, ◌^◌, [], ◌∷◌, All, Result, MatchResult}
 use Rattle.history.specs.declared.limits.TheConstants.{MAX_SESSIONS}
 use Rattle.serde_json.specs.Data.{Data}
 use Rattle.operations.specs.Reads.{number_form, list_form, worded}
@@ -36,3 +36,7 @@ IsCertificate (Ccv vectors arbitration) = AreBelow (2 ^ 16) vectors × All (λ s
 abbrev pub IsRefusedFor : Data → CertError → Type 0
 IsRefusedFor d Memory = ⊤
 IsRefusedFor d BadCertificate = (c : Certificate) → IsCertificate c → ¬ (d ≡ form_of c)
+
+-- what is read of a value: the certificate whose form it is, or why it is refused
+abbrev pub IsReadAs : Data → Result Certificate CertError → Type 0
+IsReadAs d read = MatchResult read (λ c. (d ≡ form_of c) × IsCertificate c) (IsRefusedFor d)

@@ -1,8 +1,8 @@
-//! What holds of the criteria for every object. The functions do nothing: what they ensure is the law.
+//! What holds of the criteria for every object, and of certificates. The functions do nothing: what they ensure is the law.
 
-ghost use Rattle.std.specs.Prelude.{◌↔◌};
+ghost use Rattle.std.specs.Prelude.{◌≡◌, ◌↔◌};
 ghost use Rattle.history.specs.History.{HistoryValue, IsHistory};
-ghost use Rattle.cert_check.specs.CertificateForm.{IsCertificate};
+ghost use Rattle.cert_check.specs.CertificateForm.{form_of, IsCertificate};
 ghost use Rattle.cert_check.specs.Certificates.{criterion_of, Certifies, HasShapeOf, IsExplainedThroughout};
 ghost use Rattle.cert_check.specs.Criteria.{Meets};
 ghost use Rattle.cert_check.specs.Witnesses.{IsWitness};
@@ -40,4 +40,9 @@ pub fn explained_certificates_are_witnesses<O: SeqObject>()
 pub fn met_exactly_where_certified<O: SeqObject>()
     ensures { (h : HistoryValue O.Start O.Call O.Ret) (criterion : Criterion) → IsHistory O.is_start O.matches h
         → Meets O.answer h criterion ↔ ((c : Certificate) × IsCertificate c × Certifies O.answer h criterion c) }
+{}
+
+/// A value is the form of one certificate at most.
+pub fn certificates_have_distinct_forms()
+    ensures { (c d : Certificate) → form_of c ≡ form_of d → c ≡ d }
 {}

@@ -1,11 +1,11 @@
 //! Reading a certificate from a JSON value.
 
-ghost use Rattle.std.specs.Prelude.{◌≡◌, ◌∷◌, [], map, IfOk, IfErr, MatchResult};
+ghost use Rattle.std.specs.Prelude.{◌∷◌, [], map, IfOk};
 ghost use Rattle.serde_json.specs.View.{view};
 ghost use Rattle.bounded_json.specs.Compact.{compact_view};
 ghost use Rattle.operations.specs.Reads.{worded, IsReadWithin};
 ghost use Rattle.cert_check.specs.CriterionNames.{name_of};
-ghost use Rattle.cert_check.specs.CertificateForm.{form_of, IsCertificate, IsRefusedFor};
+ghost use Rattle.cert_check.specs.CertificateForm.{form_of, IsCertificate, IsReadAs};
 
 use crate::arbitration::Arbitration;
 use crate::cert_error::CertError;
@@ -25,15 +25,9 @@ use std::alloc::{AllocError, Global};
 /// length: whether a certificate has the shape of a history is not asked here. `BadCertificate` for every other value,
 /// `Memory` only where an allocation was refused. O(n) for n numbers.
 pub fn read_certificate(alloc: Global, value: &Value) -> Result<Certificate, CertError>
-    ensures form { IfOk result (λ c. view value.now ≡ form_of c) }
-    ensures ranges { IfOk result IsCertificate }
-
-    // The form of a certificate is read as that certificate, unless memory runs out.
-    ensures only { (c : Certificate) → IsCertificate c → view value.now ≡ form_of c
-        → MatchResult result (λ d. d ≡ c) (λ e. e ≡ CertError.Memory) }
-    ensures refused { IfErr result (IsRefusedFor (view value.now)) }
+    ensures { IsReadAs (view value.now) result }
 {
-    read_from(alloc, value)
+    read_form(alloc, value)?.ok_or(CertError::BadCertificate)
 }
 
 /// The certificate whose form a compact value is, as [`read_certificate`] says it.
@@ -41,29 +35,9 @@ pub fn read_certificate(alloc: Global, value: &Value) -> Result<Certificate, Cer
 /// `BadCertificate` for every value that is the form of none, `Memory` only where an allocation was refused. O(n) for n
 /// numbers.
 pub fn read_compact_certificate(alloc: Global, value: &Compact) -> Result<Certificate, CertError>
-    ensures form { IfOk result (λ c. compact_view value.now ≡ form_of c) }
-    ensures ranges { IfOk result IsCertificate }
-
-    // The form of a certificate is read as that certificate, unless memory runs out.
-    ensures only { (c : Certificate) → IsCertificate c → compact_view value.now ≡ form_of c
-        → MatchResult result (λ d. d ≡ c) (λ e. e ≡ CertError.Memory) }
-    ensures refused { IfErr result (IsRefusedFor (compact_view value.now)) }
+    ensures { IsReadAs (compact_view value.now) result }
 {
-    read_from(alloc, value)
-}
-
-/// The certificate whose form a value is, however the value is kept.
-fn read_from<S: Source>(alloc: Global, value: &S) -> Result<Certificate, CertError>
-    ensures form { IfOk result (λ c. S.stands_for value.now ≡ form_of c) }
-    ensures ranges { IfOk result IsCertificate }
-    ensures only { (c : Certificate) → IsCertificate c → S.stands_for value.now ≡ form_of c
-        → MatchResult result (λ d. d ≡ c) (λ e. e ≡ CertError.Memory) }
-    ensures refused { IfErr result (IsRefusedFor (S.stands_for value.now)) }
-{
-    match read_form(alloc, value)? {
-        Some(certificate) => Ok(certificate),
-        None => Err(CertError::BadCertificate),
-    }
+    read_form(alloc, value)?.ok_or(CertError::BadCertificate)
 }
 
 /// The certificate that a value is the form of.
