@@ -12,6 +12,7 @@ pub mod NeedSteps
 pub mod ConsideredCalls
 pub mod PieceCheckers
 pub mod ReplaySteps
+pub mod AskedBack
 pub mod SchedulePieces
 pub mod CutSteps
 pub mod ListReading

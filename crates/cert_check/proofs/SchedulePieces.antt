@@ -59,7 +59,8 @@ module _ {S C R : Type 0} (answer : S → List C → C → R) (h : HistoryValue 
       let ends = good.ends a.session in
       lt-ltb a.index (count v o a.session) (omega arith)
 
-  counted_front : (i : ℕ) → filter (counted v o) (take i (named list)) ≡ take i (named list)
+  -- all that the schedule names is counted
+  pub counted_front : (i : ℕ) → filter (counted v o) (take i (named list)) ≡ take i (named list)
   counted_front i = filter_all (counted v o) (take i (named list)) (λ k a there.
       let r = slice_get-from_take (named list) i k a there in all_counted k a r.1)
 
@@ -80,17 +81,21 @@ module _ {S C R : Type 0} (answer : S → List C → C → R) (h : HistoryValue 
   pub own_named : (good_vector : IsVectorOk h v o) → o.index < placed list o.session
   own_named vector = let own = vector.own in let ends = good.ends o.session in omega arith
 
-  -- what is kept for a later operation of the session, among what the schedule names, is kept for this one
-  within_past : IsVectorOk h v o → (later : OpId) → later.session ≡ o.session → (j : ℕ) (a : OpId) → StandsAt (named list) j a
-      → IsTrue (program_past later a) → IsTrue (program_past o a)
-  within_past vector later same j a there inside =
-      let parts = and_parts (a.session == later.session) (nat_le a.index later.index) inside in
-      let own_session : a.session ≡ o.session = eqb-true a.session later.session parts.0 ∙ same in
+  -- an operation of the session that the schedule names is kept
+  pub own_kept : IsVectorOk h v o → (j : ℕ) (a : OpId) → StandsAt (named list) j a → a.session ≡ o.session → IsTrue (program_past o a)
+  own_kept vector j a there own_session =
       let within = named_within list j a there in
       let ends = good.ends o.session in
       let own = vector.own in
       let here : placed list a.session ≡ placed list o.session = ap (λ (s : ℕ). placed list s) own_session in
       and_from (a.session == o.session) (nat_le a.index o.index) (eq-eqb a.session o.session own_session) (le-leb a.index o.index (omega arith))
+
+  -- what is kept for a later operation of the session, among what the schedule names, is kept for this one
+  within_past : IsVectorOk h v o → (later : OpId) → later.session ≡ o.session → (j : ℕ) (a : OpId) → StandsAt (named list) j a
+      → IsTrue (program_past later a) → IsTrue (program_past o a)
+  within_past vector later same j a there inside =
+      let parts = and_parts (a.session == later.session) (nat_le a.index later.index) inside in
+      own_kept vector j a there (eqb-true a.session later.session parts.0 ∙ same)
 
   pub answered_later : IsVectorOk h v o → (later : OpId) → later.session ≡ o.session
       → AreAnswered answer h (program_past o) list (length list) → AreAnswered answer h (program_past later) list (length list)

@@ -1,6 +1,6 @@
 //! The calls on which the answer to a known return rests.
 
-ghost use Rattle.std.specs.Prelude.{◌≡◌, ◌≤◌, ◌↔◌, ◌∷◌, List, length, filter, take, IfOk, IsTrue, MatchOption};
+ghost use Rattle.std.specs.Prelude.{◌≡◌, ◌≤◌, ◌↔◌, ◌∷◌, List, length, filter, take, IfOk, IfSome, IsSome, IsTrue, MatchOption};
 ghost use Rattle.history.specs.declared.op_id.OpId.{OpId as Operation};
 ghost use Rattle.history.specs.History.{IsOp, calls};
 ghost use Rattle.causal_order.specs.Vectors.{AreVectorsOf, HasListOf};
@@ -38,49 +38,84 @@ pub fn is_answered_at<O: SeqObject>(
     ensures { IfOk result (λ yes. IsTrue yes
         ↔ IsAnsweredAfter O.answer h.now (filter (counted v.now op) (take place (named list.now))) op) }
 {
+    let answered = is_answered_back_to(alloc, h, v, list, naming, 0, place, op, op)?;
+    Ok(answered.unwrap())
+}
+
+/// The same for the operations that the vector of another operation counts, where the numbers from one place on tell it: none where
+/// they don't. From the front they do.
+pub fn is_answered_back_to<O: SeqObject>(
+    alloc: Global,
+    h: &History<O>,
+    v: &Vectors,
+    list: &[u8],
+    naming: &mut Naming,
+    from: usize,
+    place: usize,
+    of: OpId,
+    op: OpId,
+) -> Result<Option<bool>, AllocError>
+    requires listed { HasListOf v.now of }
+    requires names { NamesOperations h.now list.now }
+    requires is_op { IsOp h.now op }
+    requires within { place ≤ length list.now }
+    requires counts { AreCountsAt list.now place (length h.now.1) naming.old.counts.items }
+    ensures exact { IfOk result (λ told. IfSome told (λ yes. IsTrue yes
+        ↔ IsAnsweredAfter O.answer h.now (filter (counted v.now of) (take place (named list.now))) op)) }
+    ensures told { from ≡ 0 → IfOk result (λ told. IsSome told) }
+{
     let asked = h.call(op);
-    let before = calls_before(alloc, h, v, list, naming, place, op, &asked)?;
+    let Some(before) = calls_before(alloc, h, v, list, naming, from, place, of, &asked)? else {
+        return Ok(None);
+    };
     let mut object: O = replay(alloc, h.start(), &before)?;
-    take_in_call(&mut object, h, op)
+    let yes = take_in_call(&mut object, h, op)?;
+    Ok(Some(yes))
 }
 
 /// Calls after which the answer to a call is the one after the operations before a place of a list, of those that the vector of
-/// an operation counts: the calls from the last one on that settles the answer, of those on which it may depend.
+/// an operation counts: the calls from the last one on that settles the answer, of those on which it may depend. None where they
+/// would have to be looked for in front of another place.
 fn calls_before<O: SeqObject>(
     alloc: Global,
     h: &History<O>,
     v: &Vectors,
     list: &[u8],
     naming: &mut Naming,
+    from: usize,
     place: usize,
     of: OpId,
     asked: &O::Call,
-) -> Result<Vec<O::Call>, AllocError>
+) -> Result<Option<Vec<O::Call>>, AllocError>
     requires listed { HasListOf v.now of }
     requires names { NamesOperations h.now list.now }
     requires within { place ≤ length list.now }
     requires counts { AreCountsAt list.now place (length h.now.1) naming.old.counts.items }
-    ensures { IfOk result (λ before. O.answer h.now.0 before.items asked.now
-        ≡ O.answer h.now.0 (considered O.depends h.now v.now of asked.now (take place (named list.now))) asked.now) }
+    ensures found { IfOk result (λ found. IfSome found (λ before. O.answer h.now.0 before.items asked.now
+        ≡ O.answer h.now.0 (considered O.depends h.now v.now of asked.now (take place (named list.now))) asked.now)) }
+    ensures whole { from ≡ 0 → IfOk result (λ found. IsSome found) }
 {
     let mut found = Vec::new(alloc);
     if !O::depends_on_any(asked) {
-        return Ok(found);
+        return Ok(Some(found));
     }
     let mut at = place;
-    while at > 0 {
+    while at > from {
         at -= 1;
         let next = naming.back(list, at);
         if let Some(call) = considered_call(h, v, of, asked, next) {
             found.push(call)?;
             if O::is_settled_by(asked, &call) {
                 found.reverse();
-                return Ok(found);
+                return Ok(Some(found));
             }
         }
     }
+    if at > 0 {
+        return Ok(None);
+    }
     found.reverse();
-    Ok(found)
+    Ok(Some(found))
 }
 
 /// The call of an operation, where the vector of another counts it and the answer to a call may depend on it.

@@ -4,6 +4,7 @@
 
 mod arbitrated;
 mod arbitration;
+mod asked_back;
 mod case_file;
 mod cert_error;
 mod certificate;

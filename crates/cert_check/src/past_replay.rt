@@ -1,24 +1,28 @@
-//! Schedules replayed one after another, for the known returns of sessions.
+//! Schedules gone through one after another, for the known returns of sessions.
 
-ghost use Rattle.std.specs.Prelude.{◌≡◌, ◌↔◌, ◌≤◌, length, take, IfOk, IsTrue};
+ghost use Rattle.std.specs.Prelude.{◌≡◌, ◌↔◌, ◌≤◌, length, take, IfOk, IfSome, IsTrue};
+ghost use Rattle.history.specs.History.{IsOp};
 ghost use Rattle.causal_order.specs.Orders.{program_past};
-ghost use Rattle.causal_order.specs.Vectors.{Counts, IsVectorOk};
+ghost use Rattle.causal_order.specs.Vectors.{AreVectorsOf, Counts, IsVectorOk};
 ghost use Rattle.cert_check.specs.Schedules.{named, IsSchedule};
 ghost use Rattle.cert_check.specs.Steps.Replays.{AreAnswered, IsReplayAt};
 
+use crate::asked_back::are_answered_behind;
 use crate::kept::Kept;
 use crate::naming::shared_front;
 use crate::replay::Replay;
+use causal_order::Vectors;
 use history::{History, OpId};
 use object_trait::SeqObject;
 use std::alloc::{AllocError, Global};
 use std::marker::Model;
 
-/// Replays schedules of a history one after another, each from the end of the one before where it begins with that.
+/// Asks schedules of a history for known returns, one after another: each from where it parts from the one before, or by a replay that
+/// goes on from the end of the one before where it begins with that.
 #[derive(Drop)]
 pub struct PastReplay<'a, O: SeqObject> {
     history: &'a History<O>,
-    /// A schedule that answers all known returns of a session that it names, and what stands at its end.
+    /// A schedule that answers all known returns of a session that it names, and what stands at its end, where it was replayed.
     schedule: &'a [u8],
     session: u64,
     replay: Option<Replay<O>>,
@@ -55,14 +59,80 @@ impl<'a, O: SeqObject> PastReplay<'a, O> {
 
     /// Whether what the schedule of an operation names explains the known returns of its session up to it.
     ///
-    /// Fails for want of memory alone. One call of the object for each number of the schedule; only for those behind the one
-    /// before, where the schedule begins with that and the operation is of the same session.
+    /// Fails for want of memory alone. Where the schedule begins with the whole one before, of the same session, that was replayed, one
+    /// call of the object for each number behind it. Else the known returns behind what both begin with are asked for from the end
+    /// back; and where a call that settles one of them isn't near before it, one call for each number of the schedule.
     pub fn explains(
         &mut self,
         alloc: Global,
+        v: &Vectors,
         schedule: &'a [u8],
         op: OpId,
     ) -> Result<bool, AllocError>
+        requires shape { AreVectorsOf self.old v.now }
+        requires is_op { IsOp self.old op }
+        requires vector { IsVectorOk self.old v.now op }
+        requires schedule { IsSchedule self.old v.now op schedule.now }
+        ensures exact { IfOk result (λ yes. IsTrue yes
+            ↔ AreAnswered O.answer self.old (program_past op) schedule.now (length schedule.now)) }
+        ensures same { self.new ≡ self.old }
+    {
+        match self.asked_back(alloc, v, schedule, op)? {
+            Some(true) => {
+                self.keep(schedule, op);
+                Ok(true)
+            }
+            Some(false) => Ok(false),
+            None => self.replays(alloc, schedule, op),
+        }
+    }
+
+    /// The same, asked from the end of the schedule back. None where a replay goes on, or where that doesn't tell it.
+    fn asked_back(
+        &self,
+        alloc: Global,
+        v: &Vectors,
+        schedule: &[u8],
+        op: OpId,
+    ) -> Result<Option<bool>, AllocError>
+        requires shape { AreVectorsOf self.now v.now }
+        requires is_op { IsOp self.now op }
+        requires vector { IsVectorOk self.now v.now op }
+        requires schedule { IsSchedule self.now v.now op schedule.now }
+        ensures { IfOk result (λ told. IfSome told (λ yes. IsTrue yes
+            ↔ AreAnswered O.answer self.now (program_past op) schedule.now (length schedule.now))) }
+    {
+        let front = self.answered_front(schedule, op);
+        if self.replay.is_some() && front == self.schedule.len() {
+            return Ok(None);
+        }
+        are_answered_behind(alloc, self.history, v, schedule, front, op)
+    }
+
+    /// How many numbers a schedule begins with alike with the one before, where that is of the same session.
+    fn answered_front(&self, schedule: &[u8], op: OpId) -> usize
+        ensures { AreAnswered O.answer self.now (program_past op) schedule.now result }
+    {
+        if self.session == op.session {
+            shared_front(self.schedule, schedule)
+        } else {
+            0
+        }
+    }
+
+    /// Keeps a schedule that explains the known returns of its session up to an operation.
+    fn keep(&mut self, schedule: &'a [u8], op: OpId)
+        requires good { (v : Counts) × IsVectorOk self.old v op × IsSchedule self.old v op schedule.now }
+        requires answered { AreAnswered O.answer self.old (program_past op) schedule.now (length schedule.now) }
+        ensures { self.new ≡ self.old }
+    {
+        self.replay = None;
+        self.schedule = schedule;
+        self.session = op.session;
+    }
+
+    /// Whether what the schedule of an operation names explains the known returns of its session up to it, by a replay.
+    fn replays(&mut self, alloc: Global, schedule: &'a [u8], op: OpId) -> Result<bool, AllocError>
         requires good { (v : Counts) × IsVectorOk self.old v op × IsSchedule self.old v op schedule.now }
         ensures exact { IfOk result (λ yes. IsTrue yes
             ↔ AreAnswered O.answer self.old (program_past op) schedule.now (length schedule.now)) }

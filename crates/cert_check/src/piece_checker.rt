@@ -111,7 +111,7 @@ impl<'a, O: SeqObject> PieceChecker<'a, O> {
     /// What the check of the piece of an operation comes to.
     ///
     /// Fails for want of memory alone. As `check_piece`, but its schedule is gone through from where it parts from that of the piece
-    /// before; and, for causal memory, replayed from there where it begins with the whole one before.
+    /// before; and so it is asked, for causal memory, for the known returns of its session.
     pub fn check(&mut self, alloc: Global, op: OpId) -> Result<Outcome, AllocError>
         requires is_op { IsOp self.old.0 op }
         ensures exact { IfOk result (λ outcome. (outcome ≡ Outcome.Explained) ↔ IsExplainedIn O.answer self.old op) }
@@ -137,8 +137,15 @@ impl<'a, O: SeqObject> PieceChecker<'a, O> {
             Certificate::Cc(v, schedules) => {
                 is_own_piece(alloc, &mut self.walk, h, v, schedules.get(op), op)
             }
-            Certificate::Cm(_, schedules) => {
-                is_past_piece(alloc, &mut self.walk, &mut self.past, schedules.get(op), op)
+            Certificate::Cm(v, schedules) => {
+                is_past_piece(
+                    alloc,
+                    &mut self.walk,
+                    &mut self.past,
+                    v,
+                    schedules.get(op),
+                    op,
+                )
             }
             Certificate::Ccv(v, arbitration) => {
                 is_arbitrated_piece(alloc, &mut self.list, h, v, arbitration.sessions(), op)
@@ -173,17 +180,19 @@ fn is_past_piece<'a, O: SeqObject>(
     alloc: Global,
     walk: &mut ScheduleWalk<'a, O>,
     past: &mut PastReplay<'a, O>,
+    v: &Vectors,
     schedule: &'a [u8],
     op: OpId,
 ) -> Result<bool, AllocError>
-    requires past { past.old ≡ walk.old.0 }
-    requires is_op { IsOp walk.old.0 op }
-    ensures exact { IfOk result (λ yes. IsTrue yes ↔ IsScheduledPiece O.answer walk.old.0 walk.old.1 schedule.now op (program_past op)) }
+    requires walk { walk.old ≡ (past.old, v.now) }
+    requires shape { AreVectorsOf past.old v.now }
+    requires is_op { IsOp past.old op }
+    ensures exact { IfOk result (λ yes. IsTrue yes ↔ IsScheduledPiece O.answer past.old v.now schedule.now op (program_past op)) }
     ensures same_walk { walk.new ≡ walk.old }
     ensures same_past { past.new ≡ past.old }
 {
     if !walk.is_schedule(schedule, op) {
         return Ok(false);
     }
-    past.explains(alloc, schedule, op)
+    past.explains(alloc, v, schedule, op)
 }

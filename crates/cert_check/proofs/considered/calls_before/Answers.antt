@@ -9,16 +9,16 @@ use Rattle.cert_check.specs.Steps.Replays.{considered}
 use Rattle.cert_check.proofs.ConsideredCalls.{more_behind, none_kept, reverse_push, same_behind, settled_behind}
 use Rattle.cert_check.proofs.considered.calls_before.Goals as goal
 
-pub returns-then-not-depends_on_any : goal.returns-then-not-depends_on_any
-returns-then-not-depends_on_any g c =
+pub returns-then-not-depends_on_any-clause-found : goal.returns-then-not-depends_on_any-clause-found
+returns-then-not-depends_on_any-clause-found g c =
     let h = c.args.h.now in
     let asked = c.args.asked.now in
     let none = c.depends_on_any.ensures c.if-not-depends_on_any.true in
     ap (λ (xs : List _). g.O.SeqObject.answer h.0 xs asked)
     (c.new-found.ensures.items ∙ sym (none_kept (g.O.SeqObject.depends asked) none (calls h (filter (counted c.args.v.now c.args.of) (take c.args.place (named c.args.list.now))))))
 
-pub returns-then-is_settled_by : goal.returns-then-is_settled_by
-returns-then-is_settled_by g c =
+pub returns-then-is_settled_by-clause-found : goal.returns-then-is_settled_by-clause-found
+returns-then-is_settled_by-clause-found g c =
     let depends = g.O.SeqObject.depends in
     let h = c.args.h.now in
     let v = c.args.v.now in

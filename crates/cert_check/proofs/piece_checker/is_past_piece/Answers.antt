@@ -1,8 +1,11 @@
 use Rattle.std.proofs.Common.{Bool, length, subst}
 use Rattle.std.specs.Prelude.{IsTrue, ◌↔◌}
 use Rattle.std.proofs.lemmas.Result.{IfOk-weaker}
+use Rattle.history.specs.History.{HistoryValue}
 use Rattle.causal_order.specs.Orders.{program_past}
+use Rattle.causal_order.specs.Vectors.{Counts, IsVectorOk}
 use Rattle.cert_check.specs.Certificates.{IsScheduledPiece}
+use Rattle.cert_check.specs.Schedules.{IsSchedule}
 use Rattle.cert_check.specs.Steps.Replays.{AreAnswered}
 use Rattle.cert_check.proofs.ReplaySteps.{explains-answered, explains-from}
 use Rattle.cert_check.proofs.SchedulePieces.{piece_exactly}
@@ -11,17 +14,17 @@ use Rattle.cert_check.proofs.piece_checker.is_past_piece.Goals as goal
 pub returns-clause-exact : goal.returns-clause-exact
 returns-clause-exact g c =
     let answer = g.O.SeqObject.answer in
-    let h = c.args.walk.now.0 in
-    let v = c.args.walk.now.1 in
+    let h = c.args.past.now in
+    let v = c.args.v.now in
     let o = c.args.op in
     let list = c.args.schedule.now in
     let kept = program_past o in
-    let good = c.is_schedule.ensures.exact.0 c.if-not-is_schedule.false in
+    let good = subst (λ (w : HistoryValue g.row.O-Start.Denot g.row.O-Call.Denot g.row.O-Ret.Denot × Counts). IsVectorOk w.0 w.1 o × IsSchedule w.0 w.1 o list)
+    c.requires.walk (c.is_schedule.ensures.exact.0 c.if-not-is_schedule.false) in
     IfOk-weaker c.explains.result
-    (λ (yes : Bool). IsTrue yes ↔ AreAnswered answer c.args.past.now kept list (length list))
+    (λ (yes : Bool). IsTrue yes ↔ AreAnswered answer h kept list (length list))
     (λ (yes : Bool). IsTrue yes ↔ IsScheduledPiece answer h v list o kept)
     (λ yes answered.
-    let exactly = subst (λ x. IsTrue yes ↔ AreAnswered answer x kept list (length list)) c.requires.past answered in
     piece_exactly answer h v o list kept good.0 good.1 yes
-    ((λ t. explains-from answer h kept list (exactly.0 t)), λ explains. exactly.1 (explains-answered answer h kept list explains)))
+    ((λ t. explains-from answer h kept list (answered.0 t)), λ explains. answered.1 (explains-answered answer h kept list explains)))
     c.explains.ensures.exact

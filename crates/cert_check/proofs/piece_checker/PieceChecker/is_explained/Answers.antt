@@ -28,14 +28,13 @@ returns-in-Cm-clause-exact g c =
     let o = c.args.op in
     let h = c.history-h.result.now in
     let history : h ≡ c.args.self.now.0 = c.history-h.ensures ∙ ap (λ file. file.0) c.self.view_is in
-    let walk : c.self.inside.walk ≡ (h, c.in-Cm.field-0) = c.self.invariant.walk ∙ ap₂ (λ x k. (x, vectors_of k)) (sym c.history-h.ensures) c.in-Cm.is in
-    let walked : (yes : Bool) → _ → _ = λ yes exactly.
-    subst (λ (w : HistoryValue g.row.O-Start.Denot g.row.O-Call.Denot g.row.O-Ret.Denot × Counts). IsTrue yes ↔ IsScheduledPiece answer w.0 w.1 c.get-in-Cm.result.now o (program_past o)) walk exactly in
+    let past : c.self.inside.past ≡ h = c.self.invariant.past ∙ sym c.history-h.ensures in
     IfOk-weaker c.is_past_piece.result _ _
     (λ (yes : Bool) exactly certificate is.
-    let held : Cm c.in-Cm.field-0 c.in-Cm.schedules ≡ certificate = sym c.in-Cm.is ∙ held_is c.self.inside.file.now c.args.self.now c.self.view_is c.self.inside.certificate.now certificate c.self.invariant.certificate is in
-    decided_as answer o yes h c.args.self.now.0 history (Cm c.in-Cm.field-0 c.in-Cm.schedules) certificate held
-    (subst (λ (xs : List ℕ). IsTrue yes ↔ IsScheduledPiece answer h c.in-Cm.field-0 xs o (program_past o)) c.get-in-Cm.ensures (walked yes exactly)))
+    let held : Cm c.in-Cm.v c.in-Cm.schedules ≡ certificate = sym c.in-Cm.is ∙ held_is c.self.inside.file.now c.args.self.now c.self.view_is c.self.inside.certificate.now certificate c.self.invariant.certificate is in
+    let on_file = subst (λ (x : HistoryValue g.row.O-Start.Denot g.row.O-Call.Denot g.row.O-Ret.Denot). IsTrue yes ↔ IsScheduledPiece answer x c.in-Cm.v c.get-in-Cm.result.now o (program_past o)) past exactly in
+    decided_as answer o yes h c.args.self.now.0 history (Cm c.in-Cm.v c.in-Cm.schedules) certificate held
+    (subst (λ (xs : List ℕ). IsTrue yes ↔ IsScheduledPiece answer h c.in-Cm.v xs o (program_past o)) c.get-in-Cm.ensures on_file))
     c.is_past_piece.ensures.exact
 
 pub returns-in-Ccv-clause-exact : goal.returns-in-Ccv-clause-exact

@@ -4,7 +4,7 @@ use Rattle.causal_order.specs.Vectors.{IsVectorOk}
 use Rattle.cert_check.specs.Schedules.{IsSchedule}
 use Rattle.cert_check.specs.Steps.Replays.{AreAnswered}
 use Rattle.cert_check.proofs.SchedulePieces.{answered_later}
-use Rattle.cert_check.proofs.past_replay.PastReplay.explains.Goals as goal
+use Rattle.cert_check.proofs.past_replay.PastReplay.replays.Goals as goal
 
 pub invariant_of-self : goal.invariant_of-self
 invariant_of-self g c =
