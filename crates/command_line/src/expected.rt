@@ -1,8 +1,9 @@
 //! Which criteria are expected to be met.
 
-ghost use Rattle.std.specs.Prelude.{◌≡◌, ◌≢◌, MatchOption};
-ghost use Rattle.command_line.specs.Expected.{AddEach, AddsName, Lists, and_expected, expecting_nothing, expects, name_of, parts};
-ghost use Rattle.command_line.specs.Expected.{with_expected};
+ghost use Rattle.std.specs.Prelude.{◌≡◌, MatchOption};
+ghost use Rattle.command_line.specs.Expected.{AddEach, AddsName, Lists, and_expected, expecting_nothing, expects, parts, with_expected};
+
+use cert_check::Criterion;
 
 /// The criteria that are expected to be met: of none nothing is expected.
 #[derive(Clone, Copy, Debug, PartialEq, Eq)]
@@ -13,17 +14,6 @@ pub struct Expected {
     pub cm: bool,
     /// Causal convergence.
     pub ccv: bool,
-}
-
-/// A criterion that a list names.
-#[derive(Clone, Copy, Debug, PartialEq, Eq)]
-pub enum Named {
-    /// Causal consistency.
-    Cc,
-    /// Causal memory.
-    Cm,
-    /// Causal convergence.
-    Ccv,
 }
 
 impl Expected {
@@ -43,40 +33,37 @@ impl Expected {
     fn and_name(self, name: &str) -> Option<Expected>
         ensures { MatchOption result ((after : Expected) → ¬ AddsName self name.now after) (AddsName self name.now) }
     {
-        match named_by(name) {
-            Some(named) => self.and_also(named),
-            None => None,
-        }
+        self.and_also(Criterion::named(name)?)
     }
 
     // With one criterion more; none where it was expected before.
-    fn and_also(self, named: Named) -> Option<Expected>
-        ensures { result ≡ and_expected self named }
+    fn and_also(self, criterion: Criterion) -> Option<Expected>
+        ensures { result ≡ and_expected self criterion }
     {
-        if self.expects(named) {
+        if self.expects(criterion) {
             None
         } else {
-            Some(self.with(named))
+            Some(self.with(criterion))
         }
     }
 
-    fn expects(self, named: Named) -> bool
-        ensures { result ≡ expects self named }
+    fn expects(self, criterion: Criterion) -> bool
+        ensures { result ≡ expects self criterion }
     {
-        match named {
-            Named::Cc => self.cc,
-            Named::Cm => self.cm,
-            Named::Ccv => self.ccv,
+        match criterion {
+            Criterion::Cc => self.cc,
+            Criterion::Cm => self.cm,
+            Criterion::Ccv => self.ccv,
         }
     }
 
-    fn with(self, named: Named) -> Expected
-        ensures { result ≡ with_expected self named }
+    fn with(self, criterion: Criterion) -> Expected
+        ensures { result ≡ with_expected self criterion }
     {
-        match named {
-            Named::Cc => Expected { cc: true, ..self },
-            Named::Cm => Expected { cm: true, ..self },
-            Named::Ccv => Expected { ccv: true, ..self },
+        match criterion {
+            Criterion::Cc => Expected { cc: true, ..self },
+            Criterion::Cm => Expected { cm: true, ..self },
+            Criterion::Ccv => Expected { ccv: true, ..self },
         }
     }
 }
@@ -99,17 +86,5 @@ fn expected_after(before: Expected, list: &str) -> Option<Expected>
             None => None,
         },
         None => before.and_name(list),
-    }
-}
-
-// The criterion of this name.
-fn named_by(name: &str) -> Option<Named>
-    ensures { MatchOption result ((named : Named) → name.now ≢ name_of named) (λ named. name.now ≡ name_of named) }
-{
-    match name {
-        "cc" => Some(Named::Cc),
-        "cm" => Some(Named::Cm),
-        "ccv" => Some(Named::Ccv),
-        _ => None,
     }
 }
