@@ -1,9 +1,10 @@
 #!/usr/bin/env python3
 """Compares what a program says of random certificates, most of them broken, with what `recheck.py` says of their pieces.
 
-    pieces.py SEED COUNT -- PROGRAM
+    pieces.py SEED COUNT [MOST] -- PROGRAM
 
-Each certificate is of a small history of one of the eight objects and of one of the three criteria. The history is a run of the
+Each certificate is of a history of one of the eight objects, of at most MOST operations (14 by default, and 400 at the most), and of
+one of the three criteria. The history is a run of the
 object, one call at a time. Each operation counts what its session counted and some operations of others; its schedule, like the
 one list of causal convergence, has the order of the run. Then up to three counts, numbers of a schedule or returns are changed,
 or the schedules of neighbours are swapped. `PROGRAM check` has to say `yes` where every piece explains its operation, and else to
@@ -23,6 +24,7 @@ from objects import split as call_and_return
 from recheck import Unexplained, check_piece, check_shape, counts_in_order
 
 CRITERIA = ("cc", "cm", "ccv")
+FEW, MOST = 14, 400  # how many operations a history has at most, by default and whatever is asked for
 OTHER_SHAPE = (21, 1)  # the status of the program, and that of the library
 
 
@@ -32,9 +34,9 @@ def random_call(name, rng):
     return [word, *key, *(rng.randrange(1, 4) for _ in range(OBJECTS[name].arguments[word]))]
 
 
-def run(name, start, rng):
+def run(name, start, most, rng):
     """A run of the object: the session of each call in order, and the sessions with their calls and returns."""
-    order = [rng.randrange(rng.randint(1, 4)) for _ in range(rng.randint(1, 14))]
+    order = [rng.randrange(rng.randint(1, 4)) for _ in range(rng.randint(1, most))]
     sessions = [[] for _ in range(max(order) + 1)]
     state = State(name, start)
     for session in order:
@@ -107,10 +109,10 @@ def damage(history, certificate, rng):
         sessions[session][index][-1] += 1
 
 
-def case(rng):
+def case(most, rng):
     name = rng.choice(list(OBJECTS))
     start = [[0, 7]] if name == "memory" and rng.random() < 0.3 else []
-    order, sessions = run(name, start, rng)
+    order, sessions = run(name, start, most, rng)
     history = [name, sessions, *([start] if start else [])]
     certificate = certificate_of(rng.choice(CRITERIA), order, sessions, rng)
     for _ in range(rng.randint(0, 3)):
@@ -145,10 +147,11 @@ def told(program, history, certificate):
 
 def main():
     split = sys.argv.index("--")
-    seed, count = (int(word) for word in sys.argv[1:split])
+    seed, count, *given = (int(word) for word in sys.argv[1:split])
+    most = min(given[0], MOST) if given else FEW
     program, rng, outcomes, differ = sys.argv[split + 1 :], random.Random(seed), Counter(), 0
     for _ in range(count):
-        history, certificate = case(rng)
+        history, certificate = case(most, rng)
         line, said = wanted(history, certificate), told(program, history, certificate)
         if line != said:
             print(f"{json.dumps([history, certificate])}: {said!r}, and not {line!r}")
