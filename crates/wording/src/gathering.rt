@@ -1,8 +1,9 @@
 //! The steps of patterns.
 
 use crate::derivation_steps::push_derivation;
+use crate::derived_pairs::ends_of;
 use crate::step::Step;
-use crate::steps::{Steps, ends_of};
+use crate::steps::Steps;
 use bad_patterns::{Link, Links, Pair, Path, Pattern};
 use history::{History, OpId};
 use objects::Memory;
@@ -18,7 +19,8 @@ pub(crate) struct Told {
 
 /// The steps that show a pattern, and where they begin and end.
 ///
-/// Fails for want of memory alone. O(m + l log n) for a pattern of m operations and l lines and a history of n operations.
+/// Fails for want of memory alone. O(m + l) for a pattern of m operations and l lines, and for a derivation what
+/// [`push_derivation`] takes.
 pub(crate) fn told_of(
     alloc: Global,
     h: &History<Memory>,

@@ -1,10 +1,12 @@
-//! What is said of histories in words: why a pattern excludes a criterion, and why nothing is known.
+//! What is said of histories in words: why a pattern excludes a criterion, and why nothing is known. The pairs of operations that a
+//! pattern speaks of are there for who draws it, too.
 //!
 //! Nobody trusts these texts: what shows that a criterion is not met is the pattern, and what shows that it is met is the
 //! certificate. They say something of any pattern, certificate and history, also where these don't belong together.
 #![tactic(auto)]
 
 mod derivation_steps;
+mod derived_pairs;
 mod gathering;
 mod naming;
 mod operation_words;
@@ -16,6 +18,8 @@ mod step;
 mod steps;
 mod unexplained;
 
+pub use derived_pairs::{DerivedPairs, ends_of};
+pub use naming::name_of;
 pub use operation_words::Worded;
 pub use pattern_words::words_of_pattern;
 pub use repeated_values::{repeated_variables, words_of_repeated_values, words_without_variables};

@@ -15,8 +15,8 @@ use std::alloc::{AllocError, Global};
 /// The first 20 steps and the last 20 are told, and how many are left out between them. Of a pattern that is not one of the
 /// history it says something too.
 ///
-/// Fails for want of memory alone. O(m + (n + l) log n) for a pattern of m operations and l lines and a history of n
-/// operations.
+/// Fails for want of memory alone. O(m + l + n (log n + k)) for a pattern of m operations and l lines and a history of n operations
+/// of k sessions.
 pub fn words_of_pattern(
     alloc: Global,
     h: &History<Memory>,

@@ -1,7 +1,8 @@
 //! The steps that are told.
 
+use crate::derived_pairs::ends_of;
 use crate::step::Step;
-use bad_patterns::{Pair, Path};
+use bad_patterns::Path;
 use history::OpId;
 use std::alloc::{AllocError, Global};
 
@@ -84,13 +85,5 @@ impl Steps {
             Some((from, to)) if path.ops().len() > 2 => self.push(Step::Leads(from, to)),
             _ => Ok(()),
         }
-    }
-}
-
-/// The ends of a path, where it has operations.
-pub(crate) fn ends_of(path: &Path) -> Option<Pair> {
-    match (path.ops().first(), path.ops().last()) {
-        (Some(first), Some(last)) => Some((*first, *last)),
-        _ => None,
     }
 }
