@@ -5,6 +5,7 @@ use bad_patterns::Pattern;
 use cert_check::Criterion;
 use decision::Decision;
 use judged_parts::{Excluded, core_text, excluded_without, pattern_in_whole};
+use memory_order::IndexedMemory;
 use objects::Memory;
 use operations::History;
 use std::alloc::{AllocError, Global};
@@ -31,10 +32,11 @@ pub(crate) fn lines_with_core(
 pub(crate) fn push_without_variables(
     alloc: Global,
     lines: &mut Vec<String>,
-    history: &History<Memory>,
+    memory: &IndexedMemory,
     criterion: Criterion,
 ) -> Result<(), AllocError> {
-    let variables = repeated_variables(alloc, history)?;
+    let history = memory.history();
+    let variables = repeated_variables(alloc, memory)?;
     match excluded_without(alloc, history, &variables, criterion)? {
         Some(excluded) => push_excluded(alloc, lines, history, criterion, &variables, &excluded),
         None => Ok(()),

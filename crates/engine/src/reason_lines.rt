@@ -5,6 +5,7 @@ use crate::reason::Reason;
 use bad_patterns::{Kind, Pattern};
 use cert_check::Criterion;
 use collector::Judged;
+use memory_order::IndexedMemory;
 use objects::Memory;
 use operations::{AnyHistory, History, OpId};
 use std::alloc::{AllocError, Global};
@@ -89,14 +90,15 @@ fn lines_of_memory(
     criterion: Criterion,
     place: Option<OpId>,
 ) -> Result<Vec<String>, AllocError> {
-    let mut lines = words_of_repeated_values(alloc, history)?;
+    let memory = IndexedMemory::of(alloc, history)?;
+    let mut lines = words_of_repeated_values(alloc, &memory)?;
     push_line(
         alloc,
         &mut lines,
         "So a read does not tell its write: only a certificate can decide, and only for a yes.",
     )?;
     push_certificate(alloc, &mut lines, history, criterion, place)?;
-    push_without_variables(alloc, &mut lines, history, criterion)?;
+    push_without_variables(alloc, &mut lines, &memory, criterion)?;
     Ok(lines)
 }
 

@@ -2,9 +2,7 @@
 
 use crate::naming::name_of;
 use bad_patterns::Kind;
-use history::History;
-use memory_order::{Write, initial_value, sorted_writes};
-use objects::Memory;
+use memory_order::{IndexedMemory, Write, initial_value};
 use std::alloc::{AllocError, Global};
 
 /// Of how many variables it is told.
@@ -13,16 +11,15 @@ const MAX_VARIABLES: usize = 8;
 /// Which variables of a history are written twice with one value, or with their initial value, and by which operations, in lines
 /// with no line feed: one for each of the first 8 such variables, and how many more there are. None where values are distinct.
 ///
-/// Fails for want of memory alone. O(n log n) for n operations.
+/// Fails for want of memory alone. O(n log m) for n operations and m initial values.
 pub fn words_of_repeated_values(
     alloc: Global,
-    h: &History<Memory>,
+    memory: &IndexedMemory,
 ) -> Result<Vec<String>, AllocError> {
-    let writes = sorted_writes(alloc, h)?;
-    let repeated = repeated_writes(alloc, h, &writes)?;
+    let repeated = repeated_writes(alloc, memory)?;
     let mut lines = Vec::new(alloc);
     for (place, write) in repeated.iter().take(MAX_VARIABLES) {
-        lines.push(words_of(alloc, h, &writes, *place, write)?)?;
+        lines.push(words_of(alloc, memory, *place, write)?)?;
     }
     push_left_out(
         alloc,
@@ -35,11 +32,10 @@ pub fn words_of_repeated_values(
 /// The variables of a history that are written twice with one value, or with their initial value, in order. None where values
 /// are distinct.
 ///
-/// Fails for want of memory alone. O(n log n) for n operations.
-pub fn repeated_variables(alloc: Global, h: &History<Memory>) -> Result<Vec<u32>, AllocError> {
-    let writes = sorted_writes(alloc, h)?;
+/// Fails for want of memory alone. O(n log m) for n operations and m initial values.
+pub fn repeated_variables(alloc: Global, memory: &IndexedMemory) -> Result<Vec<u32>, AllocError> {
     let mut variables = Vec::new(alloc);
-    for (_, write) in &repeated_writes(alloc, h, &writes)? {
+    for (_, write) in &repeated_writes(alloc, memory)? {
         variables.push(write.key)?;
     }
     Ok(variables)
@@ -82,13 +78,12 @@ fn listed(alloc: Global, numbers: &[u32]) -> Result<String, AllocError> {
 // Of each variable whose values are not distinct the first write that shows it, with its place among the writes.
 fn repeated_writes(
     alloc: Global,
-    h: &History<Memory>,
-    writes: &[Write],
+    memory: &IndexedMemory,
 ) -> Result<Vec<(usize, Write)>, AllocError> {
     let mut repeated: Vec<(usize, Write)> = Vec::new(alloc);
     let mut last: Option<u32> = None;
-    for (place, write) in writes.iter().enumerate() {
-        if last != Some(write.key) && is_repeated(h, writes, place, write) {
+    for (place, write) in memory.writes().iter().enumerate() {
+        if last != Some(write.key) && is_repeated(memory, place, write) {
             last = Some(write.key);
             repeated.push((place, *write))?;
         }
@@ -96,15 +91,20 @@ fn repeated_writes(
     Ok(repeated)
 }
 
-// Whether a write is one of the initial value, or the next one is of the same value. The writes are sorted.
-fn is_repeated(h: &History<Memory>, writes: &[Write], place: usize, write: &Write) -> bool {
-    write.value == initial_value(h, write.key) || next_alike(writes, place, write).is_some()
+// Whether a write is one of the initial value, or the next one is of the same value.
+fn is_repeated(memory: &IndexedMemory, place: usize, write: &Write) -> bool {
+    is_of_initial_value(memory, write) || next_alike(memory, place, write).is_some()
+}
+
+// Whether a write is one of the initial value.
+fn is_of_initial_value(memory: &IndexedMemory, write: &Write) -> bool {
+    write.value == initial_value(memory.history(), write.key)
 }
 
 // The next write, where it is of the same value to the same variable.
-fn next_alike<'a>(writes: &'a [Write], place: usize, write: &Write) -> Option<&'a Write> {
-    match writes.get(place.saturating_add(1)) {
-        Some(next) if next.key == write.key && next.value == write.value => Some(next),
+fn next_alike(memory: &IndexedMemory, place: usize, write: &Write) -> Option<Write> {
+    match memory.writes().get(place.saturating_add(1)) {
+        Some(next) if next.key == write.key && next.value == write.value => Some(*next),
         _ => None,
     }
 }
@@ -112,19 +112,18 @@ fn next_alike<'a>(writes: &'a [Write], place: usize, write: &Write) -> Option<&'
 // What is said of a write of a value that is not distinct.
 fn words_of(
     alloc: Global,
-    h: &History<Memory>,
-    writes: &[Write],
+    memory: &IndexedMemory,
     place: usize,
     write: &Write,
 ) -> Result<String, AllocError> {
     let Write { op, key, value } = *write;
     let name = name_of(alloc, op)?;
-    if value == initial_value(h, key) {
+    if is_of_initial_value(memory, write) {
         return format!(in alloc;
             "{name} writes {value} to variable {key}, which is its initial value"
         );
     }
-    match next_alike(writes, place, write) {
+    match next_alike(memory, place, write) {
         Some(next) => {
             let other = name_of(alloc, next.op)?;
             format!(in alloc; "{name} and {other} both write {value} to variable {key}")
