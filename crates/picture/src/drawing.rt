@@ -11,6 +11,7 @@ use crate::marks::{Marks, Relation};
 use crate::rows::Rows;
 use std::alloc::{AllocError, Global};
 use std::num::Saturating;
+use wording::name_of;
 
 /// All that a picture shows.
 #[derive(Drop)]
@@ -162,9 +163,7 @@ fn draw_operation(
 ) -> Result<(), AllocError> {
     draw_box(alloc, svg, layout, lane, row, shown.is_marked)?;
     let y = layout.top(row) + Saturating(23);
-    let session = shown.op.session;
-    let index = shown.op.index;
-    let name = format!(in alloc; "{session}.{index}")?;
+    let name = name_of(alloc, shown.op)?;
     let style = "font-size=\"11\" fill=\"#6b7280\"";
     push_text(alloc, svg, layout.left(lane) + PADDING, y, style, &name)?;
     let style = label_style(shown.is_marked);

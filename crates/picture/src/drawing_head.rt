@@ -1,11 +1,11 @@
 //! The head and the legend of a picture.
 
+use crate::captions::words_of_relation;
 use crate::drawing::box_style;
 use crate::drawing_edges::{color_of, dashes_of, marker_of};
 use crate::escaping::escaped;
 use crate::layout::{LINE_HEIGHT, Layout, Length, MARGIN};
 use crate::marks::Relation;
-use crate::wording::words_of_relation;
 use std::alloc::{AllocError, Global};
 use std::num::Saturating;
 

@@ -5,6 +5,7 @@ use bad_patterns::{Derivation, Line, Link, Links, Pair, Path, Pattern};
 use history::OpId;
 use memory_order::IndexedMemory;
 use std::alloc::{AllocError, Global};
+use wording::{DerivedPairs, ends_of};
 
 /// The operations of a pattern and what joins them.
 ///
@@ -26,14 +27,6 @@ pub(crate) fn marks_of(
         Pattern::CyclicCF(links) => mark_links(&mut marks, links)?,
     }
     Ok(marks)
-}
-
-// The ends of a path, where it has operations.
-fn ends_of(path: &Path) -> Option<Pair> {
-    match (path.ops().first(), path.ops().last()) {
-        (Some(first), Some(last)) => Some((*first, *last)),
-        _ => None,
-    }
 }
 
 // Marks the paths from a write to another and from there to a read that reads from the first.
@@ -87,14 +80,12 @@ fn mark_derivation(
     op: OpId,
     derivation: &Derivation,
 ) -> Result<(), AllocError> {
-    let mut pairs = Vec::new(alloc);
-    for line in derivation.lines() {
-        let pair = pair_of(memory, &pairs, line);
-        mark_line(marks, op, line, pair)?;
-        pairs.push(pair)?;
+    let pairs = DerivedPairs::of(alloc, memory, derivation)?;
+    for (number, line) in derivation.lines().iter().enumerate() {
+        mark_line(marks, op, line, pairs.get(number as u64))?;
     }
     match pairs.last() {
-        Some(Some((from, to))) if from != to => marks.join(*from, *to, Relation::HappenedBefore),
+        Some((from, to)) if from != to => marks.join(from, to, Relation::HappenedBefore),
         _ => Ok(()),
     }
 }
@@ -120,30 +111,5 @@ fn mark_line(
             marks.join(write, other, Relation::HappenedBefore)
         }
         _ => Ok(()),
-    }
-}
-
-// The operations of which a line says that the first happened before the second, as the lines before it give theirs.
-fn pair_of(memory: &IndexedMemory, pairs: &[Option<Pair>], line: &Line) -> Option<Pair> {
-    match line {
-        Line::Co(first, _) => ends_of(first),
-        Line::Tr(first, second) => {
-            let (from, _) = pair_at(pairs, *first)?;
-            let (_, to) = pair_at(pairs, *second)?;
-            Some((from, to))
-        }
-        Line::Rf(number, read) => {
-            let (write, _) = pair_at(pairs, *number)?;
-            let other = memory.source(*read)?;
-            Some((write, other))
-        }
-    }
-}
-
-// What the line of a number gave.
-fn pair_at(pairs: &[Option<Pair>], number: u64) -> Option<Pair> {
-    match pairs.get(number as usize) {
-        Some(pair) => *pair,
-        None => None,
     }
 }

@@ -5,6 +5,7 @@
 //! its own, and all its lengths are whole numbers.
 #![tactic(auto)]
 
+mod captions;
 mod drawing;
 mod drawing_edges;
 mod drawing_head;
@@ -17,7 +18,6 @@ mod layout;
 mod marks;
 mod pictures;
 mod rows;
-mod wording;
 
 pub use escaping::escaped;
 pub use label::Labelled;

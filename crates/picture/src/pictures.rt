@@ -3,13 +3,13 @@
 ghost use Rattle.std.specs.Prelude.{IfOk, string_bytes};
 ghost use Rattle.picture.specs.Markup.{IsSvgElement};
 
+use crate::captions::lines_of_pattern;
 use crate::drawing::{Scene, drawing_of};
 use crate::gathering::marks_of;
 use crate::label::Labelled;
 use crate::lanes::{Extent, Lane, extent_around, lanes_of};
 use crate::marks::Marks;
 use crate::rows::rows_of;
-use crate::wording::lines_of_pattern;
 use bad_patterns::Pattern;
 use cert_check::Criterion;
 use history::{History, OpId};

@@ -5,6 +5,7 @@ use bad_patterns::{Kind, Pattern};
 use cert_check::Criterion;
 use history::OpId;
 use std::alloc::{AllocError, Global};
+use wording::name_of;
 
 /// The words at the head of a picture of a pattern: the criterion and the kind, and what the kind says.
 pub(crate) fn lines_of_pattern(
@@ -43,8 +44,9 @@ fn sentence_of(alloc: Global, pattern: &Pattern) -> Result<String, AllocError> {
 
 // What is wrong in the relation of an operation.
 fn sentence_about(alloc: Global, op: OpId, words: &str) -> Result<String, AllocError> {
-    let OpId { session, index } = op;
-    format!(in alloc; "what session {session} has read up to {session}.{index} puts {words}")
+    let session = op.session;
+    let name = name_of(alloc, op)?;
+    format!(in alloc; "what session {session} has read up to {name} puts {words}")
 }
 
 // What a kind says; for a happened-before relation, what it puts where.
