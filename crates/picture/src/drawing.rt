@@ -8,7 +8,7 @@ use crate::drawing_head::{draw_head, draw_legend, push_text};
 use crate::lanes::{Entry, Lane, Shown};
 use crate::layout::{BOX_HEIGHT, Layout, PADDING};
 use crate::marks::{Marks, Relation};
-use crate::rows::Rows;
+use crate::rows::LaneRows;
 use std::alloc::{AllocError, Global};
 use std::num::Saturating;
 use wording::name_of;
@@ -18,7 +18,7 @@ use wording::name_of;
 pub(crate) struct Scene<'a> {
     /// What is said at the head, the title first.
     pub lines: &'a [String],
-    pub rows: &'a Rows<'a>,
+    pub rows: &'a LaneRows<'a>,
     pub marks: &'a Marks,
     /// What the legend says of a marked operation.
     pub mark_words: &'static str,
@@ -123,7 +123,7 @@ fn draw_lanes(
     alloc: Global,
     svg: &mut String,
     layout: &Layout,
-    rows: &Rows,
+    rows: &LaneRows,
 ) -> Result<(), AllocError> {
     for (number, lane) in rows.lanes().iter().enumerate() {
         draw_lane(alloc, svg, layout, rows, number, lane)?;
@@ -136,7 +136,7 @@ fn draw_lane(
     alloc: Global,
     svg: &mut String,
     layout: &Layout,
-    rows: &Rows,
+    rows: &LaneRows,
     number: usize,
     lane: &Lane,
 ) -> Result<(), AllocError> {

@@ -3,7 +3,7 @@
 use crate::drawing_head::push_edge;
 use crate::layout::{BOX_HEIGHT, Layout, Length};
 use crate::marks::{Joint, Marks, Relation};
-use crate::rows::{Place, Rows};
+use crate::rows::{LaneRows, Place};
 use std::alloc::{AllocError, Global};
 use std::num::Saturating;
 
@@ -12,7 +12,7 @@ pub(crate) fn draw_joints(
     alloc: Global,
     svg: &mut String,
     layout: &Layout,
-    rows: &Rows,
+    rows: &LaneRows,
     marks: &Marks,
 ) -> Result<(), AllocError> {
     for joint in marks.joints() {
@@ -26,7 +26,7 @@ fn draw_joint(
     alloc: Global,
     svg: &mut String,
     layout: &Layout,
-    rows: &Rows,
+    rows: &LaneRows,
     joint: &Joint,
 ) -> Result<(), AllocError> {
     match (rows.place(joint.from), rows.place(joint.to)) {

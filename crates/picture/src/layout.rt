@@ -1,7 +1,7 @@
 //! Where things stand in a picture, in whole pixels.
 
 use crate::lanes::{Entry, Lane};
-use crate::rows::Rows;
+use crate::rows::LaneRows;
 use std::num::Saturating;
 
 /// A length, which stops at the greatest whole number.
@@ -56,7 +56,7 @@ pub(crate) struct Layout {
 
 impl Layout {
     /// The measures of a picture with these rows and these lines at its head.
-    pub fn of(rows: &Rows, lines: &[String], legend: usize) -> Layout {
+    pub fn of(rows: &LaneRows, lines: &[String], legend: usize) -> Layout {
         let lanes = rows.lanes();
         let name = Saturating(7) * longest(lanes, Text::Name);
         let label = Saturating(5) * longest(lanes, Text::Label);

@@ -15,7 +15,7 @@ pub(crate) struct Place {
 
 /// Lanes with the row of each entry.
 #[derive(Drop)]
-pub(crate) struct Rows<'a> {
+pub(crate) struct LaneRows<'a> {
     lanes: &'a [Lane],
     rows: Vec<Vec<u64>>,
 }
@@ -35,8 +35,8 @@ pub(crate) fn rows_of<'a>(
     alloc: Global,
     lanes: &'a [Lane],
     joints: &[Joint],
-) -> Result<Rows<'a>, AllocError> {
-    let mut rows = Rows::none(alloc, lanes)?;
+) -> Result<LaneRows<'a>, AllocError> {
+    let mut rows = LaneRows::none(alloc, lanes)?;
     for _ in 0..entries_of(lanes) {
         let Some(next) = rows.choice(joints) else {
             return Ok(rows);
@@ -55,14 +55,14 @@ fn entries_of(lanes: &[Lane]) -> usize {
     count
 }
 
-impl<'a> Rows<'a> {
+impl<'a> LaneRows<'a> {
     // No entry has a row.
-    fn none(alloc: Global, lanes: &'a [Lane]) -> Result<Rows<'a>, AllocError> {
+    fn none(alloc: Global, lanes: &'a [Lane]) -> Result<LaneRows<'a>, AllocError> {
         let mut rows = Vec::new(alloc);
         for _ in lanes {
             rows.push(Vec::new(alloc))?;
         }
-        Ok(Rows { lanes, rows })
+        Ok(LaneRows { lanes, rows })
     }
 
     /// The lanes.
