@@ -1,10 +1,8 @@
 -- Why each criterion is met, not met, or unknown, as JSON, with the certificates of what is met.
-use Rattle.std.specs.Prelude.{◌≡◌, ⊤, ℕ, List, [], ◌∷◌, ◌++◌, codes}
+use Rattle.std.specs.Prelude.{⊤, ℕ, List, [], ◌∷◌, codes}
 use Rattle.serde_json.specs.Data.{Data, string}
-use Rattle.serde_json.specs.Written.{compact_text}
 use Rattle.operations.specs.declared.any_history.AnyHistory.{AnyHistory}
 use Rattle.operations.specs.declared.any_history.AnyHistory.TheVariants as histories
-use Rattle.operations.specs.AnyForm.{form_of, IsAnyHistory, IsJson}
 use Rattle.operations.specs.Json.{list}
 use Rattle.operations.specs.Reads.{worded}
 use Rattle.cert_check.specs.declared.certificate.Certificate.{Certificate}
@@ -18,7 +16,7 @@ use Rattle.engine.specs.declared.certified.Evidence.{Evidence}
 use Rattle.engine.specs.declared.certified.Evidence.TheVariants.{Certified, Reasoned}
 use Rattle.engine.specs.declared.reason.Reason.{Reason}
 use Rattle.engine.specs.declared.reason.Reason.TheVariants.{Explained, Shown, Present, Unexplained}
-use Rattle.engine.specs.Explaining.{IsReason, reason_form}
+use Rattle.engine.specs.Explaining.{IsReason, IsToldOf, reason_form}
 use Rattle.engine.specs.Report.{HoldsOf}
 
 -- the certificate is one of the criterion, has the shape of the history, and every piece of it explains its operation
@@ -63,13 +61,6 @@ abbrev pub certified_form : CertifiedExplanation → Data
 certified_form explanation =
     list (evidence_form Cc explanation.cc ∷ evidence_form Cm explanation.cm ∷ evidence_form Ccv explanation.ccv ∷ [])
 
--- the text explains the history in the input with certificates: it is the JSON text of the evidence, each of which is of that
--- history, and a line feed
-pub record IsCertifiedExplanation (input text : List ℕ) : Type 0 where
-  pub history : AnyHistory
-  pub explanation : CertifiedExplanation
-  pub is_history : IsAnyHistory history
-  pub read : IsJson input (form_of history)
-  pub evidence : EachIsEvidence history explanation
-  pub json : IsJson (compact_text (certified_form explanation)) (certified_form explanation)
-  pub whole : text ≡ compact_text (certified_form explanation) ++ codes "\n"
+-- the text explains the history in the input with certificates, by the evidence, each of which is of that history
+abbrev pub IsCertifiedExplanation : List ℕ → List ℕ → Type 0
+IsCertifiedExplanation = IsToldOf certified_form EachIsEvidence

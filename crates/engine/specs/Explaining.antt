@@ -61,13 +61,16 @@ abbrev pub explanation_form : Explanation → Data
 explanation_form explanation =
     list (reason_form Cc explanation.cc ∷ reason_form Cm explanation.cm ∷ reason_form Ccv explanation.ccv ∷ [])
 
--- the text explains the history in the input: it is the JSON text of the reasons, each of which is one of that history, and a
--- line feed
-pub record IsExplanation (input text : List ℕ) : Type 0 where
+-- the text tells of the history in the input: it is the JSON text of what is said, which is so of that history, and a line feed
+pub record IsToldOf {T : Type 0} (form : T → Data) (is_so : AnyHistory → T → Type 0) (input text : List ℕ) : Type 0 where
   pub history : AnyHistory
-  pub explanation : Explanation
+  pub said : T
   pub is_history : IsAnyHistory history
   pub read : IsJson input (form_of history)
-  pub reasons : EachIsReason history explanation
-  pub json : IsJson (compact_text (explanation_form explanation)) (explanation_form explanation)
-  pub whole : text ≡ compact_text (explanation_form explanation) ++ codes "\n"
+  pub true_of : is_so history said
+  pub json : IsJson (compact_text (form said)) (form said)
+  pub whole : text ≡ compact_text (form said) ++ codes "\n"
+
+-- the text explains the history in the input by the reasons, each of which is one of that history
+abbrev pub IsExplanation : List ℕ → List ℕ → Type 0
+IsExplanation = IsToldOf explanation_form EachIsReason

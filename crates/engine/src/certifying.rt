@@ -16,6 +16,7 @@ use crate::failure::RunError;
 use crate::making::certificate_by_causal_order;
 use crate::reason::Reason;
 use crate::showing::{evidence_by, evidence_of_met, evidence_of_object};
+use crate::written::line_of_value;
 use cert_check::Criterion;
 use collector::Judged;
 use command_line::{Order, Workers};
@@ -182,14 +183,6 @@ fn certified_text(alloc: Global, explanation: &CertifiedExplanation) -> Result<S
     ensures whole { IfOk result (λ text. string_bytes text ≡ compact_text (certified_form explanation.now) ++ codes "\n") }
     ensures json { OnOk result (IsJson (compact_text (certified_form explanation.now)) (certified_form explanation.now)) }
 {
-    let json = certified_json(alloc, explanation)?;
-    format!(in alloc; "{json}\n")
-}
-
-// The JSON text of an explanation.
-fn certified_json(alloc: Global, explanation: &CertifiedExplanation) -> Result<String, AllocError>
-    ensures text { IfOk result (λ text. string_bytes text ≡ compact_text (certified_form explanation.now)) }
-    ensures json { IfOk result (λ text. IsJson (string_bytes text) (certified_form explanation.now)) }
-{
-    explanation.value(alloc)?.to_string(alloc)
+    let value = explanation.value(alloc)?;
+    line_of_value(alloc, &value)
 }

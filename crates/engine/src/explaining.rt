@@ -17,6 +17,7 @@ use crate::judging::report_on;
 use crate::memory_judging::answer_by;
 use crate::reason::{Explanation, Reason};
 use crate::report::Report;
+use crate::written::line_of_value;
 use cert_check::{CaseFile, Criterion};
 use collector::Answer;
 use command_line::{Order, Workers};
@@ -147,14 +148,6 @@ pub(crate) fn explanation_text(
     ensures whole { IfOk result (λ text. string_bytes text ≡ compact_text (explanation_form explanation.now) ++ codes "\n") }
     ensures json { OnOk result (IsJson (compact_text (explanation_form explanation.now)) (explanation_form explanation.now)) }
 {
-    let json = json_of(alloc, explanation)?;
-    format!(in alloc; "{json}\n")
-}
-
-// The JSON text of an explanation.
-fn json_of(alloc: Global, explanation: &Explanation) -> Result<String, AllocError>
-    ensures text { IfOk result (λ text. string_bytes text ≡ compact_text (explanation_form explanation.now)) }
-    ensures json { IfOk result (λ text. IsJson (string_bytes text) (explanation_form explanation.now)) }
-{
-    explanation.value(alloc)?.to_string(alloc)
+    let value = explanation.value(alloc)?;
+    line_of_value(alloc, &value)
 }

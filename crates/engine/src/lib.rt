@@ -37,6 +37,7 @@ mod report;
 mod running;
 mod showing;
 mod waiting;
+mod written;
 
 pub use alone::{check_alone, explain_alone, judge_alone, refute_alone};
 pub use certified::{CertifiedExplanation, Evidence};
