@@ -1,15 +1,13 @@
 //! What a store told of the operations of a history.
 
-ghost use Rattle.std.specs.Prelude.{◌≡◌, ◌*◌, ◌<◌, ◌≤◌, ◌↔◌, length, IfOk, IsTrue};
+ghost use Rattle.std.specs.Prelude.{◌≡◌, ◌*◌, ◌<◌, ◌≤◌, ◌↔◌, length, IsTrue};
 ghost use Rattle.history.specs.History.{session as operations_of};
 ghost use Rattle.certify.specs.Advice.{IsAdvised, advice_in, many_before};
 ghost use Rattle.certify.specs.MemoryAdvice.{AdviceDecides};
 
 use history::{Advice, History, MAX_OPERATIONS, MAX_SESSIONS};
-use memory_order::is_differentiated;
+use memory_order::IndexedMemory;
 use object_trait::SeqObject;
-use objects::Memory;
-use std::alloc::{AllocError, Global};
 
 /// Whether there is advice: one entry for each operation of a history, which has some, also where all entries are empty.
 ///
@@ -22,19 +20,11 @@ pub fn is_advised<O: SeqObject>(h: &History<O>, advice: &[Option<Advice>]) -> bo
 
 /// Whether advice decides of a memory history: there is any, and values are not distinct.
 ///
-/// Fails for want of memory alone. O(n log n) for n operations where there is advice.
-pub fn advice_decides(
-    alloc: Global,
-    h: &History<Memory>,
-    advice: &[Option<Advice>],
-) -> Result<bool, AllocError>
-    ensures { IfOk result (λ decides. IsTrue decides ↔ AdviceDecides h.now advice.now) }
+/// Takes no memory. O(k) for k sessions.
+pub fn advice_decides(memory: &IndexedMemory, advice: &[Option<Advice>]) -> bool
+    ensures { IsTrue result ↔ AdviceDecides memory.now advice.now }
 {
-    if is_advised(h, advice) {
-        Ok(!is_differentiated(alloc, h)?)
-    } else {
-        Ok(false)
-    }
+    is_advised(memory.history(), advice) && !memory.is_differentiated()
 }
 
 /// The entries of a session.

@@ -44,6 +44,24 @@ pub fn make_by_sources(
         → IfOk result (λ made. IfSome made (IsExplainedThroughout memory_answer h.now)) }
 {
     let memory = IndexedMemory::of(alloc, h)?;
+    make_by_sources_of(alloc, &memory)
+}
+
+/// The certificate that [`make_by_sources`] makes, of a history of which all is known already.
+///
+/// Fails for want of memory alone. What [`make_by_sources`] takes, without making what is known.
+pub(crate) fn make_by_sources_of(
+    alloc: Global,
+    memory: &IndexedMemory,
+) -> Result<Option<Certificate>, AllocError>
+    ensures criterion { IfOk result (λ made. IfSome made (λ c. criterion_of c ≡ Criterion.Cc)) }
+    ensures shape { IfOk result (λ made. IfSome made (HasShapeOf memory.now)) }
+    ensures exact { IfOk result (λ made. IfSome made (IsBySources memory.now)) }
+    ensures none { IfOk result (λ made. IfNone made (((a : Operation) × SourceOrder memory.now a a) ⊎ LacksSource memory.now)) }
+    ensures made { ¬ IsCyclic memory.now → ¬ LacksSource memory.now → IfOk result (λ made. IsSome made) }
+    ensures explained { ¬ HasOverwrittenStart memory.now → ¬ HasOverwrittenRead memory.now
+        → IfOk result (λ made. IfSome made (IsExplainedThroughout memory_answer memory.now)) }
+{
     let Some(order) = memory.order() else {
         return Ok(None);
     };

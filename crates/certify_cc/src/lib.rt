@@ -8,5 +8,5 @@ pub mod laws;
 mod schedule;
 mod whole_walk;
 
-pub use as_advised::{make, make_memory};
+pub use as_advised::{make, make_indexed, make_memory};
 pub use by_sources::{make_by_order, make_by_sources};

@@ -12,10 +12,11 @@ ghost use Rattle.certify.specs.ByAdvice.{IsAsAdvised};
 ghost use Rattle.certify.specs.MemoryAdvice.{AdviceDecides, IsMemoryByAdvice};
 ghost use Rattle.certify_ccv.specs.ByConflicts.{ComesFirst, IsByConflicts};
 
-use crate::by_conflicts::make_by_sources;
+use crate::by_conflicts::make_by_sources_of;
 use cert_check::{Certificate, Criterion};
 use certify::{advice_decides, make_as_advised, make_by_advice};
 use history::{Advice, History};
+use memory_order::IndexedMemory;
 use object_trait::SeqObject;
 use objects::Memory;
 use std::alloc::{AllocError, Global};
@@ -40,7 +41,7 @@ pub fn make<O: SeqObject>(
 }
 
 /// The certificate of causal convergence of a memory history: from advice where there is any and values are not distinct, else
-/// by the sources of its reads and their conflicts, as [`make_by_sources`] makes it.
+/// by the sources of its reads and their conflicts, as [`make_by_sources`](crate::make_by_sources) makes it.
 ///
 /// Where values are distinct the sources decide, whatever the advice. `None` where they leave no certificate. Fails for
 /// want of memory alone. O(n (n + k)) for n operations of k sessions and orders of at most n entries where advice decides.
@@ -59,9 +60,31 @@ pub fn make_memory(
     ensures explained { ¬ AdviceDecides h.now advice.now → ¬ HasOverwrittenStart h.now
         → IfOk result (λ made. IfSome made (IsExplainedThroughout memory_answer h.now)) }
 {
-    if advice_decides(alloc, h, advice)? {
-        Ok(Some(make_by_advice(alloc, h, advice, Criterion::Ccv)?))
+    let memory = IndexedMemory::of(alloc, h)?;
+    make_indexed(alloc, &memory, advice)
+}
+
+/// The certificate that [`make_memory`] makes, for a caller that has what is known of the history already.
+///
+/// Fails for want of memory alone. What [`make_memory`] takes, without making what is known.
+pub fn make_indexed(
+    alloc: Global,
+    memory: &IndexedMemory,
+    advice: &[Option<Advice>],
+) -> Result<Option<Certificate>, AllocError>
+    ensures criterion { IfOk result (λ made. IfSome made (λ c. criterion_of c ≡ Criterion.Ccv)) }
+    ensures shape { IfOk result (λ made. IfSome made (HasShapeOf memory.now)) }
+    ensures advised { AdviceDecides memory.now advice.now → IfOk result (λ made. IsSomeAnd made (IsMemoryByAdvice memory.now advice.now)) }
+    ensures exact { ¬ AdviceDecides memory.now advice.now → IfOk result (λ made. IfSome made (IsByConflicts memory.now)) }
+    ensures none { IfOk result (λ made. IfNone made (LacksSource memory.now ⊎ ((a : Operation) × Leads (ComesFirst memory.now) a a))) }
+    ensures made { ¬ LacksSource memory.now → ((a : Operation) → ¬ Leads (λ b c. CO memory.now b c ⊎ CF memory.now b c) a a)
+        → IfOk result (λ made. IsSome made) }
+    ensures explained { ¬ AdviceDecides memory.now advice.now → ¬ HasOverwrittenStart memory.now
+        → IfOk result (λ made. IfSome made (IsExplainedThroughout memory_answer memory.now)) }
+{
+    if advice_decides(memory, advice) {
+        Ok(Some(make_by_advice(alloc, memory.history(), advice, Criterion::Ccv)?))
     } else {
-        make_by_sources(alloc, h)
+        make_by_sources_of(alloc, memory)
     }
 }

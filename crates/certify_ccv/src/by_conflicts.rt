@@ -41,8 +41,27 @@ pub fn make_by_sources(
         → IfOk result (λ made. IsSome made) }
     ensures explained { ¬ HasOverwrittenStart h.now → IfOk result (λ made. IfSome made (IsExplainedThroughout memory_answer h.now)) }
 {
-    h.value_is_history();
     let memory = IndexedMemory::of(alloc, h)?;
+    make_by_sources_of(alloc, &memory)
+}
+
+/// The certificate that [`make_by_sources`] makes, of a history of which all is known already.
+///
+/// Fails for want of memory alone. What [`make_by_sources`] takes, without making what is known.
+pub(crate) fn make_by_sources_of(
+    alloc: Global,
+    memory: &IndexedMemory,
+) -> Result<Option<Certificate>, AllocError>
+    ensures criterion { IfOk result (λ made. IfSome made (λ c. criterion_of c ≡ Criterion.Ccv)) }
+    ensures shape { IfOk result (λ made. IfSome made (HasShapeOf memory.now)) }
+    ensures exact { IfOk result (λ made. IfSome made (IsByConflicts memory.now)) }
+    ensures none { IfOk result (λ made. IfNone made (LacksSource memory.now ⊎ ((a : Operation) × Leads (ComesFirst memory.now) a a))) }
+    ensures made { ¬ LacksSource memory.now → ((a : Operation) → ¬ Leads (λ b c. CO memory.now b c ⊎ CF memory.now b c) a a)
+        → IfOk result (λ made. IsSome made) }
+    ensures explained { ¬ HasOverwrittenStart memory.now
+        → IfOk result (λ made. IfSome made (IsExplainedThroughout memory_answer memory.now)) }
+{
+    memory.history().value_is_history();
     let Some(order) = memory.order() else {
         return Ok(None);
     };

@@ -9,10 +9,11 @@ ghost use Rattle.certify.specs.ByAdvice.{IsAsAdvised};
 ghost use Rattle.certify.specs.MemoryAdvice.{AdviceDecides, IsMemoryByAdvice};
 ghost use Rattle.certify_cm.specs.ByTurns.{HasNoTurns, IsByTurns};
 
-use crate::by_happened_before::make_by_sources;
+use crate::by_happened_before::make_by_sources_of;
 use cert_check::{Certificate, Criterion};
 use certify::{advice_decides, make_as_advised, make_by_advice};
 use history::{Advice, History};
+use memory_order::IndexedMemory;
 use object_trait::SeqObject;
 use objects::Memory;
 use std::alloc::{AllocError, Global};
@@ -37,7 +38,7 @@ pub fn make<O: SeqObject>(
 }
 
 /// The certificate of causal memory of a memory history: from advice where there is any and values are not distinct, else
-/// by its happened-before relations, as [`make_by_sources`] makes it.
+/// by its happened-before relations, as [`make_by_sources`](crate::make_by_sources) makes it.
 ///
 /// Where values are distinct the sources decide, whatever the advice. `None` where they leave no certificate. Fails for
 /// want of memory alone. O(n (n + k)) for n operations of k sessions and orders of at most n entries where advice decides.
@@ -57,9 +58,33 @@ pub fn make_memory(
     ensures explained { IsDifferentiated h.now → ¬ HasStartOverwrittenInHB h.now
         → IfOk result (λ made. IfSome made (IsExplainedThroughout memory_answer h.now)) }
 {
-    if advice_decides(alloc, h, advice)? {
-        Ok(Some(make_by_advice(alloc, h, advice, Criterion::Cm)?))
+    let memory = IndexedMemory::of(alloc, h)?;
+    make_indexed(alloc, &memory, advice)
+}
+
+/// The certificate that [`make_memory`] makes, for a caller that has what is known of the history already.
+///
+/// Fails for want of memory alone. What [`make_memory`] takes, without making what is known.
+pub fn make_indexed(
+    alloc: Global,
+    memory: &IndexedMemory,
+    advice: &[Option<Advice>],
+) -> Result<Option<Certificate>, AllocError>
+    ensures criterion { IfOk result (λ made. IfSome made (λ c. criterion_of c ≡ Criterion.Cm)) }
+    ensures shape { IfOk result (λ made. IfSome made (HasShapeOf memory.now)) }
+    ensures advised { AdviceDecides memory.now advice.now → IfOk result (λ made. IsSomeAnd made (IsMemoryByAdvice memory.now advice.now)) }
+    ensures vectors { ¬ AdviceDecides memory.now advice.now
+        → IfOk result (λ made. IfSome made (λ c. CountsSourceOrder memory.now (vectors_of c))) }
+    ensures turns { IsDifferentiated memory.now → IfOk result (λ made. IfSome made (IsByTurns memory.now)) }
+    ensures none { IsDifferentiated memory.now
+        → IfOk result (λ made. IfNone made ((IsCyclic memory.now ⊎ LacksSource memory.now) ⊎ HasNoTurns memory.now)) }
+    ensures some { IsDifferentiated memory.now → IfOk result (λ made. IfSome made (λ _. ¬ HasNoTurns memory.now)) }
+    ensures explained { IsDifferentiated memory.now → ¬ HasStartOverwrittenInHB memory.now
+        → IfOk result (λ made. IfSome made (IsExplainedThroughout memory_answer memory.now)) }
+{
+    if advice_decides(memory, advice) {
+        Ok(Some(make_by_advice(alloc, memory.history(), advice, Criterion::Cm)?))
     } else {
-        make_by_sources(alloc, h)
+        make_by_sources_of(alloc, memory)
     }
 }

@@ -47,6 +47,26 @@ pub fn make_by_sources(
         → IfOk result (λ made. IfSome made (IsExplainedThroughout memory_answer h.now)) }
 {
     let memory = IndexedMemory::of(alloc, h)?;
+    make_by_sources_of(alloc, &memory)
+}
+
+/// The certificate that [`make_by_sources`] makes, of a history of which all is known already.
+///
+/// Fails for want of memory alone. What [`make_by_sources`] takes, without making what is known.
+pub(crate) fn make_by_sources_of(
+    alloc: Global,
+    memory: &IndexedMemory,
+) -> Result<Option<Certificate>, AllocError>
+    ensures criterion { IfOk result (λ made. IfSome made (λ c. criterion_of c ≡ Criterion.Cm)) }
+    ensures shape { IfOk result (λ made. IfSome made (HasShapeOf memory.now)) }
+    ensures vectors { IfOk result (λ made. IfSome made (λ c. CountsSourceOrder memory.now (vectors_of c))) }
+    ensures turns { IsDifferentiated memory.now → IfOk result (λ made. IfSome made (IsByTurns memory.now)) }
+    ensures none { IsDifferentiated memory.now
+        → IfOk result (λ made. IfNone made ((IsCyclic memory.now ⊎ LacksSource memory.now) ⊎ HasNoTurns memory.now)) }
+    ensures some { IsDifferentiated memory.now → IfOk result (λ made. IfSome made (λ _. ¬ HasNoTurns memory.now)) }
+    ensures explained { IsDifferentiated memory.now → ¬ HasStartOverwrittenInHB memory.now
+        → IfOk result (λ made. IfSome made (IsExplainedThroughout memory_answer memory.now)) }
+{
     let Some(order) = memory.order() else {
         return Ok(None);
     };
