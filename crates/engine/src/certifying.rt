@@ -13,7 +13,7 @@ ghost use Rattle.engine.specs.Running.{IsAnswerError};
 
 use crate::certified::{CertifiedExplanation, Evidence};
 use crate::failure::RunError;
-use crate::making::certificate_by_causal_order;
+use crate::making::certificate_of;
 use crate::reason::Reason;
 use crate::showing::{evidence_by, evidence_of_met, evidence_of_object};
 use crate::written::line_of_value;
@@ -154,7 +154,7 @@ fn evidence_of_decision(
     ensures error { IfErr result (λ e. e ≡ RunError.Memory) }
 {
     match decision {
-        Decision::Meets => Ok(evidence_of_met(alloc, memory.history(), criterion)?),
+        Decision::Meets => Ok(evidence_of_met(alloc, memory, criterion)?),
         Decision::Excluded(pattern) => Ok(Evidence::Reasoned(Reason::Shown(pattern))),
         Decision::ExcludedBy(kind) => Ok(Evidence::Reasoned(Reason::Present(kind))),
         Decision::Open => unreachable!(),
@@ -174,7 +174,7 @@ fn evidence_by_order<T: Threads + Wait + Sync>(
     ensures error { IfErr result (λ e. e ≡ RunError.Memory) }
 {
     let history = memory.history().copy(alloc)?;
-    let made = certificate_by_causal_order(alloc, memory, criterion)?;
+    let made = certificate_of(alloc, memory, &[], criterion)?;
     evidence_by(rt, alloc, history, made, criterion, workers)
 }
 

@@ -8,7 +8,6 @@ use cert_check::{CaseFile, Certificate, Criterion};
 use history::Advice;
 use memory_order::IndexedMemory;
 use objects::Memory;
-use operations::History;
 use std::alloc::{AllocError, Global};
 
 /// The case file of a history of a memory and a criterion, with the certificate that is made of them, where one is made.
@@ -34,8 +33,8 @@ pub(crate) fn file_of_memory(
     }
 }
 
-// The certificate of a history of a memory, where one is made: from advice where there is any, and else by its causal order.
-fn certificate_of(
+/// The certificate of a history of a memory, where one is made: from advice, where it decides; else by the sources of its reads.
+pub(crate) fn certificate_of(
     alloc: Global,
     memory: &IndexedMemory,
     advice: &[Option<Advice>],
@@ -44,45 +43,9 @@ fn certificate_of(
     ensures criterion { IfOk result (λ made. IfSome made (λ c. criterion_of c ≡ criterion)) }
     ensures shape { IfOk result (λ made. IfSome made (HasShapeOf memory.now)) }
 {
-    if advice.is_empty() {
-        certificate_by_causal_order(alloc, memory, criterion)
-    } else {
-        certificate_by_advice(alloc, memory.history(), advice, criterion)
-    }
-}
-
-// The certificate of a history of a memory from advice, where it decides; else by the sources of its reads, where one is made.
-fn certificate_by_advice(
-    alloc: Global,
-    history: &History<Memory>,
-    advice: &[Option<Advice>],
-    criterion: Criterion,
-) -> Result<Option<Certificate>, AllocError>
-    ensures criterion { IfOk result (λ made. IfSome made (λ c. criterion_of c ≡ criterion)) }
-    ensures shape { IfOk result (λ made. IfSome made (HasShapeOf history.now)) }
-{
     match criterion {
-        Criterion::Cc => certify_cc::make_memory(alloc, history, advice),
-        Criterion::Cm => certify_cm::make_memory(alloc, history, advice),
-        Criterion::Ccv => certify_ccv::make_memory(alloc, history, advice),
-    }
-}
-
-/// The certificate of a history of a memory by its causal order, where it has one and a certificate is made by it.
-pub(crate) fn certificate_by_causal_order(
-    alloc: Global,
-    memory: &IndexedMemory,
-    criterion: Criterion,
-) -> Result<Option<Certificate>, AllocError>
-    ensures criterion { IfOk result (λ made. IfSome made (λ c. criterion_of c ≡ criterion)) }
-    ensures shape { IfOk result (λ made. IfSome made (HasShapeOf memory.now)) }
-{
-    let Some(order) = memory.order() else {
-        return Ok(None);
-    };
-    match criterion {
-        Criterion::Cc => Ok(Some(certify_cc::make_by_order(alloc, &order)?)),
-        Criterion::Cm => certify_cm::make_by_order(alloc, &order),
-        Criterion::Ccv => certify_ccv::make_by_order(alloc, &order),
+        Criterion::Cc => certify_cc::make_indexed(alloc, memory, advice),
+        Criterion::Cm => certify_cm::make_indexed(alloc, memory, advice),
+        Criterion::Ccv => certify_ccv::make_indexed(alloc, memory, advice),
     }
 }

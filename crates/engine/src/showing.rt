@@ -16,7 +16,7 @@ use bad_patterns::laws::present_kinds_exclude_criteria;
 use cert_check::{Certificate, Criterion};
 use collector::{Answer, Judged};
 use command_line::Workers;
-use objects::Memory;
+use memory_order::IndexedMemory;
 use operations::{AnyHistory, History};
 use std::alloc::{AllocError, Global};
 use std::sync::Wait;
@@ -26,15 +26,15 @@ use std::thread::Threads;
 #[tactic(auto, using(crate::proofs::EvidenceLaws::certified_is_evidence, crate::proofs::EvidenceLaws::lacking_is_causal_memory))]
 pub(crate) fn evidence_of_met(
     alloc: Global,
-    history: &History<Memory>,
+    memory: &IndexedMemory,
     criterion: Criterion,
 ) -> Result<Evidence, AllocError>
-    requires distinct { IsDifferentiated history.now }
-    requires met { Meets memory_answer history.now criterion }
-    ensures { IfOk result (IsEvidence (AnyHistory.Memory history.now) criterion) }
+    requires distinct { IsDifferentiated memory.now }
+    requires met { Meets memory_answer memory.now criterion }
+    ensures { IfOk result (IsEvidence (AnyHistory.Memory memory.now) criterion) }
 {
-    history.value_is_history();
-    match certificate_of_met(alloc, history, criterion)? {
+    memory.history().value_is_history();
+    match certificate_of_met(alloc, memory, criterion)? {
         Some(certificate) => Ok(Evidence::Certified(certificate)),
         None => Ok(Evidence::Reasoned(Reason::Explained)),
     }
@@ -43,60 +43,60 @@ pub(crate) fn evidence_of_met(
 // The certificate of a history of a memory that meets a criterion. There is one but for causal memory.
 fn certificate_of_met(
     alloc: Global,
-    history: &History<Memory>,
+    memory: &IndexedMemory,
     criterion: Criterion,
 ) -> Result<Option<Certificate>, AllocError>
-    requires distinct { IsDifferentiated history.now }
-    requires met { Meets memory_answer history.now criterion }
-    ensures certified { IfOk result (λ made. IfSome made (Certifies memory_answer history.now criterion)) }
+    requires distinct { IsDifferentiated memory.now }
+    requires met { Meets memory_answer memory.now criterion }
+    ensures certified { IfOk result (λ made. IfSome made (Certifies memory_answer memory.now criterion)) }
     ensures made { criterion ≢ Cm → IfOk result (λ made. IsSome made) }
 {
     match criterion {
-        Criterion::Cc => certificate_of_consistent(alloc, history),
-        Criterion::Cm => certificate_of_causal_memory(alloc, history),
-        Criterion::Ccv => certificate_of_convergent(alloc, history),
+        Criterion::Cc => certificate_of_consistent(alloc, memory),
+        Criterion::Cm => certificate_of_causal_memory(alloc, memory),
+        Criterion::Ccv => certificate_of_convergent(alloc, memory),
     }
 }
 
 // The certificate of a history of a memory that is causally consistent.
 fn certificate_of_consistent(
     alloc: Global,
-    history: &History<Memory>,
+    memory: &IndexedMemory,
 ) -> Result<Option<Certificate>, AllocError>
-    requires distinct { IsDifferentiated history.now }
-    requires met { Meets memory_answer history.now Cc }
-    ensures certified { IfOk result (λ made. IfSome made (Certifies memory_answer history.now Cc)) }
+    requires distinct { IsDifferentiated memory.now }
+    requires met { Meets memory_answer memory.now Cc }
+    ensures certified { IfOk result (λ made. IfSome made (Certifies memory_answer memory.now Cc)) }
     ensures made { IfOk result (λ made. IsSome made) }
 {
     present_kinds_exclude_criteria();
-    certify_cc::make_by_sources(alloc, history)
+    certify_cc::make_indexed(alloc, memory, &[])
 }
 
 // The certificate of a history of a memory that meets causal memory, where one is made.
 fn certificate_of_causal_memory(
     alloc: Global,
-    history: &History<Memory>,
+    memory: &IndexedMemory,
 ) -> Result<Option<Certificate>, AllocError>
-    requires distinct { IsDifferentiated history.now }
-    requires met { Meets memory_answer history.now Cm }
-    ensures certified { IfOk result (λ made. IfSome made (Certifies memory_answer history.now Cm)) }
+    requires distinct { IsDifferentiated memory.now }
+    requires met { Meets memory_answer memory.now Cm }
+    ensures certified { IfOk result (λ made. IfSome made (Certifies memory_answer memory.now Cm)) }
 {
     present_kinds_exclude_criteria();
-    certify_cm::make_by_sources(alloc, history)
+    certify_cm::make_indexed(alloc, memory, &[])
 }
 
 // The certificate of a history of a memory that is causally convergent.
 fn certificate_of_convergent(
     alloc: Global,
-    history: &History<Memory>,
+    memory: &IndexedMemory,
 ) -> Result<Option<Certificate>, AllocError>
-    requires distinct { IsDifferentiated history.now }
-    requires met { Meets memory_answer history.now Ccv }
-    ensures certified { IfOk result (λ made. IfSome made (Certifies memory_answer history.now Ccv)) }
+    requires distinct { IsDifferentiated memory.now }
+    requires met { Meets memory_answer memory.now Ccv }
+    ensures certified { IfOk result (λ made. IfSome made (Certifies memory_answer memory.now Ccv)) }
     ensures made { IfOk result (λ made. IsSome made) }
 {
     present_kinds_exclude_criteria();
-    certify_ccv::make_by_sources(alloc, history)
+    certify_ccv::make_indexed(alloc, memory, &[])
 }
 
 /// What is known of a history of one object and a criterion, with the certificate that shows it.

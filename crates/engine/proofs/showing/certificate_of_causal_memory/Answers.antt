@@ -8,11 +8,11 @@ use Rattle.engine.proofs.showing.certificate_of_causal_memory.Goals as goal
 
 pub returns : goal.returns
 returns c =
-    let h = c.args.history.now in
+    let h = c.args.memory.now in
     let distinct = c.requires.distinct in
     let free : IsFreeOf h Cm = λ kind against present. c.present_kinds_exclude_criteria.ensures h Cm kind against present c.requires.met in
     record {
       certified =
-          certified-made memory_answer h Cm c.make_by_sources.result c.make_by_sources.ensures.criterion c.make_by_sources.ensures.shape
-          (c.make_by_sources.ensures.explained distinct (free-start_in_hb h distinct Cm free refl));
+          certified-made memory_answer h Cm c.make_indexed.result c.make_indexed.ensures.criterion c.make_indexed.ensures.shape
+          (c.make_indexed.ensures.explained distinct (free-start_in_hb h distinct Cm free refl));
     }
