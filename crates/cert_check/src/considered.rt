@@ -7,10 +7,9 @@ ghost use Rattle.causal_order.specs.Vectors.{AreVectorsOf, HasListOf};
 ghost use Rattle.cert_check.specs.Certificates.{counted};
 ghost use Rattle.cert_check.specs.Schedules.{named};
 ghost use Rattle.cert_check.specs.Steps.Namings.{AreCountsAt};
-ghost use Rattle.cert_check.specs.Steps.Replays.{considered, IsAnsweredAfter, IsCallOf, NamesOperations};
+ghost use Rattle.cert_check.specs.Steps.Replays.{considered, IsAnsweredAfter, IsAnsweredBy, IsCallOf, NamesOperations};
 
 use crate::naming::Naming;
-use crate::replay::take_in_call;
 use causal_order::{Vectors, count_of};
 use history::{History, OpId};
 use object_trait::{SeqObject, replay};
@@ -68,9 +67,30 @@ pub fn is_answered_back_to<O: SeqObject>(
     let Some(before) = calls_before(alloc, h, v, list, naming, from, place, of, &asked)? else {
         return Ok(None);
     };
-    let mut object: O = replay(alloc, h.start(), &before)?;
-    let yes = take_in_call(&mut object, h, op)?;
+    let yes = is_answered_after(alloc, h, &before, op)?;
     Ok(Some(yes))
+}
+
+/// Whether the return of an operation, where it is known, is the answer after these calls.
+///
+/// Fails for want of memory alone. One call of the object for each, from a start that holds no more than the answer needs.
+fn is_answered_after<O: SeqObject>(
+    alloc: Global,
+    h: &History<O>,
+    calls: &[O::Call],
+    op: OpId,
+) -> Result<bool, AllocError>
+    requires { IsOp h.now op }
+    ensures { IfOk result (λ yes. IsTrue yes ↔ IsAnsweredBy O.answer h.now calls.now op) }
+{
+    let Some(known) = h.ret(op) else {
+        return Ok(true);
+    };
+    let asked = h.call(op);
+    let start = O::start_for(alloc, h.start(), &asked)?;
+    let mut object: O = replay(alloc, &start, calls)?;
+    let answer = object.apply(asked)?;
+    Ok(known == answer)
 }
 
 /// Calls after which the answer to a call is the one after the operations before a place of a list, of those that the vector of

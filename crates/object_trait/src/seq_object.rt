@@ -47,6 +47,16 @@ pub trait SeqObject: Drop + Sized {
         requires { is_start start.now }
         ensures { IfOk result (λ s. s ≡ start.now) };
 
+    /// A start from which a call is answered as it is from this one, whatever calls came before it. It may hold less.
+    fn start_for(
+        alloc: Global,
+        start: &Self::Start,
+        call: &Self::Call,
+    ) -> Result<Self::Start, AllocError>
+        requires { is_start start.now }
+        ensures start { IfOk result (λ s. is_start s) }
+        ensures alike { IfOk result (λ s. (cs : List Self.Call) → answer s cs call.now ≡ answer start.now cs call.now) };
+
     /// A state with no calls.
     fn fresh(alloc: Global, start: &Self::Start) -> Result<Self, AllocError>
         requires { is_start start.now }

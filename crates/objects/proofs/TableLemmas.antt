@@ -9,14 +9,15 @@ use Rattle.std.specs.List.{slice_get, HoldsAt, IsDistinct, All}
 use Rattle.std.specs.List.Sorted.{IsStrictlySortedBy, IsPartitionPoint, IsNonDecreasingBy, IsStrictlyIncreasing}
 use Rattle.std.proofs.lemmas.Bool.{eqb-true, cases_lt}
 use Rattle.std.proofs.lemmas.List.{get_or-map, get_or_append_left, map-append}
-use Rattle.std.proofs.lemmas.List.Elements.{All-nil, All-cons, All-append}
+use Rattle.std.proofs.lemmas.List.Elements.{All-nil, All-cons, All-append, All-get_or}
 use Rattle.std.proofs.Math.Seq.{get_or-append_seam}
 use Rattle.std.proofs.lemmas.List.Sorted.{searchable_from_sorted}
 use Rattle.std.proofs.lemmas.Option.{slice_get-get_or, get_or_from_slice_get, slice_get_within}
-use Rattle.std.proofs.lemmas.Map.Entries.{lookup_from_place, lookup_at_gap, length-keys_of}
+use Rattle.std.proofs.lemmas.Map.Entries.{All-lookup, lookup_from_place, lookup_at_gap, length-keys_of, place_from_lookup}
 use Rattle.std.proofs.lemmas.Map.Keys.{sorted_from_strictly_increasing, sorted_tail, IsDistinct-from_sorted, Less-from_sorted}
 use Rattle.objects.specs.Table.{IsRising, IsTable, value_at}
 use Rattle.objects.specs.declared.table.TheConstants.{MAX_ENTRIES}
+use Rattle.objects.specs.Laws.Keyed.{empty_is_table}
 
 -- comparisons of numbers, by the order that they decide
 equal_keys : (a b : ℕ) → nat_cmp a b ≡ Equal → a ≡ b
@@ -109,6 +110,25 @@ pushed_is_table {S} plain is_start table key start is few fits above other good 
   not_plain = All-more (λ e. e.1 ≢ plain) table (key, start) is.not_plain other;
   each_start = All-more (λ e. is_start e.1) table (key, start) is.each_start good;
 }
+
+-- a key of a table
+key_fits : {S : Type 0} (table : List (ℕ × S)) (key : ℕ) (start : S) → All (λ e. e.0 < 2 ^ 32) table → value_at table key ≡ Some start
+    → key < 2 ^ 32
+key_fits {S} table key start small here =
+    let found = place_from_lookup (λ k. k == key) table start here in
+    let entry : ℕ × S = (found.1, start) in
+    let within = slice_get_within table found.0 entry found.2 in
+    let fits = All-get_or (λ (e : ℕ × S). e.0 < 2 ^ 32) table found.0 entry within small in
+    subst (λ k. k < 2 ^ 32) (eqb-true found.1 key found.3) (rw (get_or_from_slice_get table found.0 entry entry found.2) at fits)
+
+-- a table with one entry of another
+pub entry_is_table : {S : Type 0} (plain : S) (is_start : S → Type 0) (table : List (ℕ × S)) (key : ℕ) (start : S)
+    → IsTable plain is_start table → value_at table key ≡ Some start → IsTable plain is_start ([] ++ (key, start) ∷ [])
+entry_is_table plain is_start table key start is here =
+    let other = All-lookup (λ s. s ≢ plain) (λ k. k == key) table is.not_plain in
+    let good = All-lookup is_start (λ k. k == key) table is.each_start in
+    pushed_is_table plain is_start [] key start (empty_is_table plain is_start) (omega arith) (key_fits table key start is.small here) (λ i last. absurd (omega arith))
+    (rw here at other) (rw here at good)
 
 -- an entry whose key stands above those before it goes behind them
 pub insert_entry-last : {X : Type 0} (es rest : List (ℕ × X)) (k : ℕ) (v : X) → IsStrictlySortedBy nat_cmp (keys_of (es ++ (k, v) ∷ rest))

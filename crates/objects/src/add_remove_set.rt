@@ -100,6 +100,10 @@ impl SeqObject for AddRemoveSet {
         Ok(())
     }
 
+    fn start_for(_alloc: Global, _start: &(), _call: &SetCall) -> Result<(), AllocError> {
+        Ok(())
+    }
+
     fn fresh(alloc: Global, _start: &()) -> Result<AddRemoveSet, AllocError> {
         Ok(AddRemoveSet {
             elements: BTreeSet::new(alloc),

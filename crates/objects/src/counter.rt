@@ -96,6 +96,10 @@ impl SeqObject for Counter {
         Ok(())
     }
 
+    fn start_for(_alloc: Global, _start: &(), _call: &CounterCall) -> Result<(), AllocError> {
+        Ok(())
+    }
+
     fn fresh(_alloc: Global, _start: &()) -> Result<Counter, AllocError> {
         Ok(Counter { count: 0 })
     }

@@ -89,6 +89,18 @@ impl<O: SeqObject> SeqObject for Keyed<O> {
         Ok(copy)
     }
 
+    fn start_for(
+        alloc: Global,
+        start: &Table<O::Start>,
+        call: &KeyedCall<O::Call>,
+    ) -> Result<Table<O::Start>, AllocError> {
+        let mut entry = Table::new(alloc);
+        if let Some(value) = start.get(call.key) {
+            entry.push(call.key, O::copy_start(alloc, value)?)?;
+        }
+        Ok(entry)
+    }
+
     fn fresh(alloc: Global, start: &Table<O::Start>) -> Result<Keyed<O>, AllocError> {
         Ok(Keyed {
             start: Keyed::<O>::copy_start(alloc, start)?,

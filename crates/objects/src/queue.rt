@@ -95,6 +95,10 @@ impl SeqObject for Queue {
         Ok(())
     }
 
+    fn start_for(_alloc: Global, _start: &(), _call: &QueueCall) -> Result<(), AllocError> {
+        Ok(())
+    }
+
     fn fresh(alloc: Global, _start: &()) -> Result<Queue, AllocError> {
         Ok(Queue {
             items: VecDeque::new(alloc),

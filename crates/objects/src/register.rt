@@ -84,6 +84,10 @@ impl SeqObject for Register {
         Ok(*start)
     }
 
+    fn start_for(_alloc: Global, start: &u64, _call: &RegisterCall) -> Result<u64, AllocError> {
+        Ok(*start)
+    }
+
     fn fresh(_alloc: Global, start: &u64) -> Result<Register, AllocError> {
         Ok(Register { value: *start })
     }
