@@ -2,14 +2,14 @@
 use Rattle.std.proofs.Common.{◌≤◌, ℕ, List, Some, length, inl, inr}
 use Rattle.std.specs.Prelude.{Result, Ok, Err, IfErr, IfOk, OnOk, String, string_bytes}
 use Rattle.command_line.specs.declared.order.Order.{Order}
-use Rattle.engine.specs.Running.{Fails, IsAnswer}
+use Rattle.engine.specs.Running.{Fails, IsOutput}
 use Rattle.engine.specs.declared.failure.RunError.{RunError}
 use Rattle.engine.specs.declared.input.TheConstants.{MAX_INPUT_BYTES}
 use Rattle.causal_judge_library.specs.Calls.{Tells}
 use Rattle.causal_judge_library.specs.Steps.{TellsOf}
 
 pub tells : {Z : Type 0} (order : Order) (input before after : List ℕ) (needed status : ℕ) (outcome : Result (String Z) RunError)
-    → OnOk outcome (length input ≤ MAX_INPUT_BYTES) → IfOk outcome (λ text. IsAnswer order input (string_bytes text))
+    → OnOk outcome (length input ≤ MAX_INPUT_BYTES) → IfOk outcome (λ text. IsOutput order input (string_bytes text))
     → IfErr outcome (Fails order (Some input)) → TellsOf before after needed status outcome → Tells order input before after needed status
 tells order input before after needed status (Ok text) within answer failed told = inl (string_bytes text, within, answer, told)
 tells order input before after needed status (Err error) within answer failed (inl (one, told)) = inr (inl (error, failed, one, told))

@@ -2,7 +2,7 @@
 use Rattle.std.specs.Prelude.{◌≡◌, ◌⊎◌, ◌≤◌, ◌<◌, ℕ, List, ◌++◌, codes, drop, length, Some}
 use Rattle.command_line.specs.declared.order.Order.{Order}
 use Rattle.engine.specs.Failure.{failure_status, line_for}
-use Rattle.engine.specs.Running.{Fails, IsAnswer}
+use Rattle.engine.specs.Running.{Fails, IsOutput}
 use Rattle.engine.specs.declared.failure.RunError.{RunError}
 use Rattle.engine.specs.declared.input.TheConstants.{MAX_INPUT_BYTES}
 use Rattle.causal_judge_library.specs.declared.TheConstants.{TOO_SMALL, NO_MEMORY, REFUSED, ANSWERED}
@@ -25,15 +25,15 @@ abbrev pub refusal_text : RunError → List ℕ
 refusal_text error = line_for error ++ codes "\n"
 
 module _ (order : Order) (input before after : List ℕ) (needed status : ℕ) where
-  -- an answer to the whole input is told, as a run of the order writes it
-  abbrev pub TellsAnswer : Type 0
-  TellsAnswer = (text : List ℕ) × (length input ≤ MAX_INPUT_BYTES) × IsAnswer order input text × IsTold before after needed ANSWERED status text
+  -- the output for the whole input is told, as a run of the order writes it
+  abbrev pub TellsOutput : Type 0
+  TellsOutput = (text : List ℕ) × (length input ≤ MAX_INPUT_BYTES) × IsOutput order input text × IsTold before after needed ANSWERED status text
 
   -- the line is told by which a run of the order would refuse the input
   abbrev pub TellsRefusal : Type 0
   TellsRefusal =
       (error : RunError) × Fails order (Some input) error × (failure_status error ≡ 1) × IsTold before after needed REFUSED status (refusal_text error)
 
-  -- what a call tells: an answer, a refusal, or that memory ran out
+  -- what a call tells: an output, a refusal, or that memory ran out
   abbrev pub Tells : Type 0
-  Tells = TellsAnswer ⊎ (TellsRefusal ⊎ IsUntold before after needed status)
+  Tells = TellsOutput ⊎ (TellsRefusal ⊎ IsUntold before after needed status)

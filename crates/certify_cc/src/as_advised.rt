@@ -10,7 +10,7 @@ ghost use Rattle.certify.specs.ByAdvice.{IsAsAdvised};
 ghost use Rattle.certify.specs.MemoryAdvice.{AdviceDecides, IsMemoryByAdvice};
 ghost use Rattle.certify_cc.specs.BySources.{IsBySources};
 
-use crate::by_sources::make_by_sources_of;
+use crate::by_sources::make_by_sources;
 use cert_check::{Certificate, Criterion};
 use certify::{advice_decides, make_as_advised, make_by_advice};
 use history::{Advice, History};
@@ -39,7 +39,8 @@ pub fn make<O: SeqObject>(
 }
 
 /// The certificate of causal consistency of a memory history: from advice where there is any and values are not distinct, else
-/// by the sources of its reads, as [`make_by_sources`](crate::make_by_sources) makes it.
+/// by the sources of its reads: the past of an operation is what is before it in the order that program order and these make, and in
+/// the schedule of a read its source stands as late as this order lets it.
 ///
 /// Where values are distinct the sources decide, whatever the advice. `None` where they leave no certificate. Fails for
 /// want of memory alone. O(n (n + k)) for n operations of k sessions and orders of at most n entries where advice decides.
@@ -81,6 +82,6 @@ pub fn make_indexed(
     if advice_decides(memory, advice) {
         Ok(Some(make_by_advice(alloc, memory.history(), advice, Criterion::Cc)?))
     } else {
-        make_by_sources_of(alloc, memory)
+        make_by_sources(alloc, memory)
     }
 }

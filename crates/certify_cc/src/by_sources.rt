@@ -17,9 +17,8 @@ use crate::schedule::schedule_of;
 use crate::whole_walk::{WholeWalk, walk_of_all};
 use causal_order::{Rows, Vectors};
 use cert_check::{Certificate, Criterion, Schedules};
-use history::{History, MAX_SESSIONS, OpId};
+use history::{MAX_SESSIONS, OpId};
 use memory_order::{CausalOrder, IndexedMemory};
-use objects::Memory;
 use std::alloc::{AllocError, Global};
 
 /// A certificate of causal consistency of a memory history: the past of an operation is what is before it in the order
@@ -31,26 +30,7 @@ use std::alloc::{AllocError, Global};
 /// overwritten value; else that is for the checker of certificates to say. So on distinct values, where no bad pattern
 /// against causal consistency is present, there is one and it shows the criterion. Fails for want of memory alone.
 /// O(n (n + p k)) for n operations of k sessions, where at most p operations of a past count the source of its read.
-pub fn make_by_sources(
-    alloc: Global,
-    h: &History<Memory>,
-) -> Result<Option<Certificate>, AllocError>
-    ensures criterion { IfOk result (λ made. IfSome made (λ c. criterion_of c ≡ Criterion.Cc)) }
-    ensures shape { IfOk result (λ made. IfSome made (HasShapeOf h.now)) }
-    ensures exact { IfOk result (λ made. IfSome made (IsBySources h.now)) }
-    ensures none { IfOk result (λ made. IfNone made (((a : Operation) × SourceOrder h.now a a) ⊎ LacksSource h.now)) }
-    ensures made { ¬ IsCyclic h.now → ¬ LacksSource h.now → IfOk result (λ made. IsSome made) }
-    ensures explained { ¬ HasOverwrittenStart h.now → ¬ HasOverwrittenRead h.now
-        → IfOk result (λ made. IfSome made (IsExplainedThroughout memory_answer h.now)) }
-{
-    let memory = IndexedMemory::of(alloc, h)?;
-    make_by_sources_of(alloc, &memory)
-}
-
-/// The certificate that [`make_by_sources`] makes, of a history of which all is known already.
-///
-/// Fails for want of memory alone. What [`make_by_sources`] takes, without making what is known.
-pub(crate) fn make_by_sources_of(
+pub(crate) fn make_by_sources(
     alloc: Global,
     memory: &IndexedMemory,
 ) -> Result<Option<Certificate>, AllocError>
@@ -68,11 +48,11 @@ pub(crate) fn make_by_sources_of(
     Ok(Some(make_by_order(alloc, &order)?))
 }
 
-/// The certificate that [`make_by_sources`] makes, for a caller that has the causal order already.
+/// The same, by the causal order of the history.
 ///
 /// Fails for want of memory alone. O(n (n + p k)) for n operations of k sessions, where at most p operations of a past count the
 /// source of its read.
-pub fn make_by_order(alloc: Global, order: &CausalOrder) -> Result<Certificate, AllocError>
+fn make_by_order(alloc: Global, order: &CausalOrder) -> Result<Certificate, AllocError>
     ensures criterion { IfOk result (λ c. criterion_of c ≡ Criterion.Cc) }
     ensures shape { IfOk result (HasShapeOf order.now) }
     ensures exact { IfOk result (IsBySources order.now) }

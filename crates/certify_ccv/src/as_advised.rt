@@ -12,7 +12,7 @@ ghost use Rattle.certify.specs.ByAdvice.{IsAsAdvised};
 ghost use Rattle.certify.specs.MemoryAdvice.{AdviceDecides, IsMemoryByAdvice};
 ghost use Rattle.certify_ccv.specs.ByConflicts.{ComesFirst, IsByConflicts};
 
-use crate::by_conflicts::make_by_sources_of;
+use crate::by_conflicts::make_by_sources;
 use cert_check::{Certificate, Criterion};
 use certify::{advice_decides, make_as_advised, make_by_advice};
 use history::{Advice, History};
@@ -41,7 +41,8 @@ pub fn make<O: SeqObject>(
 }
 
 /// The certificate of causal convergence of a memory history: from advice where there is any and values are not distinct, else
-/// by the sources of its reads and their conflicts, as [`make_by_sources`](crate::make_by_sources) makes it.
+/// by the sources of its reads and their conflicts: the past of an operation is what is before it in the order that program order and
+/// these sources make, and the one list keeps this order and puts each conflicting write before the source.
 ///
 /// Where values are distinct the sources decide, whatever the advice. `None` where they leave no certificate. Fails for
 /// want of memory alone. O(n (n + k)) for n operations of k sessions and orders of at most n entries where advice decides.
@@ -85,6 +86,6 @@ pub fn make_indexed(
     if advice_decides(memory, advice) {
         Ok(Some(make_by_advice(alloc, memory.history(), advice, Criterion::Ccv)?))
     } else {
-        make_by_sources_of(alloc, memory)
+        make_by_sources(alloc, memory)
     }
 }

@@ -15,9 +15,7 @@ ghost use Rattle.certify_ccv.specs.ByConflicts.{ComesFirst, IsByConflicts};
 
 use causal_order::{OrderOrCycle, topological_sort};
 use cert_check::{Arbitration, Certificate, Criterion};
-use history::History;
 use memory_order::{CausalOrder, IndexedMemory, waits_with_conflicts};
-use objects::Memory;
 use std::alloc::{AllocError, Global};
 
 /// A certificate of causal convergence of a memory history: the past of an operation is what is before it in the order
@@ -29,26 +27,7 @@ use std::alloc::{AllocError, Global};
 /// where none of them is an overwritten initial value; else that is for the checker of certificates to say. So on distinct
 /// values, where no bad pattern against causal convergence is present, there is one and it shows the criterion. Fails for
 /// want of memory alone. O(n k log n) for n operations of k sessions.
-pub fn make_by_sources(
-    alloc: Global,
-    h: &History<Memory>,
-) -> Result<Option<Certificate>, AllocError>
-    ensures criterion { IfOk result (λ made. IfSome made (λ c. criterion_of c ≡ Criterion.Ccv)) }
-    ensures shape { IfOk result (λ made. IfSome made (HasShapeOf h.now)) }
-    ensures exact { IfOk result (λ made. IfSome made (IsByConflicts h.now)) }
-    ensures none { IfOk result (λ made. IfNone made (LacksSource h.now ⊎ ((a : Operation) × Leads (ComesFirst h.now) a a))) }
-    ensures made { ¬ LacksSource h.now → ((a : Operation) → ¬ Leads (λ b c. CO h.now b c ⊎ CF h.now b c) a a)
-        → IfOk result (λ made. IsSome made) }
-    ensures explained { ¬ HasOverwrittenStart h.now → IfOk result (λ made. IfSome made (IsExplainedThroughout memory_answer h.now)) }
-{
-    let memory = IndexedMemory::of(alloc, h)?;
-    make_by_sources_of(alloc, &memory)
-}
-
-/// The certificate that [`make_by_sources`] makes, of a history of which all is known already.
-///
-/// Fails for want of memory alone. What [`make_by_sources`] takes, without making what is known.
-pub(crate) fn make_by_sources_of(
+pub(crate) fn make_by_sources(
     alloc: Global,
     memory: &IndexedMemory,
 ) -> Result<Option<Certificate>, AllocError>
@@ -68,11 +47,11 @@ pub(crate) fn make_by_sources_of(
     make_by_order(alloc, &order)
 }
 
-/// The certificate that [`make_by_sources`] makes, for a caller that has the causal order already.
+/// The same, by the causal order of the history.
 ///
 /// `None` where the order and the conflicts are cyclic. Fails for want of memory alone. O(n k log n) for n operations of k
 /// sessions.
-pub fn make_by_order(alloc: Global, order: &CausalOrder) -> Result<Option<Certificate>, AllocError>
+fn make_by_order(alloc: Global, order: &CausalOrder) -> Result<Option<Certificate>, AllocError>
     ensures criterion { IfOk result (λ made. IfSome made (λ c. criterion_of c ≡ Criterion.Ccv)) }
     ensures shape { IfOk result (λ made. IfSome made (HasShapeOf order.now)) }
     ensures exact { IfOk result (λ made. IfSome made (IsByConflicts order.now)) }

@@ -6,4 +6,3 @@ mod by_conflicts;
 pub mod laws;
 
 pub use as_advised::{make, make_indexed, make_memory};
-pub use by_conflicts::{make_by_order, make_by_sources};

@@ -13,9 +13,8 @@ ghost use Rattle.certify_cm.specs.ByTurns.{HasNoTurns, IsByTurns, TakesTurns};
 
 use crate::turns::{Turns, standing};
 use cert_check::{Certificate, Criterion, Schedules};
-use history::{History, MAX_SESSIONS};
+use history::MAX_SESSIONS;
 use memory_order::{CausalOrder, HappenedBefore, IndexedMemory, MAX_PAIRS, Saturation};
-use objects::Memory;
 use std::alloc::{AllocError, Global};
 
 /// A certificate of causal memory of a memory history: the past of an operation is what is before it in the order that
@@ -33,27 +32,7 @@ use std::alloc::{AllocError, Global};
 /// Where values are not distinct, whether it explains is for the checker of certificates to say. Fails for want of memory
 /// alone. O(n p k + n k (k^2 + log n) + m k^2 log p) for n operations of k sessions, pasts of at most p operations and m
 /// pairs more in each relation.
-pub fn make_by_sources(
-    alloc: Global,
-    h: &History<Memory>,
-) -> Result<Option<Certificate>, AllocError>
-    ensures criterion { IfOk result (λ made. IfSome made (λ c. criterion_of c ≡ Criterion.Cm)) }
-    ensures shape { IfOk result (λ made. IfSome made (HasShapeOf h.now)) }
-    ensures vectors { IfOk result (λ made. IfSome made (λ c. CountsSourceOrder h.now (vectors_of c))) }
-    ensures turns { IsDifferentiated h.now → IfOk result (λ made. IfSome made (IsByTurns h.now)) }
-    ensures none { IsDifferentiated h.now → IfOk result (λ made. IfNone made ((IsCyclic h.now ⊎ LacksSource h.now) ⊎ HasNoTurns h.now)) }
-    ensures some { IsDifferentiated h.now → IfOk result (λ made. IfSome made (λ _. ¬ HasNoTurns h.now)) }
-    ensures explained { IsDifferentiated h.now → ¬ HasStartOverwrittenInHB h.now
-        → IfOk result (λ made. IfSome made (IsExplainedThroughout memory_answer h.now)) }
-{
-    let memory = IndexedMemory::of(alloc, h)?;
-    make_by_sources_of(alloc, &memory)
-}
-
-/// The certificate that [`make_by_sources`] makes, of a history of which all is known already.
-///
-/// Fails for want of memory alone. What [`make_by_sources`] takes, without making what is known.
-pub(crate) fn make_by_sources_of(
+pub(crate) fn make_by_sources(
     alloc: Global,
     memory: &IndexedMemory,
 ) -> Result<Option<Certificate>, AllocError>
@@ -73,12 +52,12 @@ pub(crate) fn make_by_sources_of(
     make_by_order(alloc, &order)
 }
 
-/// The certificate that [`make_by_sources`] makes, for a caller that has the causal order already.
+/// The same, by the causal order of the history.
 ///
 /// `None` where the happened-before relation of some operation is cyclic or has more than 100,000 pairs that the order
 /// doesn't have. Fails for want of memory alone. O(n p k + n k (k^2 + log n) + m k^2 log p) for n operations of k sessions,
 /// pasts of at most p operations and m pairs more in each relation.
-pub fn make_by_order(alloc: Global, order: &CausalOrder) -> Result<Option<Certificate>, AllocError>
+fn make_by_order(alloc: Global, order: &CausalOrder) -> Result<Option<Certificate>, AllocError>
     ensures criterion { IfOk result (λ made. IfSome made (λ c. criterion_of c ≡ Criterion.Cm)) }
     ensures shape { IfOk result (λ made. IfSome made (HasShapeOf order.now)) }
     ensures vectors { IfOk result (λ made. IfSome made (λ c. CountsSourceOrder order.now (vectors_of c))) }

@@ -7,4 +7,3 @@ pub mod laws;
 mod turns;
 
 pub use as_advised::{make, make_indexed, make_memory};
-pub use by_happened_before::{make_by_order, make_by_sources};

@@ -30,7 +30,7 @@ use Rattle.engine.specs.Checking.{HasOtherShape, HasShape, IsCheckReport, IsPair
 use Rattle.engine.specs.Refuting.{claim_form, claim_refusal, IsClaimError, IsPatternOf, IsRefutation}
 use Rattle.engine.specs.Failure.{failure_status, refusal_status, script_status}
 use Rattle.engine.specs.Report.{IsReport}
-use Rattle.engine.specs.Running.{Answers, Fails, IsAnswer, IsAnswerError, IsReplayReport}
+use Rattle.engine.specs.Running.{Completes, Fails, IsOutput, IsOutputError, IsReplayReport}
 use Rattle.engine.proofs.NotRefused.{form_is_fine}
 use Rattle.engine.proofs.Claims.{refusal-claim}
 use Rattle.engine.proofs.Pairs.{refusal-pair}
@@ -132,7 +132,7 @@ has_a_form text h c is_c pair bad =
     bad.2.4 c is_c same.1
 
 -- an input is refused in one way
-judge_once : (judging : Judging) (text : List ℕ) (e f : RunError) → IsAnswerError (Judge judging) text e → IsAnswerError (Judge judging) text f → failure_status e ≡ 1 → failure_status f ≡ 1 → e ≡ f
+judge_once : (judging : Judging) (text : List ℕ) (e f : RunError) → IsOutputError (Judge judging) text e → IsOutputError (Judge judging) text f → failure_status e ≡ 1 → failure_status f ≡ 1 → e ≡ f
 judge_once judging text (History p) (History q) is_e is_f one two =
     ap History (one_refusal first_refusal text p q (judge_refused text p is_e one) (judge_refused text q is_f two))
 judge_once judging text BadCertificate f is_e is_f one two = absurd is_e
@@ -161,7 +161,7 @@ plain : Judging
 plain = record { workers = 1; expected = expecting_nothing }
 
 -- a history is refused as `judge` refuses it
-explained_as_judged : (form : Form) (text : List ℕ) (e : RunError) → IsAnswerError (Explain form) text e → IsAnswerError (Judge plain) text e
+explained_as_judged : (form : Form) (text : List ℕ) (e : RunError) → IsOutputError (Explain form) text e → IsOutputError (Judge plain) text e
 explained_as_judged form text (History p) is_e = is_e
 explained_as_judged form text Memory is_e = is_e
 explained_as_judged form text BadCertificate is_e = absurd is_e
@@ -174,7 +174,7 @@ explained_as_judged form text NoSuch is_e = absurd is_e
 explained_as_judged form text ReadFault is_e = absurd is_e
 explained_as_judged form text WriteFault is_e = absurd is_e
 
-check_once : (workers : ℕ) (text : List ℕ) (e f : RunError) → IsAnswerError (Check workers) text e → IsAnswerError (Check workers) text f → failure_status e ≡ 1 → failure_status f ≡ 1 → e ≡ f
+check_once : (workers : ℕ) (text : List ℕ) (e f : RunError) → IsOutputError (Check workers) text e → IsOutputError (Check workers) text f → failure_status e ≡ 1 → failure_status f ≡ 1 → e ≡ f
 check_once workers text (History p) (History q) is_e is_f one two =
     ap History (one_refusal (λ d. pair_refusal (elements d)) text p q (check_refused text p is_e one) (check_refused text q is_f two))
 check_once workers text (History p) BadCertificate is_e is_f one two = absurd (no_bad_certificate text p is_e is_f one)
@@ -215,7 +215,7 @@ no_refused_pattern text e refused bad one =
     not_refused (λ d. claim_refusal (elements d)) text e bad.0 (claim_refused_as text e refused one) bad.1
     (claim_is_fine bad.0 bad.2.1 bad.2.2 bad.2.0 bad.2.3 bad.2.4)
 
-refute_once : (text : List ℕ) (e f : RunError) → IsAnswerError Refute text e → IsAnswerError Refute text f → failure_status e ≡ 1 → failure_status f ≡ 1 → e ≡ f
+refute_once : (text : List ℕ) (e f : RunError) → IsOutputError Refute text e → IsOutputError Refute text f → failure_status e ≡ 1 → failure_status f ≡ 1 → e ≡ f
 refute_once text (History p) (History q) is_e is_f one two =
     ap History (one_refusal (λ d. claim_refusal (elements d)) text p q (claim_refused_as text p is_e one) (claim_refused_as text q is_f two))
 refute_once text (History p) NotThatPattern is_e is_f one two = absurd (no_refused_pattern text p is_e is_f one)
@@ -240,7 +240,7 @@ refute_once text e Memory is_e is_f one two = absurd (omega arith)
 refute_once text e ReadFault is_e is_f one two = absurd is_f
 refute_once text e WriteFault is_e is_f one two = absurd is_f
 
-replay_once : (text : List ℕ) (e f : RunError) → IsAnswerError Replay text e → IsAnswerError Replay text f → failure_status e ≡ 1 → failure_status f ≡ 1 → e ≡ f
+replay_once : (text : List ℕ) (e f : RunError) → IsOutputError Replay text e → IsOutputError Replay text f → failure_status e ≡ 1 → failure_status f ≡ 1 → e ≡ f
 replay_once text (Script p) (Script q) is_e is_f one two = ap Script (script_refused_once text p q is_e is_f one two)
 replay_once text (History p) f is_e is_f one two = absurd is_e
 replay_once text BadCertificate f is_e is_f one two = absurd is_e
@@ -264,7 +264,7 @@ replay_once text e ReadFault is_e is_f one two = absurd is_f
 replay_once text e WriteFault is_e is_f one two = absurd is_f
 
 -- lines are refused in their answer: nothing else than memory can fail
-lines_fail : (judging : Judging) (text : List ℕ) (e : RunError) → IsAnswerError (JudgeLines judging) text e → failure_status e ≡ 4
+lines_fail : (judging : Judging) (text : List ℕ) (e : RunError) → IsOutputError (JudgeLines judging) text e → failure_status e ≡ 4
 lines_fail judging text (History p) is_e = absurd is_e
 lines_fail judging text (Script p) is_e = absurd is_e
 lines_fail judging text BadCertificate is_e = absurd is_e
@@ -285,7 +285,7 @@ drive_refused_alone : (drive : Drives) (text : List ℕ) (e : ReadError) (f : Ru
 drive_refused_alone drive text e f refused one undriven =
     not_refused first_refusal text e (form_of undriven.0) (judge_refused text e refused one) undriven.2 (form_is_fine undriven.0 undriven.1)
 
-drive_once : (drive : Drives) (text : List ℕ) (e f : RunError) → IsAnswerError (Drive drive) text e → IsAnswerError (Drive drive) text f → failure_status e ≡ 1 → failure_status f ≡ 1 → e ≡ f
+drive_once : (drive : Drives) (text : List ℕ) (e f : RunError) → IsOutputError (Drive drive) text e → IsOutputError (Drive drive) text f → failure_status e ≡ 1 → failure_status f ≡ 1 → e ≡ f
 drive_once drive text (History p) (History q) is_e is_f one two =
     ap History (one_refusal first_refusal text p q (judge_refused text p is_e one) (judge_refused text q is_f two))
 drive_once drive text (History p) BadLimits is_e is_f one two = absurd (drive_refused_alone drive text p BadLimits is_e one is_f)
@@ -315,7 +315,7 @@ drive_once drive text e TooLong is_e is_f one two = absurd is_f
 drive_once drive text e ReadFault is_e is_f one two = absurd is_f
 drive_once drive text e WriteFault is_e is_f one two = absurd is_f
 
-pub refused_in_one_way : (order : Order) (text : List ℕ) (e f : RunError) → IsAnswerError order text e → IsAnswerError order text f
+pub refused_in_one_way : (order : Order) (text : List ℕ) (e f : RunError) → IsOutputError order text e → IsOutputError order text f
     → failure_status e ≡ 1 → failure_status f ≡ 1 → e ≡ f
 refused_in_one_way (Judge judging) text e f is_e is_f one two = judge_once judging text e f is_e is_f one two
 refused_in_one_way (JudgeLines judging) text e f is_e is_f one two =
@@ -328,7 +328,7 @@ refused_in_one_way Replay text e f is_e is_f one two = replay_once text e f is_e
 refused_in_one_way (Drive drive) text e f is_e is_f one two = drive_once drive text e f is_e is_f one two
 
 -- what is answered is not refused
-judge_not_refused : (judging : Judging) (text : List ℕ) (e : RunError) (h : AnyHistory) → IsAnyHistory h → IsJson text (form_of h) → IsAnswerError (Judge judging) text e
+judge_not_refused : (judging : Judging) (text : List ℕ) (e : RunError) (h : AnyHistory) → IsAnyHistory h → IsJson text (form_of h) → IsOutputError (Judge judging) text e
     → failure_status e ≡ 4
 judge_not_refused judging text (History p) h is read is_e =
     ⊎_elim (λ (four : refusal_status p ≡ 4). four)
@@ -345,7 +345,7 @@ judge_not_refused judging text Memory h is read is_e = refl
 judge_not_refused judging text ReadFault h is read is_e = absurd is_e
 judge_not_refused judging text WriteFault h is read is_e = absurd is_e
 
-check_not_refused : (workers : ℕ) (text answer : List ℕ) (e : RunError) → IsCheckReport text answer → IsAnswerError (Check workers) text e → failure_status e ≡ 4
+check_not_refused : (workers : ℕ) (text answer : List ℕ) (e : RunError) → IsCheckReport text answer → IsOutputError (Check workers) text e → failure_status e ≡ 4
 check_not_refused workers text answer (History p) report is_e =
     ⊎_elim (λ (four : refusal_status p ≡ 4). four)
     (λ (one : refusal_status p ≡ 1). absurd (not_refused (λ d. pair_refusal (elements d)) text p (pair_form (form_of report.history) (certificate_form report.certificate))
@@ -368,7 +368,7 @@ check_not_refused workers text answer ReadFault report is_e = absurd is_e
 check_not_refused workers text answer WriteFault report is_e = absurd is_e
 
 -- a claim that is answered has a history, and behind it what shows that it does not meet the criterion
-refute_not_refused : (text answer : List ℕ) (e : RunError) → IsRefutation text answer → IsAnswerError Refute text e → failure_status e ≡ 4
+refute_not_refused : (text answer : List ℕ) (e : RunError) → IsRefutation text answer → IsOutputError Refute text e → failure_status e ≡ 4
 refute_not_refused text answer (History p) report is_e =
     ⊎_elim (λ (four : refusal_status p ≡ 4). four)
     (λ (one : refusal_status p ≡ 1). absurd (not_refused (λ d. claim_refusal (elements d)) text p (claim_form report.history report.criterion report.pattern)
@@ -391,7 +391,7 @@ refute_not_refused text answer Memory report is_e = refl
 refute_not_refused text answer ReadFault report is_e = absurd is_e
 refute_not_refused text answer WriteFault report is_e = absurd is_e
 
-replay_not_refused : (text answer : List ℕ) (e : RunError) → IsReplayReport text answer → IsAnswerError Replay text e → failure_status e ≡ 4
+replay_not_refused : (text answer : List ℕ) (e : RunError) → IsReplayReport text answer → IsOutputError Replay text e → failure_status e ≡ 4
 replay_not_refused text answer (Script p) report is_e =
     ⊎_elim (λ (four : script_status p ≡ 4). four)
     (λ (one : script_status p ≡ 1). absurd (script_is_fine text report.script report.is_script report.read p is_e one))
@@ -413,7 +413,7 @@ can_be_driven drive text answer e report undriven =
     subst (λ (h : AnyHistory). IsDriveError drive.stop (sessions_in h) e)
     (one_history text undriven.0 report.history undriven.1 report.is_history undriven.2 report.read) undriven.3
 
-drive_not_refused : (drive : Drives) (text answer : List ℕ) (e : RunError) → IsDriveReport drive text answer → IsAnswerError (Drive drive) text e → failure_status e ≡ 4
+drive_not_refused : (drive : Drives) (text answer : List ℕ) (e : RunError) → IsDriveReport drive text answer → IsOutputError (Drive drive) text e → failure_status e ≡ 4
 drive_not_refused drive text answer (History p) report is_e =
     ⊎_elim (λ (four : refusal_status p ≡ 4). four)
     (λ (one : refusal_status p ≡ 1). absurd (not_refused first_refusal text p (form_of report.history) (judge_refused text p is_e one) report.read (form_is_fine report.history report.is_history)))
@@ -434,7 +434,7 @@ drive_not_refused drive text answer Memory report is_e = refl
 drive_not_refused drive text answer ReadFault report is_e = absurd is_e
 drive_not_refused drive text answer WriteFault report is_e = absurd is_e
 
-pub answered_is_not_refused : (order : Order) (text answer : List ℕ) (e : RunError) → IsAnswer order text answer → IsAnswerError order text e → failure_status e ≡ 4
+pub answered_is_not_refused : (order : Order) (text answer : List ℕ) (e : RunError) → IsOutput order text answer → IsOutputError order text e → failure_status e ≡ 4
 answered_is_not_refused (Judge judging) text answer e report is_e = judge_not_refused judging text e report.history report.is_history report.read is_e
 answered_is_not_refused (JudgeLines judging) text answer e report is_e = lines_fail judging text e is_e
 answered_is_not_refused (Check workers) text answer e report is_e = check_not_refused workers text answer e report is_e
@@ -455,7 +455,7 @@ pub reported_history : (text answer : List ℕ) (h : AnyHistory) → IsAnyHistor
 reported_history text answer h is json report = one_history text report.history h report.is_history is report.read json
 
 -- what is too long is not answered, and refused for that alone
-pub too_long-not_answered : (order : Order) (bytes : List ℕ) (before after : Option (List ℕ)) → MAX_INPUT_BYTES < length bytes → Answers order (Some bytes) before after → ⊥
+pub too_long-not_answered : (order : Order) (bytes : List ℕ) (before after : Option (List ℕ)) → MAX_INPUT_BYTES < length bytes → Completes order (Some bytes) before after → ⊥
 too_long-not_answered order bytes before after long answers = let same : length answers.input ≡ length bytes = ap length answers.whole in let within = answers.within in omega arith
 
 pub too_long-fails : (order : Order) (bytes : List ℕ) (e : RunError) → MAX_INPUT_BYTES < length bytes → Fails order (Some bytes) e → (e ≡ TooLong) ⊎ ((e ≡ Memory) ⊎ (e ≡ ReadFault))

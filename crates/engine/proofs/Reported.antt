@@ -8,7 +8,7 @@ use Rattle.engine.specs.declared.failure.RunError.{RunError}
 use Rattle.engine.specs.declared.failure.RunError.TheVariants.{History, Script, BadCertificate, ShapeMismatch, NotThatPattern, BadLimits, NoSuch, TooLong, Memory, ReadFault, WriteFault}
 use Rattle.engine.specs.declared.input.TheConstants.{MAX_INPUT_BYTES}
 use Rattle.engine.specs.declared.report.Report.{Report}
-use Rattle.engine.specs.Running.{Fails, IsAnswerError}
+use Rattle.engine.specs.Running.{Fails, IsOutputError}
 use Rattle.engine.specs.Report.{EachIsTrueOf, EachNamesUnexplained, EachIsKnownOnDistinctValues, IsReportOn}
 
 -- what is true of the history that was read is a report on the input
@@ -31,7 +31,7 @@ reported input history (Err e) is read true_of unknown unexplained = tt
 
 -- an error in the place of a report is that of a run of `judge`
 pub judge_fails : (judging : Judging) (reader : Option (List ℕ)) (input : List ℕ) (e : RunError) → IfSome reader (λ bytes. input ≡ bytes)
-    → length input ≤ MAX_INPUT_BYTES → IsAnswerError (Judge judging) input e → Fails (Judge judging) reader e
+    → length input ≤ MAX_INPUT_BYTES → IsOutputError (Judge judging) input e → Fails (Judge judging) reader e
 judge_fails judging reader input Memory whole within is = tt
 judge_fails judging reader input (History refusal) whole within is = (input, whole, within, is)
 judge_fails judging reader input (Script refusal) whole within is = absurd is

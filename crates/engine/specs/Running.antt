@@ -1,4 +1,4 @@
--- What a run answers, and when it fails.
+-- What a run writes, and when it fails.
 use Rattle.std.specs.Prelude.{◌≡◌, ◌<◌, ◌≤◌, ℕ, List, Option, IfSome, length}
 use Rattle.std.specs.Io.KnownBytes.{Appends}
 use Rattle.command_line.specs.declared.order.Order.{Order}
@@ -28,60 +28,60 @@ pub record IsReplayReport (input text : List ℕ) : Type 0 where
   pub read : IsJson input (script_form script)
   pub lines : IsReplay script text
 
--- the text answers the input as the order asks, whatever the number of its workers
-abbrev pub IsAnswer : Order → List ℕ → List ℕ → Type 0
-IsAnswer (Judge judging) input text = IsReport input text
-IsAnswer (JudgeLines judging) input text = IsLinesAnswer judging.expected input text
-IsAnswer (Check workers) input text = IsCheckReport input text
-IsAnswer (Explain Words) input text = IsWorded input text
-IsAnswer (Explain Json) input text = IsExplanation input text
-IsAnswer (Explain Certificates) input text = IsCertifiedExplanation input text
-IsAnswer (Explain Picture) input text = IsPicture input text
-IsAnswer Refute input text = IsRefutation input text
-IsAnswer Replay input text = IsReplayReport input text
-IsAnswer (Drive drive) input text = IsDriveReport drive input text
+-- the text is what the order asks for of the input, whatever the number of its workers
+abbrev pub IsOutput : Order → List ℕ → List ℕ → Type 0
+IsOutput (Judge judging) input text = IsReport input text
+IsOutput (JudgeLines judging) input text = IsLinesAnswer judging.expected input text
+IsOutput (Check workers) input text = IsCheckReport input text
+IsOutput (Explain Words) input text = IsWorded input text
+IsOutput (Explain Json) input text = IsExplanation input text
+IsOutput (Explain Certificates) input text = IsCertifiedExplanation input text
+IsOutput (Explain Picture) input text = IsPicture input text
+IsOutput Refute input text = IsRefutation input text
+IsOutput Replay input text = IsReplayReport input text
+IsOutput (Drive drive) input text = IsDriveReport drive input text
 
--- what can come of making an answer, in its place: the input is refused, or memory ran out
-abbrev pub IsAnswerError : Order → List ℕ → RunError → Type 0
-IsAnswerError order input Memory = Unit {0}
-IsAnswerError (Judge judging) input (History refusal) = IsRefusedFor input refusal
-IsAnswerError (Check workers) input (History refusal) = IsPairError input (History refusal)
-IsAnswerError (Check workers) input BadCertificate = IsPairError input BadCertificate
-IsAnswerError (Check workers) input ShapeMismatch = HasOtherShape input
-IsAnswerError (Explain form) input (History refusal) = IsRefusedFor input refusal
-IsAnswerError Refute input (History refusal) = IsClaimError input (History refusal)
-IsAnswerError Refute input NotThatPattern = IsClaimError input NotThatPattern
-IsAnswerError Replay input (Script refusal) = IsScriptRefusedFor input refusal
-IsAnswerError (Drive drive) input (History refusal) = IsRefusedFor input refusal
-IsAnswerError (Drive drive) input BadLimits = IsUndriven drive input BadLimits
-IsAnswerError (Drive drive) input NoSuch = IsUndriven drive input NoSuch
-IsAnswerError order input _ = ⊥
+-- what can come in place of an output: the input is refused, or memory ran out
+abbrev pub IsOutputError : Order → List ℕ → RunError → Type 0
+IsOutputError order input Memory = Unit {0}
+IsOutputError (Judge judging) input (History refusal) = IsRefusedFor input refusal
+IsOutputError (Check workers) input (History refusal) = IsPairError input (History refusal)
+IsOutputError (Check workers) input BadCertificate = IsPairError input BadCertificate
+IsOutputError (Check workers) input ShapeMismatch = HasOtherShape input
+IsOutputError (Explain form) input (History refusal) = IsRefusedFor input refusal
+IsOutputError Refute input (History refusal) = IsClaimError input (History refusal)
+IsOutputError Refute input NotThatPattern = IsClaimError input NotThatPattern
+IsOutputError Replay input (Script refusal) = IsScriptRefusedFor input refusal
+IsOutputError (Drive drive) input (History refusal) = IsRefusedFor input refusal
+IsOutputError (Drive drive) input BadLimits = IsUndriven drive input BadLimits
+IsOutputError (Drive drive) input NoSuch = IsUndriven drive input NoSuch
+IsOutputError order input _ = ⊥
 
--- an input was read whole, and an answer to it was written whole: what the reader had, where it tells its bytes, and
+-- an input was read whole, and the output for it was written whole: what the reader had, where it tells its bytes, and
 -- what the writer holds behind what it held, where it tells its bytes
-pub record Answers (order : Order) (reader writer_before writer_after : Option (List ℕ)) : Type 0 where
+pub record Completes (order : Order) (reader writer_before writer_after : Option (List ℕ)) : Type 0 where
   pub input : List ℕ
   pub text : List ℕ
   pub whole : IfSome reader (λ bytes. input ≡ bytes)
   pub within : length input ≤ MAX_INPUT_BYTES
-  pub answered : IsAnswer order input text
+  pub output : IsOutput order input text
   pub written : Appends writer_before writer_after text
 
 -- it is so of the input, which is not too long: where the reader tells its bytes, of these bytes
 abbrev pub IsOfInput : Option (List ℕ) → (List ℕ → Type 0) → Type 0
 IsOfInput reader IsSo = (input : List ℕ) × IfSome reader (λ bytes. input ≡ bytes) × (length input ≤ MAX_INPUT_BYTES) × IsSo input
 
--- why a run failed: the input is too long, or it is refused; or its answer could not be written; or memory or the reader
+-- why a run failed: the input is too long, or it is refused; or its output could not be written; or memory or the reader
 -- failed, which can be at any time
 abbrev pub Fails : Order → Option (List ℕ) → RunError → Type 0
 Fails order reader TooLong = IfSome reader (λ bytes. MAX_INPUT_BYTES < length bytes)
-Fails order reader (History refusal) = IsOfInput reader (λ input. IsAnswerError order input (History refusal))
-Fails order reader (Script refusal) = IsOfInput reader (λ input. IsAnswerError order input (Script refusal))
-Fails order reader BadCertificate = IsOfInput reader (λ input. IsAnswerError order input BadCertificate)
-Fails order reader ShapeMismatch = IsOfInput reader (λ input. IsAnswerError order input ShapeMismatch)
-Fails order reader NotThatPattern = IsOfInput reader (λ input. IsAnswerError order input NotThatPattern)
-Fails order reader BadLimits = IsOfInput reader (λ input. IsAnswerError order input BadLimits)
-Fails order reader NoSuch = IsOfInput reader (λ input. IsAnswerError order input NoSuch)
-Fails order reader WriteFault = IsOfInput reader (λ input. (text : List ℕ) × IsAnswer order input text)
+Fails order reader (History refusal) = IsOfInput reader (λ input. IsOutputError order input (History refusal))
+Fails order reader (Script refusal) = IsOfInput reader (λ input. IsOutputError order input (Script refusal))
+Fails order reader BadCertificate = IsOfInput reader (λ input. IsOutputError order input BadCertificate)
+Fails order reader ShapeMismatch = IsOfInput reader (λ input. IsOutputError order input ShapeMismatch)
+Fails order reader NotThatPattern = IsOfInput reader (λ input. IsOutputError order input NotThatPattern)
+Fails order reader BadLimits = IsOfInput reader (λ input. IsOutputError order input BadLimits)
+Fails order reader NoSuch = IsOfInput reader (λ input. IsOutputError order input NoSuch)
+Fails order reader WriteFault = IsOfInput reader (λ input. (text : List ℕ) × IsOutput order input text)
 Fails order reader Memory = Unit {0}
 Fails order reader ReadFault = Unit {0}

@@ -3,7 +3,7 @@
 ghost use Rattle.std.specs.Prelude.{◌≡◌, ◌<◌, ◌≤◌, IfErr, IfOk, OnOk, Some, length, string_bytes};
 ghost use Rattle.command_line.specs.declared.form.Form.TheVariants.{Json};
 ghost use Rattle.engine.specs.Alone.{judging_alone};
-ghost use Rattle.engine.specs.Running.{Fails, IsAnswer, IsAnswerError};
+ghost use Rattle.engine.specs.Running.{Fails, IsOutput, IsOutputError};
 
 use crate::checking::read_pair;
 use crate::checking_alone::answer_of_certificate_alone;
@@ -24,7 +24,7 @@ use std::alloc::Global;
 /// [`report_alone`](crate::report_alone).
 pub fn judge_alone(alloc: Global, input: &[u8]) -> Result<String, RunError>
     ensures within { OnOk result (length input.now ≤ MAX_INPUT_BYTES) }
-    ensures answer { IfOk result (λ text. IsAnswer (Order.Judge judging_alone) input.now (string_bytes text)) }
+    ensures output { IfOk result (λ text. IsOutput (Order.Judge judging_alone) input.now (string_bytes text)) }
     ensures error { IfErr result (Fails (Order.Judge judging_alone) (Some input.now)) }
 {
     stay_within(input)?;
@@ -37,7 +37,7 @@ pub fn judge_alone(alloc: Global, input: &[u8]) -> Result<String, RunError>
 /// [`answer_of_certificate_alone`].
 pub fn check_alone(alloc: Global, input: &[u8]) -> Result<String, RunError>
     ensures within { OnOk result (length input.now ≤ MAX_INPUT_BYTES) }
-    ensures answer { IfOk result (λ text. IsAnswer (Order.Check 1) input.now (string_bytes text)) }
+    ensures output { IfOk result (λ text. IsOutput (Order.Check 1) input.now (string_bytes text)) }
     ensures error { IfErr result (Fails (Order.Check 1) (Some input.now)) }
 {
     stay_within(input)?;
@@ -50,7 +50,7 @@ pub fn check_alone(alloc: Global, input: &[u8]) -> Result<String, RunError>
 /// [`explanation_alone`].
 pub fn explain_alone(alloc: Global, input: &[u8]) -> Result<String, RunError>
     ensures within { OnOk result (length input.now ≤ MAX_INPUT_BYTES) }
-    ensures answer { IfOk result (λ text. IsAnswer (Order.Explain Json) input.now (string_bytes text)) }
+    ensures output { IfOk result (λ text. IsOutput (Order.Explain Json) input.now (string_bytes text)) }
     ensures error { IfErr result (Fails (Order.Explain Json) (Some input.now)) }
 {
     stay_within(input)?;
@@ -63,7 +63,7 @@ pub fn explain_alone(alloc: Global, input: &[u8]) -> Result<String, RunError>
 /// pattern.
 pub fn refute_alone(alloc: Global, input: &[u8]) -> Result<String, RunError>
     ensures within { OnOk result (length input.now ≤ MAX_INPUT_BYTES) }
-    ensures answer { IfOk result (λ text. IsAnswer Order.Refute input.now (string_bytes text)) }
+    ensures output { IfOk result (λ text. IsOutput Order.Refute input.now (string_bytes text)) }
     ensures error { IfErr result (Fails Order.Refute (Some input.now)) }
 {
     stay_within(input)?;
@@ -83,8 +83,8 @@ fn stay_within(input: &[u8]) -> Result<(), RunError>
 
 // The report on the history in the input.
 fn report_of(alloc: Global, input: &[u8]) -> Result<String, RunError>
-    ensures answer { IfOk result (λ text. IsAnswer (Order.Judge judging_alone) input.now (string_bytes text)) }
-    ensures error { IfErr result (IsAnswerError (Order.Judge judging_alone) input.now) }
+    ensures output { IfOk result (λ text. IsOutput (Order.Judge judging_alone) input.now (string_bytes text)) }
+    ensures error { IfErr result (IsOutputError (Order.Judge judging_alone) input.now) }
 {
     let report = report_on_input_alone(alloc, input)?;
     Ok(report_text(alloc, &report)?)
@@ -92,8 +92,8 @@ fn report_of(alloc: Global, input: &[u8]) -> Result<String, RunError>
 
 // The line on the certificate in the input.
 fn line_of(alloc: Global, input: &[u8]) -> Result<String, RunError>
-    ensures answer { IfOk result (λ text. IsAnswer (Order.Check 1) input.now (string_bytes text)) }
-    ensures error { IfErr result (IsAnswerError (Order.Check 1) input.now) }
+    ensures output { IfOk result (λ text. IsOutput (Order.Check 1) input.now (string_bytes text)) }
+    ensures error { IfErr result (IsOutputError (Order.Check 1) input.now) }
 {
     let (history, certificate) = read_pair(alloc, input)?;
     let criterion = certificate.criterion();
@@ -103,8 +103,8 @@ fn line_of(alloc: Global, input: &[u8]) -> Result<String, RunError>
 
 // The reasons on the history in the input.
 fn reasons_of(alloc: Global, input: &[u8]) -> Result<String, RunError>
-    ensures answer { IfOk result (λ text. IsAnswer (Order.Explain Json) input.now (string_bytes text)) }
-    ensures error { IfErr result (IsAnswerError (Order.Explain Json) input.now) }
+    ensures output { IfOk result (λ text. IsOutput (Order.Explain Json) input.now (string_bytes text)) }
+    ensures error { IfErr result (IsOutputError (Order.Explain Json) input.now) }
 {
     let history = read_history(alloc, input)?;
     let explanation = explanation_alone(alloc, history)?;

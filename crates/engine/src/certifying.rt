@@ -9,7 +9,7 @@ ghost use Rattle.cert_check.specs.declared.criterion.Criterion.{Criterion as Any
 ghost use Rattle.command_line.specs.declared.form.Form.TheVariants.{Certificates};
 ghost use Rattle.engine.specs.Certifying.{EachIsEvidence, IsCertifiedExplanation, IsEvidence, certified_form, evidence_for};
 ghost use Rattle.engine.specs.Steps.FoundedEvidence.{IsFoundedEvidenceOn};
-ghost use Rattle.engine.specs.Running.{IsAnswerError};
+ghost use Rattle.engine.specs.Running.{IsOutputError};
 
 use crate::certified::{CertifiedExplanation, Evidence};
 use crate::failure::RunError;
@@ -37,8 +37,8 @@ pub fn explain_with_certificates<T: Threads + Wait + Sync>(
     alloc: Global,
     input: &[u8],
 ) -> Result<String, RunError>
-    ensures answer { IfOk result (λ text. IsCertifiedExplanation input.now (string_bytes text)) }
-    ensures error { IfErr result (IsAnswerError (Order.Explain Certificates) input.now) }
+    ensures output { IfOk result (λ text. IsCertifiedExplanation input.now (string_bytes text)) }
+    ensures error { IfErr result (IsOutputError (Order.Explain Certificates) input.now) }
 {
     let history = read_history(alloc, input)?;
     let explanation = explanation_with_certificates(rt, alloc, history, Workers::usual())?;

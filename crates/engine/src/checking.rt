@@ -8,7 +8,7 @@ ghost use Rattle.cert_check.specs.CertificateForm.{form_of as certificate_form, 
 ghost use Rattle.operations.specs.AnyForm.{form_of, IsAnyHistory};
 ghost use Rattle.operations.specs.Json.{elements, list};
 ghost use Rattle.engine.specs.Report.{IsTrueOf};
-ghost use Rattle.engine.specs.Running.{IsAnswer, IsAnswerError};
+ghost use Rattle.engine.specs.Running.{IsOutput, IsOutputError};
 ghost use Rattle.collector.specs.Judgements.{IsSaidOf, IsSaidOfFile};
 ghost use Rattle.engine.specs.Checking.{HasShape, IsCheckError, IsPair, IsPairError, IsPairErrorOf, IsShown, pair_form, pair_refusal};
 
@@ -31,8 +31,8 @@ pub fn check<T: Threads + Wait + Sync>(
     input: &[u8],
     workers: Workers,
 ) -> Result<String, RunError>
-    ensures answer { IfOk result (λ text. IsAnswer (Order.Check workers) input.now (string_bytes text)) }
-    ensures error { IfErr result (IsAnswerError (Order.Check workers) input.now) }
+    ensures output { IfOk result (λ text. IsOutput (Order.Check workers) input.now (string_bytes text)) }
+    ensures error { IfErr result (IsOutputError (Order.Check workers) input.now) }
 {
     let (history, certificate) = read_pair(alloc, input)?;
     let criterion = certificate.criterion();

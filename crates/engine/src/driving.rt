@@ -3,7 +3,7 @@
 ghost use Rattle.std.specs.Prelude.{◌≡◌, IfErr, IfOk, string_bytes};
 ghost use Rattle.driver.specs.Drives.{IsOfInput};
 ghost use Rattle.engine.specs.Driving.{IsDriveError, IsDriven, IsDrivenAs, IsDriveOrder, IsOrderError, sessions_in};
-ghost use Rattle.engine.specs.Running.{IsAnswer, IsAnswerError};
+ghost use Rattle.engine.specs.Running.{IsOutput, IsOutputError};
 ghost use Rattle.engine.specs.Steps.SealedTexts.{AreSealedFrom, AreTrueTexts, IsTrueText};
 
 use crate::drivable::Drivable;
@@ -63,8 +63,8 @@ pub fn drive_input<T: Threads + Wait + Sync>(
     input: &[u8],
     drive: Drive,
 ) -> Result<String, RunError>
-    ensures answer { IfOk result (λ text. IsAnswer (Order.Drive drive) input.now (string_bytes text)) }
-    ensures error { IfErr result (IsAnswerError (Order.Drive drive) input.now) }
+    ensures output { IfOk result (λ text. IsOutput (Order.Drive drive) input.now (string_bytes text)) }
+    ensures error { IfErr result (IsOutputError (Order.Drive drive) input.now) }
 {
     let history = read_history(alloc, input)?;
     drive_store(rt, alloc, &history, drive, &OpenGate)

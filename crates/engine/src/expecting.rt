@@ -6,13 +6,13 @@ ghost use Rattle.engine.specs.Expecting.{Judges, outcome_for, outcome_in};
 ghost use Rattle.lines.specs.ReadCalls.{CallsAtMost};
 ghost use Rattle.engine.specs.ReadCalls.{FindsNoEnd};
 ghost use Rattle.engine.specs.Report.{IsReportOn, text_for};
-ghost use Rattle.engine.specs.Running.{Fails, IsAnswerError};
+ghost use Rattle.engine.specs.Running.{Fails, IsOutputError};
 
 use crate::failure::RunError;
 use crate::input::read_input;
 use crate::judging::report_on;
 use crate::judging_alone::report_alone;
-use crate::output::write_answer;
+use crate::output::write_output;
 use crate::report::{Report, report_text};
 use collector::Answer;
 use command_line::{Expected, Judging, Order};
@@ -56,7 +56,7 @@ pub(crate) fn report_on_input<T: Threads + Wait + Sync>(
     judging: Judging,
 ) -> Result<Report, RunError>
     ensures report { IfOk result (IsReportOn input.now) }
-    ensures error { IfErr result (IsAnswerError (Order.Judge judging) input.now) }
+    ensures error { IfErr result (IsOutputError (Order.Judge judging) input.now) }
 {
     let history = read_history(alloc, input)?;
     report_on(rt, alloc, history, &[], judging.workers)
@@ -67,7 +67,7 @@ pub(crate) fn report_on_input<T: Threads + Wait + Sync>(
 /// Refuses what is no history, and fails for want of memory. The cost is that of [`report_alone`].
 pub(crate) fn report_on_input_alone(alloc: Global, input: &[u8]) -> Result<Report, RunError>
     ensures report { IfOk result (IsReportOn input.now) }
-    ensures error { IfErr result (IsAnswerError (Order.Judge judging_alone) input.now) }
+    ensures error { IfErr result (IsOutputError (Order.Judge judging_alone) input.now) }
 {
     let history = read_history(alloc, input)?;
     report_alone(alloc, history)
@@ -80,7 +80,7 @@ fn write_report<W: Write>(alloc: Global, writer: &mut W, report: &Report) -> Res
     ensures unwritten { IfErr result (λ e. e ≢ RunError.WriteFault → writer.new ≡ writer.old) }
 {
     let text = report_text(alloc, report)?;
-    write_answer(writer, text.as_bytes())
+    write_output(writer, text.as_bytes())
 }
 
 /// What comes of a report where these criteria are expected to be met: [`Outcome::Met`] where each of them has a yes,

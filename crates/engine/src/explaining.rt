@@ -8,7 +8,7 @@ ghost use Rattle.memory_order.specs.Memory.{memory_answer};
 ghost use Rattle.command_line.specs.declared.form.Form.TheVariants.{Json};
 ghost use Rattle.engine.specs.Explaining.{EachIsReason, IsReason, explanation_form, reason_for};
 ghost use Rattle.engine.specs.Report.{EachIsKnownOnDistinctValues, EachIsTrueOf, EachNamesUnexplained};
-ghost use Rattle.engine.specs.Running.{IsAnswer, IsAnswerError};
+ghost use Rattle.engine.specs.Running.{IsOutput, IsOutputError};
 ghost use Rattle.engine.specs.Steps.FileChecks.{ChecksFiles};
 
 use crate::checking::answer_of_file;
@@ -35,8 +35,8 @@ pub fn explain_as_json<T: Threads + Wait + Sync>(
     alloc: Global,
     input: &[u8],
 ) -> Result<String, RunError>
-    ensures answer { IfOk result (λ text. IsAnswer (Order.Explain Json) input.now (string_bytes text)) }
-    ensures error { IfErr result (IsAnswerError (Order.Explain Json) input.now) }
+    ensures output { IfOk result (λ text. IsOutput (Order.Explain Json) input.now (string_bytes text)) }
+    ensures error { IfErr result (IsOutputError (Order.Explain Json) input.now) }
 {
     let history = read_history(alloc, input)?;
     let explanation = explanation_of(rt, alloc, history, Workers::usual())?;

@@ -1,7 +1,7 @@
 //! The forms in which it is said why a history meets each criterion, or does not.
 
 ghost use Rattle.std.specs.Prelude.{IfErr, IfOk, string_bytes};
-ghost use Rattle.engine.specs.Running.{IsAnswer, IsAnswerError};
+ghost use Rattle.engine.specs.Running.{IsOutput, IsOutputError};
 
 use crate::certifying::explain_with_certificates;
 use crate::explaining::explain_as_json;
@@ -20,8 +20,8 @@ pub fn explain_as<T: Threads + Wait + Sync>(
     input: &[u8],
     form: Form,
 ) -> Result<String, RunError>
-    ensures answer { IfOk result (λ text. IsAnswer (Order.Explain form) input.now (string_bytes text)) }
-    ensures error { IfErr result (IsAnswerError (Order.Explain form) input.now) }
+    ensures output { IfOk result (λ text. IsOutput (Order.Explain form) input.now (string_bytes text)) }
+    ensures error { IfErr result (IsOutputError (Order.Explain form) input.now) }
 {
     match form {
         Form::Words => explain_in_words(rt, alloc, input),

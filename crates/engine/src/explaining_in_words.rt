@@ -5,7 +5,7 @@ ghost use Rattle.std.specs.Str.Iter.{LacksByte};
 ghost use Rattle.command_line.specs.declared.form.Form.TheVariants.{Words};
 ghost use Rattle.engine.specs.Explaining.{EachIsReason};
 ghost use Rattle.engine.specs.ExplainingInWords.{IsIndented, IsWorded, Tells, TellsEach, indented};
-ghost use Rattle.engine.specs.Running.{IsAnswerError};
+ghost use Rattle.engine.specs.Running.{IsOutputError};
 
 use crate::explaining::explanation_of;
 use crate::failure::RunError;
@@ -31,7 +31,7 @@ pub fn explain_in_words<T: Threads + Wait + Sync>(
     input: &[u8],
 ) -> Result<String, RunError>
     ensures worded { IfOk result (λ text. IsWorded input.now (string_bytes text)) }
-    ensures error { IfErr result (IsAnswerError (Order.Explain Words) input.now) }
+    ensures error { IfErr result (IsOutputError (Order.Explain Words) input.now) }
 {
     let history = read_history(alloc, input)?;
     let explanation = explanation_of_copy(rt, alloc, &history)?;

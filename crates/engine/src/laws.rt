@@ -7,7 +7,7 @@ ghost use Rattle.operations.specs.AnyForm.{form_of, IsAnyHistory, IsJson};
 ghost use Rattle.engine.specs.Failure.{failure_status};
 ghost use Rattle.lines.specs.ReadCalls.{CallOutcome, CallsAtMost};
 ghost use Rattle.engine.specs.Report.{answer_for};
-ghost use Rattle.engine.specs.Running.{Answers, Fails, IsAnswer, IsAnswerError};
+ghost use Rattle.engine.specs.Running.{Completes, Fails, IsOutput, IsOutputError};
 ghost use Rattle.engine.specs.Report.{IsReport};
 
 use crate::failure::RunError;
@@ -38,20 +38,20 @@ pub fn distinct_values_are_decided()
 
 /// An input that is answered is not refused: the most that can come in place of its answer is want of memory.
 pub fn answered_input_is_not_refused()
-    ensures { (order : Order) (input text : List ℕ) (error : RunError) → IsAnswer order input text
-        → IsAnswerError order input error → failure_status error ≡ 4 }
+    ensures { (order : Order) (input text : List ℕ) (error : RunError) → IsOutput order input text
+        → IsOutputError order input error → failure_status error ≡ 4 }
 {}
 
 /// An input is refused in one way: no other refusal can come in the place of the first.
 pub fn input_is_refused_in_one_way()
-    ensures { (order : Order) (input : List ℕ) (first second : RunError) → IsAnswerError order input first
-        → IsAnswerError order input second → failure_status first ≡ 1 → failure_status second ≡ 1 → first ≡ second }
+    ensures { (order : Order) (input : List ℕ) (first second : RunError) → IsOutputError order input first
+        → IsOutputError order input second → failure_status first ≡ 1 → failure_status second ≡ 1 → first ≡ second }
 {}
 
 /// What is longer than may be is not answered, and refused for that alone.
 pub fn too_long_input_is_refused_as_such()
-    ensures answer { (order : Order) (bytes : List ℕ) (before after : Option (List ℕ)) → MAX_INPUT_BYTES < length bytes
-        → ¬ Answers order (Some bytes) before after }
+    ensures output { (order : Order) (bytes : List ℕ) (before after : Option (List ℕ)) → MAX_INPUT_BYTES < length bytes
+        → ¬ Completes order (Some bytes) before after }
     ensures failure { (order : Order) (bytes : List ℕ) (error : RunError) → MAX_INPUT_BYTES < length bytes
         → Fails order (Some bytes) error → (error ≡ RunError.TooLong) ⊎ ((error ≡ RunError.Memory) ⊎ (error ≡ RunError.ReadFault)) }
 {}

@@ -60,7 +60,7 @@ pub use judging::report_on;
 pub use judging_alone::report_alone;
 pub use line_judge::judge_lines;
 pub use lines::{MAX_READ_CALLS, Outcome, Source};
-pub use output::write_answer;
+pub use output::write_output;
 pub use picturing::explain_as_picture;
 pub use program::status_of_process;
 pub use reason::{Explanation, Reason};

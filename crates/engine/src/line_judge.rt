@@ -3,7 +3,7 @@ ghost use Rattle.std.specs.Prelude.{◌≡◌, ◌≢◌, ◌⊎◌, IfErr, IfOk
 ghost use Rattle.std.specs.Io.KnownBytes.{IsAtEnd};
 ghost use Rattle.lines.specs.Lines.{AllAreAnswered, FirstAreAnswered};
 ghost use Rattle.engine.specs.LineAnswers.{IsLineAnswer};
-ghost use Rattle.engine.specs.Running.{IsAnswer, IsAnswerError};
+ghost use Rattle.engine.specs.Running.{IsOutput, IsOutputError};
 
 use crate::failure::RunError;
 use crate::input::MAX_INPUT_BYTES;
@@ -62,8 +62,8 @@ pub(crate) fn judge_each<T: Threads + Wait + Sync>(
     input: &[u8],
     judging: Judging,
 ) -> Result<String, RunError>
-    ensures answer { IfOk result (λ text. IsAnswer (Order.JudgeLines judging) input.now (string_bytes text)) }
-    ensures error { IfErr result (IsAnswerError (Order.JudgeLines judging) input.now) }
+    ensures output { IfOk result (λ text. IsOutput (Order.JudgeLines judging) input.now (string_bytes text)) }
+    ensures error { IfErr result (IsOutputError (Order.JudgeLines judging) input.now) }
 {
     let judge = LineJudge {
         alloc,

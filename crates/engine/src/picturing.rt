@@ -4,7 +4,7 @@ ghost use Rattle.std.specs.Prelude.{◌≡◌, IfErr, IfOk, IfSome, string_bytes
 ghost use Rattle.picture.specs.Markup.{IsSvgElement};
 ghost use Rattle.command_line.specs.declared.form.Form.TheVariants.{Picture};
 ghost use Rattle.engine.specs.Picturing.{IsPicture};
-ghost use Rattle.engine.specs.Running.{IsAnswerError};
+ghost use Rattle.engine.specs.Running.{IsOutputError};
 
 use crate::explaining::explanation_of_memory;
 use crate::failure::RunError;
@@ -32,7 +32,7 @@ pub fn explain_as_picture<T: Threads + Wait + Sync>(
     input: &[u8],
 ) -> Result<String, RunError>
     ensures picture { IfOk result (λ text. IsPicture input.now (string_bytes text)) }
-    ensures error { IfErr result (IsAnswerError (Order.Explain Picture) input.now) }
+    ensures error { IfErr result (IsOutputError (Order.Explain Picture) input.now) }
 {
     let history = read_history(alloc, input)?;
     picture_of_any(rt, alloc, history)

@@ -9,7 +9,7 @@ ghost use Rattle.bad_patterns.specs.Patterns.{kind_of};
 ghost use Rattle.operations.specs.AnyForm.{IsAnyHistory, IsJson};
 ghost use Rattle.operations.specs.Json.{elements, list};
 ghost use Rattle.engine.specs.Report.{IsExcluded};
-ghost use Rattle.engine.specs.Running.{IsAnswer, IsAnswerError};
+ghost use Rattle.engine.specs.Running.{IsOutput, IsOutputError};
 ghost use Rattle.engine.specs.Refuting.{IsClaimError, IsClaimErrorOf, IsPatternOf, claim_form, claim_refusal};
 
 use crate::claim_place::ClaimPlace;
@@ -34,8 +34,8 @@ struct Claim {
 
 /// The line on the claim in the input: a history, the name of a criterion and a pattern in one list.
 pub fn refute(alloc: Global, input: &[u8]) -> Result<String, RunError>
-    ensures answer { IfOk result (λ text. IsAnswer Order.Refute input.now (string_bytes text)) }
-    ensures error { IfErr result (IsAnswerError Order.Refute input.now) }
+    ensures output { IfOk result (λ text. IsOutput Order.Refute input.now (string_bytes text)) }
+    ensures error { IfErr result (IsOutputError Order.Refute input.now) }
 {
     let claim = read_claim(alloc, input)?;
     if is_pattern_of(alloc, &claim.history, claim.criterion, &claim.pattern)? {

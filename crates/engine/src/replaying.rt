@@ -1,7 +1,7 @@
 //! What a script is answered.
 
 ghost use Rattle.std.specs.Prelude.{IfErr, IfOk, string_bytes};
-ghost use Rattle.engine.specs.Running.{IsAnswer, IsAnswerError};
+ghost use Rattle.engine.specs.Running.{IsOutput, IsOutputError};
 
 use crate::failure::RunError;
 use command_line::Order;
@@ -12,8 +12,8 @@ use std::alloc::Global;
 ///
 /// Refuses what is no script, and fails for want of memory. O(n) for n bytes, and what [`script::replay`] takes.
 pub fn replay(alloc: Global, input: &[u8]) -> Result<String, RunError>
-    ensures answer { IfOk result (λ text. IsAnswer Order.Replay input.now (string_bytes text)) }
-    ensures error { IfErr result (IsAnswerError Order.Replay input.now) }
+    ensures output { IfOk result (λ text. IsOutput Order.Replay input.now (string_bytes text)) }
+    ensures error { IfErr result (IsOutputError Order.Replay input.now) }
 {
     let read = read_script(alloc, input)?;
     Ok(script::replay(alloc, read)?)

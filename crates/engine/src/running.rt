@@ -3,7 +3,7 @@ ghost use Rattle.std.specs.Prelude.{◌≡◌, ◌≢◌, Err, IfErr, IfOk, OnOk
 ghost use Rattle.std.specs.Io.KnownBytes.{IsAtEnd};
 ghost use Rattle.lines.specs.ReadCalls.{CallsAtMost};
 ghost use Rattle.engine.specs.ReadCalls.{FindsNoEnd};
-ghost use Rattle.engine.specs.Running.{Answers, Fails, IsAnswer, IsAnswerError};
+ghost use Rattle.engine.specs.Running.{Completes, Fails, IsOutput, IsOutputError};
 
 use crate::checking::check;
 use crate::driving::drive_input;
@@ -12,7 +12,7 @@ use crate::explaining_forms::explain_as;
 use crate::failure::RunError;
 use crate::input::read_input;
 use crate::line_judge::judge_each;
-use crate::output::write_answer;
+use crate::output::write_output;
 use crate::refuting::refute;
 use crate::replaying::replay;
 use crate::report::report_text;
@@ -35,7 +35,7 @@ pub fn run<P: Threads + Wait + Sync + AllocGlobal, R: Source, W: Write>(
     writer: &mut W,
     order: &Order,
 ) -> Result<(), RunError>
-    ensures answered { OnOk result (Answers order.now (R.remaining reader.old)
+    ensures answered { OnOk result (Completes order.now (R.remaining reader.old)
         (W.contents writer.old) (W.contents writer.new)) }
     ensures end { OnOk result (IsAtEnd (R.remaining reader.new)) }
 
@@ -47,7 +47,7 @@ pub fn run<P: Threads + Wait + Sync + AllocGlobal, R: Source, W: Write>(
 {
     let input = read_input(rt.alloc(), reader)?;
     let answer = answer_to(rt, rt.alloc(), input.as_slice(), order)?;
-    write_answer(writer, answer.as_bytes())
+    write_output(writer, answer.as_bytes())
 }
 
 /// The whole answer to an input, as the order asks.
@@ -61,8 +61,8 @@ pub fn answer_to<T: Threads + Wait + Sync>(
     input: &[u8],
     order: &Order,
 ) -> Result<String, RunError>
-    ensures answer { IfOk result (λ text. IsAnswer order.now input.now (string_bytes text)) }
-    ensures error { IfErr result (IsAnswerError order.now input.now) }
+    ensures output { IfOk result (λ text. IsOutput order.now input.now (string_bytes text)) }
+    ensures error { IfErr result (IsOutputError order.now input.now) }
 {
     match order {
         Order::Judge(judging) => judge(rt, alloc, input, *judging),
@@ -82,8 +82,8 @@ fn judge<T: Threads + Wait + Sync>(
     input: &[u8],
     judging: Judging,
 ) -> Result<String, RunError>
-    ensures answer { IfOk result (λ text. IsAnswer (Order.Judge judging) input.now (string_bytes text)) }
-    ensures error { IfErr result (IsAnswerError (Order.Judge judging) input.now) }
+    ensures output { IfOk result (λ text. IsOutput (Order.Judge judging) input.now (string_bytes text)) }
+    ensures error { IfErr result (IsOutputError (Order.Judge judging) input.now) }
 {
     let report = report_on_input(rt, alloc, input, judging)?;
     Ok(report_text(alloc, &report)?)

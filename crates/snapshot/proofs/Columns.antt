@@ -1,4 +1,4 @@
--- Columns of answers: what one more answer makes of them, and where they end.
+-- Columns of cells that were seen: what one more makes of them, and where they end.
 use Rattle.std.proofs.Common.{◌≡◌, ◌≢◌, ℕ, suc, zero, ◌+◌, ◌-◌, ◌<◌, ◌≤◌, inl, inr, refl, sym, ◌∙◌, ap, subst, arith}
 use Rattle.std.specs.Prelude.{Bool, true, false, not, ◌&&◌, Option, Some, None, nat_lt, if◌then◌else◌}
 use Rattle.std.proofs.lemmas.Bool.{cases_eq, cases_Bool}
@@ -18,7 +18,7 @@ module _ (a a' : ℕ → Option Bool) (from found : ℕ) where
   }
 
   module _ (e : (i : ℕ) → from ≤ i → i ≢ found → a' i ≡ a i) (c : IsColumn a from found false) where
-    -- the next answer is full
+    -- the next cell is full
     pub column_full : a' found ≡ Some true → IsColumn a' from (found + 1) false
     column_full n = record {
       from_on = let k : from ≤ found = c.from_on in omega arith;
@@ -31,7 +31,7 @@ module _ (a a' : ℕ → Option Bool) (from found : ℕ) where
       behind = λ i h. let h' : found + 1 < i = h in e i (let k : from ≤ found = c.from_on in omega arith) (λ m. let m' : i ≡ found = m in omega arith) ∙ c.behind i (omega arith);
     }
 
-    -- the next answer is empty
+    -- the next cell is empty
     pub column_empty : a' found ≡ Some false → IsColumn a' from found true
     column_empty n = record {
       from_on = c.from_on;

@@ -9,7 +9,7 @@ use Rattle.history.specs.declared.op_id.OpId.{OpId}
 use Rattle.history.specs.History.{HistoryValue, IsOp, session}
 use Rattle.recorder.specs.Sessions.{session_operation}
 use Rattle.snapshot.specs.declared.cell.Cell.TheVariants.{Call}
-use Rattle.snapshot.specs.Plans.{Look, Plan, answer, was_full, return_cell, call_cell, returns_found, calls_found, next_return, next_call, next_cell, fresh_plan, after_looks, Follows, IsFinished}
+use Rattle.snapshot.specs.Plans.{Look, Plan, seen_at, was_full, return_cell, call_cell, returns_found, calls_found, next_return, next_call, next_cell, fresh_plan, after_looks, Follows, IsFinished}
 use Rattle.snapshot.specs.Runs.{Event, call_of, return_of, look_of, begun, ended, looks, IsAt, IsRun, HasSealed, operations, sealed, sealed_session, sealed_sessions}
 use Rattle.snapshot.specs.Runs.Event.{Ended, Started, Looked}
 use Rattle.snapshot.specs.Seals.{known_returns}
@@ -18,7 +18,7 @@ use Rattle.snapshot.specs.Steps.PlanStates.{PlanState}
 use Rattle.snapshot.specs.Cuts.{HasReturn, IsConsistentCut}
 use Rattle.snapshot.proofs.Filtered.{take-from, take-stands, picked_more, picked_whole, picked_front}
 use Rattle.snapshot.proofs.FoundPlaces.{first_from, first_below, full_is, looks_are, returns_over, calls_over, returns_over_at, return_behind, call_behind, returns_stay}
-use Rattle.snapshot.proofs.RunPlaces.{run_front, has_place, ended_there, ended_begun, ended_fewer, begun_fits, answer_given, looks_later, empty_return, empty_call, full_return, full_call, begun_by, ended_by, followed_at}
+use Rattle.snapshot.proofs.RunPlaces.{run_front, has_place, ended_there, ended_begun, ended_fewer, begun_fits, seen_given, looks_later, empty_return, empty_call, full_return, full_call, begun_by, ended_by, followed_at}
 use Rattle.snapshot.proofs.SealedSessions.{operations_calls, operations_many, operations_returns, operations_return, operations_returned, session_at, session_past}
 
 -- the plan of a sealer with these looks
@@ -37,8 +37,8 @@ module _ {C R : Type 0} (k cap : ℕ) (es : List (Event C R)) (run : IsRun k cap
   pub found_returns : (s : ℕ) → returns_found (plan_with k cap told (looks z es)) s ≤ length (ended s es)
   found_returns s = elim (cases_lt (length (ended s es)) (returns_found (plan_with k cap told (looks z es)) s)) [
     | inl l ↦
-        let full = first_below (λ i. was_full (answer (looks z es) (return_cell s i))) (cap - slice_index told s) (slice_index told s) (length (ended s es)) (told_ended s) l in
-        let g = answer_given k cap es run z (return_cell s (length (ended s es))) true (full_is (answer (looks z es) (return_cell s (length (ended s es)))) full) in
+        let full = first_below (λ i. was_full (seen_at (looks z es) (return_cell s i))) (cap - slice_index told s) (slice_index told s) (length (ended s es)) (told_ended s) l in
+        let g = seen_given k cap es run z (return_cell s (length (ended s es))) true (full_is (seen_at (looks z es) (return_cell s (length (ended s es)))) full) in
         let m : length (ended s es) < length (ended s (take g.0 es)) = full_return k cap es run z g.0 s (length (ended s es)) g.1 in
         let w : length (ended s (take g.0 es)) ≤ length (ended s es) = picked_whole (return_of s) es g.0 in
         absurd (omega arith)
@@ -49,8 +49,8 @@ module _ {C R : Type 0} (k cap : ℕ) (es : List (Event C R)) (run : IsRun k cap
   found_calls s = elim (cases_lt (length (begun s es)) (calls_found (plan_with k cap told (looks z es)) s)) [
     | inl l ↦
         let f : returns_found (plan_with k cap told (looks z es)) s ≤ length (ended s es) = found_returns s in let e : length (ended s es) ≤ length (begun s es) = ended_fewer k cap es run s in
-        let full = first_below (λ i. was_full (answer (looks z es) (call_cell s i))) (cap - returns_found (plan_with k cap told (looks z es)) s) (returns_found (plan_with k cap told (looks z es)) s) (length (begun s es)) (omega arith) l in
-        let g = answer_given k cap es run z (call_cell s (length (begun s es))) true (full_is (answer (looks z es) (call_cell s (length (begun s es)))) full) in
+        let full = first_below (λ i. was_full (seen_at (looks z es) (call_cell s i))) (cap - returns_found (plan_with k cap told (looks z es)) s) (returns_found (plan_with k cap told (looks z es)) s) (length (begun s es)) (omega arith) l in
+        let g = seen_given k cap es run z (call_cell s (length (begun s es))) true (full_is (seen_at (looks z es) (call_cell s (length (begun s es)))) full) in
         let m : length (begun s es) < length (begun s (take g.0 es)) = full_call k cap es run z g.0 s (length (begun s es)) g.1 in
         let w : length (begun s (take g.0 es)) ≤ length (begun s es) = picked_whole (call_of s) es g.0 in
         absurd (omega arith)
@@ -81,7 +81,7 @@ module _ {C R : Type 0} (k cap : ℕ) (es : List (Event C R)) (run : IsRun k cap
         let l' : returns_found plan s < length (ended s (take j es)) = l in
         let w : length (ended s (take j es)) ≤ length (ended s es) = picked_whole (return_of s) es j in
         let e : length (ended s es) ≤ length (begun s es) = ended_fewer k cap es run s in let f : length (begun s es) ≤ cap = begun_fits k cap es run s in
-        let g = answer_given k cap es run z (return_cell s (returns_found plan s)) false (return_behind plan s over (told_fits s) (omega arith)) in
+        let g = seen_given k cap es run z (return_cell s (returns_found plan s)) false (return_behind plan s over (told_fits s) (omega arith)) in
         let m : length (ended s (take g.0 es)) ≤ returns_found plan s = empty_return k cap es run z g.0 s (returns_found plan s) g.1 in
         let n : length (ended s (take j es)) ≤ length (ended s (take g.0 es)) = picked_more (return_of s) es j g.0 (later g.0 g.1) in
         absurd (omega arith)
@@ -94,7 +94,7 @@ module _ {C R : Type 0} (k cap : ℕ) (es : List (Event C R)) (run : IsRun k cap
         let l' : calls_found plan s < length (begun s (take j es)) = l in
         let w : length (begun s (take j es)) ≤ length (begun s es) = picked_whole (call_of s) es j in
         let f : length (begun s es) ≤ cap = begun_fits k cap es run s in
-        let g = answer_given k cap es run z (call_cell s (calls_found plan s)) false (call_behind plan s over (returns_fit s) (omega arith)) in
+        let g = seen_given k cap es run z (call_cell s (calls_found plan s)) false (call_behind plan s over (returns_fit s) (omega arith)) in
         let m : length (begun s (take g.0 es)) ≤ calls_found plan s = empty_call k cap es run z g.0 s (calls_found plan s) g.1 in
         let n : length (begun s (take j es)) ≤ length (begun s (take g.0 es)) = picked_more (call_of s) es j g.0 (later g.0 g.1) in
         absurd (omega arith)
@@ -133,7 +133,7 @@ module _ {C R : Type 0} (k cap : ℕ) (es : List (Event C R)) (run : IsRun k cap
     returns_within : (s : ℕ) → length (take (returns_found plan s) (ended s es)) ≤ length (take (calls_found plan s) (begun s es))
     returns_within s =
         let c = calls_many s in let r = returns_many s in
-        let f : returns_found plan s ≤ calls_found plan s = first_from (λ i. was_full (answer (looks z es) (call_cell s i))) (cap - returns_found plan s) (returns_found plan s) in
+        let f : returns_found plan s ≤ calls_found plan s = first_from (λ i. was_full (seen_at (looks z es) (call_cell s i))) (cap - returns_found plan s) (returns_found plan s) in
         omega arith
 
     -- the operations of the history, and those that it holds with a return

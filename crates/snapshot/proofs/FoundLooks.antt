@@ -10,10 +10,10 @@ use Rattle.recorder.specs.Sessions.{LanesState, ReceiptState}
 use Rattle.snapshot.specs.declared.cell.Cell.{Cell}
 use Rattle.snapshot.specs.declared.cell.Cell.TheVariants.{Return, Call}
 use Rattle.snapshot.specs.declared.longest.LongestReceipt.{LongestReceipt}
-use Rattle.snapshot.specs.Plans.{Look, Plan, answer, was_read, was_full, same_op, same_cell, return_cell, call_cell, first_failing, last_failing, first_named, named_at, or_else, next_return, next_call, next_cell, looked_at, after_looks, told_of, Follows}
+use Rattle.snapshot.specs.Plans.{Look, Plan, seen_at, was_read, was_full, same_op, same_cell, return_cell, call_cell, first_failing, last_failing, first_named, named_at, or_else, next_return, next_call, next_cell, looked_at, after_looks, told_of, Follows}
 use Rattle.snapshot.specs.Seals.{AreToldBy}
 use Rattle.snapshot.specs.Steps.Tables.{TableState, IsLongest, RunsTo, TellsLooks, was_found, is_note, has_note}
-use Rattle.snapshot.proofs.Answers.{answer_other, answer_new, same_op_itself, other_index, other_session}
+use Rattle.snapshot.proofs.Seen.{seen_other, seen_new, same_op_itself, other_index, other_session}
 use Rattle.snapshot.proofs.Columns.{first_is}
 use Rattle.snapshot.proofs.Standing.{get_set_same, get_set_other}
 
@@ -54,16 +54,16 @@ last_fails test (suc n) j e = elim (cases_Bool (test n)) [
 ]
 
 module _ (p : Plan) (c : Cell) where
-  unread_fails : (cell : ℕ → Cell) (i : ℕ) (t : Bool) → (if t && not (was_read (answer p.looks (cell i))) then Some (cell i) else None) ≡ Some c → answer p.looks c ≡ None
+  unread_fails : (cell : ℕ → Cell) (i : ℕ) (t : Bool) → (if t && not (was_read (seen_at p.looks (cell i))) then Some (cell i) else None) ≡ Some c → seen_at p.looks c ≡ None
   unread_fails cell i false e = absurd (cc)
-  unread_fails cell i true e = elim (cases_Bool (was_read (answer p.looks (cell i)))) [
+  unread_fails cell i true e = elim (cases_Bool (was_read (seen_at p.looks (cell i)))) [
     | inl t ↦ let bad : None ≡ Some c = sym (ap (λ (b : Bool). if true && not b then Some (cell i) else None) t) ∙ e in absurd (cc)
-    | inr f ↦ let here : Some (cell i) ≡ Some c = sym (ap (λ (b : Bool). if true && not b then Some (cell i) else None) f) ∙ e in let is : cell i ≡ c = cc in subst (λ (x : Cell). answer p.looks x ≡ None) is (read_none (answer p.looks (cell i)) f)
+    | inr f ↦ let here : Some (cell i) ≡ Some c = sym (ap (λ (b : Bool). if true && not b then Some (cell i) else None) f) ∙ e in let is : cell i ≡ c = cc in subst (λ (x : Cell). seen_at p.looks x ≡ None) is (read_none (seen_at p.looks (cell i)) f)
   ]
 
-  named_fails : (s : ℕ) (x : Option ℕ) → ((j : ℕ) → x ≡ Some j → was_read (answer p.looks (return_cell s j)) ≡ false) → named_at (return_cell s) x ≡ Some c → answer p.looks c ≡ None
+  named_fails : (s : ℕ) (x : Option ℕ) → ((j : ℕ) → x ≡ Some j → was_read (seen_at p.looks (return_cell s j)) ≡ false) → named_at (return_cell s) x ≡ Some c → seen_at p.looks c ≡ None
   named_fails s None f e = absurd (cc)
-  named_fails s (Some j) f e = let is : return_cell s j ≡ c = cc in subst (λ (x : Cell). answer p.looks x ≡ None) is (read_none (answer p.looks (return_cell s j)) (f j refl))
+  named_fails s (Some j) f e = let is : return_cell s j ≡ c = cc in subst (λ (x : Cell). seen_at p.looks x ≡ None) is (read_none (seen_at p.looks (return_cell s j)) (f j refl))
 
   either : {X : Type 0} (a b : Option Cell) → (a ≡ Some c → X) → (b ≡ Some c → X) → or_else a b ≡ Some c → X
   either None b f g e = g e
@@ -73,29 +73,29 @@ module _ (p : Plan) (c : Cell) where
   first_named_is f s zero g e = absurd (cc)
   first_named_is f s (suc n) g e = either (f s) (first_named f (s + 1) n) (g s) (first_named_is f (s + 1) n g) e
 
-  next_unread : next_cell p ≡ Some c → answer p.looks c ≡ None
+  next_unread : next_cell p ≡ Some c → seen_at p.looks c ≡ None
   next_unread e = either (first_named (next_return p) 0 p.lanes) (first_named (next_call p) 0 p.lanes)
-      (first_named_is (next_return p) 0 p.lanes (λ s h. either (named_at (return_cell s) (last_failing (λ i. was_read (answer p.looks (return_cell s i))) (told_of p s))) _
-      (named_fails s (last_failing (λ i. was_read (answer p.looks (return_cell s i))) (told_of p s)) (last_fails (λ i. was_read (answer p.looks (return_cell s i))) (told_of p s)))
+      (first_named_is (next_return p) 0 p.lanes (λ s h. either (named_at (return_cell s) (last_failing (λ i. was_read (seen_at p.looks (return_cell s i))) (told_of p s))) _
+      (named_fails s (last_failing (λ i. was_read (seen_at p.looks (return_cell s i))) (told_of p s)) (last_fails (λ i. was_read (seen_at p.looks (return_cell s i))) (told_of p s)))
       (unread_fails (return_cell s) _ _) h))
       (first_named_is (next_call p) 0 p.lanes (λ s h. unread_fails (call_cell s) _ _ h)) e
 
--- looks of which each is at a cell that was not looked at before find what they answer
+-- looks of which each is at a cell that was not looked at before find what was seen
 abbrev Agree : List Look → Type 0
-Agree ls = (d : Cell) → was_found ls d ≡ was_full (answer ls d)
+Agree ls = (d : Cell) → was_found ls d ≡ was_full (seen_at ls d)
 
 same_itself : (c : Cell) → same_cell c c ≡ true
 same_itself (Return o) = same_op_itself o
 same_itself (Call o) = same_op_itself o
 
-agree_here : (ls : List Look) (c : Cell) (b : Bool) → answer ls c ≡ None → Agree ls → was_found (ls ++ (c, b) ∷ []) c ≡ was_full (answer (ls ++ (c, b) ∷ []) c)
-agree_here ls c true none a = found_here ls c c (same_itself c) ∙ sym (ap was_full (answer_new ls c true (same_itself c) none))
-agree_here ls c false none a = found_empty ls c c ∙ (a c ∙ (ap was_full none ∙ sym (ap was_full (answer_new ls c false (same_itself c) none))))
+agree_here : (ls : List Look) (c : Cell) (b : Bool) → seen_at ls c ≡ None → Agree ls → was_found (ls ++ (c, b) ∷ []) c ≡ was_full (seen_at (ls ++ (c, b) ∷ []) c)
+agree_here ls c true none a = found_here ls c c (same_itself c) ∙ sym (ap was_full (seen_new ls c true (same_itself c) none))
+agree_here ls c false none a = found_empty ls c c ∙ (a c ∙ (ap was_full none ∙ sym (ap was_full (seen_new ls c false (same_itself c) none))))
 
-agree_more : (ls : List Look) (c : Cell) (b : Bool) → answer ls c ≡ None → Agree ls → Agree (ls ++ (c, b) ∷ [])
+agree_more : (ls : List Look) (c : Cell) (b : Bool) → seen_at ls c ≡ None → Agree ls → Agree (ls ++ (c, b) ∷ [])
 agree_more ls c b none a d = elim (cases_Bool (same_cell c d)) [
-  | inl t ↦ subst (λ (x : Cell). was_found (ls ++ (c, b) ∷ []) x ≡ was_full (answer (ls ++ (c, b) ∷ []) x)) (same_is c d t) (agree_here ls c b none a)
-  | inr f ↦ found_other ls c d b f ∙ (a d ∙ sym (ap was_full (answer_other ls c d b f)))
+  | inl t ↦ subst (λ (x : Cell). was_found (ls ++ (c, b) ∷ []) x ≡ was_full (seen_at (ls ++ (c, b) ∷ []) x)) (same_is c d t) (agree_here ls c b none a)
+  | inr f ↦ found_other ls c d b f ∙ (a d ∙ sym (ap was_full (seen_other ls c d b f)))
 ]
 
 agree_after : (p : Plan) (ls : List Look) → Follows p ls → Agree p.looks → Agree (after_looks p ls).looks
@@ -107,10 +107,10 @@ pub after_is : (p : Plan) (ls : List Look) → after_looks p ls ≡ record { lan
 after_is p [] = ap (λ (x : List Look). record { lanes = p.lanes; cap = p.cap; told = p.told; looks = x }) (sym (append-nil p.looks))
 after_is p (l ∷ ls) = after_is (looked_at p (Some l.0) l.1) ls ∙ ap (λ (x : List Look). record { lanes = p.lanes; cap = p.cap; told = p.told; looks = x }) (append_assoc p.looks (l ∷ []) ls)
 
-pub found_is_full : (p : Plan) (ls : List Look) → Follows p ls → p.looks ≡ [] → (d : Cell) → was_found ls d ≡ was_full (answer (after_looks p ls).looks d)
+pub found_is_full : (p : Plan) (ls : List Look) → Follows p ls → p.looks ≡ [] → (d : Cell) → was_found ls d ≡ was_full (seen_at (after_looks p ls).looks d)
 found_is_full p ls f none d =
     let all : (after_looks p ls).looks ≡ ls = ap (λ (q : Plan). q.looks) (after_is p ls) ∙ ap (λ (x : List Look). x ++ ls) none in
-    sym (ap (λ (x : List Look). was_found x d) all) ∙ agree_after p ls f (λ e. subst (λ (x : List Look). was_found x e ≡ was_full (answer x e)) (sym none) refl) d
+    sym (ap (λ (x : List Look). was_found x d) all) ∙ agree_after p ls f (λ e. subst (λ (x : List Look). was_found x e ≡ was_full (seen_at x e)) (sym none) refl) d
 
 -- notes of cells, with one more
 module _ {A : Type 0} where

@@ -6,7 +6,7 @@ use Rattle.std.proofs.lemmas.Bool.{cases_lt, cases_eq, lt-ltb}
 use Rattle.history.specs.declared.op_id.OpId.{OpId}
 use Rattle.snapshot.specs.declared.cell.Cell.{Cell}
 use Rattle.snapshot.specs.declared.cell.Cell.TheVariants.{Return, Call}
-use Rattle.snapshot.specs.Plans.{Look, Plan, answer, same_op, same_cell, return_cell, call_cell, was_read, was_full, named_at, or_else, first_named, first_failing, last_failing, told_of, returns_found, calls_found, unread_at, next_return, next_call, next_cell, looked_at, after_looks, Follows}
+use Rattle.snapshot.specs.Plans.{Look, Plan, seen_at, same_op, same_cell, return_cell, call_cell, was_read, was_full, named_at, or_else, first_named, first_failing, last_failing, told_of, returns_found, calls_found, unread_at, next_return, next_call, next_cell, looked_at, after_looks, Follows}
 
 -- the first place that fails a test
 module _ (test : ℕ → Bool) where
@@ -72,23 +72,23 @@ same_cell_is (Return a) (Call b) e = absurd (cc)
 same_cell_is (Call a) (Return b) e = absurd (cc)
 same_cell_is (Call a) (Call b) e = ap Call (same_op_is a b e)
 
--- an answer was told by a look
-pub answer_told : (ls : List Look) (c : Cell) (full : Bool) → answer ls c ≡ Some full → (n : ℕ) × (slice_get ls n ≡ Some (c, full))
-answer_told [] c full e = absurd (cc)
-answer_told (l ∷ ls) c full e = by (same_cell l.0 c) refl (answer_told ls c full) e
+-- what was seen at a cell was told by a look
+pub seen_told : (ls : List Look) (c : Cell) (full : Bool) → seen_at ls c ≡ Some full → (n : ℕ) × (slice_get ls n ≡ Some (c, full))
+seen_told [] c full e = absurd (cc)
+seen_told (l ∷ ls) c full e = by (same_cell l.0 c) refl (seen_told ls c full) e
   where
-    by : (b : Bool) → same_cell l.0 c ≡ b → (answer ls c ≡ Some full → (n : ℕ) × (slice_get ls n ≡ Some (c, full))) → (if b then Some l.1 else answer ls c) ≡ Some full → (n : ℕ) × (slice_get (l ∷ ls) n ≡ Some (c, full))
+    by : (b : Bool) → same_cell l.0 c ≡ b → (seen_at ls c ≡ Some full → (n : ℕ) × (slice_get ls n ≡ Some (c, full))) → (if b then Some l.1 else seen_at ls c) ≡ Some full → (n : ℕ) × (slice_get (l ∷ ls) n ≡ Some (c, full))
     by true s rest d =
         let cell : l.0 ≡ c = same_cell_is l.0 c s in let told : l.1 ≡ full = cc in
         (0, (λ i. Some (cell i, told i)))
     by false s rest d = let r = rest d in (suc r.0, r.1)
 
--- more looks leave the answers that there are
-pub answer_stays : (ls more : List Look) (c : Cell) (full : Bool) → answer ls c ≡ Some full → answer (ls ++ more) c ≡ Some full
-answer_stays [] more c full e = absurd (cc)
-answer_stays (l ∷ ls) more c full e = by (same_cell l.0 c) (answer_stays ls more c full) e
+-- more looks leave what was seen
+pub seen_stays : (ls more : List Look) (c : Cell) (full : Bool) → seen_at ls c ≡ Some full → seen_at (ls ++ more) c ≡ Some full
+seen_stays [] more c full e = absurd (cc)
+seen_stays (l ∷ ls) more c full e = by (same_cell l.0 c) (seen_stays ls more c full) e
   where
-    by : (b : Bool) → (answer ls c ≡ Some full → answer (ls ++ more) c ≡ Some full) → (if b then Some l.1 else answer ls c) ≡ Some full → (if b then Some l.1 else answer (ls ++ more) c) ≡ Some full
+    by : (b : Bool) → (seen_at ls c ≡ Some full → seen_at (ls ++ more) c ≡ Some full) → (if b then Some l.1 else seen_at ls c) ≡ Some full → (if b then Some l.1 else seen_at (ls ++ more) c) ≡ Some full
     by true rest d = d
     by false rest d = rest d
 
@@ -165,7 +165,7 @@ return_named f each (suc n) s c e = elim (or_some (f s) (first_named f (s + 1) n
 
 module _ (p : Plan) where
   next_is_return : (s : ℕ) (c : Cell) → next_return p s ≡ Some c → is_return c ≡ true
-  next_is_return s c e = by (last_failing (λ i. was_read (answer p.looks (return_cell s i))) (told_of p s)) (nat_lt (returns_found p s) p.cap && not (was_read (answer p.looks (return_cell s (returns_found p s))))) e
+  next_is_return s c e = by (last_failing (λ i. was_read (seen_at p.looks (return_cell s i))) (told_of p s)) (nat_lt (returns_found p s) p.cap && not (was_read (seen_at p.looks (return_cell s (returns_found p s))))) e
     where
       by : (o : Option ℕ) (b : Bool) → or_else (named_at (return_cell s) o) (if b then Some (return_cell s (returns_found p s)) else None) ≡ Some c → is_return c ≡ true
       by (Some i) b d = let same : return_cell s i ≡ c = cc in ap is_return (sym same)
@@ -186,36 +186,36 @@ module _ (p : Plan) where
   ]
 
   -- where no cell of a kind is next, the one behind what was found was found empty, or the lane ends there
-  unread_none : (cell : ℕ → Cell) (i : ℕ) → unread_at p cell i ≡ None → i < p.cap → was_read (answer p.looks (cell i)) ≡ true
-  unread_none cell i e l = by (was_read (answer p.looks (cell i))) refl (subst (λ (b : Bool). (if b && not (was_read (answer p.looks (cell i))) then Some (cell i) else None) ≡ None) (lt-ltb i p.cap l) e)
+  unread_none : (cell : ℕ → Cell) (i : ℕ) → unread_at p cell i ≡ None → i < p.cap → was_read (seen_at p.looks (cell i)) ≡ true
+  unread_none cell i e l = by (was_read (seen_at p.looks (cell i))) refl (subst (λ (b : Bool). (if b && not (was_read (seen_at p.looks (cell i))) then Some (cell i) else None) ≡ None) (lt-ltb i p.cap l) e)
     where
-      by : (b : Bool) → was_read (answer p.looks (cell i)) ≡ b → (if true && not b then Some (cell i) else None) ≡ None → was_read (answer p.looks (cell i)) ≡ true
+      by : (b : Bool) → was_read (seen_at p.looks (cell i)) ≡ b → (if true && not b then Some (cell i) else None) ≡ None → was_read (seen_at p.looks (cell i)) ≡ true
       by true h d = h
       by false h d = absurd (cc)
 
-  pub return_behind : (s : ℕ) → next_return p s ≡ None → told_of p s ≤ p.cap → returns_found p s < p.cap → answer p.looks (return_cell s (returns_found p s)) ≡ Some false
+  pub return_behind : (s : ℕ) → next_return p s ≡ None → told_of p s ≤ p.cap → returns_found p s < p.cap → seen_at p.looks (return_cell s (returns_found p s)) ≡ Some false
   return_behind s e t l =
       let t' : told_of p s ≤ p.cap = t in let l' : returns_found p s < p.cap = l in
-      empty_is (answer p.looks (return_cell s (returns_found p s)))
-      (unread_none (return_cell s) (returns_found p s) (or_none (named_at (return_cell s) (last_failing (λ i. was_read (answer p.looks (return_cell s i))) (told_of p s))) (unread_at p (return_cell s) (returns_found p s)) e).1 l)
-      (first_fails (λ i. was_full (answer p.looks (return_cell s i))) (p.cap - told_of p s) (told_of p s) (omega arith))
+      empty_is (seen_at p.looks (return_cell s (returns_found p s)))
+      (unread_none (return_cell s) (returns_found p s) (or_none (named_at (return_cell s) (last_failing (λ i. was_read (seen_at p.looks (return_cell s i))) (told_of p s))) (unread_at p (return_cell s) (returns_found p s)) e).1 l)
+      (first_fails (λ i. was_full (seen_at p.looks (return_cell s i))) (p.cap - told_of p s) (told_of p s) (omega arith))
 
-  pub call_behind : (s : ℕ) → next_call p s ≡ None → returns_found p s ≤ p.cap → calls_found p s < p.cap → answer p.looks (call_cell s (calls_found p s)) ≡ Some false
+  pub call_behind : (s : ℕ) → next_call p s ≡ None → returns_found p s ≤ p.cap → calls_found p s < p.cap → seen_at p.looks (call_cell s (calls_found p s)) ≡ Some false
   call_behind s e t l =
       let t' : returns_found p s ≤ p.cap = t in let l' : calls_found p s < p.cap = l in
-      empty_is (answer p.looks (call_cell s (calls_found p s)))
+      empty_is (seen_at p.looks (call_cell s (calls_found p s)))
       (unread_none (call_cell s) (calls_found p s) e l)
-      (first_fails (λ i. was_full (answer p.looks (call_cell s i))) (p.cap - returns_found p s) (returns_found p s) (omega arith))
+      (first_fails (λ i. was_full (seen_at p.looks (call_cell s i))) (p.cap - returns_found p s) (returns_found p s) (omega arith))
 
   -- once no return cell of a lane is next, more looks find no more returns of it
   pub returns_stay : (more : List Look) (s : ℕ) → next_return p s ≡ None → told_of p s ≤ p.cap
       → returns_found (record { lanes = p.lanes; cap = p.cap; told = p.told; looks = p.looks ++ more }) s ≤ returns_found p s
   returns_stay more s e t = elim (cases_lt (returns_found p s) p.cap) [
-    | inl l ↦ first_up_to (λ i. was_full (answer (p.looks ++ more) (return_cell s i))) (p.cap - told_of p s) (told_of p s) (returns_found p s)
-        (first_from (λ i. was_full (answer p.looks (return_cell s i))) (p.cap - told_of p s) (told_of p s))
-        (ap was_full (answer_stays p.looks more (return_cell s (returns_found p s)) false (return_behind s e t l)))
+    | inl l ↦ first_up_to (λ i. was_full (seen_at (p.looks ++ more) (return_cell s i))) (p.cap - told_of p s) (told_of p s) (returns_found p s)
+        (first_from (λ i. was_full (seen_at p.looks (return_cell s i))) (p.cap - told_of p s) (told_of p s))
+        (ap was_full (seen_stays p.looks more (return_cell s (returns_found p s)) false (return_behind s e t l)))
     | inr l ↦
-        let w = first_within (λ i. was_full (answer (p.looks ++ more) (return_cell s i))) (p.cap - told_of p s) (told_of p s) in
+        let w = first_within (λ i. was_full (seen_at (p.looks ++ more) (return_cell s i))) (p.cap - told_of p s) (told_of p s) in
         let w' : returns_found (record { lanes = p.lanes; cap = p.cap; told = p.told; looks = p.looks ++ more }) s ≤ told_of p s + (p.cap - told_of p s) = w in
         let t' : told_of p s ≤ p.cap = t in let l' : p.cap ≤ returns_found p s = l in
         omega arith

@@ -10,7 +10,7 @@ use Rattle.recorder.specs.Lanes.{Cells, IsLane, Returned}
 use Rattle.recorder.specs.Sessions.{ReceiptState, LanesState}
 use Rattle.recorder.proofs.Telling.{get_map, get_push_cases}
 use Rattle.snapshot.specs.declared.longest.LongestReceipt.{LongestReceipt}
-use Rattle.snapshot.specs.Plans.{Look, Plan, answer, was_full, return_cell, call_cell, first_failing, after_looks, fresh_plan, returns_found, calls_found, Follows}
+use Rattle.snapshot.specs.Plans.{Look, Plan, seen_at, was_full, return_cell, call_cell, first_failing, after_looks, fresh_plan, returns_found, calls_found, Follows}
 use Rattle.snapshot.specs.Seals.{AdvisesAll, AreReceiptsOf, HoldsAll, HoldsFound, IsSealOf}
 use Rattle.snapshot.specs.Steps.Tables.{SealedNotes, TableState, IsSealedSession, IsTable, IsLongest, RunsTo, TellsLooks, advised, names, was_found}
 use Rattle.snapshot.specs.Steps.Sealing.{AreSealedSessions, AreLanesFound, IsLaneFound, IsLaneSealed, IsOfTable, AreLanesSealed, IsShown, IsToldBy}
@@ -128,13 +128,13 @@ module _ {C R : Type 0} (fits : C → R → Bool) where
 
       returns_are : (s : ℕ) (es : List (C × Option R)) (l : SealedNotes C R) → IsLaneFound looks s (get_or told s 0) cap es l → returns_found found_plan s ≡ length l.returns
       returns_are s es l r =
-          let T : ℕ → Bool = λ i. was_full (answer found_plan.looks (return_cell s i)) in
+          let T : ℕ → Bool = λ i. was_full (seen_at found_plan.looks (return_cell s i)) in
           ap (λ (p : Plan). first_failing T (get_or p.told s 0) (p.cap - get_or p.told s 0)) plan_is
           ∙ runs_first T (get_or told s 0) (length l.returns) cap (runs_same (λ i. was_found looks (return_cell s i)) T (get_or told s 0) (length l.returns) cap (λ i. found_is_full (fresh_plan (length lanes.cells) cap told) looks f refl (return_cell s i)) r.returns)
 
       calls_are : (s : ℕ) (es : List (C × Option R)) (l : SealedNotes C R) → IsLaneFound looks s (get_or told s 0) cap es l → calls_found found_plan s ≡ length es
       calls_are s es l r =
-          let T : ℕ → Bool = λ i. was_full (answer found_plan.looks (call_cell s i)) in
+          let T : ℕ → Bool = λ i. was_full (seen_at found_plan.looks (call_cell s i)) in
           ap (λ (n : ℕ). first_failing T n (found_plan.cap - n)) (returns_are s es l r)
           ∙ (ap (λ (p : Plan). first_failing T (length l.returns) (p.cap - length l.returns)) plan_is
           ∙ runs_first T (length l.returns) (length es) cap (runs_same (λ i. was_found looks (call_cell s i)) T (length l.returns) (length es) cap (λ i. found_is_full (fresh_plan (length lanes.cells) cap told) looks f refl (call_cell s i)) r.calls))

@@ -1,5 +1,5 @@
 pub mod Advising
-pub mod Answers
+pub mod Seen
 pub mod Columns
 pub mod FoundLooks
 pub mod ConsistentCuts

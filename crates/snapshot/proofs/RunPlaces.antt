@@ -9,12 +9,12 @@ use Rattle.recorder.specs.Sessions.{session_operation}
 use Rattle.recorder.proofs.Telling.{get_pushed, get_push_cases}
 use Rattle.snapshot.specs.declared.cell.Cell.{Cell}
 use Rattle.snapshot.specs.declared.cell.Cell.TheVariants.{Return, Call}
-use Rattle.snapshot.specs.Plans.{Look, Plan, answer, next_cell, after_looks, Follows}
+use Rattle.snapshot.specs.Plans.{Look, Plan, seen_at, next_cell, after_looks, Follows}
 use Rattle.snapshot.specs.Runs.{Event, call_of, return_of, counts_of, look_of, begun, ended, sealers, looks, IsAt, HasBegun, HasEnded, CanFollow, IsRun}
 use Rattle.snapshot.specs.Runs.Event.{Began, Ended, Started, Looked}
 use Rattle.snapshot.proofs.Meetings.{get_in}
 use Rattle.snapshot.proofs.Filtered.{take-from, take-stands, picked_more, picked_whole, picked_before, picked_at, picked_stands}
-use Rattle.snapshot.proofs.FoundPlaces.{answer_told, follows_at, follows_each}
+use Rattle.snapshot.proofs.FoundPlaces.{seen_told, follows_at, follows_each}
 
 some_if : {A : Type 0} (b : Bool) (x y : A) → (if b then Some x else None) ≡ Some y → (b ≡ true) × (x ≡ y)
 some_if true x y e = (refl, cc)
@@ -134,10 +134,10 @@ module _ {C R : Type 0} (k cap : ℕ) where
       | inr l ↦ l
     ]
 
-    -- an answer was given by a look of the sealer
-    pub answer_given : (z : ℕ) (cell : Cell) (full : Bool) → answer (looks z es) cell ≡ Some full → (i : ℕ) × IsAt es i (Looked z cell full)
-    answer_given z cell full e =
-        let t = answer_told (looks z es) cell full e in let p = picked_at (look_of z) es t.0 (cell, full) t.1 in
+    -- what was seen at a cell was seen by a look of the sealer
+    pub seen_given : (z : ℕ) (cell : Cell) (full : Bool) → seen_at (looks z es) cell ≡ Some full → (i : ℕ) × IsAt es i (Looked z cell full)
+    seen_given z cell full e =
+        let t = seen_told (looks z es) cell full e in let p = picked_at (look_of z) es t.0 (cell, full) t.1 in
         (p.0, p.2 ∙ ap Some (looked z p.1 cell full p.3))
 
     -- a sealer looks after it has started

@@ -8,10 +8,10 @@ use Rattle.history.specs.declared.op_id.OpId.{OpId}
 use Rattle.snapshot.specs.declared.cell.Cell.{Cell}
 use Rattle.snapshot.specs.declared.cell.Cell.TheVariants.{Return, Call}
 use Rattle.snapshot.specs.declared.lane_plan.LanePlan.{LanePlan}
-use Rattle.snapshot.specs.Plans.{Plan, answer, return_cell, call_cell, same_cell, named_at, or_else, first_named, told_of, next_return, next_call, next_cell, looked_at, fresh_plan}
+use Rattle.snapshot.specs.Plans.{Plan, seen_at, return_cell, call_cell, same_cell, named_at, or_else, first_named, told_of, next_return, next_call, next_cell, looked_at, fresh_plan}
 use Rattle.snapshot.specs.Walks.{IsLanePlan, Stands}
 use Rattle.snapshot.specs.Steps.PlanStates.{PlanState, return_place, call_place, return_of, call_of, first_of, state_next, after_return, after_call, fresh_lane, lane_left, left_of, looks_left}
-use Rattle.snapshot.proofs.Answers.{answer_other, answer_new, same_op_itself, other_index, other_session}
+use Rattle.snapshot.proofs.Seen.{seen_other, seen_new, same_op_itself, other_index, other_session}
 use Rattle.snapshot.proofs.LanePlans.{lane_same, lane_returned, lane_called, return_named, call_named, lane_fresh, fewer_returned, fewer_called, call_some, returns_ended, return_unread, call_unread}
 
 -- the first cell that is named, of lanes that name the same
@@ -24,10 +24,10 @@ firsts_same f g s (l ∷ ls) e =
 
 module _ (st : PlanState) (p : Plan) (stands : Stands st p) where
   names_return : (s : ℕ) (l : LanePlan) → slice_get st.lanes s ≡ Some l → return_of p.cap s l ≡ next_return p s
-  names_return s l e = return_named p.cap (told_of p s) (λ i. answer p.looks (return_cell s i)) (λ i. answer p.looks (call_cell s i)) l (stands.lanes s l e) (return_cell s)
+  names_return s l e = return_named p.cap (told_of p s) (λ i. seen_at p.looks (return_cell s i)) (λ i. seen_at p.looks (call_cell s i)) l (stands.lanes s l e) (return_cell s)
 
   names_call : (s : ℕ) (l : LanePlan) → slice_get st.lanes s ≡ Some l → call_of p.cap s l ≡ next_call p s
-  names_call s l e = call_named p.cap (told_of p s) (λ i. answer p.looks (return_cell s i)) (λ i. answer p.looks (call_cell s i)) l (stands.lanes s l e) (call_cell s)
+  names_call s l e = call_named p.cap (told_of p s) (λ i. seen_at p.looks (return_cell s i)) (λ i. seen_at p.looks (call_cell s i)) l (stands.lanes s l e) (call_cell s)
 
   at_zero : (f : ℕ → LanePlan → Option Cell) (g : ℕ → Option Cell) → ((s : ℕ) (l : LanePlan) → slice_get st.lanes s ≡ Some l → f s l ≡ g s) → first_of f 0 st.lanes ≡ first_named g 0 p.lanes
   at_zero f g e = firsts_same f g 0 st.lanes (λ j l h. subst (λ (x : ℕ). f x l ≡ g x) (let x : j ≡ 0 + j = omega arith in x) (e j l h)) ∙ ap (first_named g 0) stands.many
@@ -130,11 +130,11 @@ module _ {A : Type 0} where
 -- a lane that a look does not concern is as it was
 module _ (p : Plan) (c : Cell) (full : Bool) (s : ℕ) (l : LanePlan) where
   pub lane_stays : ((i : ℕ) → same_cell c (return_cell s i) ≡ false) → ((i : ℕ) → same_cell c (call_cell s i) ≡ false)
-      → IsLanePlan p.cap (told_of p s) (λ i. answer p.looks (return_cell s i)) (λ i. answer p.looks (call_cell s i)) l
-      → IsLanePlan p.cap (told_of p s) (λ i. answer (p.looks ++ (c, full) ∷ []) (return_cell s i)) (λ i. answer (p.looks ++ (c, full) ∷ []) (call_cell s i)) l
+      → IsLanePlan p.cap (told_of p s) (λ i. seen_at p.looks (return_cell s i)) (λ i. seen_at p.looks (call_cell s i)) l
+      → IsLanePlan p.cap (told_of p s) (λ i. seen_at (p.looks ++ (c, full) ∷ []) (return_cell s i)) (λ i. seen_at (p.looks ++ (c, full) ∷ []) (call_cell s i)) l
   lane_stays e f lane =
-      lane_same p.cap (told_of p s) (λ i. answer p.looks (return_cell s i)) (λ i. answer (p.looks ++ (c, full) ∷ []) (return_cell s i)) (λ i. answer p.looks (call_cell s i)) (λ i. answer (p.looks ++ (c, full) ∷ []) (call_cell s i)) l lane
-      (λ i. answer_other p.looks c (return_cell s i) full (e i)) (λ i. answer_other p.looks c (call_cell s i) full (f i))
+      lane_same p.cap (told_of p s) (λ i. seen_at p.looks (return_cell s i)) (λ i. seen_at (p.looks ++ (c, full) ∷ []) (return_cell s i)) (λ i. seen_at p.looks (call_cell s i)) (λ i. seen_at (p.looks ++ (c, full) ∷ []) (call_cell s i)) l lane
+      (λ i. seen_other p.looks c (return_cell s i) full (e i)) (λ i. seen_other p.looks c (call_cell s i) full (f i))
 
 module _ (st st' : PlanState) (o : OpId) (full : Bool) (l : LanePlan) (at : slice_get st.lanes o.session ≡ Some l) (cap : st'.cap ≡ st.cap) where
   is_lane : (m n : LanePlan) → slice_get st.lanes o.session ≡ Some m → m ≡ l
@@ -142,7 +142,7 @@ module _ (st st' : PlanState) (o : OpId) (full : Bool) (l : LanePlan) (at : slic
 
   module _ (c : Cell) (new : LanePlan) (lanes : st'.lanes ≡ set st.lanes o.session new) (p : Plan) (stands : Stands st p) where
     stands_with : ((s i : ℕ) → s ≢ o.session → (same_cell c (return_cell s i) ≡ false) × (same_cell c (call_cell s i) ≡ false))
-        → IsLanePlan p.cap (told_of p o.session) (λ i. answer (p.looks ++ (c, full) ∷ []) (return_cell o.session i)) (λ i. answer (p.looks ++ (c, full) ∷ []) (call_cell o.session i)) new
+        → IsLanePlan p.cap (told_of p o.session) (λ i. seen_at (p.looks ++ (c, full) ∷ []) (return_cell o.session i)) (λ i. seen_at (p.looks ++ (c, full) ∷ []) (call_cell o.session i)) new
         → Stands st' (looked_at p (Some c) full)
     stands_with apart here = record {
       many = ap length lanes ∙ (length-set st.lanes o.session new ∙ stands.many);
@@ -150,14 +150,14 @@ module _ (st st' : PlanState) (o : OpId) (full : Bool) (l : LanePlan) (at : slic
       lanes = λ s m e. elim (cases_eq s o.session) [
         | inl h ↦ let same : Some new ≡ Some m = sym (get_set_same st.lanes o.session new l at) ∙ (subst (λ (x : ℕ). slice_get (set st.lanes o.session new) x ≡ Some m) h (subst (λ (ls : List LanePlan). slice_get ls s ≡ Some m) lanes e)) in
             let is : new ≡ m = cc in
-            subst (λ (x : ℕ). IsLanePlan p.cap (told_of p x) (λ i. answer (p.looks ++ (c, full) ∷ []) (return_cell x i)) (λ i. answer (p.looks ++ (c, full) ∷ []) (call_cell x i)) m) (sym h)
-            (subst (λ (x : LanePlan). IsLanePlan p.cap (told_of p o.session) (λ i. answer (p.looks ++ (c, full) ∷ []) (return_cell o.session i)) (λ i. answer (p.looks ++ (c, full) ∷ []) (call_cell o.session i)) x) is here)
+            subst (λ (x : ℕ). IsLanePlan p.cap (told_of p x) (λ i. seen_at (p.looks ++ (c, full) ∷ []) (return_cell x i)) (λ i. seen_at (p.looks ++ (c, full) ∷ []) (call_cell x i)) m) (sym h)
+            (subst (λ (x : LanePlan). IsLanePlan p.cap (told_of p o.session) (λ i. seen_at (p.looks ++ (c, full) ∷ []) (return_cell o.session i)) (λ i. seen_at (p.looks ++ (c, full) ∷ []) (call_cell o.session i)) x) is here)
         | inr h ↦ lane_stays p c full s m (λ i. (apart s i h).0) (λ i. (apart s i h).1) (stands.lanes s m (sym (get_set_other st.lanes o.session s new h) ∙ subst (λ (ls : List LanePlan). slice_get ls s ≡ Some m) lanes e))
       ];
     }
 
   module _ (p : Plan) (stands : Stands st p) where
-    lane_at : IsLanePlan p.cap (told_of p o.session) (λ i. answer p.looks (return_cell o.session i)) (λ i. answer p.looks (call_cell o.session i)) l
+    lane_at : IsLanePlan p.cap (told_of p o.session) (λ i. seen_at p.looks (return_cell o.session i)) (λ i. seen_at p.looks (call_cell o.session i)) l
     lane_at = stands.lanes o.session l at
 
     other_op : (s i : ℕ) → s ≢ o.session → (o.session == s) && (o.index == i) ≡ false
@@ -169,10 +169,10 @@ module _ (st st' : PlanState) (o : OpId) (full : Bool) (l : LanePlan) (at : slic
     -- the state after a look at a return cell
     returned : return_place st.cap l ≡ Some o.index → st'.lanes ≡ set st.lanes o.session (after_return full l) → Stands st' (looked_at p (Some (Return o)) full)
     returned e lanes = stands_with (Return o) (after_return full l) lanes p stands (λ s i h. (other_op s i h, refl))
-        (lane_returned p.cap (told_of p o.session) (λ i. answer p.looks (return_cell o.session i)) (λ i. answer (p.looks ++ (Return o, full) ∷ []) (return_cell o.session i)) (λ i. answer p.looks (call_cell o.session i)) (λ i. answer (p.looks ++ (Return o, full) ∷ []) (call_cell o.session i)) l lane_at full o.index
-        (λ j h. answer_other p.looks (Return o) (return_cell o.session j) full (other_index o.session o.index j (λ g. h (sym g))))
-        (λ j. answer_other p.looks (Return o) (call_cell o.session j) full refl)
-        (answer_new p.looks (Return o) full (same_op_itself o) (return_unread p.cap (told_of p o.session) (λ i. answer p.looks (return_cell o.session i)) (λ i. answer p.looks (call_cell o.session i)) l lane_at o.index (place_of return_place e)))
+        (lane_returned p.cap (told_of p o.session) (λ i. seen_at p.looks (return_cell o.session i)) (λ i. seen_at (p.looks ++ (Return o, full) ∷ []) (return_cell o.session i)) (λ i. seen_at p.looks (call_cell o.session i)) (λ i. seen_at (p.looks ++ (Return o, full) ∷ []) (call_cell o.session i)) l lane_at full o.index
+        (λ j h. seen_other p.looks (Return o) (return_cell o.session j) full (other_index o.session o.index j (λ g. h (sym g))))
+        (λ j. seen_other p.looks (Return o) (call_cell o.session j) full refl)
+        (seen_new p.looks (Return o) full (same_op_itself o) (return_unread p.cap (told_of p o.session) (λ i. seen_at p.looks (return_cell o.session i)) (λ i. seen_at p.looks (call_cell o.session i)) l lane_at o.index (place_of return_place e)))
         (place_of return_place e))
 
     -- and after a look at a call cell
@@ -180,10 +180,10 @@ module _ (st st' : PlanState) (o : OpId) (full : Bool) (l : LanePlan) (at : slic
     called e none lanes =
         let at' = call_some p.cap o.index l (place_of call_place e) in
         stands_with (Call o) (after_call full l) lanes p stands (λ s i h. (refl, other_op s i h))
-        (lane_called p.cap (told_of p o.session) (λ i. answer p.looks (return_cell o.session i)) (λ i. answer (p.looks ++ (Call o, full) ∷ []) (return_cell o.session i)) (λ i. answer p.looks (call_cell o.session i)) (λ i. answer (p.looks ++ (Call o, full) ∷ []) (call_cell o.session i)) l lane_at full o.index
-        (λ j. answer_other p.looks (Call o) (return_cell o.session j) full refl)
-        (λ j h. answer_other p.looks (Call o) (call_cell o.session j) full (other_index o.session o.index j (λ g. h (sym g))))
-        (answer_new p.looks (Call o) full (same_op_itself o) (call_unread p.cap (told_of p o.session) (λ i. answer p.looks (return_cell o.session i)) (λ i. answer p.looks (call_cell o.session i)) l lane_at o.index (place_of call_place e)))
+        (lane_called p.cap (told_of p o.session) (λ i. seen_at p.looks (return_cell o.session i)) (λ i. seen_at (p.looks ++ (Call o, full) ∷ []) (return_cell o.session i)) (λ i. seen_at p.looks (call_cell o.session i)) (λ i. seen_at (p.looks ++ (Call o, full) ∷ []) (call_cell o.session i)) l lane_at full o.index
+        (λ j. seen_other p.looks (Call o) (return_cell o.session j) full refl)
+        (λ j h. seen_other p.looks (Call o) (call_cell o.session j) full (other_index o.session o.index j (λ g. h (sym g))))
+        (seen_new p.looks (Call o) full (same_op_itself o) (call_unread p.cap (told_of p o.session) (λ i. seen_at p.looks (return_cell o.session i)) (λ i. seen_at p.looks (call_cell o.session i)) l lane_at o.index (place_of call_place e)))
         (returns_ended p.cap l.unread l.returns l.returns_over at'.0 (subst (λ (x : ℕ). return_place x l ≡ None) stands.cap none)) at'.3 at'.1 at'.2)
 
   -- what gives

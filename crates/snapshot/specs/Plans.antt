@@ -24,10 +24,10 @@ same_cell (Call a) (Call b) = same_op a b
 abbrev pub Look : Type 0
 Look = Cell × Bool
 
--- what the look at a cell told, and none where the cell was not looked at
-abbrev pub answer : List Look → Cell → Option Bool
-answer [] c = None
-answer (l ∷ ls) c = if same_cell l.0 c then Some l.1 else answer ls c
+-- whether a cell was seen full by the first look at it, and none where it was not looked at
+abbrev pub seen_at : List Look → Cell → Option Bool
+seen_at [] c = None
+seen_at (l ∷ ls) c = if same_cell l.0 c then Some l.1 else seen_at ls c
 
 abbrev pub was_read : Option Bool → Bool
 was_read None = false
@@ -75,21 +75,21 @@ module _ (p : Plan) where
   -- how many returns of a lane were found: those that were told of, which count as full, and behind them those up to the
   -- first that was not found full. The end of the lane counts as empty
   abbrev pub returns_found : ℕ → ℕ
-  returns_found s = first_failing (λ i. was_full (answer p.looks (return_cell s i))) (told_of s) (p.cap - told_of s)
+  returns_found s = first_failing (λ i. was_full (seen_at p.looks (return_cell s i))) (told_of s) (p.cap - told_of s)
 
   -- how many calls of a lane were found: those whose returns were found, and behind them those up to the first that was not
   -- found full
   abbrev pub calls_found : ℕ → ℕ
-  calls_found s = first_failing (λ i. was_full (answer p.looks (call_cell s i))) (returns_found s) (p.cap - returns_found s)
+  calls_found s = first_failing (λ i. was_full (seen_at p.looks (call_cell s i))) (returns_found s) (p.cap - returns_found s)
 
   -- the cell at this place, where the lane has it and it was not looked at
   abbrev pub unread_at : (ℕ → Cell) → ℕ → Option Cell
-  unread_at cell i = if nat_lt i p.cap && not (was_read (answer p.looks (cell i))) then Some (cell i) else None
+  unread_at cell i = if nat_lt i p.cap && not (was_read (seen_at p.looks (cell i))) then Some (cell i) else None
 
   -- the next return cell of a lane: of those that were told of the last that was not looked at, else the first that was not
   -- found full
   abbrev pub next_return : ℕ → Option Cell
-  next_return s = or_else (named_at (return_cell s) (last_failing (λ i. was_read (answer p.looks (return_cell s i))) (told_of s))) (unread_at (return_cell s) (returns_found s))
+  next_return s = or_else (named_at (return_cell s) (last_failing (λ i. was_read (seen_at p.looks (return_cell s i))) (told_of s))) (unread_at (return_cell s) (returns_found s))
 
   -- the next call cell of a lane: the first that was not found full, from the first on whose return was not found
   abbrev pub next_call : ℕ → Option Cell

@@ -1,10 +1,10 @@
 -- What stands for a plan, and what a walk does. (This project's profile.)
 use Rattle.std.specs.Prelude.{◌≡◌, ℕ, ◌+◌, ◌<◌, ◌≤◌, Bool, true, false, List, ◌++◌, length, Option, Some, None, slice_get}
 use Rattle.snapshot.specs.declared.lane_plan.LanePlan.{LanePlan}
-use Rattle.snapshot.specs.Plans.{Look, Plan, answer, was_read, return_cell, call_cell, told_of, after_looks, Follows, IsFinished}
+use Rattle.snapshot.specs.Plans.{Look, Plan, seen_at, was_read, return_cell, call_cell, told_of, after_looks, Follows, IsFinished}
 use Rattle.snapshot.specs.Steps.PlanStates.{PlanState}
 
--- of these answers, one for each place, those from a place on: full up to `found`, and behind it either none, or empty at once
+-- of what was seen, one for each place, those from a place on: full up to `found`, and behind it either none, or empty at once
 pub record IsColumn (answers : ℕ → Option Bool) (from found : ℕ) (over : Bool) : Type 0 where
   pub from_on : from ≤ found
   pub full : (i : ℕ) → from ≤ i → i < found → answers i ≡ Some true
@@ -12,7 +12,7 @@ pub record IsColumn (answers : ℕ → Option Bool) (from found : ℕ) (over : B
   pub ended : over ≡ true → answers found ≡ Some false
   pub behind : (i : ℕ) → found < i → answers i ≡ None
 
--- what a lane keeps of the answers of its return cells and of its call cells
+-- what a lane keeps of what was seen of its return cells and of its call cells
 pub record IsLanePlan (cap told : ℕ) (returns calls : ℕ → Option Bool) (l : LanePlan) : Type 0 where
   pub told_of : told ≤ cap
   pub left : l.unread ≤ told
@@ -27,9 +27,9 @@ pub record IsLanePlan (cap told : ℕ) (returns calls : ℕ → Option Bool) (l 
 pub record Stands (st : PlanState) (p : Plan) : Type 0 where
   pub many : length st.lanes ≡ p.lanes
   pub cap : st.cap ≡ p.cap
-  pub lanes : (s : ℕ) (l : LanePlan) → slice_get st.lanes s ≡ Some l → IsLanePlan p.cap (told_of p s) (λ i. answer p.looks (return_cell s i)) (λ i. answer p.looks (call_cell s i)) l
+  pub lanes : (s : ℕ) (l : LanePlan) → slice_get st.lanes s ≡ Some l → IsLanePlan p.cap (told_of p s) (λ i. seen_at p.looks (return_cell s i)) (λ i. seen_at p.looks (call_cell s i)) l
 
--- the list of looks grew by looks at the cells that the plan names from their answers, in this order, and the plan took
+-- the list of looks grew by looks at the cells that the plan names from what they saw, in this order, and the plan took
 -- them in
 abbrev pub Walks : PlanState → List Look → PlanState → List Look → Type 0
 Walks st looks st' looks' = (ls : List Look) × (looks' ≡ looks ++ ls) × ((p : Plan) → Stands st p → Follows p ls × Stands st' (after_looks p ls))

@@ -4,7 +4,7 @@ ghost use Rattle.snapshot.specs.Plans.{Look};
 use crate::cell::Cell;
 use std::alloc::AllocError;
 
-/// What looks at cells, and keeps the list of its looks with their answers.
+/// What looks at cells, and keeps the list of its looks with what each saw.
 pub trait Looker {
     /// The looks so far, oldest first.
     ghost looks: { Self → List Look };

@@ -1,11 +1,26 @@
--- What is known of a history is known of that history.
+use Rattle.std.proofs.Common.{subst, ⊎_elim}
+use Rattle.history.specs.declared.op_id.OpId.{OpId}
+use Rattle.memory_order.specs.Memory.{MemoryHistory, memory_answer}
+use Rattle.memory_order.specs.SourceOrder.{LacksSource, SourceOrder}
+use Rattle.memory_order.specs.OverwrittenReads.{HasOverwrittenRead, HasOverwrittenStart}
+use Rattle.memory_order.proofs.FirstWrites.{CO-from_sources}
+use Rattle.cert_check.specs.Certificates.{IsExplainedThroughout}
 use Rattle.certify_cc.proofs.by_sources.make_by_sources.Goals as goal
 
-pub returns-clause-none : goal.returns-clause-none
-returns-clause-none c = rw c.in_ok-memory.ensures at c.make_by_sources_of.ensures.none
+pub returns-in_default-clause-none : goal.returns-in_default-clause-none
+returns-in_default-clause-none c = rw c.in_default.is at c.order.ensures.order
 
-pub returns-clause-made : goal.returns-clause-made
-returns-clause-made c = rw c.in_ok-memory.ensures at c.make_by_sources_of.ensures.made
+pub returns-in_default-clause-made : goal.returns-in_default-clause-made
+returns-in_default-clause-made c = λ acyclic present.
+    let unordered = rw c.in_default.is at c.order.ensures.order in
+    absurd (⊎_elim
+    (λ (cycle : (a : OpId) × SourceOrder c.args.memory.now a a). acyclic (cycle.0, CO-from_sources c.args.memory.now cycle.0 cycle.0 cycle.1))
+    (λ (lacks : LacksSource c.args.memory.now). present lacks)
+    unordered)
 
 pub returns-clause-explained : goal.returns-clause-explained
-returns-clause-explained c = rw c.in_ok-memory.ensures at c.make_by_sources_of.ensures.explained
+returns-clause-explained c =
+    let same = rw c.in-Some.is at c.order.ensures.order in
+    subst
+    (λ (m : MemoryHistory). ¬ HasOverwrittenStart m → ¬ HasOverwrittenRead m → IsExplainedThroughout memory_answer m c.in_ok-make_by_order.field-0)
+    same c.in_ok-make_by_order.ensures.explained

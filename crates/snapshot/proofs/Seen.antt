@@ -1,10 +1,10 @@
--- What a list of looks answers, with one more look.
+-- What a list of looks saw, with one more look.
 use Rattle.std.proofs.Common.{◌≡◌, ◌≢◌, ℕ, ◌==◌, List, [], ◌∷◌, ◌++◌, refl, ap, eq-eqb}
 use Rattle.std.specs.Prelude.{Bool, true, false, ◌&&◌, Option, Some, None, if◌then◌else◌}
 use Rattle.std.proofs.lemmas.Bool.{ne_eqb}
 use Rattle.history.specs.declared.op_id.OpId.{OpId}
 use Rattle.snapshot.specs.declared.cell.Cell.{Cell}
-use Rattle.snapshot.specs.Plans.{Look, answer, same_op, same_cell}
+use Rattle.snapshot.specs.Plans.{Look, seen_at, same_op, same_cell}
 
 abbrev pick : Bool → Option Bool → Option Bool → Option Bool
 pick t x y = if t then x else y
@@ -17,19 +17,19 @@ pick_same : (t : Bool) (x y : Option Bool) → t ≡ true → pick t x y ≡ x
 pick_same true x y e = refl
 pick_same false x y e = absurd (cc)
 
--- a look at another cell changes no answer
-pub answer_other : (ls : List Look) (c d : Cell) (b : Bool) → same_cell c d ≡ false → answer (ls ++ (c, b) ∷ []) d ≡ answer ls d
-answer_other [] c d b e = pick_other (same_cell c d) (Some b) None e
-answer_other (l ∷ ls) c d b e = ap (λ (z : Option Bool). pick (same_cell l.0 d) (Some l.1) z) (answer_other ls c d b e)
+-- a look at another cell changes nothing that was seen
+pub seen_other : (ls : List Look) (c d : Cell) (b : Bool) → same_cell c d ≡ false → seen_at (ls ++ (c, b) ∷ []) d ≡ seen_at ls d
+seen_other [] c d b e = pick_other (same_cell c d) (Some b) None e
+seen_other (l ∷ ls) c d b e = ap (λ (z : Option Bool). pick (same_cell l.0 d) (Some l.1) z) (seen_other ls c d b e)
 
 new_step : (t x b : Bool) (y z : Option Bool) → pick t (Some x) y ≡ None → (y ≡ None → z ≡ Some b) → pick t (Some x) z ≡ Some b
 new_step true x b y z e f = absurd (cc)
 new_step false x b y z e f = f e
 
--- the first look at a cell is its answer
-pub answer_new : (ls : List Look) (c : Cell) (b : Bool) → same_cell c c ≡ true → answer ls c ≡ None → answer (ls ++ (c, b) ∷ []) c ≡ Some b
-answer_new [] c b s e = pick_same (same_cell c c) (Some b) None s
-answer_new (l ∷ ls) c b s e = new_step (same_cell l.0 c) l.1 b (answer ls c) (answer (ls ++ (c, b) ∷ []) c) e (answer_new ls c b s)
+-- the first look at a cell tells what was seen there
+pub seen_new : (ls : List Look) (c : Cell) (b : Bool) → same_cell c c ≡ true → seen_at ls c ≡ None → seen_at (ls ++ (c, b) ∷ []) c ≡ Some b
+seen_new [] c b s e = pick_same (same_cell c c) (Some b) None s
+seen_new (l ∷ ls) c b s e = new_step (same_cell l.0 c) l.1 b (seen_at ls c) (seen_at (ls ++ (c, b) ∷ []) c) e (seen_new ls c b s)
 
 and_false : (a b : Bool) → b ≡ false → (a && b) ≡ false
 and_false true b e = e
