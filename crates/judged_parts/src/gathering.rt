@@ -2,13 +2,13 @@
 
 use bad_patterns::{Derivation, Line, Link, Links, Path, Pattern};
 use history::{History, OpId};
-use memory_order::{found_source, sorted_writes};
+use memory_order::IndexedMemory;
 use objects::Memory;
 use std::alloc::{AllocError, Global};
 
 /// The operations of a pattern and the sources of its reads, in order, each once.
 ///
-/// Fails for want of memory alone. O((n + m) log n) for a history of n operations and a pattern of m, as often as it names them.
+/// Fails for want of memory alone. O(n (log n + k) + m log m) for n operations of k sessions and a pattern of m, as often as it names them.
 pub(crate) fn ops_with_sources(
     alloc: Global,
     history: &History<Memory>,
@@ -45,10 +45,10 @@ fn sources_of(
     history: &History<Memory>,
     ops: &[OpId],
 ) -> Result<Vec<OpId>, AllocError> {
-    let writes = sorted_writes(alloc, history)?;
+    let memory = IndexedMemory::of(alloc, history)?;
     let mut sources = Vec::new(alloc);
     for op in ops {
-        if let Some(source) = found_source(history, &writes, *op) {
+        if let Some(source) = memory.source(*op) {
             sources.push(source)?;
         }
     }
