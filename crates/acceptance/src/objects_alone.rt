@@ -54,6 +54,10 @@ fn register_has_any_start(rt: HostRuntime) -> Result<(), Fail> {
     let replayed = answers_from_seven(rt.alloc(), &before, &[RegisterCall::Read])?;
     assert_eq!(rt; replayed.as_str(), "Value(5);");
     assert_eq!(rt; Register::copy_start(rt.alloc(), &7)?, 7);
+    assert_eq!(rt;
+        Register::start_for(rt.alloc(), &7, &RegisterCall::Read)?,
+        7
+    );
     assert_eq!(rt; Register::plain(rt.alloc())?, 0);
     Ok(())
 }
@@ -111,6 +115,25 @@ fn text_of_copy(alloc: Global) -> Result<String, AllocError> {
 #[test]
 fn copied_start_is_equal(rt: HostRuntime) -> Result<(), Fail> {
     assert_eq!(rt; text_of_copy(rt.alloc())?.as_str(), "true false 2");
+    Ok(())
+}
+
+/// What stands in the starts from which reads of 9 and of 3 are answered.
+fn text_of_starts_for_reads(alloc: Global) -> Result<String, AllocError> {
+    let start = two_initial_values(alloc)?;
+    let ninth = Memory::start_for(alloc, &start, &KeyedCall { key: 9, ..READ })?;
+    let third = Memory::start_for(alloc, &start, &KeyedCall { key: 3, ..READ })?;
+    let ninth = ninth.entries();
+    let third = third.entries();
+    format!(in alloc; "{ninth:?} {third:?}")
+}
+
+#[test]
+fn start_for_a_call_holds_its_key_alone(rt: HostRuntime) -> Result<(), Fail> {
+    assert_eq!(rt;
+        text_of_starts_for_reads(rt.alloc())?.as_str(),
+        "[(9, 7)] []"
+    );
     Ok(())
 }
 

@@ -17,7 +17,7 @@ returns-clause-exact g c =
     let before = c.in-Some.before.items in
     let found = MatchOption-at_some _ _ c.in-Some.before c.in-Some.is c.in_ok-before.ensures.found in
     let same = found ∙ dropped answer g.O.SeqObject.depends g.met.O.SeqObject.others_change_nothing h.0 asked (calls h ops) in
-    let answered = c.in_ok-yes.ensures.answer before (rw (← c.start.ensures.start, ← c.deref.ensures.value) c.in_ok-object.ensures) in (
+    let answered = rw (c.deref.ensures.value) at c.in_ok-yes.ensures in (
       (λ t. answered_alike answer h o asked c.call-asked.ensures (calls h ops) before (sym same) (answered.0 t)),
       λ known. answered.1 (answered_alike answer h o asked c.call-asked.ensures before (calls h ops) same known),
     )
