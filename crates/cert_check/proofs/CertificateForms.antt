@@ -1,7 +1,6 @@
 -- A value is the form of one certificate, and of none where one of its parts is the form of nothing.
 use Rattle.std.proofs.Common.{◌≡◌, ℕ, ◌^◌, ◌<◌, List, [], ◌∷◌, All, length, map, refl, ap, sym, ◌∙◌, arith}
-use Rattle.std.specs.Prelude.{◌≢◌, Option, Some, nat_eq, codes, if◌then◌else◌}
-use Rattle.std.specs.Cmp.Lexicographic.{pointwise}
+use Rattle.std.specs.Prelude.{◌≢◌}
 use Rattle.std.proofs.lemmas.List.{length-map}
 use Rattle.std.proofs.lemmas.Option.{same_Some}
 use Rattle.serde_json.specs.Data.{Data}
@@ -17,6 +16,7 @@ use Rattle.cert_check.specs.declared.certificate.Certificate.TheVariants.{Cc, Cm
 use Rattle.cert_check.specs.CriterionNames.{name_of}
 use Rattle.cert_check.specs.Certificates.{criterion_of, vectors_of}
 use Rattle.cert_check.specs.CertificateForm.{lists_form, form_of, AreBelow, IsCertificate}
+use Rattle.cert_check.proofs.CriterionNames.{one_name}
 
 -- ---- one list has one form
 
@@ -59,19 +59,6 @@ has_counts : (c : Certificate) → IsCertificate c → AreBelow (2 ^ 16) (vector
 has_counts (Cc vectors schedules) good = good.0
 has_counts (Cm vectors schedules) good = good.0
 has_counts (Ccv vectors arbitration) good = good.0
-
--- a criterion by its name
-abbrev criterion_at : List ℕ → Option Criterion
-criterion_at word =
-    if pointwise nat_eq word (codes "cc") then Some criteria.Cc else (if pointwise nat_eq word (codes "cm") then Some criteria.Cm else Some criteria.Ccv)
-
-at_name : (a : Criterion) → criterion_at (name_of a) ≡ Some a
-at_name criteria.Cc = refl
-at_name criteria.Cm = refl
-at_name criteria.Ccv = refl
-
-one_name : (a b : Criterion) → name_of a ≡ name_of b → a ≡ b
-one_name a b same = same_Some a b (sym (at_name a) ∙ ap criterion_at same ∙ at_name b)
 
 module _ (word : List ℕ) (ds : List Data) (c : Certificate) (same : worded word ds ≡ form_of c) where
   parts_are : (word ≡ name_of (criterion_of c)) × (ds ≡ lists_form (vectors_of c) ∷ explained_form c ∷ [])

@@ -17,6 +17,7 @@ pub mod SchedulePieces
 pub mod CutSteps
 pub mod ListReading
 pub mod CertificateForms
+pub mod CriterionNames
 pub mod ConvergentLaws
 pub mod FilteredLaws
 pub mod CutCertificates

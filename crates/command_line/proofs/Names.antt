@@ -8,28 +8,15 @@ use Rattle.std.proofs.lemmas.List.Splits.{slice_split_first, slice_split_none}
 use Rattle.std.proofs.lemmas.Option.{same_Some}
 use Rattle.clap.specs.Words.{Text}
 use Rattle.cert_check.specs.declared.criterion.Criterion.{Criterion}
-use Rattle.cert_check.specs.declared.criterion.Criterion.TheVariants.{Cc, Cm, Ccv}
 use Rattle.cert_check.specs.CriterionNames.{name_of}
+use Rattle.cert_check.proofs.CriterionNames.{named_again, named_of, one_name}
 use Rattle.command_line.specs.declared.expected.Expected.{Expected}
 use Rattle.command_line.specs.Expected.{AddEach, AddsName, Lists, and_expected, expecting_nothing, expects, parts, with_expected}
-
--- the criterion of a name
-abbrev named_of : Text → Criterion
-named_of (a ∷ b ∷ []) = if b == 99 then Cc else Cm
-named_of _ = Ccv
-
-named_again : (c : Criterion) → named_of (name_of c) ≡ c
-named_again Cc = refl
-named_again Cm = refl
-named_again Ccv = refl
-
-named_once : (a b : Criterion) → name_of a ≡ name_of b → a ≡ b
-named_once a b same = sym (named_again a) ∙ ap named_of same ∙ named_again b
 
 pub name_added : (before : Expected) (c : Criterion) (name : Text) (r : Option Expected) → name ≡ name_of c → r ≡ and_expected before c
     → MatchOption r ((after : Expected) → ¬ AddsName before name after) (AddsName before name)
 name_added before c name None is makes = λ after adds.
-    let bad : None ≡ Some after = makes ∙ ap (and_expected before) (named_once c adds.0 (sym is ∙ adds.1)) ∙ adds.2 in absurd (cc)
+    let bad : None ≡ Some after = makes ∙ ap (and_expected before) (one_name c adds.0 (sym is ∙ adds.1)) ∙ adds.2 in absurd (cc)
 name_added before c name (Some after) is makes = (c, is, sym makes)
 
 pub no_name_added : (before : Expected) (name : Text) → ((c : Criterion) → name ≢ name_of c) → (after : Expected) → ¬ AddsName before name after

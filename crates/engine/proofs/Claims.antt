@@ -13,7 +13,8 @@ use Rattle.cert_check.specs.declared.criterion.Criterion.{Criterion}
 use Rattle.cert_check.specs.CriterionNames.{name_of}
 use Rattle.bad_patterns.specs.declared.pattern.Pattern.{Pattern}
 use Rattle.bad_patterns.specs.PatternForm.{form_of as pattern_form}
-use Rattle.engine.proofs.PatternForms.{one_name, one_pattern}
+use Rattle.cert_check.proofs.CriterionNames.{one_name}
+use Rattle.engine.proofs.PatternForms.{one_pattern}
 use Rattle.engine.specs.Failure.{failure_of}
 use Rattle.engine.specs.Refuting.{claim_form, claim_refusal, first_of_claim, HasNoSuchPattern, IsClaimErrorOf, IsPatternOf}
 

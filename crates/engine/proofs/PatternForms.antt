@@ -1,4 +1,4 @@
--- A value is the form of one pattern, and a text the name of one criterion.
+-- A value is the form of one pattern.
 use Rattle.std.proofs.Common.{◌≡◌, ℕ, Bool, true, false, List, [], ◌∷◌, map, Option, Some, refl, ap, sym, ◌∙◌}
 use Rattle.std.specs.Prelude.{codes, nat_eq, if◌then◌else◌}
 use Rattle.std.specs.Cmp.Lexicographic.{pointwise}
@@ -9,9 +9,6 @@ use Rattle.operations.specs.Json.{elements, whole_number}
 use Rattle.operations.specs.Laws.Json.{elements-list}
 use Rattle.operations.specs.Reads.{list_form, number_form, worded}
 use Rattle.operations.proofs.ReadForms.{one_word}
-use Rattle.cert_check.specs.declared.criterion.Criterion.{Criterion}
-use Rattle.cert_check.specs.declared.criterion.Criterion.TheVariants as criteria
-use Rattle.cert_check.specs.CriterionNames.{name_of}
 use Rattle.bad_patterns.specs.declared.derivation.Line.{Line}
 use Rattle.bad_patterns.specs.declared.derivation.Line.TheVariants as line
 use Rattle.bad_patterns.specs.declared.kind.Kind.{Kind}
@@ -163,18 +160,3 @@ one_pattern p q same =
     let parts =
     one_word (kind_name (kind_of p)) (kind_name (kind_of q)) (shown_form p) (shown_form q) (sym (has_parts p) ∙ same ∙ has_parts q) in
     one_of_parts p q (one_kind (kind_of p) (kind_of q) parts.0) parts.1
-
--- ---- criteria
-
--- a criterion by its name
-abbrev criterion_at : List ℕ → Option Criterion
-criterion_at word =
-    if pointwise nat_eq word (codes "cc") then Some criteria.Cc else (if pointwise nat_eq word (codes "cm") then Some criteria.Cm else Some criteria.Ccv)
-
-at_criterion : (a : Criterion) → criterion_at (name_of a) ≡ Some a
-at_criterion criteria.Cc = refl
-at_criterion criteria.Cm = refl
-at_criterion criteria.Ccv = refl
-
-pub one_name : (a b : Criterion) → name_of a ≡ name_of b → a ≡ b
-one_name a b same = same_Some a b (sym (at_criterion a) ∙ ap criterion_at same ∙ at_criterion b)
