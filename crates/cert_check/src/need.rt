@@ -22,13 +22,13 @@ pub enum Need {
 
 impl Need {
     /// Whether the running counts hold what an operation needs. O(1) but for everything, which takes O(k).
-    pub fn is_met(self, v: &Vectors, of: OpId, counts: &[u16]) -> bool
+    pub fn is_met(&self, v: &Vectors, of: OpId, counts: &[u16]) -> bool
         requires { HasListOf v.now of }
-        ensures { IsTrue result ↔ IsMet v.now of counts.now self }
+        ensures { IsTrue result ↔ IsMet v.now of counts.now self.now }
     {
         match self {
             Need::Nothing => true,
-            Need::After(session, index) => { index < at(counts, usize::from(session)) }
+            Need::After(session, index) => { *index < at(counts, usize::from(*session)) }
             Need::Everything => is_at_most(v.get(of), counts),
         }
     }
@@ -89,22 +89,22 @@ impl Needs {
     }
 
     /// The need of an operation. O(1).
-    pub fn get(&self, op: OpId) -> Need
-        ensures { result ≡ need_of self.now op }
+    pub fn get(&self, op: OpId) -> &Need
+        ensures { result.now ≡ need_of self.now op }
     {
         match self.sessions.get(op.session as usize) {
             Some(session) => session.get(op.index as usize),
-            None => Need::Everything,
+            None => &Need::Everything,
         }
     }
 }
 
 impl SessionNeeds {
     /// The need of the operation at an index. O(1).
-    fn get(&self, index: usize) -> Need
-        ensures { result ≡ slice_index_or self.now index Need.Everything }
+    fn get(&self, index: usize) -> &Need
+        ensures { result.now ≡ slice_index_or self.now index Need.Everything }
     {
-        self.needs.get(index).copied().unwrap_or(Need::Everything)
+        self.needs.get(index).unwrap_or(&Need::Everything)
     }
 }
 

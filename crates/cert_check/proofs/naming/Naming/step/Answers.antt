@@ -13,7 +13,7 @@ pub returns-clause-exact : goal.returns-clause-exact
 returns-clause-exact g c = λ list i at here well.
     let next = c.in-Some.ensures.next in
     let met = met-exactly c.args.h.now c.args.v.now list i c.args.session here c.args.self.now.counts.items at
-    c.in-Some.next next.0 next.1 c.deref.result.now (c.deref.ensures.value ∙ next.2) c.get.result
+    c.in-Some.next next.0 next.1 c.deref.result.now (c.deref.ensures.value ∙ next.2) c.get.result.now
     (rw (c.get.ensures) (c.requires.needs.each c.in-Some.next)) well in (
       (λ yes. met.0 (c.is_met.ensures.0 yes)),
       λ good. c.is_met.ensures.1 (met.1 good),
