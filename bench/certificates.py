@@ -13,7 +13,8 @@ One file for each size and criterion: OUTDIR/memory-SESSIONSxOPERATIONS-CRITERIO
 
 Beside them stand OUTDIR/apart-SESSIONSxOPERATIONS-CRITERION.json for causal consistency and causal memory: sessions that write and
 read a key of their own, where each operation counts all earlier ones, and whose schedules go round the sessions up and down in turn,
-so that no two neighbours begin alike.
+so that no two neighbours begin alike. Of those in OUTDIR/turned-SESSIONSxOPERATIONS-CRITERION.json each goes round from the next
+session, so that of any so many schedules of a session in a row as there are sessions no two begin alike, whichever workers take them.
 """
 
 import json
@@ -109,8 +110,18 @@ def inputs(sessions, operations):
     return history, [["cc", vectors, schedules], ["cm", vectors, schedules], ["ccv", vectors, arbitration]]
 
 
-def apart(sessions, operations):
-    """A history, and certificates of it of which no two neighbouring schedules begin alike."""
+def up_and_down(sessions):
+    """The sessions in order, and in the order turned back."""
+    return list(range(sessions)), list(range(sessions - 1, -1, -1))
+
+
+def turned(sessions):
+    """The sessions in order from each of them on."""
+    return [[(first + place) % sessions for place in range(sessions)] for first in range(sessions)]
+
+
+def apart(sessions, operations, rounds):
+    """A history, and certificates of it whose schedules go round the sessions in these rounds, one after the other."""
     indices = range(operations)
     forms = [
         [["r" if index % 2 else "w", session, 1 + index // 2 * sessions + session] for index in indices]
@@ -119,8 +130,7 @@ def apart(sessions, operations):
     vectors = [
         [[index + (other == session) for other in range(sessions)] for index in indices] for session in range(sessions)
     ]
-    rounds = list(range(sessions)), list(range(sessions - 1, -1, -1))
-    schedules = [[rounds[index % 2] * index + [session] for index in indices] for session in range(sessions)]
+    schedules = [[rounds[index % len(rounds)] * index + [session] for index in indices] for session in range(sessions)]
     return ["memory", forms], [["cc", vectors, schedules], ["cm", vectors, schedules]]
 
 
@@ -140,7 +150,8 @@ def main():
     folder.mkdir(parents=True, exist_ok=True)
     for sessions, operations in SIZES:
         write(folder, "memory", sessions, operations, inputs(sessions, operations))
-        write(folder, "apart", sessions, operations, apart(sessions, operations))
+        write(folder, "apart", sessions, operations, apart(sessions, operations, up_and_down(sessions)))
+        write(folder, "turned", sessions, operations, apart(sessions, operations, turned(sessions)))
 
 
 if __name__ == "__main__":
