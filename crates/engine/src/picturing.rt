@@ -20,6 +20,7 @@ use picture::{Labelled, picture_of_history, picture_of_pattern};
 use std::alloc::{AllocError, Global};
 use std::sync::Wait;
 use std::thread::Threads;
+use wording::name_of;
 
 /// The picture of the history in the input, as an SVG text: with the pattern of the first criterion that is not met, where one is
 /// at hand, and else all of the history, with the first operation that a certificate does not explain drawn out.
@@ -153,8 +154,8 @@ fn title_of(alloc: Global, report: &Report) -> Result<String, AllocError> {
 
 // What is said of an operation that is not explained.
 fn sentence_about(alloc: Global, op: OpId) -> Result<String, AllocError> {
-    let OpId { session, index } = op;
-    format!(in alloc; "The certificate that was made does not explain {session}.{index}.")
+    let name = name_of(alloc, op)?;
+    format!(in alloc; "The certificate that was made does not explain {name}.")
 }
 
 // The first operation that a report names as not explained.
