@@ -9,7 +9,8 @@ row for each input whose name has the word, by size:
 - `make` is `explain --json --certificates` of a healthy history, which makes the certificates and writes them;
 - `judge` is that of a history in which a value is written twice, so that nothing decides it, and three certificates are made and
   checked; and so of one path through all operations;
-- `check` is that of a certificate of each criterion, and of such as have no neighbouring schedules that begin alike.
+- `check` is that of a certificate of each criterion, of such as have no neighbouring schedules that begin alike, and of such as
+  have none near each other.
 
 The columns are what it was and what it is: the milliseconds from the start of the process to its end by 1, 2 and 4 workers, the least
 of N rounds (3 by default), or with --count the million instructions by one worker (callgrind), which no other program changes. Both
@@ -70,8 +71,9 @@ def inputs(certificates, histories, room):
             yield "judge", twice
         for criterion in ("cc", "cm", "ccv"):
             yield "check", certificates / f"memory-{size}-{criterion}.json"
-        for criterion in ("cc", "cm"):
-            yield "check", certificates / f"apart-{size}-{criterion}.json"
+        for shape in ("apart", "turned"):
+            for criterion in ("cc", "cm"):
+                yield "check", certificates / f"{shape}-{size}-{criterion}.json"
     for name, sessions in (("chain-twice", chain()), ("chain-one-key-twice", chain(1))):
         path = room / f"{name}.json"
         path.write_text("".join(memory(with_a_value_twice(sessions))))
