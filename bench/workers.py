@@ -7,7 +7,8 @@ CERTIFICATES is a folder that certificates.py made, and HISTORIES one that histo
 and 4 workers in turn, N rounds (5 by default), and the time is that on the clock, from the start of the process to its end,
 the least of the rounds. So nothing else may run beside it.
 
-The first table has a row for each certificate of 16 sessions of 256 operations. Reading the input takes one thread, and so
+The first table has a row for each certificate of 16 sessions of 256 operations that certificates.py calls `memory`, and for those
+that it calls `turned`, whose schedules share nothing with any near them. Reading the input takes one thread, and so
 does writing the line, so each certificate is also checked with vectors that count nothing: then each piece is refused at its
 first test, and what is left is the reading, the starting of the workers and the board, with its lock. What the whole run takes
 more than that is the time that the pieces take. Both are given as ratios: the time by one worker over the time by so many.
@@ -35,6 +36,7 @@ from command_words import with_program
 
 WORKERS = (1, 2, 4)
 SIZE = "16x256"
+KINDS = ("memory", "turned")
 
 
 def run_once(command, path, wanted):
@@ -172,7 +174,7 @@ def arguments():
 
 def main():
     given = arguments()
-    certificates = sorted(given.certificates.glob(f"memory-{SIZE}-*.json"))
+    certificates = [path for kind in KINDS for path in sorted(given.certificates.glob(f"{kind}-{SIZE}-*.json"))]
     histories = sorted(given.histories.glob(f"{SIZE}-*-healthy.json"))
     if not certificates or not histories:
         raise SystemExit(f"no certificates or no histories of {SIZE} there")
