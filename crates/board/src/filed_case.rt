@@ -84,15 +84,16 @@ impl<M: Mark> FiledCase<M> {
         requires { IsRow self.old op }
         ensures { self.new ≡ handed_out self.old op }
     {
-        self.sessions[op.session as usize].hand_out(op.index as usize);
+        self.sessions[op.session_place()].hand_out(op.place());
     }
 
     /// The row of an operation.
     pub(crate) fn row(&self, op: OpId) -> Option<Option<Outcome>>
         ensures { result ≡ row_of self.now op }
     {
-        if op.session < self.sessions.len() as u64 {
-            self.sessions[op.session as usize].get(op.index as usize)
+        let session = op.session_place();
+        if session < self.sessions.len() {
+            self.sessions[session].get(op.place())
         } else {
             None
         }
@@ -118,7 +119,7 @@ impl<M: Mark> FiledCase<M> {
         requires { IsRow self.old op }
         ensures { self.new ≡ with_verdict self.old op outcome }
     {
-        self.sessions[op.session as usize].fill(op.index as usize, outcome);
+        self.sessions[op.session_place()].fill(op.place(), outcome);
     }
 
     /// Why a pattern is refused.

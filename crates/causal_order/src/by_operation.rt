@@ -54,8 +54,8 @@ impl<T> ByOperation<T> {
     pub fn contains(&self, op: OpId) -> bool
         ensures { IsTrue result ↔ IsListed self.now op }
     {
-        op.session < self.sessions() as u64
-            && op.index < self.operations(op.session as usize) as u64
+        let session = op.session_place();
+        session < self.sessions() && op.place() < self.operations(session)
     }
 
     /// The list of an operation.
@@ -64,7 +64,7 @@ impl<T> ByOperation<T> {
         requires index { op.index < length (slice_index_or self.now op.session []) }
         ensures { result.now ≡ list_of self.now op }
     {
-        self.sessions[op.session as usize].get(op.index as usize)
+        self.sessions[op.session_place()].get(op.place())
     }
 }
 
@@ -125,7 +125,7 @@ impl<T: Copy> ByOperation<T> {
         requires inside { place < length (list_of self.old op) }
         ensures { self.new ≡ with_item self.old op place item }
     {
-        self.sessions[op.session as usize].set(op.index as usize, place, item);
+        self.sessions[op.session_place()].set(op.place(), place, item);
     }
 
     /// A copy of all lists.

@@ -31,7 +31,7 @@ fn limit_of(waits: &Vectors, session: usize) -> u16
     let len = waits.operations(session);
     for index in 0..len {
         let op = OpId::at(session, index);
-        if index + 1 < waits.get(op)[session] as usize {
+        if index + 1 < usize::from(waits.get(op)[session]) {
             return index as u16;
         }
     }

@@ -159,7 +159,7 @@ impl Walk {
         ensures can { IsTrue result ↔ CanGoOn vectors.now limits.now self.now session }
     {
         let index = self.placed[session];
-        if index >= limits[session] as u32 || index as usize >= vectors.operations(session) {
+        if index >= u32::from(limits[session]) || index as usize >= vectors.operations(session) {
             return false;
         }
         let op = OpId::at(session, index as usize);
@@ -179,7 +179,7 @@ impl Walk {
         ensures not_placed { result < length counts.now → placed self.now result < slice_index_or counts.now result 0 }
     {
         for session in start..counts.len() {
-            if session != own && self.placed[session] < counts[session] as u32 {
+            if session != own && self.placed[session] < u32::from(counts[session]) {
                 return session;
             }
         }

@@ -25,22 +25,22 @@ pub fn vector_ok<O: SeqObject>(h: &History<O>, v: &Vectors, op: OpId) -> bool
 }
 
 /// How many operations of a session the vector of an operation counts.
-pub fn count_of(v: &Vectors, op: OpId, session: u64) -> u16
+pub fn count_of(v: &Vectors, op: OpId, session: usize) -> u16
     requires { HasListOf v.now op }
     ensures { result ≡ count v.now op session }
 {
-    v.get(op).get(session as usize).copied().unwrap_or(0)
+    v.get(op).get(session).copied().unwrap_or(0)
 }
 
 /// How many operations of a session the vector of an operation counts: 0 where the operation has no vector. O(1).
-pub fn count_at(v: &Vectors, op: OpId, session: u64) -> u64
+pub fn count_at(v: &Vectors, op: OpId, session: usize) -> usize
     ensures { result ≡ count v.now op session }
 {
     if !v.contains(op) {
         return 0;
     }
-    match v.get(op).get(session as usize) {
-        Some(count) => u64::from(*count),
+    match v.get(op).get(session) {
+        Some(count) => usize::from(*count),
         None => 0,
     }
 }
@@ -49,7 +49,7 @@ pub fn count_at(v: &Vectors, op: OpId, session: u64) -> u64
 pub fn has_counted(v: &Vectors, op: OpId, earlier: OpId) -> bool
     ensures { IsTrue result ↔ IsCounted v.now op earlier }
 {
-    earlier.index < count_at(v, op, earlier.session)
+    earlier.place() < count_at(v, op, earlier.session_place())
 }
 
 /// Whether the vector of an operation counts another operation. O(1).
@@ -64,7 +64,7 @@ fn counts_itself_last(v: &Vectors, op: OpId) -> bool
     requires { HasListOf v.now op }
     ensures { IsTrue result ↔ (count v.now op op.session ≡ op.index + 1) }
 {
-    let count = u64::from(count_of(v, op, op.session));
+    let count = u64::from(count_of(v, op, op.session_place()));
     count != 0 && count - 1 == op.index
 }
 
@@ -99,8 +99,9 @@ fn counts_with_others(v: &Vectors, op: OpId) -> bool
     requires held { CountsHeld v.now op }
     ensures { IsTrue result ↔ ((s : ℕ) → s ≢ op.session → IsPastLastOf v.now op s) }
 {
-    for session in 0..v.sessions() as u64 {
-        if session != op.session && !counts_with_last(v, op, session) {
+    let own = op.session_place();
+    for session in 0..v.sessions() {
+        if session != own && !counts_with_last(v, op, session) {
             return false;
         }
     }
@@ -109,18 +110,16 @@ fn counts_with_others(v: &Vectors, op: OpId) -> bool
 
 /// Whether the vector of an operation counts all that the last operation that it counts of a session counts, and that
 /// one doesn't count the operation.
-fn counts_with_last(v: &Vectors, op: OpId, session: u64) -> bool
+fn counts_with_last(v: &Vectors, op: OpId, session: usize) -> bool
     requires own { HasListOf v.now op }
     requires held { CountsHeld v.now op }
     ensures { IsTrue result ↔ IsPastLastOf v.now op session }
 {
-    let count = u64::from(count_of(v, op, session));
+    let count = usize::from(count_of(v, op, session));
     if count == 0 {
         return true;
     }
-    let last = OpId {
-        session,
-        index: count - 1,
-    };
-    is_at_most(v.get(last), v.get(op)) && u64::from(count_of(v, last, op.session)) <= op.index
+    let last = OpId::at(session, count - 1);
+    let back = count_of(v, last, op.session_place());
+    is_at_most(v.get(last), v.get(op)) && u64::from(back) <= op.index
 }

@@ -40,6 +40,14 @@ fn next_operation(walk: &Walk, session: usize) -> OpId
     OpId::at(session, walk.placed(session))
 }
 
+/// The next operation of the session of an operation.
+fn next_in_session_of(walk: &Walk, op: OpId) -> OpId
+    requires { op.session < MAX_SESSIONS }
+    ensures { result ≡ next_of walk.now op.session }
+{
+    next_operation(walk, op.session_place())
+}
+
 /// What the next operation of a session waits for: the last such operation of the first other session of which one is not
 /// placed, or else of its own.
 fn awaited(waits: &Vectors, walk: &Walk, session: usize) -> OpId
@@ -78,7 +86,7 @@ fn awaited_in_turn(
     for _session in 0..waits.sessions() + 1 {
         let op = awaited(waits, walk, last);
         chain.push(op)?;
-        last = op.session as usize;
+        last = op.session_place();
     }
     Ok(chain)
 }
@@ -123,7 +131,7 @@ fn route_back(
     requires places { IsRepetition chain.now places.0 places.1 }
     ensures { IfOk result (λ ops. IsWaitingCycle waits.now ops.items) }
 {
-    let mut reached = next_operation(walk, chain[places.1].session as usize);
+    let mut reached = next_in_session_of(walk, chain[places.1]);
     let mut route = vec![in alloc; reached]?;
     for back in 0..places.1 - places.0 {
         let later = places.1 - back;
@@ -131,7 +139,7 @@ fn route_back(
         if reached.index < op.index {
             route.push(op)?;
         }
-        reached = next_operation(walk, chain[later - 1].session as usize);
+        reached = next_in_session_of(walk, chain[later - 1]);
         route.push(reached)?;
     }
     Ok(route)

@@ -63,9 +63,9 @@ impl Waits {
         requires other { IsListed self.old other }
         ensures { AddsWait op other self.old self.new }
     {
-        let place = other.session as usize;
+        let place = other.session_place();
         if u64::from(self.counts.get(op)[place]) <= other.index {
-            self.counts.set(op, place, other.index as u16 + 1);
+            self.counts.set(op, place, other.number());
         }
     }
 }

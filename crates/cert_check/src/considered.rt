@@ -154,7 +154,7 @@ fn considered_call<O: SeqObject>(
         (λ call. (ops : List Operation)
         → considered O.depends h.now v.now of asked.now (next ∷ ops) ≡ call ∷ considered O.depends h.now v.now of asked.now ops) }
 {
-    if next.index >= u64::from(count_of(v, of, next.session)) {
+    if next.index >= u64::from(count_of(v, of, next.session_place())) {
         return None;
     }
     let call = h.call(next);

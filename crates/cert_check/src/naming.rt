@@ -78,7 +78,7 @@ impl Naming {
     pub fn has_named(&self, op: OpId) -> bool
         ensures { IsTrue result ↔ (op.index < slice_index_or self.now.counts.items op.session 0) }
     {
-        let count = self.counts.get(op.session as usize).copied().unwrap_or(0);
+        let count = self.counts.get(op.session_place()).copied().unwrap_or(0);
         op.index < u64::from(count)
     }
 

@@ -92,8 +92,8 @@ impl Needs {
     pub fn get(&self, op: OpId) -> &Need
         ensures { result.now ≡ need_of self.now op }
     {
-        match self.sessions.get(op.session as usize) {
-            Some(session) => session.get(op.index as usize),
+        match self.sessions.get(op.session_place()) {
+            Some(session) => session.get(op.place()),
             None => &Need::Everything,
         }
     }
@@ -162,7 +162,7 @@ fn last_of(v: &Vectors, op: OpId, before: &[u16], session: usize) -> Option<Need
 {
     let vector = v.get(op);
     let count = at(vector, session);
-    if session as u64 == op.session || count <= at(before, session) {
+    if session == op.session_place() || count <= at(before, session) {
         return None;
     }
     let last = OpId::at(session, usize::from(count - 1));
@@ -191,7 +191,7 @@ fn is_count_covered(count: u16, before: &[u16], other: &[u16], session: usize, o
 {
     count <= at(before, session)
         || count <= at(other, session)
-        || (session as u64 == op.session && u64::from(count - 1) <= op.index)
+        || (session == op.session_place() && u64::from(count - 1) <= op.index)
 }
 
 /// The count of a session: 0 past the end.

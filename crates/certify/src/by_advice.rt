@@ -137,8 +137,8 @@ fn told_schedule<O: SeqObject>(
     requires short { op.index < MAX_OPERATIONS }
     ensures { IfOk result (λ schedule. IsToldSchedule O.query h.now advice.now vectors.now ops.now op schedule.items) }
 {
-    let told = advice_in(h, advice, op.session as usize);
-    if order_at(told, op.index as usize).is_empty() {
+    let told = advice_in(h, advice, op.session_place());
+    if order_at(told, op.place()).is_empty() {
         counted_sessions(alloc, ops, vectors, op)
     } else {
         schedule_by_order(alloc, h, told, op)

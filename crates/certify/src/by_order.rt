@@ -38,9 +38,9 @@ pub(crate) fn schedule_by_order<O: SeqObject>(
     requires told { length told.now ≡ length (operations_of h.now op.session) }
     ensures { IfOk result (λ schedule. GoesByOrder O.query h.now told.now op schedule.items) }
 {
-    let order = order_at(told, op.index as usize);
+    let order = order_at(told, op.place());
     let mut walk = Walk::new(alloc);
-    for done in 0..many_first(told, op.index as usize) {
+    for done in 0..many_first(told, op.place()) {
         ask(h, told, op, Some(done), &mut walk)?;
         name(h, usize::from(order[done]), &mut walk)?;
     }
@@ -73,7 +73,7 @@ fn ask<O: SeqObject>(
     requires told { length told.now ≡ length (operations_of h.now op.session) }
     ensures { OnOk result (AreAsked O.query h.now told.now op done walk.old walk.new) }
 {
-    let session = op.session as usize;
+    let session = op.session_place();
     let end = end_of_asked(h, told, op, done, walk.placed(session));
     place_before(walk, session, end)
 }
@@ -112,7 +112,7 @@ fn may_come<O: SeqObject>(
     requires told { length told.now ≡ length (operations_of h.now op.session) }
     ensures { IsTrue result ↔ MayCome O.query h.now told.now op done index }
 {
-    if index as u64 >= op.index || !is_query(h, OpId::at(op.session as usize, index)) {
+    if index >= op.place() || !is_query(h, OpId::at(op.session_place(), index)) {
         return false;
     }
     match done {

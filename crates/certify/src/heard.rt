@@ -50,7 +50,7 @@ impl Heard {
                 self.counts = advice.counts;
                 self.stamp = advice.stamp;
             }
-            None => self.counts[op.session as usize] = op.index as u16 + 1,
+            None => self.counts[op.session_place()] = op.number(),
         }
     }
 

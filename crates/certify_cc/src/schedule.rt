@@ -44,7 +44,7 @@ pub fn schedule_of(
     };
     let limits = limits_apart_from(alloc, vectors, op, write)?;
     cutting.cut_to(vectors, whole, limits)?;
-    cutting.run_behind(vectors, write.session as usize, vectors.get(op))
+    cutting.run_behind(vectors, write.session_place(), vectors.get(op))
 }
 
 /// For each session, how many of its operations are in the past of an operation and before a write and what is after it.
@@ -78,7 +78,7 @@ fn limit_apart_from(vectors: &Vectors, session: usize, limit: u16, write: OpId) 
     ensures { IsApart vectors.now write session limit result }
 {
     let mut free = 0;
-    let mut end = vectors.operations(session).min(limit as usize);
+    let mut end = vectors.operations(session).min(usize::from(limit));
     while free < end {
         let middle = free + (end - free) / 2;
         if has_counted(vectors, OpId::at(session, middle), write) {

@@ -144,8 +144,8 @@ fn is_or_counts(h: &History<Memory>, vectors: &Vectors, op: OpId, other: OpId) -
     if other == op {
         return true;
     }
-    match vectors.get(op).get(other.session as usize) {
-        Some(count) => other.index < *count as u64,
+    match vectors.get(op).get(other.session_place()) {
+        Some(count) => other.index < u64::from(*count),
         None => false,
     }
 }

@@ -91,7 +91,7 @@ impl<'a> Backward<'a> {
         let Some(source) = read.source else {
             return;
         };
-        if read.op.index < u64::from(self.left_of(read.op.session as usize)) {
+        if read.op.index < u64::from(self.left_of(read.op.session_place())) {
             if let Some(place) = place_of(source) {
                 add(&mut self.readers, place);
             }

@@ -38,7 +38,7 @@ impl<O: SeqObject, P: UpdateOrder> Client<O, P> {
         ensures refused { IfErr result IsGivenUp }
     {
         let op = self.next_op();
-        take_in(rt, run, op.session as usize, &mut self.replica)?;
+        take_in(rt, run, op.session_place(), &mut self.replica)?;
         gate.enter(op);
         let recorded = self.record(rt, run, call);
         gate.leave(op);
@@ -57,7 +57,7 @@ impl<O: SeqObject, P: UpdateOrder> Client<O, P> {
         ensures { IfErr result IsGivenUp }
     {
         let op = self.next_op();
-        take_in(rt, run, op.session as usize, &mut self.replica)?;
+        take_in(rt, run, op.session_place(), &mut self.replica)?;
         gate.enter(op);
         let begun = begin(&mut self.session, call);
         gate.leave(op);

@@ -85,7 +85,7 @@ impl<O: SeqObject> History<O> {
     pub fn contains(&self, op: OpId) -> bool
         ensures { IsTrue result ↔ IsOp self.now op }
     {
-        op.index < self.len(op.session as usize) as u64
+        op.place() < self.len(op.session_place())
     }
 
     /// The call of an operation.
@@ -93,7 +93,7 @@ impl<O: SeqObject> History<O> {
         requires { IsOp self.now op }
         ensures { option_map (λ e. e.0) (entry self.now op) ≡ Some result }
     {
-        self.session(op.session as usize)[op.index as usize].0
+        self.session(op.session_place())[op.place()].0
     }
 
     /// The return of an operation, where it is known.
@@ -101,7 +101,7 @@ impl<O: SeqObject> History<O> {
         requires { IsOp self.now op }
         ensures { option_map (λ e. e.1) (entry self.now op) ≡ Some result }
     {
-        self.session(op.session as usize)[op.index as usize].1
+        self.session(op.session_place())[op.place()].1
     }
 
     /// An equal history.

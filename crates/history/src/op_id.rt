@@ -1,4 +1,6 @@
-ghost use Rattle.std.specs.Prelude.{◌≡◌, ◌==◌, ◌&&◌, ◌+◌, MatchOption, nat_le};
+ghost use Rattle.std.specs.Prelude.{◌≡◌, ◌==◌, ◌&&◌, ◌+◌, ◌<◌, MatchOption, nat_le};
+
+use crate::limits::MAX_OPERATIONS;
 
 /// Names an operation of a history: the operation at `index` of `session`, both counted from 0.
 ///
@@ -18,6 +20,28 @@ impl OpId {
             session: session as u64,
             index: index as u64,
         }
+    }
+
+    /// The place of its session among the sessions.
+    pub fn session_place(self) -> usize
+        ensures { result ≡ self.session }
+    {
+        self.session as usize
+    }
+
+    /// Its place among the operations of its session.
+    pub fn place(self) -> usize
+        ensures { result ≡ self.index }
+    {
+        self.index as usize
+    }
+
+    /// How many operations its session has up to it, itself among them.
+    pub fn number(self) -> u16
+        requires { self.index < MAX_OPERATIONS }
+        ensures { result ≡ self.index + 1 }
+    {
+        self.index as u16 + 1
     }
 
     /// The operation before it in its session, where it is not the first.

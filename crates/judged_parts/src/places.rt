@@ -26,8 +26,8 @@ impl Places {
 
     /// The operation of the whole that an operation of the part is, and itself where it is none of the part.
     pub(crate) fn in_whole(&self, op: OpId) -> OpId {
-        let kept = self.sessions.get(op.session as usize);
-        match kept.and_then(|kept| kept.get(op.index as usize)) {
+        let kept = self.sessions.get(op.session_place());
+        match kept.and_then(|kept| kept.get(op.place())) {
             Some(place) => *place,
             None => op,
         }

@@ -62,10 +62,10 @@ impl<'a> CausalOrder<'a> {
     }
 
     /// How many sessions there are.
-    pub fn sessions(&self) -> u64
+    pub fn sessions(&self) -> usize
         ensures { result ≡ length self.now.1 }
     {
-        self.vectors.sessions() as u64
+        self.vectors.sessions()
     }
 
     /// The known reads, in the order of operations: each that has no source read the initial value.
@@ -84,7 +84,7 @@ impl<'a> CausalOrder<'a> {
     }
 
     /// How many operations of a session are in the past of an operation, itself among it. O(1).
-    pub fn count(&self, op: OpId, session: u64) -> u64
+    pub fn count(&self, op: OpId, session: usize) -> usize
         ensures { (i : ℕ) → (i < result) ↔ IsSourcePast self.now op (operation session i) }
     {
         count_at(self.vectors, op, session)
@@ -106,14 +106,11 @@ impl<'a> CausalOrder<'a> {
     }
 
     /// The last write of the variable of a read in a session, of those in the past of the read. O(log n) for n writes.
-    pub fn last_write(&self, read: &KnownRead, session: u64) -> Option<OpId>
+    pub fn last_write(&self, read: &KnownRead, session: usize) -> Option<OpId>
         ensures { MatchOption result (HasNoWriteOfPast self.now read.now.key session read.now.op)
             (IsLastWriteOfPast self.now read.now.key session read.now.op) }
     {
-        let end = OpId {
-            session,
-            index: self.count(read.op, session),
-        };
+        let end = OpId::at(session, self.count(read.op, session));
         self.memory.last_write_before(read.key, end)
     }
 }

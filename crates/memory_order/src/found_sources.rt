@@ -29,7 +29,7 @@ pub(crate) fn found_sources(
     ensures { IfOk result (ListsSourcesIfAny h.now) }
 {
     let mut sources = Rows::new(alloc);
-    for session in 0..h.sessions() as u64 {
+    for session in 0..h.sessions() {
         let of_session = sources_of_session(alloc, h, writes, session)?;
         sources.push(&of_session)?;
     }
@@ -41,7 +41,7 @@ fn sources_of_session(
     alloc: Global,
     h: &History<Memory>,
     writes: &[Write],
-    session: u64,
+    session: usize,
 ) -> Result<Vec<Option<OpId>>, AllocError>
     requires writes { ListsWrites h.now writes.now }
     requires sorted { IsSorted writes.now }
@@ -49,8 +49,9 @@ fn sources_of_session(
     ensures { IfOk result (λ sources. ListsIfAnyBelow h.now session (length (operations_of h.now session)) sources.items) }
 {
     let mut sources = Vec::new(alloc);
-    for index in 0..h.len(session as usize) as u64 {
-        sources.push(found_source(h, writes, OpId { session, index }))?;
+    for index in 0..h.len(session) {
+        let op = OpId::at(session, index);
+        sources.push(found_source(h, writes, op))?;
     }
     Ok(sources)
 }

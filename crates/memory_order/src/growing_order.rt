@@ -282,7 +282,7 @@ impl GrowingOrder {
         ensures { IsTrue result ↔ MatchOption (listed_source sources.now op) Always (IsIn self.now) }
     {
         match source_in(sources, op) {
-            Some(source) => source.index < self.past[source.session as usize] as u64,
+            Some(source) => source.place() < usize::from(self.past[source.session_place()]),
             None => true,
         }
     }
@@ -316,7 +316,7 @@ impl GrowingOrder {
         requires next { op.index ≡ slice_index self.old.past.items op.session }
         ensures { IsIncluded h.now self.old self.new op }
     {
-        self.past[op.session as usize] = op.index as u16 + 1;
+        self.past[op.session_place()] = op.number();
     }
 
     /// Puts all that is before an operation, if there is one, before the last operation of a session that is in the order, which
@@ -382,8 +382,8 @@ impl GrowingOrder {
         requires cause { IsCaused h.now NoReads self.old.counts op session number cause }
         ensures { OnOk result (IsRaisedAlone h.now self.old self.new op session number) }
     {
-        let place = op.session as usize;
-        self.raise_from(h, place, op.index as usize, session, number, cause)?;
+        let place = op.session_place();
+        self.raise_from(h, place, op.place(), session, number, cause)?;
         self.drop_raised(h);
         Ok(())
     }
@@ -424,7 +424,7 @@ impl GrowingOrder {
         let count = self.count(h, raised.op, raised.session);
         for session in 0..h.sessions() {
             let index = self.first_behind(h, session, raised.op);
-            if index < self.past[session] as usize {
+            if index < usize::from(self.past[session]) {
                 let cause = Cause::Through(raised.op);
                 self.raise_from(h, session, index, raised.session, count, cause)?;
             }
@@ -446,7 +446,7 @@ impl GrowingOrder {
         if count == 0 {
             return Ok(());
         }
-        let last = OpId::at(session, count as usize - 1);
+        let last = OpId::at(session, usize::from(count) - 1);
         self.add_past(h, op, last)
     }
 
@@ -467,10 +467,10 @@ impl GrowingOrder {
         ensures growing { OnOk result (IsGrowing h.now self.new) }
         ensures counted { OnOk result (IsCounted self.new.counts source write) }
     {
-        let session = source.session as usize;
-        let index = source.index as usize;
-        let other = write.session as usize;
-        let count = write.index as u16 + 1;
+        let session = source.session_place();
+        let index = source.place();
+        let other = write.session_place();
+        let count = write.number();
         self.raise_from(h, session, index, other, count, Cause::Read(read))
     }
 
@@ -491,9 +491,9 @@ impl GrowingOrder {
         let mut from = 0;
         while let Some(session) = self.next_more(h, before, op, from) {
             let count = self.count(h, before, session);
-            let index = op.index as usize;
+            let index = op.place();
             let cause = Cause::Through(before);
-            self.raise_from(h, op.session as usize, index, session, count, cause)?;
+            self.raise_from(h, op.session_place(), index, session, count, cause)?;
             from = session + 1;
         }
         Ok(())
@@ -527,7 +527,7 @@ impl GrowingOrder {
         while low < high {
             let middle = low + (high - low) / 2;
             let other = OpId::at(session, middle);
-            if op.index < self.count(h, other, op.session as usize) as u64 {
+            if op.index < u64::from(self.count(h, other, op.session_place())) {
                 high = middle;
             } else {
                 low = middle + 1;
@@ -545,7 +545,7 @@ impl GrowingOrder {
         requires monotone { IsMonotone self.now.counts (λ s. slice_index self.now.past.items s) }
         ensures { IsAroundBehind self.now session op result.0 result.1 }
     {
-        let mut high = self.past[session] as usize;
+        let mut high = usize::from(self.past[session]);
         let mut step = 1;
         while step <= high {
             if !self.is_behind(h, session, high - step, op) {
@@ -566,7 +566,7 @@ impl GrowingOrder {
         ensures { IsTrue result ↔ IsCounted self.now.counts (record { session = session; index = index }) op }
     {
         let other = OpId::at(session, index);
-        op.index < self.count(h, other, op.session as usize) as u64
+        op.index < u64::from(self.count(h, other, op.session_place()))
     }
 
     /// Raises what the vectors of an operation and of those behind it in its session count of a session, up to the first
@@ -631,7 +631,7 @@ impl GrowingOrder {
     {
         let first = OpId::at(session, index);
         let mut end = index;
-        while end < self.past[session] as usize {
+        while end < usize::from(self.past[session]) {
             let op = OpId::at(session, end);
             let cause = if end == index {
                 cause
@@ -673,7 +673,7 @@ impl GrowingOrder {
             cause,
         })?;
         self.counts.set(op, session, number);
-        self.added += (number - before) as u32;
+        self.added += u32::from(number - before);
         Ok(true)
     }
 }

@@ -241,10 +241,10 @@ impl HappenedBefore {
         ensures settled { OnOk result (IsSettled NoMore self.new.order) }
         ensures reads { OnOk result (AreReadsFollowed h.now NoMore (taken_of self.new) self.new) }
     {
-        if raised.op.session != self.session as u64 {
+        if raised.op.session_place() != self.session {
             return Ok(());
         }
-        for index in raised.op.index as usize..raised.end.min(self.taken) {
+        for index in raised.op.place()..raised.end.min(self.taken) {
             self.follow_read(h, index, raised.session)?;
         }
         Ok(())
@@ -304,10 +304,10 @@ impl HappenedBefore {
             (λ w. (w.session ≡ session) × IsLastBelow h.now c.key session (count (vectors_of self.now) read session) w.index) }
     {
         let count = self.order.count(h, read, session);
-        let end = end_of_writes(&self.writes, h.call(read).key, session as u64, count);
+        let end = end_of_writes(&self.writes, h.call(read).key, session, count);
         if end == 0 {
             return None;
         }
-        Some(OpId::at(session, end as usize - 1))
+        Some(OpId::at(session, usize::from(end) - 1))
     }
 }

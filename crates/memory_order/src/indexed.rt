@@ -151,10 +151,11 @@ impl<'a> IndexedMemory<'a> {
 pub(crate) fn source_in(sources: &Sources, op: OpId) -> Option<OpId>
     ensures { result ≡ listed_source sources.now op }
 {
-    if op.session >= sources.len() as u64 {
+    let session = op.session_place();
+    if session >= sources.len() {
         return None;
     }
-    match sources.get(op.session as usize).get(op.index as usize) {
+    match sources.get(session).get(op.place()) {
         Some(source) => *source,
         None => None,
     }

@@ -39,14 +39,11 @@ pub(crate) fn last_write_before(writes: &[Write], key: u32, end: OpId) -> Option
 /// of these writes it.
 ///
 /// The writes are those of a history, by variable and operation. O(log n) for n writes.
-pub(crate) fn end_of_writes(writes: &[Write], key: u32, session: u64, count: u16) -> u16
+pub(crate) fn end_of_writes(writes: &[Write], key: u32, session: usize, count: u16) -> u16
     requires { AreByVariable writes.now }
     ensures { (i : ℕ) → (i < result) ↔ IsBelowWrite writes.now key session count i }
 {
-    let end = OpId {
-        session,
-        index: count as u64,
-    };
+    let end = OpId::at(session, usize::from(count));
     match last_write_before(writes, key, end) {
         Some(last) => last.index as u16 + 1,
         None => 0,

@@ -115,7 +115,7 @@ fn vector_of(
     if let Some(source) = source {
         raise(&mut row, vectors.get(source));
     }
-    row[op.session as usize] = op.index as u16 + 1;
+    row[op.session_place()] = op.number();
     Ok(row)
 }
 

@@ -18,7 +18,7 @@ use std::alloc::Global;
 /// The operations of the session numbered `s`, from the elements of its form.
 fn read_operations<O: Named>(
     alloc: Global,
-    s: u64,
+    s: usize,
     values: &[Value],
 ) -> Result<Vec<(O::Call, Option<O::Ret>)>, ReadError>
     requires { length values.now ≤ MAX_OPERATIONS }
@@ -30,10 +30,7 @@ fn read_operations<O: Named>(
     let mut entries = Vec::new(alloc);
     let mut unknown_seen = false;
     for (index, value) in values.iter().enumerate() {
-        let op = OpId {
-            session: s,
-            index: index as u64,
-        };
+        let op = OpId::at(s, index);
         let Some(entry) = O::read_operation(value) else {
             return Err(ReadError::BadOp(op));
         };
@@ -50,7 +47,7 @@ fn read_operations<O: Named>(
 /// The session numbered `s`, from its form.
 fn read_session<O: Named>(
     alloc: Global,
-    s: u64,
+    s: usize,
     value: &Value,
 ) -> Result<Vec<(O::Call, Option<O::Ret>)>, ReadError>
     ensures read { IfOk result (λ es. session_at O.operation_at (view value.now) ≡ Some (map (λ e. Some e) es.items)) }
@@ -83,7 +80,7 @@ fn read_sessions<O: Named>(
     }
     let mut sessions = Vec::new(alloc);
     for (s, value) in values.iter().enumerate() {
-        let session = read_session::<O>(alloc, s as u64, value)?;
+        let session = read_session::<O>(alloc, s, value)?;
         sessions.push(session)?;
     }
     Ok(sessions)

@@ -168,7 +168,7 @@ fn first_thin_air_read(h: &History<Memory>, writes: &[Write]) -> Option<OpId>
     requires sorted { IsSorted writes.now }
     ensures { MatchOption result ((r : OpId) → ¬ IsThinAirRead h.now r) (IsFirst h.now) }
 {
-    for session in 0..h.sessions() as u64 {
+    for session in 0..h.sessions() {
         if let Some(read) = first_thin_air_read_of(h, writes, session) {
             return Some(read);
         }
@@ -177,13 +177,13 @@ fn first_thin_air_read(h: &History<Memory>, writes: &[Write]) -> Option<OpId>
 }
 
 /// The first thin-air read of a session.
-fn first_thin_air_read_of(h: &History<Memory>, writes: &[Write], session: u64) -> Option<OpId>
+fn first_thin_air_read_of(h: &History<Memory>, writes: &[Write], session: usize) -> Option<OpId>
     requires writes { ListsWrites h.now writes.now }
     requires sorted { IsSorted writes.now }
     ensures { MatchOption result ((i : ℕ) → ¬ IsThinAirRead h.now (op session i)) (IsFirstOf h.now session) }
 {
-    for index in 0..h.len(session as usize) as u64 {
-        let read = OpId { session, index };
+    for index in 0..h.len(session) {
+        let read = OpId::at(session, index);
         if is_thin_air_read(h, writes, read) {
             return Some(read);
         }

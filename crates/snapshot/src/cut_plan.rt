@@ -39,7 +39,7 @@ impl CutPlan {
     {
         let mut lanes = Vec::with_capacity(alloc, k)?;
         for s in 0..k {
-            lanes.push(LanePlan::new(told[s] as usize))?;
+            lanes.push(LanePlan::new(usize::from(told[s])))?;
         }
         Ok(CutPlan { cap, lanes })
     }
@@ -107,8 +107,8 @@ impl CutPlan {
     {
         let cap = self.cap;
         match self.next() {
-            Some(Cell::Return(op)) => self.lanes[op.session as usize].give_return(full, cap),
-            Some(Cell::Call(op)) => self.lanes[op.session as usize].give_call(full, cap),
+            Some(Cell::Return(op)) => self.lanes[op.session_place()].give_return(full, cap),
+            Some(Cell::Call(op)) => self.lanes[op.session_place()].give_call(full, cap),
             None => {}
         }
     }

@@ -5,15 +5,17 @@ use crate::found::Found;
 use recorder::{Lane, Recorded, ReturnRecord};
 
 /// A note of a return cell, if the lane has it and it is full. One load.
-pub(crate) fn find_return<O: Recorded>(lane: &Lane<O>, index: u64) -> Option<Found<ReturnRecord<O>>>
+pub(crate) fn find_return<O: Recorded>(
+    lane: &Lane<O>,
+    index: usize,
+) -> Option<Found<ReturnRecord<O>>>
     ensures { IfSome result (λ f. IsReturnFound lane.now index f) }
 {
-    if index >= lane.places() as u64 {
+    if index >= lane.places() {
         return None;
     }
-    let i = index as usize;
-    let mut note = lane.return_note(i);
-    let record = lane.return_record(i, &mut note)?;
+    let mut note = lane.return_note(index);
+    let record = lane.return_record(index, &mut note)?;
     match record.reply() {
         Some(_reply) => Some(Found::of(note)),
         None => None,
@@ -21,14 +23,13 @@ pub(crate) fn find_return<O: Recorded>(lane: &Lane<O>, index: u64) -> Option<Fou
 }
 
 /// A note of a call cell, if the lane has it and it is full. One load.
-pub(crate) fn find_call<O: Recorded>(lane: &Lane<O>, index: u64) -> Option<Found<O::Call>>
+pub(crate) fn find_call<O: Recorded>(lane: &Lane<O>, index: usize) -> Option<Found<O::Call>>
     ensures { IfSome result (λ f. IsCallFound lane.now index f) }
 {
-    if index >= lane.places() as u64 {
+    if index >= lane.places() {
         return None;
     }
-    let i = index as usize;
-    let mut note = lane.call_note(i);
-    let _call = lane.call(i, &mut note)?;
+    let mut note = lane.call_note(index);
+    let _call = lane.call(index, &mut note)?;
     Some(Found::of(note))
 }

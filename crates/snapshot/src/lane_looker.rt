@@ -107,7 +107,7 @@ impl<'a, O: Recorded> LaneLooker<'a, O> {
         let Some(found) = found else {
             return Ok(false);
         };
-        self.tables[op.session as usize].keep_return(op.index as usize, found);
+        self.tables[op.session_place()].keep_return(op.place(), found);
         Ok(true)
     }
 
@@ -120,26 +120,28 @@ impl<'a, O: Recorded> LaneLooker<'a, O> {
         let Some(found) = found else {
             return Ok(false);
         };
-        self.tables[op.session as usize].keep_call(op.index as usize, found);
+        self.tables[op.session_place()].keep_call(op.place(), found);
         Ok(true)
     }
 
     fn find_return_of(&self, op: OpId) -> Option<Found<ReturnRecord<O>>>
         ensures { IfSome result (IsReturnFoundAt self.now.lanes.cells op) }
     {
-        if op.session >= self.lanes.len() as u64 {
+        let session = op.session_place();
+        if session >= self.lanes.len() {
             return None;
         }
-        find_return(self.lanes.lane(op.session as usize), op.index)
+        find_return(self.lanes.lane(session), op.place())
     }
 
     fn find_call_of(&self, op: OpId) -> Option<Found<O::Call>>
         ensures { IfSome result (IsCallFoundAt self.now.lanes.cells op) }
     {
-        if op.session >= self.lanes.len() as u64 {
+        let session = op.session_place();
+        if session >= self.lanes.len() {
             return None;
         }
-        find_call(self.lanes.lane(op.session as usize), op.index)
+        find_call(self.lanes.lane(session), op.place())
     }
 }
 
@@ -187,7 +189,7 @@ fn told_count<O: Recorded>(lanes: &Lanes<O>, receipts: &[Receipt<O>], s: usize) 
     ensures reached { 0 < result → HasReceipt receipts.now s result }
     ensures within { (lane : Cells) → slice_get lanes.now.cells s ≡ Some lane → result ≤ length lane.calls }
 {
-    let best = longest(receipts, s as u64);
+    let best = longest(receipts, s);
     if best.count == 0 {
         return 0;
     }

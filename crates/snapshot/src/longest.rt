@@ -11,7 +11,7 @@ pub struct LongestReceipt {
 }
 
 /// The longest receipt of a lane; of none its count is 0.
-pub(crate) fn longest<O: Recorded>(receipts: &[Receipt<O>], lane: u64) -> LongestReceipt
+pub(crate) fn longest<O: Recorded>(receipts: &[Receipt<O>], lane: usize) -> LongestReceipt
     ensures { IsLongest receipts.now lane (length receipts.now) result }
 {
     let mut best = LongestReceipt { count: 0, at: 0 };
@@ -23,7 +23,7 @@ pub(crate) fn longest<O: Recorded>(receipts: &[Receipt<O>], lane: u64) -> Longes
 
 fn longer<O: Recorded>(
     receipts: &[Receipt<O>],
-    lane: u64,
+    lane: usize,
     best: LongestReceipt,
     j: usize,
 ) -> LongestReceipt
@@ -32,7 +32,7 @@ fn longer<O: Recorded>(
     ensures { IsLongest receipts.now lane (j + 1) result }
 {
     let receipt = &receipts[j];
-    if receipt.op().session == lane && receipt.len() > best.count {
+    if receipt.op().session_place() == lane && receipt.len() > best.count {
         return LongestReceipt {
             count: receipt.len(),
             at: j,

@@ -35,7 +35,7 @@ fn seal_lanes<'a, O: Recorded>(
     let mut lanes = Vec::new(looker.alloc);
     let mut advice = Vec::new(looker.alloc);
     for s in 0..looker.lanes.len() {
-        let best = longest(looker.receipts, s as u64);
+        let best = longest(looker.receipts, s);
         let (operations, lane) = seal_lane(
             looker.alloc,
             looker.lanes.lane(s),
@@ -57,7 +57,7 @@ fn compare_receipts<O: Recorded>(alloc: Global, receipts: &[Receipt<O>], lanes: 
     ensures { (j : ℕ) (r : _) → slice_get receipts.now j ≡ Some r → IsShown lanes.now.items r }
 {
     for receipt in receipts {
-        compare_receipt(alloc, receipt, &lanes[receipt.op().session as usize]);
+        compare_receipt(alloc, receipt, &lanes[receipt.op().session_place()]);
     }
 }
 

@@ -193,7 +193,7 @@ impl<O: SeqObject> Recording<O> {
             return false;
         }
         for s in 0..told.len() {
-            if told[s] as usize > self.lanes[s].ended() {
+            if usize::from(told[s]) > self.lanes[s].ended() {
                 return false;
             }
         }
@@ -240,8 +240,8 @@ impl<O: SeqObject> Recording<O> {
         ensures { result ≡ is_full_in self.now cell }
     {
         match cell {
-            Cell::Return(op) => op.index < self.ended(op.session as usize) as u64,
-            Cell::Call(op) => op.index < self.begun(op.session as usize) as u64,
+            Cell::Return(op) => op.place() < self.ended(op.session_place()),
+            Cell::Call(op) => op.place() < self.begun(op.session_place()),
         }
     }
 

@@ -87,5 +87,5 @@ fn are_in_conflict(order: &CausalOrder, write: OpId, rival: OpId, read: &KnownRe
 {
     write != rival
         && read.source == Some(rival)
-        && order.last_write(read, write.session) == Some(write)
+        && order.last_write(read, write.session_place()) == Some(write)
 }

@@ -41,10 +41,7 @@ fn write_before(order: &CausalOrder, relation: &Relation, read: &KnownRead) -> O
         return None;
     }
     for session in 0..order.sessions() {
-        let end = OpId {
-            session,
-            index: relation.count(read.op, session),
-        };
+        let end = OpId::at(session, relation.count(read.op, session));
         if let Some(write) = order.memory().last_write_before(read.key, end) {
             return Some(write);
         }
@@ -75,7 +72,7 @@ fn first_raised(order: &CausalOrder, relation: &Relation) -> Option<OpId>
     ensures { IfSome result (λ a. HB order.now relation.now.0 a a) }
 {
     for raise in relation.raises() {
-        let is_own = raise.session as u64 == raise.op.session;
+        let is_own = raise.session == raise.op.session_place();
         if is_own
             && u64::from(raise.count) > raise.op.index
             && is_before_itself(order, relation, raise.op)
@@ -101,14 +98,14 @@ fn least_before_itself(order: &CausalOrder, relation: &Relation) -> Option<OpId>
 }
 
 /// The first operation of a session that the relation puts before itself.
-fn least_before_itself_of(order: &CausalOrder, relation: &Relation, session: u64) -> Option<OpId>
+fn least_before_itself_of(order: &CausalOrder, relation: &Relation, session: usize) -> Option<OpId>
     requires distinct { IsDifferentiated order.now }
     requires relation { IsRelation order.now relation.now }
     ensures { MatchOption result ((i : ℕ) → ¬ HB order.now relation.now.0 (operation session i) (operation session i))
         (λ a. HB order.now relation.now.0 a a) }
 {
-    for index in 0..order.memory().history().len(session as usize) as u64 {
-        let op = OpId { session, index };
+    for index in 0..order.history().len(session) {
+        let op = OpId::at(session, index);
         if is_before_itself(order, relation, op) {
             return Some(op);
         }
@@ -122,5 +119,5 @@ fn is_before_itself(order: &CausalOrder, relation: &Relation, op: OpId) -> bool
     requires relation { IsRelation order.now relation.now }
     ensures { IsTrue result ↔ HB order.now relation.now.0 op op }
 {
-    order.has_in_past(relation.op(), op) && relation.count(op, op.session) > op.index
+    order.has_in_past(relation.op(), op) && relation.count(op, op.session_place()) > op.place()
 }

@@ -14,10 +14,7 @@ use std::marker::Model;
 pub fn last_counted(raise: &Raise) -> OpId
     ensures { result ≡ last_of raise.now }
 {
-    OpId {
-        session: raise.session as u64,
-        index: u64::from(raise.count).saturating_sub(1),
-    }
+    OpId::at(raise.session, usize::from(raise.count).saturating_sub(1))
 }
 
 /// The raises of a relation, which are looked up by the pairs that they give.
@@ -118,7 +115,7 @@ fn is_raising(raise: &Raise, pair: Pair) -> bool
     ensures { IsTrue result ↔ Raises raise.now pair }
 {
     raise.op == pair.1
-        && raise.session as u64 == pair.0.session
+        && raise.session == pair.0.session_place()
         && pair.0.index < u64::from(raise.count)
 }
 

@@ -71,7 +71,7 @@ impl Relation {
     }
 
     /// How many operations of a session are before an operation.
-    pub fn count(&self, op: OpId, session: u64) -> u64
+    pub fn count(&self, op: OpId, session: usize) -> usize
         ensures { result ≡ counted self.now.1 op session }
     {
         count_at(self.happened.vectors(), op, session)

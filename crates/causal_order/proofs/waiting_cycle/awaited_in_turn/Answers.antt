@@ -22,6 +22,6 @@ loop-session-preserved c =
       chain = chain-push c.args.waits.now c.args.walk.now c.loop-session.chain.items op inv.chain c.awaited-op.ensures.unplaced
           (λ a j next at. subst (λ (s : ℕ). IsAwaited c.args.waits.now (next_of c.args.walk.now s) op) (sym (inv.last j a next at)) c.awaited-op.ensures.awaited);
       count = let count = inv.count in omega arith;
-      is_open = unplaced-open c.args.waits.now c.args.walk.now op c.awaited-op.ensures.unplaced;
-      last = λ j a next at. last-pushed c.loop-session.chain.items op j a next at;
+      is_open = rw c.session_place-last.ensures (unplaced-open c.args.waits.now c.args.walk.now op c.awaited-op.ensures.unplaced);
+      last = λ j a next at. rw c.session_place-last.ensures (last-pushed c.loop-session.chain.items op j a next at);
     })

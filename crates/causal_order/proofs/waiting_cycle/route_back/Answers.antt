@@ -10,24 +10,24 @@ use Rattle.causal_order.proofs.WaitRoutes.{at-place, chain-few, route-none, rout
 use Rattle.causal_order.proofs.waiting_cycle.route_back.Goals as goal
 use Rattle.causal_order.proofs.waiting_cycle.route_back.Goals.{then-reached-op+in_ok-push, else-reached-op}
 
-pub next_operation-reached-requires : goal.next_operation-reached-requires
-next_operation-reached-requires c =
+pub next_in_session_of-reached-requires : goal.next_in_session_of-reached-requires
+next_in_session_of-reached-requires c =
     chain-few c.args.waits.now c.args.walk.now c.requires.waits c.args.chain.now c.requires.chain c.args.places.1 (op 0 0) c.requires.places.inside
 
 pub loop-back-init : goal.loop-back-init
 loop-back-init c =
-    let r = c.next_operation-reached.result in
+    let r = c.next_in_session_of-reached.result in
     let is : c.in_ok-route.route.items ≡ r ∷ [] = c.in_ok-route.ensures.items in
     let len = ap (λ (ops : List OpId). length ops) is in
     record {
       route = subst (λ (ops : List OpId). IsRoute c.args.waits.now ops r r) (sym is) (route-none c.args.waits.now r);
-      at = λ a at. c.next_operation-reached.ensures
+      at = λ a at. c.next_in_session_of-reached.ensures
           ∙ ap (λ (b : OpId). next_of c.args.walk.now b.session) (at-place c.args.chain.now (c.args.places.1 - 0) c.args.places.1 a (op 0 0) (omega arith) at);
       some = omega arith;
     }
 
-pub next_operation-reached-requires-in-loop-back : goal.next_operation-reached-requires-in-loop-back
-next_operation-reached-requires-in-loop-back c =
+pub next_in_session_of-reached-requires-in-loop-back : goal.next_in_session_of-reached-requires-in-loop-back
+next_in_session_of-reached-requires-in-loop-back c =
     let inside = c.requires.places.inside in
     chain-few c.args.waits.now c.args.walk.now c.requires.waits c.args.chain.now c.requires.chain (c.args.places.1 - c.loop-back.back - 1) (op 0 0) (omega arith)
 
@@ -48,11 +48,11 @@ loop-back-preserved c =
     let again : later ≡ later - 1 + 1 = omega arith in
     let unplaced = c.requires.chain.unplaced later a at_a in
     let awaited = c.requires.chain.awaited (later - 1) b a at_b (subst (λ (n : ℕ). StandsAt chain n a) again at_a) in
-    let w = c.next_operation-reached-in-loop-back.result in
-    let is_w : w ≡ next_of schedule b.session = c.next_operation-reached-in-loop-back.ensures in
+    let w = c.next_in_session_of-reached-in-loop-back.result in
+    let is_w : w ≡ next_of schedule b.session = c.next_in_session_of-reached-in-loop-back.ensures in
     let awaited_w : IsAwaited v w a = subst (λ (o : OpId). IsAwaited v o a) (sym is_w) awaited in
     let route = c.loop-back.route.items in
-    let begin = c.next_operation-reached.result in
+    let begin = c.next_in_session_of-reached.result in
     let more = length_push c.if-reached-op.route.items w in
     let pushed : c.push-in-loop-back.new.self.items ≡ c.if-reached-op.route.items ++ w ∷ [] = c.in_ok-push-2.ensures.items in
     let size = ap (λ (ops : List OpId). length ops) pushed in
@@ -99,6 +99,6 @@ returns c =
     let same : a.session ≡ b.session = c.requires.places.same a b at_a at_b in
     let place : c.args.places.0 ≡ c.args.places.1 - c.loop-back.back = omega arith in
     let end : c.loop-back.reached ≡ next_of schedule a.session = inv.at a (subst (λ (n : ℕ). StandsAt chain n a) place at_a) in
-    let begin : c.next_operation-reached.result ≡ next_of schedule b.session = c.next_operation-reached.ensures in
-    route-cycle v c.loop-back.route.items c.next_operation-reached.result c.loop-back.reached inv.route
+    let begin : c.next_in_session_of-reached.result ≡ next_of schedule b.session = c.next_in_session_of-reached.ensures in
+    route-cycle v c.loop-back.route.items c.next_in_session_of-reached.result c.loop-back.reached inv.route
     (begin ∙ ap (λ (s : ℕ). next_of schedule s) (sym same) ∙ sym end) (omega arith)

@@ -14,7 +14,7 @@ loop-done-preserved g c =
         asked = c.ask.new.walk;
         queries = c.in_ok-ask.ensures;
         named = subst (λ (s : ℕ). IsNamed query c.args.h.now s c.ask.new.walk c.name.new.walk)
-            (c.from.ensures ∙ ap (λ (xs : List ℕ). get_or xs n 0) c.order_at-order.ensures) c.in_ok-name.ensures;
+            (c.from.ensures ∙ ap (λ (xs : List ℕ). get_or xs n 0) (rw c.place.ensures at c.order_at-order.ensures)) c.in_ok-name.ensures;
       },
     ) in
     subst (λ (m : ℕ). AreTurns query c.args.h.now c.args.told.now c.args.op m c.name.new.walk) next turn

@@ -54,7 +54,7 @@ run_behind-requires-clause-room c =
     let inside = listed-length v s c.in-Some.write.index w_listed in
     let small = c.in_ok-limits.ensures.small s inside in
     let most = walk-within v c.in_ok-limits.limits.items [] c.cut_to-2.new.self.walk c.in_ok-cut_to.ensures.full.walk s in
-    omega arith
+    rw c.session_place.ensures (omega arith)
 
 pub returns-clause-schedule : goal.returns-clause-schedule
 returns-clause-schedule c =
@@ -76,4 +76,4 @@ returns-clause-schedule c =
         rest = subst (λ (xs : List ℕ). IsFullWalk v xs (before ++ w.session ∷ []) walk) c.get-2.ensures rest;
       };
     })
-    c.run_behind.ensures.rule
+    (rw c.session_place.ensures at c.run_behind.ensures.rule)

@@ -29,8 +29,8 @@ returns-clause-others c =
           (first-zeros c.args.vectors.now c.args.op.session c.args.op.index _ c.sessions.result zeros c.requires.next w.if-op-gt0.false)
     ] in
     elim c.match-source.branch [
-      | in-Some w ↦ rw w.row-is
-          (both-raised c.args.vectors.now c.args.op.session c.args.op.index _ first c.args.source _ w.in-Some.source _ _ w.in-Some.is w.get-in-Some.ensures w.raise-in-Some.ensures.larger)
-      | in_default w ↦
-          one-raised c.args.vectors.now c.args.op.session c.args.op.index _ first c.args.source _ _ w.in_default.is (ap (λ v. v.items) w.row-is)
+      | in-Some w ↦ rw w.row-is (rw c.session_place.ensures
+          (both-raised c.args.vectors.now c.args.op.session c.args.op.index _ first c.args.source _ w.in-Some.source _ _ w.in-Some.is w.get-in-Some.ensures w.raise-in-Some.ensures.larger))
+      | in_default w ↦ rw c.session_place.ensures
+          (one-raised c.args.vectors.now c.args.op.session c.args.op.index _ first c.args.source _ _ w.in_default.is (ap (λ v. v.items) w.row-is))
     ]

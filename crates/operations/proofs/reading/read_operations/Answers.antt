@@ -14,8 +14,9 @@ returns-in_default-clause-refused g c =
     let v = c.index-values-index.result in
     let here = slice_get-mapped view c.args.values.now c.loop-index.index v c.index-values-index.is c.loop-index-test.true in
     let op : OpId = record { session = c.args.s; index = c.loop-index.index } in
-    refused_here g.O.Named.operation_at c.args.s (length c.args.values.now) (map view c.args.values.now) c.loop-index.entries.items c.loop-index.unknown_seen c.loop-index.index (view v) (BadOp op)
-    (simp length-map) c.loop-index.invariant here (rw (sym c.read_operation.ensures ∙ c.in_default.is) refl)
+    rw c.at-op.ensures
+    (refused_here g.O.Named.operation_at c.args.s (length c.args.values.now) (map view c.args.values.now) c.loop-index.entries.items c.loop-index.unknown_seen c.loop-index.index (view v) (BadOp op)
+    (simp length-map) c.loop-index.invariant here (rw (sym c.read_operation.ensures ∙ c.in_default.is) refl))
 
 pub returns-then-unknown_seen-clause-refused : goal.returns-then-unknown_seen-clause-refused
 returns-then-unknown_seen-clause-refused g c =
@@ -23,9 +24,10 @@ returns-then-unknown_seen-clause-refused g c =
     let here = slice_get-mapped view c.args.values.now c.loop-index.index v c.index-values-index.is c.loop-index-test.true in
     let op : OpId = record { session = c.args.s; index = c.loop-index.index } in
     let some : is_some c.in-Some.entry.1 ≡ true = c.is_none.ensures ∙ ap not c.if-is_none.false in
-    refused_here g.O.Named.operation_at c.args.s (length c.args.values.now) (map view c.args.values.now) c.loop-index.entries.items c.loop-index.unknown_seen c.loop-index.index (view v) (ReturnAfterUnknown op)
+    rw c.at-op.ensures
+    (refused_here g.O.Named.operation_at c.args.s (length c.args.values.now) (map view c.args.values.now) c.loop-index.entries.items c.loop-index.unknown_seen c.loop-index.index (view v) (ReturnAfterUnknown op)
     (simp length-map) c.loop-index.invariant here
-    (rw (sym c.read_operation.ensures ∙ c.in-Some.is) (known_return-refusal c.in-Some.entry c.loop-index.unknown_seen op some ∙ rw c.if-unknown_seen.true refl))
+    (rw (sym c.read_operation.ensures ∙ c.in-Some.is) (known_return-refusal c.in-Some.entry c.loop-index.unknown_seen op some ∙ rw c.if-unknown_seen.true refl)))
 
 pub loop-index-preserved : goal.loop-index-preserved
 loop-index-preserved g c =

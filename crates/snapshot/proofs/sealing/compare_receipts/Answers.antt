@@ -12,7 +12,7 @@ compare_receipt-requires g c =
     let q = c.requires c.loop-receipt.receipt-index c.receipt-item.result at in
     let lane = ap (λ o. o.session) c.op.ensures in
     let place = subst (λ n. n < length c.args.lanes.now.items) (sym lane) (slice_get_within c.args.lanes.now.items c.receipt-item.result.lane q.0 q.1) in
-    subst (λ l. SharesCells c.receipt-item.result l) (some_same q.0 c.index.result.now (sym q.1 ∙ (ap (slice_get c.args.lanes.now.items) (sym lane) ∙ read_at c.args.lanes.now.items c.op.result.session c.index.result.now place c.index.ensures))) q.2
+    subst (λ l. SharesCells c.receipt-item.result l) (some_same q.0 c.index.result.now (sym q.1 ∙ (ap (slice_get c.args.lanes.now.items) (sym lane) ∙ read_at c.args.lanes.now.items c.op.result.session c.index.result.now place (rw c.session_place.ensures at c.index.ensures)))) q.2
 
 pub loop-receipt-preserved : goal.loop-receipt-preserved
 loop-receipt-preserved g c =
@@ -20,7 +20,7 @@ loop-receipt-preserved g c =
     let q = c.requires c.loop-receipt.receipt-index c.receipt-item.result at in
     let lane = ap (λ o. o.session) c.op.ensures in
     let place = subst (λ n. n < length c.args.lanes.now.items) (sym lane) (slice_get_within c.args.lanes.now.items c.receipt-item.result.lane q.0 q.1) in
-    shown_more c.args.receipts.now c.args.lanes.now.items c.loop-receipt.receipt-index c.receipt-item.result c.index.result.now at (ap (slice_get c.args.lanes.now.items) (sym lane) ∙ read_at c.args.lanes.now.items c.op.result.session c.index.result.now place c.index.ensures) c.compare_receipt.ensures c.loop-receipt.invariant
+    shown_more c.args.receipts.now c.args.lanes.now.items c.loop-receipt.receipt-index c.receipt-item.result c.index.result.now at (ap (slice_get c.args.lanes.now.items) (sym lane) ∙ read_at c.args.lanes.now.items c.op.result.session c.index.result.now place (rw c.session_place.ensures at c.index.ensures)) c.compare_receipt.ensures c.loop-receipt.invariant
 
 pub returns : goal.returns
 returns g c = λ j r e.

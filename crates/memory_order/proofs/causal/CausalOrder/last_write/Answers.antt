@@ -10,5 +10,5 @@ pub returns : goal.returns
 returns c =
     let end = op c.args.session c.count.result in
     let found = subst (λ (h : MemoryHistory). MatchOption c.last_write_before.result (HasNoWriteBefore h c.args.read.now.key end) (IsLastWriteBefore h c.args.read.now.key end))
-    c.self.view_is c.last_write_before.ensures in
+    c.self.view_is (rw c.at-end.ensures at c.last_write_before.ensures) in
     last-past c.args.self.now c.args.read.now.key c.args.session c.count.result c.args.read.now.op c.count.ensures c.last_write_before.result found

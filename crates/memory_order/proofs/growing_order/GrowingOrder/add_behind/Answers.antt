@@ -8,7 +8,7 @@ use Rattle.causal_order.proofs.OrdersLaws.{session-of_history}
 use Rattle.memory_order.proofs.Raises.{grows-followed, settled-within}
 use Rattle.memory_order.proofs.Stale.{raised-none}
 use Rattle.memory_order.proofs.growing_order.GrowingOrder.add_behind.Goals as goal
-use Rattle.memory_order.proofs.growing_order.GrowingOrder.add_behind.Goals.{then-index+in_ok-raise_from, else-index}
+use Rattle.memory_order.proofs.growing_order.GrowingOrder.add_behind.Goals.{then-index-from+in_ok-raise_from, else-index-from}
 
 pub first_behind-index-requires-clause-monotone : goal.first_behind-index-requires-clause-monotone
 first_behind-index-requires-clause-monotone c =
@@ -22,8 +22,8 @@ loop-session-preserved c =
     let u = c.args.raised.session in
     let first = c.first_behind-index.ensures in
     let same = c.loop-session.invariant.same in
-    elim c.if-index.branch [
-      | then-index+in_ok-raise_from w ↦
+    elim c.if-index-from.branch [
+      | then-index-from+in_ok-raise_from w ↦
           let new = w.raise_from.new.self in
           let one = w.in_ok-raise_from.ensures.within NoReads (λ below. (inl (first.here below), omega arith)) in
           let within = within-then h NoReads c.args.self.now at new c.loop-session.invariant.within one in
@@ -34,13 +34,13 @@ loop-session-preserved c =
             behind = behind-more at.counts new.counts at new c.loop-session.session c.first_behind-index.result u c.count-count.result p first refl w.in_ok-raise_from.ensures.raised one.past monotone
                 c.loop-session.invariant.behind;
           })
-      | else-index w ↦
+      | else-index-from w ↦
           let growing = c.loop-session.invariant.within.grows.growing in
           let sessions = growing.sessions in
           let count = c.sessions-session-end.ensures.count in
           let test = c.loop-session-test.true in
           let past = get_or_read at.past.items _ _ (omega arith) c.index.ensures 0 in
-          let none = w.if-index.false in
+          let none = w.if-index-from.false in
           let monotone = (settled-within h NoReads (λ e. e ≡ c.args.raised) c.args.self.now at c.loop-session.invariant.within c.requires.settled).monotone in
           rw w.self-is (record {
             within = c.loop-session.invariant.within;

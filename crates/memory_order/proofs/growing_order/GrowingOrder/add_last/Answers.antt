@@ -1,6 +1,4 @@
-use Rattle.std.proofs.Common.{arith, ◌-◌, subst}
-use Rattle.history.specs.declared.op_id.OpId.{OpId}
-use Rattle.memory_order.specs.Steps.GrowthSteps.{IsPastOf}
+use Rattle.std.proofs.Common.{arith, ◌-◌}
 use Rattle.memory_order.proofs.GrowingSteps.{last-followed}
 use Rattle.memory_order.proofs.Outcomes.{on_ok-both}
 use Rattle.memory_order.proofs.growing_order.GrowingOrder.add_last.Goals as goal
@@ -11,5 +9,5 @@ returns-clause-followed c =
     let some = c.if-count-eq0.false in
     on_ok-both c.add_past.result _ _ _
     (λ within past. last-followed c.args.h.now c.args.self.now c.add_past.new.self c.args.op c.args.session (c.count-count.result - 1) within (omega arith)
-    (subst (λ (o : OpId). IsPastOf c.add_past.new.self.counts c.args.op o) c.at-last.ensures past))
+    (rw c.from.ensures at (rw c.at-last.ensures at past)))
     c.add_past.ensures.within c.add_past.ensures.past

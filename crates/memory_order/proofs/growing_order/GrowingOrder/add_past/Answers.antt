@@ -23,11 +23,13 @@ loop-session-preserved c =
     inl now)
     (λ (precedes : Precedes c.args.before c.args.op). inr precedes)
     c.requires.cause in
+    let grows = rw c.place-index.ensures at (rw c.session_place.ensures at c.in_ok-raise_from.ensures.within) in
+    let raised = rw c.place-index.ensures at (rw c.session_place.ensures at c.in_ok-raise_from.ensures.raised) in
     record {
       within = within-then h NoReads c.args.self.now at c.raise_from.new.self within
-          (c.in_ok-raise_from.ensures.within NoReads (λ _. (cause, omega arith)));
+          (grows NoReads (λ _. (cause, omega arith)));
       past = past-more at.counts c.raise_from.new.self.counts (slice_index at.past.items c.args.op.session) c.in-Some.session c.count-count.result c.args.op c.args.before
-          c.in_ok-raise_from.ensures.raised is_in value
+          raised is_in value
           (λ z below. ⊎_elim
           (λ (old : z < c.loop-session.from). c.loop-session.invariant.past z old)
           (λ (later : c.loop-session.from ≤ z). c.in-Some.ensures.2 z later below)

@@ -5,15 +5,15 @@ use Rattle.causal_order.specs.Vectors.{count}
 use Rattle.memory_order.proofs.GrowingSteps.{monotone-to}
 use Rattle.memory_order.proofs.growing_order.GrowingOrder.first_behind.Goals as goal
 
-pub loop-low-preserved-then-op-count : goal.loop-low-preserved-then-op-count
-loop-low-preserved-then-op-count c =
+pub loop-low-preserved-then-op-from : goal.loop-low-preserved-then-op-from
+loop-low-preserved-then-op-from c =
     let order = c.args.self.now in
     let middle : ℕ = c.loop-low.low + (c.loop-low.high - c.loop-low.low) / 2 in
     let ordered = c.loop-low.invariant.ordered in
     let inside = c.loop-low.invariant.inside in
     let less = c.loop-low-test.true in
-    let counts = c.if-op-count.true in
-    let value = c.count.ensures in
+    let counts = c.if-op-from.true in
+    let value = rw c.session_place.ensures at c.count.ensures in
     let at = ap (λ (o : OpId). count order.counts o c.args.op.session) c.at-other.ensures in
     record {
       ordered = omega arith;
@@ -31,8 +31,8 @@ loop-low-preserved c =
     let ordered = c.loop-low.invariant.ordered in
     let inside = c.loop-low.invariant.inside in
     let less = c.loop-low-test.true in
-    let counts = c.if-op-count.false in
-    let value = c.count.ensures in
+    let counts = c.if-op-from.false in
+    let value = rw c.session_place.ensures at c.count.ensures in
     let at = ap (λ (o : OpId). count order.counts o c.args.op.session) c.at-other.ensures in
     record {
       ordered = omega arith;

@@ -18,12 +18,12 @@ returns-in-Some c =
     let same = sym c.in-Some.is ∙ c.source_in.ensures in
     let exists = source-session c.args.h.now c.args.sources.now c.requires.sources c.args.op c.in-Some.source same in
     let sessions = c.requires.growing.sessions in
-    let at = get_or_read self.past.items c.in-Some.source.session _ (omega arith) c.index.ensures 0 in (
+    let at = get_or_read self.past.items c.in-Some.source.session _ (omega arith) (rw c.session_place.ensures at c.index.ensures) 0 in (
       λ is.
-          let less = ltb-true c.in-Some.source.index c.index.result.now is in
+          let less = ltb-true c.place.result c.from.result is in
           let is_in : IsIn self c.in-Some.source = omega arith in
           subst (λ e. MatchOption e Always (IsIn self)) same is_in,
       λ listed.
           let is_in : IsIn self c.in-Some.source = subst (λ e. MatchOption e Always (IsIn self)) (sym same) listed in
-          lt-ltb c.in-Some.source.index c.index.result.now (omega arith),
+          lt-ltb c.place.result c.from.result (omega arith),
     )

@@ -4,5 +4,7 @@ use Rattle.memory_order.proofs.growing_order.GrowingOrder.raise_alone.Goals as g
 
 pub returns : goal.returns
 returns c =
+    let within = rw c.place.ensures at (rw c.session_place-place.ensures at c.in_ok-raise_from.ensures.within) in
+    let raised = rw c.place.ensures at (rw c.session_place-place.ensures at c.in_ok-raise_from.ensures.raised) in
     raised-alone c.args.h.now c.args.self.now c.raise_from.new.self c.drop_raised.new.self c.args.op c.args.session c.args.number c.requires.last c.requires.empty
-    (c.in_ok-raise_from.ensures.within NoReads (λ _. c.requires.cause)) c.in_ok-raise_from.ensures.raised c.in_ok-raise_from.ensures.few c.drop_raised.ensures
+    (within NoReads (λ _. c.requires.cause)) raised c.in_ok-raise_from.ensures.few c.drop_raised.ensures

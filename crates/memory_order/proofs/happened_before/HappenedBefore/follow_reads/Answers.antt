@@ -1,4 +1,4 @@
-use Rattle.std.proofs.Common.{◌≡◌, arith, subst, sym, ⊎_elim}
+use Rattle.std.proofs.Common.{◌≡◌, ◌∙◌, arith, subst, sym, ⊎_elim}
 use Rattle.std.specs.Prelude.{◌≢◌}
 use Rattle.std.proofs.lemmas.Bool.{cases_eq}
 use Rattle.causal_order.specs.Orders.{op}
@@ -11,11 +11,11 @@ use Rattle.memory_order.proofs.happened_before.HappenedBefore.follow_reads.Goals
 pub follow_read-requires-clause-sources : goal.follow_read-requires-clause-sources
 follow_read-requires-clause-sources c = grown-sources c.args.h.now ⊥ c.args.self.now c.loop-index.self c.loop-index.invariant.grown c.requires.sources
 
-pub returns-then-raised-self-clause-reads : goal.returns-then-raised-self-clause-reads
-returns-then-raised-self-clause-reads c =
-    let apart = c.if-raised-self.true in
+pub returns-then-session_place-self-clause-reads : goal.returns-then-session_place-self-clause-reads
+returns-then-session_place-self-clause-reads c =
+    let apart = c.if-session_place-self.true in
     reads-followed c.args.h.now c.args.self.now c.args.self.now c.args.raised (grown-same c.args.h.now ⊥ c.args.self.now c.requires.well_formed) c.requires.reads
-    (λ j here from under below. absurd (apart here))
+    (λ j here from under below. absurd (apart (c.session_place.ensures ∙ here)))
 
 pub loop-index-init : goal.loop-index-init
 loop-index-init c = record {

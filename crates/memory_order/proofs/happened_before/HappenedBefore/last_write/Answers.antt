@@ -15,11 +15,11 @@ returns c = λ call is.
     let end = c.end_of_writes-end.result in
     let same = same_Some _ _ (sym c.call.ensures ∙ is) in
     let lists = subst (λ (writes : List Write). ListsWrites h writes) (sym c.deref.ensures.value) c.requires.well_formed.writes in
-    rw c.at.ensures (
+    rw c.at.ensures (rw c.from.ensures (
       refl,
       subst₂ (λ (x n : ℕ). IsLastBelow h x s n (end - 1)) (ap (λ (d : MemoryCall). d.key) same) c.count-count.ensures
           (found-last h c.deref.result.now lists c.call.result.key s c.count-count.result end c.end_of_writes-end.ensures c.if-end-eq0.false),
-    )
+    ))
 
 pub returns-then-end-eq0 : goal.returns-then-end-eq0
 returns-then-end-eq0 c = λ call is.

@@ -11,13 +11,15 @@ returns-then-has_in_past c =
     let past : IsSourcePast h relation.0 c.args.op =
     subst (λ (x : OpId). IsSourcePast h x c.args.op) c.op.ensures (c.has_in_past.ensures.0 c.if-has_in_past.true) in (
       (λ yes.
-          let below = ltb-true c.args.op.index c.count.result yes in
-          let is = c.count.ensures in
+          let below = ltb-true c.place.result c.count.result yes in
+          let is = rw c.session_place.ensures at c.count.ensures in
+          let index = c.place.ensures in
           itself-happened h relation c.requires.relation c.requires.distinct c.args.op past (omega arith)),
       (λ before.
           let counted = (happened-itself h relation c.requires.relation c.requires.distinct c.args.op before).1 in
-          let is = c.count.ensures in
-          lt-ltb c.args.op.index c.count.result (omega arith)),
+          let is = rw c.session_place.ensures at c.count.ensures in
+          let index = c.place.ensures in
+          lt-ltb c.place.result c.count.result (omega arith)),
     )
 
 pub returns-else-has_in_past : goal.returns-else-has_in_past

@@ -14,7 +14,7 @@ returns-in-Some c =
     let initially = none-from c.args.read.now.source (sym c.is_some.ensures ∙ c.if-is_some.false) in
     happened-found c.args.order.now c.args.relation.now c.requires.relation c.args.read.now kept c.loop-session.session c.in-Some.write initially
     (subst₂ (λ (g : MemoryHistory) (n : ℕ). IsLastWriteBefore g c.args.read.now.key (op c.loop-session.session n) c.in-Some.write)
-    c.memory.ensures c.count.ensures c.in-Some.ensures)
+    c.memory.ensures c.count.ensures (rw c.at-end.ensures at c.in-Some.ensures))
 
 pub loop-session-preserved : goal.loop-session-preserved
 loop-session-preserved c =
@@ -22,7 +22,7 @@ loop-session-preserved c =
     subst (λ (x : OpId). IsTrue (program_past x c.args.read.now.op)) c.op.ensures (sym c.is_in_program_past_of.ensures ∙ c.if-not-is_in_program_past_of.false) in
     happened-more c.args.order.now c.args.relation.now c.requires.relation c.args.read.now kept c.loop-session.session c.loop-session.invariant
     (subst₂ (λ (g : MemoryHistory) (n : ℕ). HasNoWriteBefore g c.args.read.now.key (op c.loop-session.session n))
-    c.memory.ensures c.count.ensures c.in_default.ensures)
+    c.memory.ensures c.count.ensures (rw c.at-end.ensures at c.in_default.ensures))
 
 pub returns : goal.returns
 returns c =

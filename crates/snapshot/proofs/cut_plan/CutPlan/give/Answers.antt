@@ -17,7 +17,7 @@ pub give_return-requires : goal.give_return-requires
 give_return-requires c =
     let st : PlanState = record { cap = c.self.inside.cap; lanes = c.self.inside.lanes.items } in
     let n = next_returns st c.in-Some-Return.op (ap state_next c.self.view_is ∙ (sym c.in-Some-Return.ensures.next ∙ ap Some c.in-Some-Return.field-0-is)) in
-    let same = same_lane c.self.inside.lanes.items c.in-Some-Return.op.session n.0 c.index_mut.result.now n.1 c.index_mut.ensures.value in
+    let same = same_lane c.self.inside.lanes.items c.in-Some-Return.op.session n.0 c.index_mut.result.now n.1 (rw c.session_place.ensures at c.index_mut.ensures.value) in
     λ z. return_room c.self.inside.cap c.in-Some-Return.op.index c.index_mut.result.now (subst (λ m. return_place c.self.inside.cap m ≡ Some c.in-Some-Return.op.index) same n.2) z
 
 pub index_mut-requires-in-Some-Call : goal.index_mut-requires-in-Some-Call
@@ -30,35 +30,35 @@ pub give_call-requires : goal.give_call-requires
 give_call-requires c =
     let st : PlanState = record { cap = c.self.inside.cap; lanes = c.self.inside.lanes.items } in
     let n = next_calls st c.in-Some-Call.op (ap state_next c.self.view_is ∙ (sym c.in-Some-Call.ensures.next ∙ ap Some c.in-Some-Call.field-0-is)) in
-    let same = same_lane c.self.inside.lanes.items c.in-Some-Call.op.session n.0 c.index_mut-in-Some-Call.result.now n.1 c.index_mut-in-Some-Call.ensures.value in
+    let same = same_lane c.self.inside.lanes.items c.in-Some-Call.op.session n.0 c.index_mut-in-Some-Call.result.now n.1 (rw c.session_place-in-Some-Call.ensures at c.index_mut-in-Some-Call.ensures.value) in
     call_room c.self.inside.cap c.in-Some-Call.op.index c.index_mut-in-Some-Call.result.now (subst (λ m. call_place c.self.inside.cap m ≡ Some c.in-Some-Call.op.index) same n.2)
 
 pub returns-in-Some-Return-clause-rule : goal.returns-in-Some-Return-clause-rule
 returns-in-Some-Return-clause-rule c =
     let st : PlanState = record { cap = c.self.inside.cap; lanes = c.self.inside.lanes.items } in
     let e = ap state_next c.self.view_is ∙ (sym c.in-Some-Return.ensures.next ∙ ap Some c.in-Some-Return.field-0-is) in let n = next_returns st c.in-Some-Return.op e in
-    let same = same_lane c.self.inside.lanes.items c.in-Some-Return.op.session n.0 c.index_mut.result.now n.1 c.index_mut.ensures.value in
-    λ p s. given_return st _ c.in-Some-Return.op c.args.full n.0 n.1 refl e (ap (λ l. set c.self.inside.lanes.items c.in-Some-Return.op.session l) (c.give_return.ensures ∙ ap (after_return c.args.full) (sym same))) p (subst (λ x. Stands x p) (sym c.self.view_is) s)
+    let same = same_lane c.self.inside.lanes.items c.in-Some-Return.op.session n.0 c.index_mut.result.now n.1 (rw c.session_place.ensures at c.index_mut.ensures.value) in
+    rw c.session_place.ensures (λ p s. given_return st _ c.in-Some-Return.op c.args.full n.0 n.1 refl e (ap (λ l. set c.self.inside.lanes.items c.in-Some-Return.op.session l) (c.give_return.ensures ∙ ap (after_return c.args.full) (sym same))) p (subst (λ x. Stands x p) (sym c.self.view_is) s))
 
 pub returns-in-Some-Return-clause-fewer : goal.returns-in-Some-Return-clause-fewer
 returns-in-Some-Return-clause-fewer c =
     let st : PlanState = record { cap = c.self.inside.cap; lanes = c.self.inside.lanes.items } in
     let e = ap state_next c.self.view_is ∙ (sym c.in-Some-Return.ensures.next ∙ ap Some c.in-Some-Return.field-0-is) in let n = next_returns st c.in-Some-Return.op e in
-    let same = same_lane c.self.inside.lanes.items c.in-Some-Return.op.session n.0 c.index_mut.result.now n.1 c.index_mut.ensures.value in
+    let same = same_lane c.self.inside.lanes.items c.in-Some-Return.op.session n.0 c.index_mut.result.now n.1 (rw c.session_place.ensures at c.index_mut.ensures.value) in
     let new : PlanState = record { cap = c.self.inside.cap; lanes = set c.self.inside.lanes.items c.in-Some-Return.op.session c.give_return.new.self } in
-    λ h. subst (λ x. looks_left new < looks_left x) c.self.view_is (fewer_return st new c.in-Some-Return.op c.args.full n.0 n.1 refl e (ap (λ l. set c.self.inside.lanes.items c.in-Some-Return.op.session l) (c.give_return.ensures ∙ ap (after_return c.args.full) (sym same))))
+    rw c.session_place.ensures (λ h. subst (λ x. looks_left new < looks_left x) c.self.view_is (fewer_return st new c.in-Some-Return.op c.args.full n.0 n.1 refl e (ap (λ l. set c.self.inside.lanes.items c.in-Some-Return.op.session l) (c.give_return.ensures ∙ ap (after_return c.args.full) (sym same)))))
 
 pub returns-in-Some-Call-clause-rule : goal.returns-in-Some-Call-clause-rule
 returns-in-Some-Call-clause-rule c =
     let st : PlanState = record { cap = c.self.inside.cap; lanes = c.self.inside.lanes.items } in
     let e = ap state_next c.self.view_is ∙ (sym c.in-Some-Call.ensures.next ∙ ap Some c.in-Some-Call.field-0-is) in let n = next_calls st c.in-Some-Call.op e in
-    let same = same_lane c.self.inside.lanes.items c.in-Some-Call.op.session n.0 c.index_mut-in-Some-Call.result.now n.1 c.index_mut-in-Some-Call.ensures.value in
-    λ p s. given_call st _ c.in-Some-Call.op c.args.full n.0 n.1 refl e (ap (λ l. set c.self.inside.lanes.items c.in-Some-Call.op.session l) (c.give_call.ensures ∙ ap (after_call c.args.full) (sym same))) p (subst (λ x. Stands x p) (sym c.self.view_is) s)
+    let same = same_lane c.self.inside.lanes.items c.in-Some-Call.op.session n.0 c.index_mut-in-Some-Call.result.now n.1 (rw c.session_place-in-Some-Call.ensures at c.index_mut-in-Some-Call.ensures.value) in
+    rw c.session_place-in-Some-Call.ensures (λ p s. given_call st _ c.in-Some-Call.op c.args.full n.0 n.1 refl e (ap (λ l. set c.self.inside.lanes.items c.in-Some-Call.op.session l) (c.give_call.ensures ∙ ap (after_call c.args.full) (sym same))) p (subst (λ x. Stands x p) (sym c.self.view_is) s))
 
 pub returns-in-Some-Call-clause-fewer : goal.returns-in-Some-Call-clause-fewer
 returns-in-Some-Call-clause-fewer c =
     let st : PlanState = record { cap = c.self.inside.cap; lanes = c.self.inside.lanes.items } in
     let e = ap state_next c.self.view_is ∙ (sym c.in-Some-Call.ensures.next ∙ ap Some c.in-Some-Call.field-0-is) in let n = next_calls st c.in-Some-Call.op e in
-    let same = same_lane c.self.inside.lanes.items c.in-Some-Call.op.session n.0 c.index_mut-in-Some-Call.result.now n.1 c.index_mut-in-Some-Call.ensures.value in
+    let same = same_lane c.self.inside.lanes.items c.in-Some-Call.op.session n.0 c.index_mut-in-Some-Call.result.now n.1 (rw c.session_place-in-Some-Call.ensures at c.index_mut-in-Some-Call.ensures.value) in
     let new : PlanState = record { cap = c.self.inside.cap; lanes = set c.self.inside.lanes.items c.in-Some-Call.op.session c.give_call.new.self } in
-    λ h. subst (λ x. looks_left new < looks_left x) c.self.view_is (fewer_call st new c.in-Some-Call.op c.args.full n.0 n.1 refl e (ap (λ l. set c.self.inside.lanes.items c.in-Some-Call.op.session l) (c.give_call.ensures ∙ ap (after_call c.args.full) (sym same))))
+    rw c.session_place-in-Some-Call.ensures (λ h. subst (λ x. looks_left new < looks_left x) c.self.view_is (fewer_call st new c.in-Some-Call.op c.args.full n.0 n.1 refl e (ap (λ l. set c.self.inside.lanes.items c.in-Some-Call.op.session l) (c.give_call.ensures ∙ ap (after_call c.args.full) (sym same)))))

@@ -15,17 +15,17 @@ pub keep_call-requires : goal.keep_call-requires
 keep_call-requires g c =
     let f = rw c.in-Some.is at c.find_call_of-found.ensures in
     let at = subst (λ l. slice_get l.lanes.cells c.args.op.session ≡ Some f.0) (sym c.self.view_is) f.1 in
-    call_place c.self.inside.lanes.now c.self.inside.receipts.now c.self.inside.told.items c.self.inside.cap c.self.inside.looks.items c.push.new.self.items c.self.inside.tables.items
-    c.self.invariant c.args.op.session f.0 at c.index_mut.result.now c.index_mut.result.now c.index_mut.ensures.value c.args.op.index c.in-Some.found f.2
+    rw c.place.ensures (call_place c.self.inside.lanes.now c.self.inside.receipts.now c.self.inside.told.items c.self.inside.cap c.self.inside.looks.items c.push.new.self.items c.self.inside.tables.items
+    c.self.invariant c.args.op.session f.0 at c.index_mut.result.now c.index_mut.result.now (rw c.session_place.ensures at c.index_mut.ensures.value) c.args.op.index c.in-Some.found f.2)
 
 pub invariant_of-self-2 : goal.invariant_of-self-2
 invariant_of-self-2 g c =
     let f = rw c.in-Some.is at c.find_call_of-found.ensures in
     let at = subst (λ l. slice_get l.lanes.cells c.args.op.session ≡ Some f.0) (sym c.self.view_is) f.1 in
     let full = rw c.in-Some.is at c.is_some.ensures in
-    keeps_call c.self.inside.lanes.now c.self.inside.receipts.now c.self.inside.told.items c.self.inside.cap c.self.inside.looks.items c.push.new.self.items c.self.inside.tables.items
-    c.self.invariant c.args.op.session f.0 at c.index_mut.result.now c.keep_call.new.self c.index_mut.ensures.value c.args.op.index c.in-Some.found f.2
-    c.keep_call.ensures.calls c.keep_call.ensures.returns (rw full at c.in_ok-push.ensures.items)
+    rw c.session_place.ensures (keeps_call c.self.inside.lanes.now c.self.inside.receipts.now c.self.inside.told.items c.self.inside.cap c.self.inside.looks.items c.push.new.self.items c.self.inside.tables.items
+    c.self.invariant c.args.op.session f.0 at c.index_mut.result.now c.keep_call.new.self (rw c.session_place.ensures at c.index_mut.ensures.value) c.args.op.index c.in-Some.found f.2
+    (rw c.place.ensures at c.keep_call.ensures.calls) c.keep_call.ensures.returns (rw full at c.in_ok-push.ensures.items))
 
 pub invariant_of-self-in_default : goal.invariant_of-self-in_default
 invariant_of-self-in_default g c =

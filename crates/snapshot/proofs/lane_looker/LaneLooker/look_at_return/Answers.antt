@@ -15,17 +15,17 @@ pub keep_return-requires : goal.keep_return-requires
 keep_return-requires g c =
     let f = rw c.in-Some.is at c.find_return_of-found.ensures in
     let at = subst (λ l. slice_get l.lanes.cells c.args.op.session ≡ Some f.0) (sym c.self.view_is) f.1 in
-    return_place c.self.inside.lanes.now c.self.inside.receipts.now c.self.inside.told.items c.self.inside.cap c.self.inside.looks.items c.push.new.self.items c.self.inside.tables.items
-    c.self.invariant c.args.op.session f.0 at c.index_mut.result.now c.index_mut.result.now c.index_mut.ensures.value c.args.op.index c.in-Some.found f.2
+    rw c.place.ensures (return_place c.self.inside.lanes.now c.self.inside.receipts.now c.self.inside.told.items c.self.inside.cap c.self.inside.looks.items c.push.new.self.items c.self.inside.tables.items
+    c.self.invariant c.args.op.session f.0 at c.index_mut.result.now c.index_mut.result.now (rw c.session_place.ensures at c.index_mut.ensures.value) c.args.op.index c.in-Some.found f.2)
 
 pub invariant_of-self-2 : goal.invariant_of-self-2
 invariant_of-self-2 g c =
     let f = rw c.in-Some.is at c.find_return_of-found.ensures in
     let at = subst (λ l. slice_get l.lanes.cells c.args.op.session ≡ Some f.0) (sym c.self.view_is) f.1 in
     let full = rw c.in-Some.is at c.is_some.ensures in
-    keeps_return c.self.inside.lanes.now c.self.inside.receipts.now c.self.inside.told.items c.self.inside.cap c.self.inside.looks.items c.push.new.self.items c.self.inside.tables.items
-    c.self.invariant c.args.op.session f.0 at c.index_mut.result.now c.keep_return.new.self c.index_mut.ensures.value c.args.op.index c.in-Some.found f.2
-    c.keep_return.ensures.returns c.keep_return.ensures.calls (rw full at c.in_ok-push.ensures.items)
+    rw c.session_place.ensures (keeps_return c.self.inside.lanes.now c.self.inside.receipts.now c.self.inside.told.items c.self.inside.cap c.self.inside.looks.items c.push.new.self.items c.self.inside.tables.items
+    c.self.invariant c.args.op.session f.0 at c.index_mut.result.now c.keep_return.new.self (rw c.session_place.ensures at c.index_mut.ensures.value) c.args.op.index c.in-Some.found f.2
+    (rw c.place.ensures at c.keep_return.ensures.returns) c.keep_return.ensures.calls (rw full at c.in_ok-push.ensures.items))
 
 pub invariant_of-self-in_default : goal.invariant_of-self-in_default
 invariant_of-self-in_default g c =
