@@ -1,17 +1,17 @@
 -- What is said of a history and a certificate of it.
-use Rattle.std.specs.Prelude.{◌≡◌, ◌≢◌, ◌⊎◌, ⊤, ℕ, List, [], ◌∷◌, Option, Some, None}
+use Rattle.std.specs.Prelude.{◌≡◌, ◌≢◌, ⊤, ℕ, List, [], ◌∷◌, Option, Some, None}
 use Rattle.serde_json.specs.Data.{Data}
 use Rattle.operations.specs.declared.read_error.ReadError.{ReadError}
 use Rattle.operations.specs.declared.read_error.ReadError.TheVariants as errors
 use Rattle.operations.specs.declared.any_history.AnyHistory.{AnyHistory}
-use Rattle.operations.specs.Json.{elements, list}
+use Rattle.operations.specs.Json.{list}
 use Rattle.operations.specs.AnyForm.{first_refusal, form_of, IsAnyHistory, IsJson}
 use Rattle.cert_check.specs.declared.certificate.Certificate.{Certificate}
 use Rattle.cert_check.specs.Certificates.{HasShapeOf, criterion_of}
 use Rattle.cert_check.specs.CertificateForm.{form_of as certificate_form, IsCertificate}
-use Rattle.operations.specs.Refusals.{IsFirst}
 use Rattle.engine.specs.declared.failure.RunError.{RunError}
-use Rattle.engine.specs.declared.failure.RunError.TheVariants.{History, BadCertificate, ShapeMismatch, Memory}
+use Rattle.engine.specs.declared.failure.RunError.TheVariants.{BadCertificate, ShapeMismatch, Memory}
+use Rattle.engine.specs.InputErrors.{IsErrorOf, IsTextError}
 use Rattle.engine.specs.Report.{HoldsOf, IsTrueOf, line_for}
 use Rattle.board.specs.declared.answer.Answer.{Answer}
 use Rattle.collector.specs.Judgements.{IsSaidOf}
@@ -39,21 +39,17 @@ abbrev pub HasBadCertificate : Data → Type 0
 HasBadCertificate pair =
     (h : AnyHistory) × (d : Data) × IsAnyHistory h × (pair ≡ pair_form (form_of h) d) × ((c : Certificate) → IsCertificate c → d ≢ certificate_form c)
 
--- why a value is refused as a pair of a history and a certificate: the first refusal is that of the list or of the
--- history, or else the certificate has no form
-abbrev pub IsPairErrorOf : Data → RunError → Type 0
-IsPairErrorOf pair (History refusal) = IsFirst (pair_refusal (elements pair)) refusal
-IsPairErrorOf pair BadCertificate = HasBadCertificate pair
-IsPairErrorOf pair Memory = ⊤
-IsPairErrorOf pair _ = ⊥
+-- behind the history of a pair stands no certificate
+abbrev pub IsWrongPair : RunError → Data → Type 0
+IsWrongPair BadCertificate pair = HasBadCertificate pair
+IsWrongPair _ pair = ⊥
 
--- why a text is refused: it is no JSON, or so is its value
+-- why a value, or a text, is refused as a pair of a history and a certificate
+abbrev pub IsPairErrorOf : Data → RunError → Type 0
+IsPairErrorOf pair error = IsErrorOf pair_refusal IsWrongPair pair error
+
 abbrev pub IsPairError : List ℕ → RunError → Type 0
-IsPairError text Memory = ⊤
-IsPairError text (History refusal) =
-    ((refusal ≡ errors.NotJson) × ((d : Data) → ¬ IsJson text d)) ⊎ ((d : Data) × IsJson text d × IsFirst (pair_refusal (elements d)) refusal)
-IsPairError text BadCertificate = (d : Data) × IsJson text d × HasBadCertificate d
-IsPairError text _ = ⊥
+IsPairError text error = IsTextError pair_refusal IsWrongPair text error
 
 -- a certificate has the shape of a history
 abbrev pub HasShape : AnyHistory → Certificate → Type 0

@@ -1,5 +1,6 @@
 pub mod Failure
 pub mod Report
+pub mod InputErrors
 pub mod CheckPlaces
 pub mod Checking
 pub mod ClaimPlaces

@@ -1,13 +1,12 @@
 -- What is said of a history and a pattern of it.
-use Rattle.std.specs.Prelude.{◌≡◌, ⊤, ◌⊎◌, ℕ, List, [], ◌∷◌, Option, Some, None}
+use Rattle.std.specs.Prelude.{◌≡◌, ℕ, List, [], ◌∷◌, Option, Some, None}
 use Rattle.serde_json.specs.Data.{Data, string}
 use Rattle.operations.specs.declared.read_error.ReadError.{ReadError}
 use Rattle.operations.specs.declared.read_error.ReadError.TheVariants as errors
 use Rattle.operations.specs.declared.any_history.AnyHistory.{AnyHistory}
 use Rattle.operations.specs.declared.any_history.AnyHistory.TheVariants as histories
-use Rattle.operations.specs.Json.{elements, list}
+use Rattle.operations.specs.Json.{list}
 use Rattle.operations.specs.AnyForm.{first_refusal, form_of, IsAnyHistory, IsJson}
-use Rattle.operations.specs.Refusals.{IsFirst}
 use Rattle.cert_check.specs.declared.criterion.Criterion.{Criterion}
 use Rattle.cert_check.specs.CriterionNames.{name_of}
 use Rattle.bad_patterns.specs.declared.pattern.Pattern.{Pattern}
@@ -15,7 +14,8 @@ use Rattle.bad_patterns.specs.PatternForm.{form_of as pattern_form}
 use Rattle.bad_patterns.specs.Patterns.{IsBadPattern, kind_of}
 use Rattle.board.specs.declared.answer.Answer.TheVariants.{No}
 use Rattle.engine.specs.declared.failure.RunError.{RunError}
-use Rattle.engine.specs.declared.failure.RunError.TheVariants.{History, NotThatPattern, Memory}
+use Rattle.engine.specs.declared.failure.RunError.TheVariants.{NotThatPattern}
+use Rattle.engine.specs.InputErrors.{IsErrorOf, IsTextError}
 use Rattle.engine.specs.Report.{IsExcluded, line_for}
 
 -- the form of a claim that a pattern shows that a history does not meet a criterion: the three in one JSON list
@@ -46,20 +46,17 @@ HasNoSuchPattern claim =
     (h : AnyHistory) × (c : Data) × (p : Data) × IsAnyHistory h × (claim ≡ list (form_of h ∷ c ∷ p ∷ []))
     × ((criterion : Criterion) (pattern : Pattern) → c ≡ string (name_of criterion) → p ≡ pattern_form pattern → ¬ IsPatternOf h criterion pattern)
 
--- why a value is refused as a claim: the first refusal is that of the list or of the history, or else the rest of it is wrong
-abbrev pub IsClaimErrorOf : Data → RunError → Type 0
-IsClaimErrorOf claim (History refusal) = IsFirst (claim_refusal (elements claim)) refusal
-IsClaimErrorOf claim NotThatPattern = HasNoSuchPattern claim
-IsClaimErrorOf claim Memory = ⊤
-IsClaimErrorOf claim _ = ⊥
+-- behind the history of a claim stands nothing that shows it
+abbrev pub IsWrongClaim : RunError → Data → Type 0
+IsWrongClaim NotThatPattern claim = HasNoSuchPattern claim
+IsWrongClaim _ claim = ⊥
 
--- why a text is refused: it is no JSON, or so is its value
+-- why a value, or a text, is refused as a claim
+abbrev pub IsClaimErrorOf : Data → RunError → Type 0
+IsClaimErrorOf claim error = IsErrorOf claim_refusal IsWrongClaim claim error
+
 abbrev pub IsClaimError : List ℕ → RunError → Type 0
-IsClaimError text Memory = ⊤
-IsClaimError text (History refusal) =
-    ((refusal ≡ errors.NotJson) × ((d : Data) → ¬ IsJson text d)) ⊎ ((d : Data) × IsJson text d × IsFirst (claim_refusal (elements d)) refusal)
-IsClaimError text NotThatPattern = (d : Data) × IsJson text d × HasNoSuchPattern d
-IsClaimError text _ = ⊥
+IsClaimError text error = IsTextError claim_refusal IsWrongClaim text error
 
 -- the text answers the claim in the input: its pattern shows that its history does not meet its criterion, and the line says so
 pub record IsRefutation (input text : List ℕ) : Type 0 where
