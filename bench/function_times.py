@@ -1,0 +1,110 @@
+"""Lists the functions whose proofs take longest, and what each crate takes.
+
+    python3 bench/function_times.py prove LOGS [CRATE ..]   proves the crates, lowest first, and keeps a log of each in LOGS
+    python3 bench/function_times.py table LOGS [COUNT]      prints both tables in Markdown from these logs
+
+Run `prove` at the top of a clone in which nothing was checked before: what an earlier check kept takes no time. It takes
+some three hours of one processor. A log has the clock, in seconds, before each line that `rt check --jobs 1` prints: a line
+for each function as its proof ends. So the time of a function is the time since the line before it. The first function of a
+crate also pays for what stands apart from functions, as the crate's definitions and lemmas.
+"""
+
+import os
+import re
+import subprocess
+import sys
+import time
+
+CHECKED = re.compile(r"(\d+\.\d+) checked (\S+), (\d+) of \d+")
+STAMPED = re.compile(r"(\d+\.\d+) ")
+
+
+def libraries_by_crate():
+    """The libraries of each crate, by the repository's list of crates."""
+    found = {}
+    with open("crates.txt", encoding="utf-8") as lines:
+        for line in lines:
+            name, _, libraries = line.partition(":")
+            if line.strip() and not line.startswith("#"):
+                found[name.split()[0]] = libraries.split()
+    return found
+
+
+def lowest_first(libraries):
+    """The crates, each after those that it uses."""
+    order = []
+
+    def visit(name):
+        if name in libraries and name not in order:
+            for below in libraries[name]:
+                visit(below)
+            order.append(name)
+
+    for name in libraries:
+        visit(name)
+    return order
+
+
+def prove(name, log):
+    """Proves a crate, writes what the check prints into a log, each line after the clock, and returns the status."""
+    words = ["rt", "check", "--jobs", "1"]
+    how = {"cwd": f"crates/{name}", "stdout": subprocess.PIPE, "stderr": subprocess.STDOUT, "errors": "replace"}
+    with open(log, "w", encoding="utf-8") as kept, subprocess.Popen(words, **how) as ran:
+        kept.write(f"{time.time():.2f} begins\n")
+        for line in ran.stdout:
+            kept.write(f"{time.time():.2f} {line}")
+    return ran.returncode
+
+
+def read_log(log):
+    """The functions of a log with their times, and the time of the whole."""
+    functions, first, last = [], None, None
+    with open(log, encoding="utf-8", errors="replace") as lines:
+        for line in lines:
+            stamp = STAMPED.match(line)
+            if not stamp:
+                continue
+            now = float(stamp[1])
+            checked = CHECKED.match(line)
+            if checked and last is not None:
+                functions.append((now - last, checked[2], checked[3] == "1"))
+            first = now if first is None else first
+            last = now
+    return functions, (last or 0) - (first or 0)
+
+
+def print_tables(folder, count):
+    """Prints the functions that take longest, and what each crate takes."""
+    functions, crates = [], []
+    for file in sorted(os.listdir(folder)):
+        if file.endswith(".log"):
+            found, whole = read_log(f"{folder}/{file}")
+            functions += found
+            crates.append((whole, file.removesuffix(".log"), len(found)))
+    print("| function | seconds |\n|---|---|")
+    for seconds, name, is_first in sorted(functions, reverse=True)[:count]:
+        print(f"| `{name}`{' (the first of its crate)' if is_first else ''} | {seconds:.0f} |")
+    print("\n| crate | functions | minutes |\n|---|---|---|")
+    for seconds, name, number in sorted(crates, reverse=True):
+        print(f"| {name} | {number} | {seconds / 60:.1f} |")
+    print(f"\n{len(functions)} functions, {sum(it[0] for it in crates) / 60:.0f} minutes.")
+
+
+def main(words):
+    """Does what the words say, and returns the exit status."""
+    if len(words) >= 2 and words[0] == "prove":
+        os.makedirs(words[1], exist_ok=True)
+        for name in lowest_first(libraries_by_crate()):
+            if not words[2:] or name in words[2:]:
+                status = prove(name, f"{words[1]}/{name}.log")
+                print(f"{name}: {'proved' if not status else 'not proved'}", flush=True)
+        return 0
+    if len(words) in (2, 3) and words[0] == "table":
+        print_tables(words[1], int(words[2]) if words[2:] else 40)
+        return 0
+    print(__doc__, file=sys.stderr)
+    return 2
+
+
+if __name__ == "__main__":
+    sys.exit(main(sys.argv[1:]))
