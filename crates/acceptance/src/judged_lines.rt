@@ -1,4 +1,4 @@
-//! Histories in lines.
+//! Histories in lines, in pieces and over readers that fail.
 
 use crate::cases::Question;
 use crate::devices::{Device, Failing, NEVER, Sink};
@@ -15,33 +15,17 @@ use std::thread::Threads;
 
 const LINES: &str = r#"
 no_line | - | 0
-one_line | - ["memory",[]]% | 0 cc yes; cm yes; ccv yes%
-line_without_its_line_feed | - ["memory",[]] | 0 cc yes; cm yes; ccv yes%
-two_lines | - ["memory",[[["r",0,7]]]]%["memory",[]]% | 0 cc no ThinAirRead; cm no ThinAirRead; ccv no ThinAirRead%cc yes; cm yes; ccv yes%
 last_line_without_its_line_feed | - ["memory",[]]%["memory",[[["r",0,7]]]] | 0 cc yes; cm yes; ccv yes%cc no ThinAirRead; cm no ThinAirRead; ccv no ThinAirRead%
-empty_line | - % | 1 refused 1%
-empty_lines | - %% | 1 refused 1%refused 1%
 empty_line_between | - ["memory",[]]%%["memory",[]] | 1 cc yes; cm yes; ccv yes%refused 1%cc yes; cm yes; ccv yes%
 blanks_around | -  ["memory", []] % | 0 cc yes; cm yes; ccv yes%
 refused_lines_among_others | - ["memory",[[["x"]]]]%["memory",[]]%["foo",[]]%["memory",[[["r",0,"?"],["w",0,1]]]]%{}%["counter",[[["inc"],["get",1]]]]% | 1 refused 4 0.0%cc yes; cm yes; ccv yes%refused 3%refused 5 0.1%refused 2%cc yes; cm yes; ccv yes%
 all_objects | - ["register",[[["w",7],["r",7]]]]%["counter",[[["inc"],["get",1]],[["get",0]]]]%["set",[[["add",1],["has",1,true]]]]%["queue",[[["push",5],["pop",5]]]]%["memory",[[["w",0,1]],[["r",0,1]]]]%["counters",[[["get",0,0]]]]%["sets",[[],[["has",0,1,true]]]]%["queues",[[["push",1,5]],[["pop",1,5]]]]% | 0 cc yes; cm yes; ccv yes%cc yes; cm yes; ccv yes%cc yes; cm yes; ccv yes%cc yes; cm yes; ccv yes%cc yes; cm yes; ccv yes%cc yes; cm yes; ccv yes%cc unknown 1.0; cm unknown 1.0; ccv unknown 1.0%cc unknown 1.0; cm unknown 1.0; ccv unknown 1.0%
-all_are_as_expected | cc,cm,ccv ["memory",[]]%["counter",[]]% | 0 cc yes; cm yes; ccv yes%cc yes; cm yes; ccv yes%
-one_is_not_as_expected | ccv ["memory",[]]%["memory",[[["w",0,1],["r",0,2]],[["w",0,2],["r",0,1]]]]%["memory",[]]% | 5 cc yes; cm yes; ccv yes%cc yes; cm yes; ccv no CyclicCF%cc yes; cm yes; ccv yes%
-what_is_not_expected_does_not_count | cc,cm ["memory",[[["w",0,1],["r",0,2]],[["w",0,2],["r",0,1]]]]% | 0 cc yes; cm yes; ccv no CyclicCF%
-one_is_unknown | cm ["memory",[]]%["register",[[["r",5]]]]% | 6 cc yes; cm yes; ccv yes%cc unknown 0.0; cm unknown 0.0; ccv unknown 0.0%
 no_counts_more_than_unknown | cm ["memory",[[["r",0,7]]]]%["register",[[["r",5]]]]% | 5 cc no ThinAirRead; cm no ThinAirRead; ccv no ThinAirRead%cc unknown 0.0; cm unknown 0.0; ccv unknown 0.0%
-no_counts_more_than_unknown_before_it | cm ["register",[[["r",5]]]]%["memory",[[["r",0,7]]]]% | 5 cc unknown 0.0; cm unknown 0.0; ccv unknown 0.0%cc no ThinAirRead; cm no ThinAirRead; ccv no ThinAirRead%
-refusal_counts_most | cc ["memory",[[["r",0,7]]]]%[]%["register",[[["r",5]]]]% | 1 cc no ThinAirRead; cm no ThinAirRead; ccv no ThinAirRead%refused 2%cc unknown 0.0; cm unknown 0.0; ccv unknown 0.0%
 "#;
 
 #[test]
-fn lines_are_answered_in_order(rt: HostRuntime) -> Result<(), Fail> {
-    let questions = [
-        Question::Lines(1, 65_536),
-        Question::Lines(4, 65_536),
-        Question::Lines(1, 1),
-        Question::Lines(16, 7),
-    ];
+fn lines_in_pieces_are_answered_in_order(rt: HostRuntime) -> Result<(), Fail> {
+    let questions = [Question::Lines(1, 1), Question::Lines(16, 7)];
     as_wanted_of_each(&rt, &questions, LINES)
 }
 
@@ -146,54 +130,6 @@ fn ended<P: AllocGlobal>(
         }
     };
     String::from_str(rt.alloc(), said.as_str().trim_end())
-}
-
-/// So many histories, a line each, in which a session reads what another wrote, or did not write, in turn.
-fn many_lines<P: AllocGlobal>(rt: &P, many: u64) -> Result<String, AllocError> {
-    let mut text = String::new(rt.alloc());
-    for value in 1..many {
-        let read = value + value % 2;
-        let line = format!(in rt.alloc();
-            "[\"memory\",[[[\"w\",0,{value}]],[[\"r\",0,{read}]]]]\n"
-        )?;
-        text.push_str(line.as_str())?;
-    }
-    Ok(text)
-}
-
-/// What so many workers say of many lines.
-fn said_of_many<P: Threads + Wait + Sync + AllocGlobal>(
-    rt: &P,
-    workers: usize,
-    text: &str,
-) -> Result<String, AllocError> {
-    let mut device = Device::new(text.as_bytes(), 0, 65_536, NEVER);
-    match judging_of(rt, workers, "cc")? {
-        Some(judging) => said_over(rt, judging, &mut device),
-        None => String::from_str(rt.alloc(), "no order"),
-    }
-}
-
-#[test]
-fn many_workers_say_what_one_says(rt: HostRuntime) -> Result<(), Fail> {
-    let text = many_lines(&rt, 500)?;
-    let said = said_of_many(&rt, 1, text.as_str())?;
-    let begin =
-        "5 cc no ThinAirRead; cm no ThinAirRead; ccv no ThinAirRead%cc yes; cm yes; ccv yes%cc no";
-    assert_eq!(rt; said.as_str().starts_with(begin), true);
-    assert_eq!(rt;
-        said_of_many(&rt, 2, text.as_str())?.as_str(),
-        said.as_str()
-    );
-    assert_eq!(rt;
-        said_of_many(&rt, 3, text.as_str())?.as_str(),
-        said.as_str()
-    );
-    assert_eq!(rt;
-        said_of_many(&rt, 16, text.as_str())?.as_str(),
-        said.as_str()
-    );
-    Ok(())
 }
 
 const TWO_LINES: &str = "[\"memory\",[]]\n[\"memory\",[]]\n";
