@@ -1,9 +1,8 @@
 //! Cases as lines of text, `name | input | wanted answer`.
 
 use crate::{
-    advised, applied_calls, checked, command_lines, cut_histories, desks, drives, expected,
-    explained, found_patterns, judged, judged_lines, judgements, made_certificates, patterns,
-    pictured, refuted, replica_runs, replicas, texts, worded, worlds, written_certificates,
+    advised, applied_calls, command_lines, cut_histories, desks, found_patterns, judged_lines,
+    judgements, made_certificates, patterns, replica_runs, replicas, texts,
 };
 use std::alloc::AllocError;
 use std::sync::Wait;
@@ -12,38 +11,18 @@ use std::thread::Threads;
 /// What is asked of the input of a case.
 #[derive(Clone, Copy)]
 pub enum Question {
-    /// What a run of `judge` by so many workers says of it.
-    Judge(usize),
-    /// What a run of `judge` says of it, of which criteria are expected to be met.
-    Expect,
     /// What `judge --lines` by so many workers says of its lines, whose bytes come so many a read call.
     Lines(usize, usize),
     /// What a run that answers all its lines at once says of them.
     LinesAtOnce,
-    /// What a run of `check` by so many workers says of it.
-    Check(usize),
     /// What `judge` or `judge_with` of the library by so many workers says of it.
     JudgeBy(usize),
     /// Which order its words give.
     Order,
     /// Which part of its history is cut out.
     Cut,
-    /// What a run of `drive` with its options says of its history.
-    Drive,
     /// Which kinds of patterns are found in its history.
     Find,
-    /// Why, by a run of `explain`, its history meets each criterion or does not.
-    Reasons,
-    /// The same, with certificates.
-    Certificates,
-    /// What runs of `check` say of the certificates among these reasons.
-    Certified,
-    /// What stands in the picture of its history.
-    Picture,
-    /// The same in words.
-    Words,
-    /// What a run of `refute` says of it.
-    Refute,
     /// Whether its pattern is shown in its history.
     Show,
     /// Which piece of an operation is made for its history.
@@ -64,8 +43,6 @@ pub enum Question {
     Copy,
     /// What the object of its history answers.
     Apply,
-    /// What `replay` answers to its script.
-    Replay,
     /// What replicas answer to its steps.
     Replicate,
     /// Whether replicas answer as a replay does, in random runs.
@@ -111,22 +88,12 @@ fn answer_to<P: Threads + Wait + Sync + AllocGlobal>(
     input: &str,
 ) -> Result<String, AllocError> {
     match question {
-        Question::Judge(workers) => judged::said(rt, workers, input),
-        Question::Expect => expected::said(rt, input),
         Question::Lines(workers, piece) => judged_lines::said(rt, workers, piece, input),
         Question::LinesAtOnce => judged_lines::said_at_once(rt, input),
-        Question::Check(workers) => checked::said(rt, workers, input),
         Question::JudgeBy(workers) => judgements::said(rt, workers, input),
         Question::Order => command_lines::ordered(rt.alloc(), input),
         Question::Cut => cut_histories::cut(rt.alloc(), input),
-        Question::Drive => drives::said(rt, input),
         Question::Find => found_patterns::found(rt.alloc(), input),
-        Question::Reasons => explained::said(rt, input),
-        Question::Certificates => written_certificates::said(rt, input),
-        Question::Certified => written_certificates::certified(rt, input),
-        Question::Picture => pictured::said(rt, input),
-        Question::Words => worded::said(rt, input),
-        Question::Refute => refuted::said(rt, input),
         Question::Show => patterns::shown(rt.alloc(), input),
         Question::Make => made_certificates::made(rt.alloc(), input),
         Question::MakeByProgramOrder => made_certificates::made_by_program_order(rt.alloc(), input),
@@ -137,7 +104,6 @@ fn answer_to<P: Threads + Wait + Sync + AllocGlobal>(
         Question::Write => texts::written(rt.alloc(), input),
         Question::Copy => texts::copied(rt.alloc(), input),
         Question::Apply => applied_calls::applied(rt.alloc(), input),
-        Question::Replay => worlds::replied(rt, input),
         Question::Replicate => replicas::replicated(rt.alloc(), input),
         Question::ReplicateAtRandom => replica_runs::replayed(rt.alloc(), input),
     }

@@ -1,8 +1,6 @@
-//! Runs of `drive`: what is recorded of live clients and said of it, and what is refused.
+//! Runs of `drive` whose output is not determined: what is said of what was recorded of live clients.
 
-use crate::cases::Question;
 use crate::running::said_of;
-use crate::tables::as_wanted;
 use crate::workers::{FIRST, SECOND, is_set_in_time};
 use collector::Gate;
 use engine::{Drive, Order, RunError, Store, Workers, command_of, drive_with};
@@ -14,41 +12,8 @@ use std::sync::atomic::{AtomicBool, Ordering};
 use std::test::Fail;
 use std::thread::Threads;
 
-const DRIVEN: &str = r#"
-causal_counter | causal ["counter",[[["inc"],["get","?"]]]] | 0 ["counter",[[["inc"],["get",1]]]];cc yes;cm yes;ccv yes;
-lamport_counter | lamport ["counter",[[["inc"],["get","?"]]]] | 0 ["counter",[[["inc"],["get",1]]]];cc yes;cm yes;ccv yes;
-register | causal ["register",[[["w",3],["r","?"]]]] | 0 ["register",[[["w",3],["r",3]]]];cc yes;cm yes;ccv yes;
-set | lamport ["set",[[["add",4],["has",4,"?"]]]] | 0 ["set",[[["add",4],["has",4,true]]]];cc yes;cm yes;ccv yes;
-queue | causal ["queue",[[["push",5],["pop","?"],["pop","?"]]]] | 0 ["queue",[[["push",5],["pop",5],["pop",null]]]];cc yes;cm yes;ccv yes;
-memory_at_the_causal_store | causal ["memory",[[["w",0,1],["r",0,"?"]]]] | 0 ["memory",[[["w",0,1],["r",0,1]]]];cc yes;cm yes;ccv yes;
-memory | lamport ["memory",[[["w",0,1],["r",0,"?"]]]] | 0 ["memory",[[["w",0,1],["r",0,1]]]];cc yes;cm yes;ccv yes;
-counters | causal ["counters",[[["inc",1],["get",1,"?"],["get",2,"?"]]]] | 0 ["counters",[[["inc",1],["get",1,1],["get",2,0]]]];cc yes;cm yes;ccv yes;
-sets | causal --eager ["sets",[[["add",1,4],["has",2,4,"?"]]]] | 0 ["sets",[[["add",1,4],["has",2,4,false]]]];cc yes;cm yes;ccv yes;
-queues | lamport --eager ["queues",[[["push",1,5],["pop",1,"?"]]]] | 0 ["queues",[[["push",1,5],["pop",1,5]]]];cc yes;cm yes;ccv yes;
-initial_value | causal ["memory",[[["r",0,"?"],["w",0,1,"?"],["r",0,"?"]]],[[0,5]]] | 0 ["memory",[[["r",0,5],["w",0,1],["r",0,1]]],[[0,5]]];cc yes;cm yes;ccv yes;
-returns_of_the_input_are_ignored | causal ["counter",[[["get",7]]]] | 0 ["counter",[[["get",0]]]];cc yes;cm yes;ccv yes;
-two_writers_at_the_causal_store | causal ["memory",[[["w",0,1]],[["w",1,1]]]] | 0 ["memory",[[["w",0,1]],[["w",1,1]]]];cc yes;cm yes;ccv yes;
-two_writers_at_the_lamport_store | lamport ["memory",[[["w",0,1]],[["w",1,1]]]] | 0 ["memory",[[["w",0,1]],[["w",1,1]]]];cc yes;cm yes;ccv yes;
-session_that_stops | causal --stop 0 ["memory",[[["w",0,1],["r",0,"?"]]]] | 0 ["memory",[[["w",0,1],["r",0,"?"]]]];cc yes;cm yes;ccv yes;
-by_one_worker | causal --workers 1 ["counter",[[["inc"]]]] | 0 ["counter",[[["inc"]]]];cc yes;cm yes;ccv yes;
-by_16_workers | lamport --workers 16 ["counter",[[["inc"]]]] | 0 ["counter",[[["inc"]]]];cc yes;cm yes;ccv yes;
-sessions_without_calls | causal ["counter",[[],[]]] | 0 ["counter",[[],[]]];cc yes;cm yes;ccv yes;
-no_session | causal ["memory",[]] | 1 refused 10
-no_session_that_stops | causal --stop 3 ["memory",[[],[]]] | 1 refused 26
-no_session_at_all_comes_first | causal --stop 3 ["memory",[]] | 1 refused 10
-no_history_comes_first | causal --stop 3 ["memory",{}] | 1 refused 2
-"#;
-
-#[test]
-fn clients_get_the_answers_of_the_object(rt: HostRuntime) -> Result<(), Fail> {
-    as_wanted(&rt, Question::Drive, DRIVEN)
-}
-
 /// What a run of `drive` says of the history that stands last in an input, behind its options.
-pub fn said<P: Threads + Wait + Sync + AllocGlobal>(
-    rt: &P,
-    input: &str,
-) -> Result<String, AllocError> {
+fn said<P: Threads + Wait + Sync + AllocGlobal>(rt: &P, input: &str) -> Result<String, AllocError> {
     let Some((options, history)) = input.rsplit_once(' ') else {
         return String::from_str(rt.alloc(), "no options and history");
     };

@@ -54,15 +54,3 @@ pub fn writes(alloc: Global, sessions: usize, operations: usize) -> Result<Strin
     text.push_str("]]")?;
     Ok(text)
 }
-
-/// The text of a memory history with no session and so many initial values.
-pub fn entries(alloc: Global, count: usize) -> Result<String, AllocError> {
-    let mut text = String::from_str(alloc, r#"["memory",[],["#)?;
-    for key in 0..count {
-        let comma = if key == 0 { "" } else { "," };
-        let entry = format!(in alloc; "{comma}[{key},1]")?;
-        text.push_str(entry.as_str())?;
-    }
-    text.push_str("]]")?;
-    Ok(text)
-}

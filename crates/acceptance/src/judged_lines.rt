@@ -1,4 +1,4 @@
-//! Histories in lines.
+//! Histories in lines, in pieces and over readers that fail.
 
 use crate::cases::Question;
 use crate::devices::{Device, Failing, NEVER, Sink};
@@ -35,13 +35,8 @@ refusal_counts_most | cc ["memory",[[["r",0,7]]]]%[]%["register",[[["r",5]]]]% |
 "#;
 
 #[test]
-fn lines_are_answered_in_order(rt: HostRuntime) -> Result<(), Fail> {
-    let questions = [
-        Question::Lines(1, 65_536),
-        Question::Lines(4, 65_536),
-        Question::Lines(1, 1),
-        Question::Lines(16, 7),
-    ];
+fn lines_in_pieces_are_answered_in_order(rt: HostRuntime) -> Result<(), Fail> {
+    let questions = [Question::Lines(1, 1), Question::Lines(16, 7)];
     as_wanted_of_each(&rt, &questions, LINES)
 }
 
@@ -146,54 +141,6 @@ fn ended<P: AllocGlobal>(
         }
     };
     String::from_str(rt.alloc(), said.as_str().trim_end())
-}
-
-/// So many histories, a line each, in which a session reads what another wrote, or did not write, in turn.
-fn many_lines<P: AllocGlobal>(rt: &P, many: u64) -> Result<String, AllocError> {
-    let mut text = String::new(rt.alloc());
-    for value in 1..many {
-        let read = value + value % 2;
-        let line = format!(in rt.alloc();
-            "[\"memory\",[[[\"w\",0,{value}]],[[\"r\",0,{read}]]]]\n"
-        )?;
-        text.push_str(line.as_str())?;
-    }
-    Ok(text)
-}
-
-/// What so many workers say of many lines.
-fn said_of_many<P: Threads + Wait + Sync + AllocGlobal>(
-    rt: &P,
-    workers: usize,
-    text: &str,
-) -> Result<String, AllocError> {
-    let mut device = Device::new(text.as_bytes(), 0, 65_536, NEVER);
-    match judging_of(rt, workers, "cc")? {
-        Some(judging) => said_over(rt, judging, &mut device),
-        None => String::from_str(rt.alloc(), "no order"),
-    }
-}
-
-#[test]
-fn many_workers_say_what_one_says(rt: HostRuntime) -> Result<(), Fail> {
-    let text = many_lines(&rt, 500)?;
-    let said = said_of_many(&rt, 1, text.as_str())?;
-    let begin =
-        "5 cc no ThinAirRead; cm no ThinAirRead; ccv no ThinAirRead%cc yes; cm yes; ccv yes%cc no";
-    assert_eq!(rt; said.as_str().starts_with(begin), true);
-    assert_eq!(rt;
-        said_of_many(&rt, 2, text.as_str())?.as_str(),
-        said.as_str()
-    );
-    assert_eq!(rt;
-        said_of_many(&rt, 3, text.as_str())?.as_str(),
-        said.as_str()
-    );
-    assert_eq!(rt;
-        said_of_many(&rt, 16, text.as_str())?.as_str(),
-        said.as_str()
-    );
-    Ok(())
 }
 
 const TWO_LINES: &str = "[\"memory\",[]]\n[\"memory\",[]]\n";

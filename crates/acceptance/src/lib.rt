@@ -1,7 +1,8 @@
-//! Tests that cross the crates: what the objects answer, whole runs over readers and writers in memory, patterns and
-//! certificates, desks and their workers, recorders and their seals, replicas, and the replies of the world.
+//! Tests that need calls: what the objects answer, runs over readers and writers that misbehave, patterns and certificates, desks
+//! and their workers, recorders and their seals, replicas, and runs whose output is not determined.
 //!
-//! Most cases are lines of text, `name | input | wanted answer`, which one test reads.
+//! Most cases are lines of text, `name | input | wanted answer`, which one test reads. What the words of a command line and an
+//! input give is a case of the crate `cases`.
 #![tactic(auto)]
 
 #[cfg(test)]
@@ -15,8 +16,6 @@ mod cases;
 #[cfg(test)]
 mod causal_runs;
 #[cfg(test)]
-mod checked;
-#[cfg(test)]
 mod command_lines;
 #[cfg(test)]
 mod cut_histories;
@@ -27,19 +26,11 @@ mod devices;
 #[cfg(test)]
 mod drives;
 #[cfg(test)]
-mod examples;
-#[cfg(test)]
-mod expected;
-#[cfg(test)]
-mod explained;
-#[cfg(test)]
 mod failures;
 #[cfg(test)]
 mod found_patterns;
 #[cfg(test)]
 mod histories;
-#[cfg(test)]
-mod judged;
 #[cfg(test)]
 mod judged_lines;
 #[cfg(test)]
@@ -53,19 +44,11 @@ mod objects_alone;
 #[cfg(test)]
 mod patterns;
 #[cfg(test)]
-mod pictured;
-#[cfg(test)]
 mod random;
 #[cfg(test)]
 mod recorder_tests;
 #[cfg(test)]
 mod recordings;
-#[cfg(test)]
-mod refused;
-#[cfg(test)]
-mod refused_scripts;
-#[cfg(test)]
-mod refuted;
 #[cfg(test)]
 mod replica_runs;
 #[cfg(test)]
@@ -90,5 +73,3 @@ mod worded;
 mod workers;
 #[cfg(test)]
 mod worlds;
-#[cfg(test)]
-mod written_certificates;

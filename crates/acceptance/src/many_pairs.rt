@@ -2,9 +2,10 @@
 //! have: what `judge` says of them, and up to where the search and the maker of certificates go.
 
 use crate::histories::memory;
-use crate::judged::said;
+use crate::running::said_of;
 use cert_check::Criterion;
 use certify_cm::make_memory;
+use engine::{Judging, Order, Workers};
 use pattern_search::find;
 use std::alloc::{AllocError, Global};
 use std::sync::Wait;
@@ -62,7 +63,8 @@ fn said_of_pairs<P: Threads + Wait + Sync + AllocGlobal>(
     cycle: bool,
 ) -> Result<String, AllocError> {
     let text = history_of(rt.alloc(), more, cycle)?;
-    said(rt, 2, text.as_str())
+    let order = Order::Judge(Judging::by(Workers::usual()));
+    said_of(rt, order, text.as_bytes())
 }
 
 /// Whether a pattern against causal memory is found in such a history, and whether a certificate of it is made.
