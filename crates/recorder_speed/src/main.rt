@@ -10,7 +10,7 @@ mod seals;
 
 use crate::pairs::pairs;
 use crate::seals::seals;
-use anyhow::Result;
+use anyhow::{Context, Result};
 use std::env;
 use std::rt::Env;
 
@@ -45,7 +45,7 @@ fn main(rt: HostRuntime) -> Result<()> {
 /// The number of rounds that the command line asks for, 0 where it asks for none.
 fn rounds_of(rt: &(impl Env + Alloc)) -> Result<u32> {
     match env::args(rt)?.nth(1) {
-        Some(word) => Ok(word.parse::<u32>()?),
+        Some(word) => Ok(word.parse::<u32>().context("reading the number of rounds")?),
         None => Ok(0),
     }
 }

@@ -8,7 +8,6 @@ use objects::{KeyedCall, Memory, RegisterCall, RegisterRet};
 use recorder::{RecordError, Session, new_recorder};
 use snapshot::seal;
 use std::alloc::Global;
-use std::sync::Wait;
 use std::sync::atomic::{AtomicUsize, Ordering};
 use std::thread::Threads;
 use std::time::{Clock, Instant};
@@ -17,8 +16,11 @@ use std::{hint, thread};
 /// Places of a lane: the greatest number.
 pub(crate) const PLACES: usize = 256;
 
+/// How often a thread looks whether all others have come. Where one cannot come, since memory ran out, the others go on.
+const WAITS: u64 = 10_000_000;
+
 /// One round: each of these threads fills a lane of one recorder. Its time is from the first start to the last end.
-pub(crate) fn pairs<R: Threads + Wait + Clock + Sync>(
+pub(crate) fn pairs<R: Threads + Clock + Sync>(
     rt: &R,
     alloc: Global,
     threads: usize,
@@ -39,17 +41,17 @@ pub(crate) fn pairs<R: Threads + Wait + Clock + Sync>(
     })
 }
 
-/// From when to when a thread fills a lane, once all threads have come. They don't sleep until then, so that they go on at
-/// one moment.
-fn timed<R: Wait + Clock>(
-    rt: &R,
+/// From when to when a thread fills a lane. It starts once all threads have come, and does not sleep until then, so that all
+/// start at one moment.
+fn timed(
+    rt: &impl Clock,
     alloc: Global,
     come: &AtomicUsize,
     threads: usize,
     mut session: Session<Memory>,
 ) -> Result<(Instant, Instant)> {
     come.fetch_add(1, Ordering::SeqCst);
-    for _ in rt.forever() {
+    for _wait in 0..WAITS {
         if come.load(Ordering::SeqCst) >= threads {
             break;
         }
