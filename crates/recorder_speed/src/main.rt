@@ -1,66 +1,72 @@
-//! Measures a recorder and its seals: `recorder_speed [ROUNDS]`.
+//! Measures a recorder beside plain lists under one lock: `recorder_speed [ROUNDS]`.
 //!
-//! Each line is a measure: how many threads record, or how many sessions are sealed, and how many operations the recorder
-//! holds then. With a number it also says how long one pair or one seal took in the quickest of ROUNDS rounds. With none
-//! there is one round, and no time is written.
+//! Each line is a measure: what is done, on how many threads at once, how many each of them does in a round, and how long
+//! one takes in the shortest of ROUNDS rounds, from the first thread's start to the last one's end. With no argument there
+//! is one round, and no time is written.
 #![tactic(auto)]
 
-mod pairs;
-mod seals;
+mod figure;
+mod gate;
+mod lane_pairs;
+mod lane_seals;
+mod locked_pairs;
+mod locked_seals;
+mod operation;
+mod pace;
+mod plain_lists;
+mod sizes;
+mod span;
 
-use crate::pairs::pairs;
-use crate::seals::seals;
+use crate::figure::{Figure, Measure};
 use anyhow::{Context, Result};
+use std::alloc::Global;
 use std::env;
 use std::rt::Env;
-
-/// What one round did, and how long it took.
-#[derive(Clone, Copy)]
-pub(crate) struct Round {
-    /// How many operations the recorder holds.
-    pub(crate) held: usize,
-    /// How long a pair took on each thread, or a seal, in nanoseconds.
-    pub(crate) each: u128,
-}
+use std::sync::Wait;
+use std::thread::Threads;
+use std::time::Clock;
 
 fn main(rt: HostRuntime) -> Result<()> {
-    let rounds = rounds_of(&rt)?;
-    for threads in [1, 2, 4] {
-        let mut best = pairs(&rt, rt.alloc(), threads)?;
-        for _more in 1..rounds {
-            best = quicker(best, pairs(&rt, rt.alloc(), threads)?);
-        }
-        print(&rt, "a pair, threads", threads, best, rounds)?;
+    let asked = rounds_of(&rt)?;
+    let mut figures = figures();
+    for _round in 0..asked.unwrap_or(1) {
+        run_each(&rt, rt.alloc(), &mut figures)?;
     }
-    for sessions in [1, 4, 16] {
-        let mut best = seals(&rt, rt.alloc(), sessions)?;
-        for _more in 1..rounds {
-            best = quicker(best, seals(&rt, rt.alloc(), sessions)?);
-        }
-        print(&rt, "a seal, sessions", sessions, best, rounds)?;
+    for figure in &figures {
+        figure.print(&rt, asked.is_some())?;
     }
     Ok(())
 }
 
-/// The number of rounds that the command line asks for, 0 where it asks for none.
-fn rounds_of(rt: &(impl Env + Alloc)) -> Result<u32> {
+/// The number of rounds that the command line asks for.
+fn rounds_of(rt: &(impl Env + Alloc)) -> Result<Option<u32>> {
     match env::args(rt)?.nth(1) {
-        Some(word) => Ok(word.parse::<u32>().context("reading the number of rounds")?),
-        None => Ok(0),
+        Some(word) => Ok(Some(word.parse::<u32>().context("reading the number of rounds")?)),
+        None => Ok(None),
     }
 }
 
-fn quicker(one: Round, other: Round) -> Round {
-    if other.each < one.each { other } else { one }
+fn figures() -> [Figure; 8] {
+    [
+        Figure::new(Measure::LanePairs, 1),
+        Figure::new(Measure::LockedPairs, 1),
+        Figure::new(Measure::LanePairs, 2),
+        Figure::new(Measure::LockedPairs, 2),
+        Figure::new(Measure::LanePairs, 4),
+        Figure::new(Measure::LockedPairs, 4),
+        Figure::new(Measure::LaneSeals, 4),
+        Figure::new(Measure::LockedSeals, 4),
+    ]
 }
 
-/// Writes what a round did, and how long it took where rounds are asked for.
-fn print(rt: &impl Print, what: &str, many: usize, round: Round, rounds: u32) -> Result<()> {
-    let Round { held, each } = round;
-    if rounds == 0 {
-        println!(rt; "{what} {many}: {held}")?;
-    } else {
-        println!(rt; "{what} {many}: {held}, {each} ns each")?;
+/// Makes a round of each measure.
+fn run_each<R: Threads + Wait + Clock + Sync>(
+    rt: &R,
+    alloc: Global,
+    figures: &mut [Figure],
+) -> Result<()> {
+    for figure in figures {
+        figure.run(rt, alloc)?;
     }
     Ok(())
 }
