@@ -18,9 +18,11 @@ import os
 import pathlib
 import shutil
 import subprocess
+import sys
 import tempfile
 
-from command_words import with_program
+sys.path.insert(0, str(pathlib.Path(__file__).resolve().parent.parent / "tests"))
+from command_words import with_program  # noqa: E402
 
 CRITERIA = ("cc", "cm", "ccv")
 MOST_SECONDS = 20

@@ -29,10 +29,12 @@ import argparse
 import json
 import os
 import pathlib
+import sys
 import tempfile
 import time
 
-from command_words import with_program
+sys.path.insert(0, str(pathlib.Path(__file__).resolve().parent.parent / "tests"))
+from command_words import with_program  # noqa: E402
 
 WORKERS = (1, 2, 4)
 SIZE = "16x256"

@@ -3,7 +3,7 @@
 
     python3 embed/compare.py SEED COUNT [--threads N]
 
-The inputs are those of bench/mangled.py for judge, check, explain and refute, and one that is too long. Each is put to the library
+The inputs are those of tests/mangled.py for judge, check, explain and refute, and one that is too long. Each is put to the library
 three times, by N threads side by side (4 by default): as a caller does, with a buffer of just as many bytes as the text has, and
 with a smaller one, which has to stay as it was. embed/run.py builds what this needs. It prints how many inputs came to which
 status, and ends with status 1 where there is a difference.
@@ -20,7 +20,7 @@ from concurrent.futures import ThreadPoolExecutor
 from typing import NamedTuple
 
 HERE = pathlib.Path(__file__).resolve().parent
-sys.path.insert(0, str(HERE.parent / "bench"))
+sys.path.insert(0, str(HERE.parent / "tests"))
 
 import causal_judge  # noqa: E402
 from mangled import mangled  # noqa: E402

@@ -1,7 +1,7 @@
 #!/usr/bin/env python3
 """Gives a program mangled inputs of all its commands, and compares each outcome with what a plain reader says.
 
-    python3 bench/mangled.py SEED MINUTES -- PROGRAM
+    python3 tests/mangled.py SEED MINUTES -- PROGRAM
 
 A history, a history with a certificate or with a pattern, or a script is made at random, and then its value or its text is spoilt in one to three
 places: a part is replaced, taken out, doubled or put elsewhere, a number is put at a limit, a byte is changed. The words of the

@@ -1,7 +1,7 @@
 #!/usr/bin/env python3
 """Runs clients over the stores by a program's command `drive`, checks what is written, and counts the verdicts.
 
-    python3 bench/driven.py SEED RUNS [--full] [--object NAME] [--store STORE] [--delivery DELIVERY] -- PROGRAM
+    python3 tests/driven.py SEED RUNS [--full] [--object NAME] [--store STORE] [--delivery DELIVERY] -- PROGRAM
 
 Each run drives a random history of an object, with random options; with `--full` each has 16 sessions of 256 operations. What is
 written has to be the histories of the seals that were asked for and one more, each with three lines of a report. Each session of

@@ -1,7 +1,7 @@
 #!/usr/bin/env python3
 """Compares `judge --lines` with one run of `judge` a line, and measures it on many small histories.
 
-    python3 bench/lines.py SEED LINES [--small N] [--rounds N] -- PROGRAM
+    python3 tests/lines.py SEED LINES [--small N] [--rounds N] -- PROGRAM
 
 LINES histories of all objects are made at random, and most are spoilt as mangled.py does it; some lines are empty. Each is judged by
 a run of its own, and all by runs of `judge --lines` with 1, 2 and 4 workers, with and without criteria that are expected to be met,
