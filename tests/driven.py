@@ -19,6 +19,7 @@ import subprocess
 import time
 
 from command_words import STORES, order_of, with_program
+from counting import end
 from objects import KEYED, OBJECTS, UNKNOWN
 from patterns import MemoryHistory
 from reading import REPORT, read_driven
@@ -158,16 +159,16 @@ def main():
         calls += sum(map(len, history[1]))
         asked = read_driven(json.dumps(history).encode())
         found = faults(given.program, order_of(words), asked, done.stdout) if done.returncode == 0 else [done.stderr]
+        wrong += bool(found)
         for fault in found:
-            wrong += 1
             print(f"{' '.join(words)} < {json.dumps(history)[:200]}: {fault}", flush=True)
         for line in done.stdout.splitlines()[-3:]:
             criterion, verdict = line.split(" ")[:2]
             seen[store, "eager" if eager else "causal", name, criterion, verdict] += 1
     for kind, many in sorted(seen.items()):
         print(f"{many:7} {' '.join(kind)}")
-    print(f"{given.runs} runs, {calls} calls, {seconds:.1f} seconds, {wrong} faults")
-    raise SystemExit(1 if wrong else 0)
+    print(f"{calls} calls, {seconds:.1f} seconds")
+    end(given.runs - wrong, wrong)
 
 
 if __name__ == "__main__":

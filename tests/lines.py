@@ -9,7 +9,7 @@ whose lines come in one piece, or in pieces of random length. The lines that are
 three of a report joined by `; `, or the one on standard error; and the status has to be what follows from them. A client that writes
 one line and waits for its answer has to get it. It ends with status 1 where something is wrong.
 
-Then N small histories (10,000 by default) are judged by 1, 2 and 4 workers, and a thousandth of that many by a run each. The table
+With `--small N`, N small histories are then judged by 1, 2 and 4 workers, and a thousandth of that many by a run each. The table
 has the least of some rounds (5 by default) on the clock, from the start of the process to its end, and what a line takes of that.
 """
 
@@ -24,6 +24,7 @@ import time
 
 import mangled
 from command_words import with_program
+from counting import end
 
 WORKERS = (1, 2, 4)
 EXPECTED = ("", "cc", "cm", "ccv", "cc,cm,ccv")
@@ -88,10 +89,10 @@ def run_whole(command, text):
 
 
 def compared(rng, program, lines):
-    """How many runs over the lines had another outcome than the single runs, each of which is told of."""
+    """How many runs over the lines had the outcome of the single runs, and how many another, each of which is printed."""
     answers = [answer_alone(program, line) for line in lines]
     answered = [i for i, answer in enumerate(answers) if is_answered(answer)]
-    wrong = 0
+    runs = wrong = 0
     for kept in (range(len(lines)), answered):
         text = b"\n".join(lines[i] for i in kept) + (b"\n" if rng.random() < 0.5 or not kept or not lines[kept[-1]] else b"")
         due = "".join(f"{answers[i]}\n" for i in kept)
@@ -100,11 +101,12 @@ def compared(rng, program, lines):
                 wanted = (status_due([answers[i] for i in kept], expected), due)
                 command = [*program, *words_for(workers, expected)]
                 for found in (run_whole(command, text), run_in_pieces(rng, command, text)):
+                    runs += 1
                     if found != wanted:
                         wrong += 1
                         print(f"{' '.join(command[1:])}: status {found[0]} for {wanted[0]}, {differing(found[1], due)}")
     print(f"{len(lines)} lines, {len(answered)} of them answered")
-    return wrong
+    return runs - wrong, wrong
 
 
 def differing(found, due):
@@ -115,17 +117,19 @@ def differing(found, due):
 
 
 def talked(program):
-    """How many of some clients that write a line and wait for its answer got another one."""
-    wrong = 0
+    """How many times a client that writes a line and waits got its answer, and how many times another."""
+    asked = wrong = 0
     for workers in WORKERS:
         process = subprocess.Popen([*program, *words_for(workers, "")], stdin=subprocess.PIPE, stdout=subprocess.PIPE)
         for line in (b'["memory",[]]\n', b"\n", b'["memory",[[["r",0,7]]]]\n'):
             process.stdin.write(line)
             process.stdin.flush()
+            asked += 1
             wrong += process.stdout.readline().decode().removesuffix("\n") != answer_alone(program, line)
         process.stdin.close()
+        asked += 1
         wrong += process.wait() != 1
-    return wrong
+    return asked - wrong, wrong
 
 
 def small_history(rng):
@@ -176,14 +180,14 @@ def main():
     parser = argparse.ArgumentParser(description=__doc__, formatter_class=argparse.RawDescriptionHelpFormatter)
     parser.add_argument("seed", type=int)
     parser.add_argument("lines", type=int)
-    parser.add_argument("--small", type=int, default=10_000)
+    parser.add_argument("--small", type=int, default=0)
     parser.add_argument("--rounds", type=int, default=5)
     given = with_program(parser)
     rng = random.Random(given.seed)
-    wrong = compared(rng, given.program, [line_of(rng) for _ in range(given.lines)]) + talked(given.program)
-    measured(rng, given.program, given.small, given.rounds)
-    print(f"{wrong} outcomes that are not due")
-    raise SystemExit(1 if wrong else 0)
+    counts = [compared(rng, given.program, [line_of(rng) for _ in range(given.lines)]), talked(given.program)]
+    if given.small:
+        measured(rng, given.program, given.small, given.rounds)
+    end(*map(sum, zip(*counts)))
 
 
 if __name__ == "__main__":

@@ -16,6 +16,7 @@ import subprocess
 
 import replay
 from command_words import with_program
+from counting import end
 from scripts import write_scripts
 
 
@@ -59,8 +60,7 @@ def main():
         if found:
             apart += 1
             print(f"{path.name}: {found}")
-    print(f"{len(files)} scripts, {apart} with another answer")
-    raise SystemExit(1 if apart else 0)
+    end(len(files) - apart, apart)
 
 
 if __name__ == "__main__":
