@@ -173,7 +173,7 @@ def wanted_of(path):
     if name in JUDGED:
         lines = "".join(f"{criterion} {word}\n" for criterion, word in zip(("cc", "cm", "ccv"), JUDGED[name]))
         yield from ((["judge", "--workers", str(workers)], lines) for workers in (1, 2, 16))
-    for words, shown in ((["explain"], path.with_suffix(".txt")), (["explain", "--svg"], ROOT / "docs" / f"{name}.svg")):
+    for words, shown in ((["explain"], path.with_suffix(".txt")), (["explain", "--svg"], path.parent.parent / "docs" / f"{name}.svg")):
         if shown.is_file():
             yield words, shown.read_text(encoding="utf-8")
 
