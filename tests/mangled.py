@@ -35,9 +35,10 @@ from shown_patterns import found
 
 NUMBERS = (0, 1, 2, 15, 16, 17, 255, 256, 257, 65_535, 65_536, 2**32 - 1, 2**32, 2**63, MOST_NUMBER, MOST_NUMBER + 1, -1, 1.0, 1.5)
 JUNK = (None, True, False, "", UNKNOWN, DONE, "w", [], [[]], {}, {"w": 1}, *NUMBERS)
-WORDS = (b"-0", b"1e2", b"1e400", b"1.0", b"01", b"+1", b"NaN", b"\\u0077", b"\\ud800", b"\xff", b"\xef\xbb\xbf", b"\x00", b"null", b"[" * 130)
-OPTION_WORDS = ("", "-", "--", "judge", *STORES, "--eager", "--eager=1", "--seals", "--stop=16", "--workers=0", "--speed", "9", "17", "cc,ccv")
-OPTION_WORDS += ("--json", "--certificates", "--svg", "--expect", "--expect=cc,cc", "--expect=cm,", "--expect=CC", "cc")
+WORDS = (b"-0", b"1e2", b"1e400", b"1.0", b"01", b"+1", b"NaN", b"\\u0077", b"\\ud800", b"\xff", b"\xef\xbb\xbf", b"\x00", b"null")
+WORDS += (b"[" * 130,)
+OPTION_WORDS = ("", "-", "--", "judge", *STORES, "--eager", "--eager=1", "--seals", "--stop=16", "--workers=0", "--speed", "9", "17")
+OPTION_WORDS += ("cc,ccv", "--json", "--certificates", "--svg", "--expect", "--expect=cc,cc", "--expect=cm,", "--expect=CC", "cc")
 
 
 def random_history(rng):
