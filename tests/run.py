@@ -12,6 +12,7 @@ What a part needs and the machine lacks is named as skipped, with the line that 
 """
 
 import argparse
+import contextlib
 import os
 import pathlib
 import shutil
@@ -114,10 +115,16 @@ def lacks(part, given):
     return "" if part.file(given).is_file() else f"{part.file(given).name} is missing: {part.install}"
 
 
+def end_group(process):
+    """Ends a process and all that it started."""
+    with contextlib.suppress(ProcessLookupError):
+        os.killpg(process.pid, signal.SIGKILL)
+
+
 def stop(number, frame):
     """Ends what runs when this process is to end."""
     for process in list(RUNNING):
-        os.killpg(process.pid, signal.SIGKILL)
+        end_group(process)
     os._exit(128 + number)
 
 
@@ -129,10 +136,7 @@ def status_within(process, seconds):
     except subprocess.TimeoutExpired:
         return f"none within {seconds} seconds"
     finally:
-        try:
-            os.killpg(process.pid, signal.SIGKILL)
-        except ProcessLookupError:
-            pass
+        end_group(process)
         process.wait()
         RUNNING.discard(process)
 

@@ -154,9 +154,10 @@ def long_lines(data):
 
 
 def outcome(program, words, data):
-    """The status and both outputs of a run."""
+    """The status and both outputs of a run, under the name that its usage shows, however the file is called."""
+    command, how = ["causal_judge", *program[1:], *words], {"executable": program[0], "capture_output": True, "check": False}
     try:
-        done = subprocess.run([*program, *words], input=data, capture_output=True, check=False, timeout=MOST_SECONDS)
+        done = subprocess.run(command, input=data, timeout=MOST_SECONDS, **how)
     except subprocess.TimeoutExpired:
         return f"no end within {MOST_SECONDS} seconds", b"", b""
     return done.returncode, done.stdout, done.stderr
