@@ -30,7 +30,7 @@ ROOT = pathlib.Path(__file__).resolve().parent.parent
 BUILT = ROOT / "crates" / "causal_judge" / "out" / "causal_judge"
 ARCHIVE = ROOT / "crates" / "causal_judge_library" / "out" / "libcausal_judge_library.a"
 MOST_SECONDS, MOST_LONG_SECONDS = 900, 12 * 3600
-SHOWN_LINES, SHOWN_CHARACTERS = 80, 2000
+SHOWN_LINES, SHOWN_CHARACTERS = 40, 400
 RUNNING = set()
 INSTALLS = {"bash": "apt-get install bash", "cc": "apt-get install gcc", "ar": "apt-get install binutils"}
 
