@@ -1,7 +1,7 @@
 #!/usr/bin/env python3
 """Measures what certificates take, by one program beside another.
 
-    beside.py CERTIFICATES HISTORIES [--count] [--rounds N] [--only WORD] -- BEFORE NOW
+    python3 bench/beside.py CERTIFICATES HISTORIES [--count] [--rounds N] [--only WORD] -- BEFORE NOW
 
 CERTIFICATES is a folder that certificates.py made, and HISTORIES one that histories.py made; BEFORE and NOW are programs. A table has a
 row for each input whose name has the word, by size:

@@ -1,7 +1,7 @@
 #!/usr/bin/env python3
 """Measures a judge of memory histories beside the plain program, on the same files.
 
-    compare.py PEER HISTORIES [--rounds N] -- PROGRAM ARGUMENT..
+    python3 bench/compare.py PEER HISTORIES [--rounds N] -- PROGRAM ARGUMENT..
 
 PEER is the folder of the plain program's source, a Cargo package that is copied and built in a temporary folder.
 HISTORIES is a folder of files named SIZE-SHAPE-STATE.json, as histories.py makes them. Each program reads a history from
@@ -18,9 +18,11 @@ import os
 import pathlib
 import shutil
 import subprocess
+import sys
 import tempfile
 
-from command_words import with_program
+sys.path.insert(0, str(pathlib.Path(__file__).resolve().parent.parent / "tests"))
+from command_words import with_program  # noqa: E402
 
 CRITERIA = ("cc", "cm", "ccv")
 MOST_SECONDS = 20

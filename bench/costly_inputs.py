@@ -15,7 +15,9 @@ from typing import Callable, NamedTuple
 
 import full_script
 import histories
-from objects import MOST_KEY, MOST_NUMBER, UNKNOWN, State, operation
+
+sys.path.insert(0, str(pathlib.Path(__file__).resolve().parent.parent / "tests"))
+from objects import MOST_KEY, MOST_NUMBER, UNKNOWN, State, operation  # noqa: E402
 
 SESSIONS = 16
 OPERATIONS = 256

@@ -1,7 +1,7 @@
 #!/usr/bin/env python3
 """Makes memory histories of full size for measuring, the same ones each time.
 
-    histories.py OUTDIR
+    python3 bench/histories.py OUTDIR
 
 Each history is a run of a replicated store: every session has a replica that takes in the writes of the other sessions
 at random times, a write only after all that is before it, and a read returns what its replica wrote or took in last

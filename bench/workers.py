@@ -1,7 +1,7 @@
 #!/usr/bin/env python3
 """Measures by how much several workers shorten `check` and `judge`, on healthy inputs of full size.
 
-    workers.py CERTIFICATES HISTORIES [--rounds N] -- PROGRAM
+    python3 bench/workers.py CERTIFICATES HISTORIES [--rounds N] -- PROGRAM
 
 CERTIFICATES is a folder that certificates.py made, and HISTORIES one that histories.py made. The program is run with 1, 2
 and 4 workers in turn, N rounds (5 by default), and the time is that on the clock, from the start of the process to its end,
@@ -29,10 +29,12 @@ import argparse
 import json
 import os
 import pathlib
+import sys
 import tempfile
 import time
 
-from command_words import with_program
+sys.path.insert(0, str(pathlib.Path(__file__).resolve().parent.parent / "tests"))
+from command_words import with_program  # noqa: E402
 
 WORKERS = (1, 2, 4)
 SIZE = "16x256"

@@ -3,7 +3,7 @@
 
     python3 embed/compare.py SEED COUNT [--threads N]
 
-The inputs are those of bench/mangled.py for judge, check, explain and refute, and one that is too long. Each is put to the library
+The inputs are those of tests/mangled.py for judge, check, explain and refute, and one that is too long. Each is put to the library
 three times, by N threads side by side (4 by default): as a caller does, with a buffer of just as many bytes as the text has, and
 with a smaller one, which has to stay as it was. embed/run.py builds what this needs. It prints how many inputs came to which
 status, and ends with status 1 where there is a difference.
@@ -11,6 +11,7 @@ status, and ends with status 1 where there is a difference.
 
 import argparse
 import collections
+import os
 import pathlib
 import random
 import subprocess
@@ -20,13 +21,15 @@ from concurrent.futures import ThreadPoolExecutor
 from typing import NamedTuple
 
 HERE = pathlib.Path(__file__).resolve().parent
-sys.path.insert(0, str(HERE.parent / "bench"))
+sys.path.insert(0, str(HERE.parent / "tests"))
 
 import causal_judge  # noqa: E402
+from counting import end  # noqa: E402
 from mangled import mangled  # noqa: E402
 
-PROGRAM = HERE.parent / "crates" / "causal_judge" / "out" / "causal_judge"
+PROGRAM = os.environ.get("CAUSAL_JUDGE") or HERE.parent / "crates" / "causal_judge" / "out" / "causal_judge"
 MOST_BYTES = 67_108_864
+THREADS = 4
 
 
 class Case(NamedTuple):
@@ -66,27 +69,35 @@ def cases(rng, count):
         yield Case(command, mangled(rng, command), rng.random())
 
 
-def main():
-    parser = argparse.ArgumentParser(description=__doc__, formatter_class=argparse.RawDescriptionHelpFormatter)
-    parser.add_argument("seed", type=int)
-    parser.add_argument("count", type=int)
-    parser.add_argument("--threads", type=int, default=4)
-    given = parser.parse_args()
-    folder = pathlib.Path(tempfile.mkdtemp(prefix="compared-"))
-    asked = list(cases(random.Random(given.seed), given.count))
+def kept(case):
+    """The name of a file with the input of a case, which stays."""
+    with tempfile.NamedTemporaryFile(prefix=f"compared-{case.command}-", suffix=".json", delete=False) as file:
+        file.write(case.data)
+    return file.name
+
+
+def compare(seed, count, threads):
+    """How many answers of the library are the program's, and how many are others, each of which is printed."""
+    asked = list(cases(random.Random(seed), count))
     seen, wrong = collections.Counter(), 0
-    with ThreadPoolExecutor(given.threads) as pool:
+    with ThreadPoolExecutor(threads) as pool:
         for case, (found, due, is_right) in zip(asked, pool.map(compared, asked)):
             seen[case.command, found[0]] += 1
             if not is_right:
                 wrong += 1
-                path = folder / f"{case.command}-{wrong}.json"
-                path.write_bytes(case.data)
-                print(f"{case.command} < {path}: {found!r}, the program {due!r}", flush=True)
+                print(f"{case.command} < {kept(case)}: {found!r}, the program {due!r}", flush=True)
     for (command, status), many in sorted(seen.items()):
         print(f"{many:8} {command}, status {status}")
-    print(f"{sum(seen.values())} inputs, {wrong} with a difference")
-    sys.exit(1 if wrong else 0)
+    return len(asked) - wrong, wrong
+
+
+def main():
+    parser = argparse.ArgumentParser(description=__doc__, formatter_class=argparse.RawDescriptionHelpFormatter)
+    parser.add_argument("seed", type=int)
+    parser.add_argument("count", type=int)
+    parser.add_argument("--threads", type=int, default=THREADS)
+    given = parser.parse_args()
+    end(*compare(given.seed, given.count, given.threads))
 
 
 if __name__ == "__main__":

@@ -1,14 +1,18 @@
 #!/usr/bin/env python3
 """Builds the library and its samples, runs each on the examples, and compares what they answer with what the program does.
 
-    python3 embed/run.py
+    python3 embed/run.py [--compare COUNT]
 
 It builds crates/causal_judge_library and crates/causal_judge with rt, which proves them where that was not done, makes
 embed/out/libcausal_judge.a and, for Python, embed/out/libcausal_judge.so, and then a sample for each language whose compiler is
-there. It names those that it skips. Then refuse.c refuses each allocation of the calls on these examples in turn. It ends with
-status 1 where an answer differs.
+there. It names those that it skips. Then refuse.c refuses each allocation of the calls on these examples in turn. With
+--compare so many random inputs are put to the library and to the program, as compare.py does it. The last line says how many answers and
+refusals passed, failed and were skipped, and it ends with status 1 where one failed. Where CAUSAL_JUDGE names a program, that one
+answers in the place of crates/causal_judge/out/causal_judge.
 """
 
+import argparse
+import os
 import pathlib
 import shutil
 import subprocess
@@ -16,13 +20,19 @@ import sys
 
 HERE = pathlib.Path(__file__).resolve().parent
 ROOT = HERE.parent
+sys.path.insert(0, str(ROOT / "tests"))
+from counting import end  # noqa: E402
+
 OUT = HERE / "out"
-PROGRAM = ROOT / "crates" / "causal_judge" / "out" / "causal_judge"
+PROGRAM = pathlib.Path(os.environ.get("CAUSAL_JUDGE") or ROOT / "crates" / "causal_judge" / "out" / "causal_judge")
 ARCHIVE = ROOT / "crates" / "causal_judge_library" / "out" / "libcausal_judge_library.a"
 C = ("cc", "-std=c11", "-O2", "-Wall", "-Wextra", "-Werror")
 
 # What is asked of each example: some answer it, and the others refuse it.
 COMMANDS = ("judge", "check", "explain", "refute")
+
+# The languages of the samples, with what installs each one's compiler.
+INSTALLS = {"C": "apt-get install gcc", "Rust": "apt-get install rustc", "Go": "apt-get install golang-go"}
 
 
 def run(*words, cwd=HERE):
@@ -31,7 +41,7 @@ def run(*words, cwd=HERE):
 
 def build_program():
     if not PROGRAM.is_file():
-        run("rt", "run", "--", "--help", cwd=PROGRAM.parent.parent)
+        run("rt", "run", "--", "--help", cwd=ROOT / "crates" / "causal_judge")
 
 
 def kit():
@@ -76,22 +86,23 @@ def outcome(words, command, data):
 
 
 def compared(due, inputs):
-    """How many answers of the samples are other than the program's."""
+    """How many answers of the samples are the program's, how many are others, and how many were not asked for."""
     wrong, built = 0, set()
     for language, words in samples():
         built.add(language)
         differ = [key for key, answer in due.items() if outcome(words, key[1], inputs[key[0]]) != answer]
         print(f"{language}: {len(due)} answers, {len(differ)} other than the program's", *(f"{c} < {n}" for n, c in differ))
         wrong += len(differ)
-    for language in sorted({"C", "Rust", "Go"} - built):
-        print(f"{language}: skipped, no compiler")
-    return wrong
+    missing = [language for language in INSTALLS if language not in built]
+    for language in missing:
+        print(f"{language}: skipped, no compiler: {INSTALLS[language]}")
+    return len(built) * len(due) - wrong, wrong, len(missing) * len(due)
 
 
 def refused(due, inputs):
-    """How many calls did something else than they should where an allocation is refused."""
+    """How many refused allocations the calls met as they should, how many calls did not, and how many were not tried."""
     if not shutil.which("cc"):
-        return 0
+        return 0, 0, len(due)
     wraps = [f"-Wl,--wrap={name}" for name in ("malloc", "realloc", "free")]
     run(*C, *wraps, "-o", OUT / "refuse", "refuse.c", OUT / "libcausal_judge.a")
     many, wrong = 0, 0
@@ -100,15 +111,26 @@ def refused(due, inputs):
         wrong += status != 0
         many += int(text or 0)
     print(f"{many} allocations refused, {wrong} calls at fault")
-    return wrong
+    return many, wrong, 0
+
+
+def compared_at_random(count):
+    """How many random inputs have the same answer of the library and the program, and how many others, and none that were skipped."""
+    import compare  # which takes in the library, and so has to wait until that is built
+
+    return *compare.compare(1, count, compare.THREADS), 0
 
 
 def main():
+    parser = argparse.ArgumentParser(description=__doc__, formatter_class=argparse.RawDescriptionHelpFormatter)
+    parser.add_argument("--compare", type=int, default=0)
+    given = parser.parse_args()
     build_program()
     build_library()
     inputs = {it.name: it.read_bytes() for it in sorted((ROOT / "examples").glob("*.json"))} | {"nothing": b""}
     due = {(name, command): outcome([PROGRAM], command, data) for name, data in inputs.items() for command in COMMANDS}
-    sys.exit(1 if compared(due, inputs) + refused(due, inputs) else 0)
+    counts = [compared(due, inputs), refused(due, inputs), compared_at_random(given.compare) if given.compare else (0, 0, 0)]
+    end(*map(sum, zip(*counts)))
 
 
 if __name__ == "__main__":

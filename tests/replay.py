@@ -1,7 +1,7 @@
 #!/usr/bin/env python3
 """Answers a script of the world in a plain and slow way: each reply is read off the list of earlier steps and replies.
 
-    python3 bench/replay.py < SCRIPT
+    python3 tests/replay.py < SCRIPT
 
 It writes what the command `replay` has to write: a line for each reply, or on standard error the line of a refusal, with
 status 1. It knows nothing of the program: what it says follows docs/definitions.md.

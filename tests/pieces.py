@@ -1,7 +1,7 @@
 #!/usr/bin/env python3
 """Compares what a program says of random certificates, most of them broken, with what `recheck.py` says of their pieces.
 
-    pieces.py SEED COUNT [MOST] -- PROGRAM
+    python3 tests/pieces.py SEED COUNT [MOST] -- PROGRAM
 
 Each certificate is of a history of one of the eight objects, of at most MOST operations (14 by default, and 400 at the most), and of
 one of the three criteria. The history is a run of the
@@ -19,6 +19,7 @@ import subprocess
 import sys
 from collections import Counter
 
+from counting import end
 from objects import KEYED, OBJECTS, State, operation
 from objects import split as call_and_return
 from recheck import Unexplained, check_piece, check_shape, counts_in_order
@@ -158,9 +159,8 @@ def main():
             differ += 1
         outcomes["of another shape" if line is None else "explained" if line.endswith("yes\n") else "unexplained"] += 1
     print(", ".join(f"{times} {what}" for what, times in sorted(outcomes.items())))
-    print(f"{count} certificates, {differ} differ")
-    return 1 if differ else 0
+    end(count - differ, differ)
 
 
 if __name__ == "__main__":
-    sys.exit(main())
+    main()

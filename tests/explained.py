@@ -1,7 +1,7 @@
 #!/usr/bin/env python3
 """Puts what `explain` shows of random histories to `judge`, `refute` and `check`.
 
-    explained.py SEED COUNT -- PROGRAM
+    python3 tests/explained.py SEED COUNT -- PROGRAM
 
 Each history is small, of a memory, and read at random: most of its values are there, and some patterns too. `explain --json` has
 to say of each criterion what `judge` says, and `refute` has to accept each pattern that it shows. `explain --json --certificates`
@@ -18,6 +18,8 @@ import random
 import subprocess
 import sys
 from collections import Counter
+
+from counting import end
 
 CRITERIA = ("cc", "cm", "ccv")
 USAGE = 2
@@ -147,14 +149,14 @@ def main():
     program, rng, accepted, wrong = sys.argv[split + 1 :], random.Random(seed), Counter(), 0
     for _ in range(count):
         form = history(rng)
-        for fault in faults(program, form, accepted):
+        found = faults(program, form, accepted)
+        wrong += bool(found)
+        for fault in found:
             print(f"{json.dumps(form)}: {fault}")
-            wrong += 1
     for what, times in sorted(accepted.items()):
         print(f"{what}: {times} accepted")
-    print(f"{count} histories, {wrong} faults")
-    return 1 if wrong else 0
+    end(count - wrong, wrong)
 
 
 if __name__ == "__main__":
-    sys.exit(main())
+    main()

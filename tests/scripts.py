@@ -1,7 +1,7 @@
 #!/usr/bin/env python3
 """Makes random scripts of the world, the same ones each time, and prints how often each reply and each refusal occurs in them.
 
-    python3 bench/scripts.py OUTDIR SEED COUNT
+    python3 tests/scripts.py OUTDIR SEED COUNT
 
 The objects take turns. A script is written step by step beside the plain program of replay.py, whose replies tell what is there:
 so sealers finish, cases are filed from what they sealed, certificates mostly explain, and verdicts come once, twice, before

@@ -1,22 +1,23 @@
 #!/usr/bin/env python3
 """Gives a program mangled inputs of all its commands, and compares each outcome with what a plain reader says.
 
-    python3 bench/mangled.py SEED MINUTES -- PROGRAM
+    python3 tests/mangled.py SEED [--count N] [--minutes M] -- PROGRAM
 
-A history, a history with a certificate or with a pattern, or a script is made at random, and then its value or its text is spoilt in one to three
-places: a part is replaced, taken out, doubled or put elsewhere, a number is put at a limit, a byte is changed. The words of the
-command line are spoilt too, now and then. The status, what is written and the line on standard error have to be those of the plain
-reader; of `judge` the lines have to be three lines of a report, with the status that
-`--expect` asks for, of `explain` the text has to look like the form that is asked for, of `drive` what driven.py asks for, and words
-that are no command line have to be told of as an error. Where they are not, the input is written to a file and named, and the end is
-status 1.
+A history, a history with a certificate or with a pattern, or a script is made at random, and then its value or its text is spoilt
+in one to three places: a part is replaced, taken out, doubled or put elsewhere, a number is put at a limit, a byte is changed. The
+words of the command line are spoilt too, now and then. The status, what is written and the line on standard error have to be those of
+the plain reader; of `judge` the lines have to be three lines of a report, with the status that `--expect` asks for, of `explain` the
+text has to look like the form that is asked for, of `drive` what driven.py asks for, and words that are no command line have to be
+answered by an error. Where they are not, the input is written to a file and named, and the end is status 1.
+
+It tries N inputs (1,000 unless given), or as many as it can within M minutes. One seed gives the same inputs each time.
 """
 
 import argparse
 import collections
 import copy
+import itertools
 import json
-import pathlib
 import random
 import subprocess
 import tempfile
@@ -26,6 +27,7 @@ import driven
 import reading
 import replay
 from command_words import OPTIONS, RANGES, STORES, WITH_VALUE, order_of, with_program
+from counting import end
 from objects import DONE, KEYED, MOST_NUMBER, OBJECTS, UNKNOWN, State, operation
 from patterns import AGAINST, CRITERIA, MemoryHistory
 from scripts import script_text
@@ -33,9 +35,10 @@ from shown_patterns import found
 
 NUMBERS = (0, 1, 2, 15, 16, 17, 255, 256, 257, 65_535, 65_536, 2**32 - 1, 2**32, 2**63, MOST_NUMBER, MOST_NUMBER + 1, -1, 1.0, 1.5)
 JUNK = (None, True, False, "", UNKNOWN, DONE, "w", [], [[]], {}, {"w": 1}, *NUMBERS)
-WORDS = (b"-0", b"1e2", b"1e400", b"1.0", b"01", b"+1", b"NaN", b"\\u0077", b"\\ud800", b"\xff", b"\xef\xbb\xbf", b"\x00", b"null", b"[" * 130)
-OPTION_WORDS = ("", "-", "--", "judge", *STORES, "--eager", "--eager=1", "--seals", "--stop=16", "--workers=0", "--speed", "9", "17", "cc,ccv")
-OPTION_WORDS += ("--json", "--certificates", "--svg", "--expect", "--expect=cc,cc", "--expect=cm,", "--expect=CC", "cc")
+WORDS = (b"-0", b"1e2", b"1e400", b"1.0", b"01", b"+1", b"NaN", b"\\u0077", b"\\ud800", b"\xff", b"\xef\xbb\xbf", b"\x00", b"null")
+WORDS += (b"[" * 130,)
+OPTION_WORDS = ("", "-", "--", "judge", *STORES, "--eager", "--eager=1", "--seals", "--stop=16", "--workers=0", "--speed", "9", "17")
+OPTION_WORDS += ("cc,ccv", "--json", "--certificates", "--svg", "--expect", "--expect=cc,cc", "--expect=cm,", "--expect=CC", "cc")
 
 
 def random_history(rng):
@@ -265,16 +268,31 @@ def kind_of(due):
     return {0: "answered", 2: "no command line"}[status] if status != 1 else " ".join(line.split()[:2])
 
 
+def kept(command, data):
+    """The name of a file with an input, which stays."""
+    with tempfile.NamedTemporaryFile(prefix=f"mangled-{command}-", suffix=".json", delete=False) as file:
+        file.write(data)
+    return file.name
+
+
+def rounds(given):
+    """Goes on for as many inputs, or as many minutes, as are asked for."""
+    last = time.monotonic() + 60 * given.minutes if given.minutes else None
+    for number in itertools.count():
+        if number >= given.count if last is None else time.monotonic() >= last:
+            return
+        yield number
+
+
 def main():
     parser = argparse.ArgumentParser(description=__doc__, formatter_class=argparse.RawDescriptionHelpFormatter)
     parser.add_argument("seed", type=int)
-    parser.add_argument("minutes", type=float)
+    parser.add_argument("--count", type=int, default=1_000)
+    parser.add_argument("--minutes", type=float)
     given = with_program(parser)
     rng = random.Random(given.seed)
-    folder = pathlib.Path(tempfile.mkdtemp(prefix="mangled-"))
-    end = time.monotonic() + 60 * given.minutes
     seen, wrong = collections.Counter(), 0
-    while time.monotonic() < end:
+    for _ in rounds(given):
         command = rng.choice(list(OPTIONS))
         words, data = random_words(rng, command), mangled(rng, command)
         order = order_of(words)
@@ -282,13 +300,10 @@ def main():
         seen[order["command"] if order else command, kind_of(due)] += 1
         if not is_right(given.program, order, data, found, due):
             wrong += 1
-            path = folder / f"{command}-{wrong}.json"
-            path.write_bytes(data)
-            print(f"{' '.join(words)} < {path}: {found!r}, due {due!r}", flush=True)
+            print(f"{' '.join(words)} < {kept(command, data)}: {found!r}, due {due!r}", flush=True)
     for (command, kind), many in sorted(seen.items()):
         print(f"{many:8} {command} {kind}")
-    print(f"{sum(seen.values())} inputs, {wrong} with another outcome")
-    raise SystemExit(1 if wrong else 0)
+    end(sum(seen.values()) - wrong, wrong)
 
 
 if __name__ == "__main__":

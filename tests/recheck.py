@@ -1,7 +1,7 @@
 #!/usr/bin/env python3
 """Checks the inputs of the command `check` by the rules of certificates, written down plainly and apart from the program.
 
-    python3 bench/recheck.py FILE..
+    python3 tests/recheck.py FILE..
 
 For each file it prints whether every piece of the certificate explains its operation, and ends with status 1 where one
 does not.

@@ -1,7 +1,7 @@
 #!/usr/bin/env python3
 """Runs clients over the stores by a program's command `drive`, checks what is written, and counts the verdicts.
 
-    python3 bench/driven.py SEED RUNS [--full] [--object NAME] [--store STORE] [--delivery DELIVERY] -- PROGRAM
+    python3 tests/driven.py SEED RUNS [--full] [--object NAME] [--store STORE] [--delivery DELIVERY] -- PROGRAM
 
 Each run drives a random history of an object, with random options; with `--full` each has 16 sessions of 256 operations. What is
 written has to be the histories of the seals that were asked for and one more, each with three lines of a report. Each session of
@@ -19,6 +19,7 @@ import subprocess
 import time
 
 from command_words import STORES, order_of, with_program
+from counting import end
 from objects import KEYED, OBJECTS, UNKNOWN
 from patterns import MemoryHistory
 from reading import REPORT, read_driven
@@ -158,16 +159,16 @@ def main():
         calls += sum(map(len, history[1]))
         asked = read_driven(json.dumps(history).encode())
         found = faults(given.program, order_of(words), asked, done.stdout) if done.returncode == 0 else [done.stderr]
+        wrong += bool(found)
         for fault in found:
-            wrong += 1
             print(f"{' '.join(words)} < {json.dumps(history)[:200]}: {fault}", flush=True)
         for line in done.stdout.splitlines()[-3:]:
             criterion, verdict = line.split(" ")[:2]
             seen[store, "eager" if eager else "causal", name, criterion, verdict] += 1
     for kind, many in sorted(seen.items()):
         print(f"{many:7} {' '.join(kind)}")
-    print(f"{given.runs} runs, {calls} calls, {seconds:.1f} seconds, {wrong} faults")
-    raise SystemExit(1 if wrong else 0)
+    print(f"{calls} calls, {seconds:.1f} seconds")
+    end(given.runs - wrong, wrong)
 
 
 if __name__ == "__main__":

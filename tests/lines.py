@@ -1,7 +1,7 @@
 #!/usr/bin/env python3
 """Compares `judge --lines` with one run of `judge` a line, and measures it on many small histories.
 
-    python3 bench/lines.py SEED LINES [--small N] [--rounds N] -- PROGRAM
+    python3 tests/lines.py SEED LINES [--operations N] [--small N] [--rounds N] -- PROGRAM
 
 LINES histories of all objects are made at random, and most are spoilt as mangled.py does it; some lines are empty. Each is judged by
 a run of its own, and all by runs of `judge --lines` with 1, 2 and 4 workers, with and without criteria that are expected to be met,
@@ -9,23 +9,34 @@ whose lines come in one piece, or in pieces of random length. The lines that are
 three of a report joined by `; `, or the one on standard error; and the status has to be what follows from them. A client that writes
 one line and waits for its answer has to get it. It ends with status 1 where something is wrong.
 
-Then N small histories (10,000 by default) are judged by 1, 2 and 4 workers, and a thousandth of that many by a run each. The table
+With `--operations N` runs of a store by bench/histories.py, healthy ones and such with a fault, of N operations in all, are judged so by
+1, 2, 4 and 16 workers: the healthy ones are causally consistent and a causal memory, the others are not, nothing is left unknown, and
+each line is that of a run of its own.
+
+With `--small N`, N small histories are then judged by 1, 2 and 4 workers, and a thousandth of that many by a run each. The table
 has the least of some rounds (5 by default) on the clock, from the start of the process to its end, and what a line takes of that.
 """
 
 import argparse
+import itertools
 import json
 import os
 import pathlib
 import random
 import subprocess
+import sys
 import tempfile
 import time
 
 import mangled
 from command_words import with_program
+from counting import end
+
+sys.path.insert(0, str(pathlib.Path(__file__).resolve().parent.parent / "bench"))
+import histories  # noqa: E402
 
 WORKERS = (1, 2, 4)
+MET = "cc yes; cm yes; "
 EXPECTED = ("", "cc", "cm", "ccv", "cc,cm,ccv")
 
 
@@ -88,23 +99,24 @@ def run_whole(command, text):
 
 
 def compared(rng, program, lines):
-    """How many runs over the lines had another outcome than the single runs, each of which is told of."""
+    """How many runs over the lines had the outcome of the single runs, and how many another, each of which is printed."""
     answers = [answer_alone(program, line) for line in lines]
     answered = [i for i, answer in enumerate(answers) if is_answered(answer)]
-    wrong = 0
+    runs = wrong = 0
     for kept in (range(len(lines)), answered):
-        text = b"\n".join(lines[i] for i in kept) + (b"\n" if rng.random() < 0.5 or not kept or not lines[kept[-1]] else b"")
+        text = b"\n".join(lines[i] for i in kept) + (b"\n" if kept and (rng.random() < 0.5 or not lines[kept[-1]]) else b"")
         due = "".join(f"{answers[i]}\n" for i in kept)
         for workers in WORKERS:
             for expected in EXPECTED:
                 wanted = (status_due([answers[i] for i in kept], expected), due)
                 command = [*program, *words_for(workers, expected)]
                 for found in (run_whole(command, text), run_in_pieces(rng, command, text)):
+                    runs += 1
                     if found != wanted:
                         wrong += 1
                         print(f"{' '.join(command[1:])}: status {found[0]} for {wanted[0]}, {differing(found[1], due)}")
     print(f"{len(lines)} lines, {len(answered)} of them answered")
-    return wrong
+    return runs - wrong, wrong
 
 
 def differing(found, due):
@@ -115,17 +127,53 @@ def differing(found, due):
 
 
 def talked(program):
-    """How many of some clients that write a line and wait for its answer got another one."""
-    wrong = 0
+    """How many times a client that writes a line and waits got its answer, and how many times another."""
+    asked = wrong = 0
     for workers in WORKERS:
         process = subprocess.Popen([*program, *words_for(workers, "")], stdin=subprocess.PIPE, stdout=subprocess.PIPE)
         for line in (b'["memory",[]]\n', b"\n", b'["memory",[[["r",0,7]]]]\n'):
             process.stdin.write(line)
             process.stdin.flush()
+            asked += 1
             wrong += process.stdout.readline().decode().removesuffix("\n") != answer_alone(program, line)
         process.stdin.close()
+        asked += 1
         wrong += process.wait() != 1
-    return wrong
+    return asked - wrong, wrong
+
+
+def runs_of_store(most):
+    """Runs of a store of so many operations in all, with what is wrong in each."""
+    runs = [
+        (state, histories.SESSIONS * size, histories.text_of(sessions).encode())
+        for size in histories.SIZES
+        for shape in histories.SHAPES
+        if histories.SESSIONS * size <= most
+        for state, sessions in histories.histories_of(shape, size)
+    ]
+    for state, operations, text in itertools.cycle(runs):
+        if most < operations:
+            return
+        most -= operations
+        yield state, text
+
+
+def judged_by_many(program, most):
+    """How many answers to runs of a store are as due, and how many are not, by each number of workers."""
+    runs, alone, wrong = list(runs_of_store(most)), {}, 0
+    for state, text in runs:
+        if text not in alone:
+            alone[text] = answer_alone(program, text)
+            if alone[text].startswith(MET) != (state == "healthy") or "unknown" in alone[text]:
+                wrong += 1
+                print(f"a run that is {state}: {alone[text]}", flush=True)
+    due = "".join(f"{alone[text]}\n" for _, text in runs)
+    for workers in (*WORKERS, 16):
+        status, found = run_whole([*program, *words_for(workers, "")], b"".join(text for _, text in runs))
+        if (status, found) != (0, due):
+            wrong += 1
+            print(f"{len(runs)} runs of a store by {workers} workers: status {status}, {differing(found, due)}", flush=True)
+    return len(alone) + len(WORKERS) + 1 - wrong, wrong
 
 
 def small_history(rng):
@@ -176,14 +224,17 @@ def main():
     parser = argparse.ArgumentParser(description=__doc__, formatter_class=argparse.RawDescriptionHelpFormatter)
     parser.add_argument("seed", type=int)
     parser.add_argument("lines", type=int)
-    parser.add_argument("--small", type=int, default=10_000)
+    parser.add_argument("--operations", type=int, default=0)
+    parser.add_argument("--small", type=int, default=0)
     parser.add_argument("--rounds", type=int, default=5)
     given = with_program(parser)
     rng = random.Random(given.seed)
-    wrong = compared(rng, given.program, [line_of(rng) for _ in range(given.lines)]) + talked(given.program)
-    measured(rng, given.program, given.small, given.rounds)
-    print(f"{wrong} outcomes that are not due")
-    raise SystemExit(1 if wrong else 0)
+    counts = [compared(rng, given.program, [line_of(rng) for _ in range(given.lines)]), talked(given.program)]
+    if given.operations:
+        counts.append(judged_by_many(given.program, given.operations))
+    if given.small:
+        measured(rng, given.program, given.small, given.rounds)
+    end(*map(sum, zip(*counts)))
 
 
 if __name__ == "__main__":

@@ -1,7 +1,7 @@
 #!/usr/bin/env python3
 """Compares what a program answers to scripts of the world with what the plain program of replay.py answers.
 
-    python3 bench/replayed.py SCRIPTS [--make SEED COUNT] -- PROGRAM replay
+    python3 tests/replayed.py SCRIPTS [--make SEED COUNT] -- PROGRAM replay
 
 SCRIPTS is a folder of scripts, each a file named NAME.json. With --make so many random ones of this seed are first written
 there, as scripts.py does. The program reads a script from its standard input. For each script on which they differ, in the
@@ -16,6 +16,7 @@ import subprocess
 
 import replay
 from command_words import with_program
+from counting import end
 from scripts import write_scripts
 
 
@@ -59,8 +60,7 @@ def main():
         if found:
             apart += 1
             print(f"{path.name}: {found}")
-    print(f"{len(files)} scripts, {apart} with another answer")
-    raise SystemExit(1 if apart else 0)
+    end(len(files) - apart, apart)
 
 
 if __name__ == "__main__":

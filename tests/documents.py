@@ -1,0 +1,212 @@
+#!/usr/bin/env python3
+"""Runs the commands that the documents show, and the files of examples/, on a program, and compares what it writes.
+
+    python3 tests/documents.py [--long] [--root DIR] -- PROGRAM
+
+A command stands in README.md, in a page of docs/ or embed/, or in a page of examples/, in an indented block, behind `$ `. It is run by
+bash in a copy of the repository whose crates/causal_judge/out/ has the program, and which finds it as `causal_judge`. What it writes to
+both outputs has to be the lines that follow in the block, up to the next `$ `. The commands of one page are run in turn in one copy.
+
+    ...                                          in a block: any lines, or none
+    <!-- not run: it needs Hadoop -->            before a block: its commands are left out
+    <!-- long, any kind: threads take turns -->  before a block: run with --long alone, and `no KIND` stands for a no of any kind
+
+The files of examples/ are judged, explained, checked, refuted, replayed and driven. What is said of them is below, or in the file of
+the same name that ends in .txt, or in the picture of that name in docs/. A file of which nothing is said is a failure.
+"""
+
+import argparse
+import json
+import os
+import pathlib
+import re
+import shutil
+import subprocess
+import tempfile
+from typing import NamedTuple
+
+import driven
+from command_words import STORES, order_of, with_program
+from counting import end
+from reading import read_driven
+
+ROOT = pathlib.Path(__file__).resolve().parent.parent
+PAGES = ("README.md", "docs/*.md", "embed/*.md", "examples/**/*.md")
+BUILT = pathlib.Path("crates", "causal_judge", "out", "causal_judge")
+MARK = re.compile(r"<!-- (not run|long, any kind): (.*) -->")
+COMMAND = re.compile(r"( {4,})\$ (.*)")
+KIND = re.compile(r"(?<= no )[A-Z]\w+")
+SECONDS = 300
+
+# Of each file of examples/: the words of a command line, its lines, and its status where it is not 0.
+YES, INITIAL, STALE, THIN = ("yes",) * 3, ("no WriteCOInitRead",) * 3, ("no WriteCORead",) * 3, ("no ThinAirRead",) * 3
+JUDGED = {
+    "healthy_run": YES,
+    "diverging_replicas": ("yes", "yes", "no CyclicCF"),
+    "lost_write": INITIAL,
+    "stale_read": STALE,
+    "thin_air_read": THIN,
+    "explained_stale_read": STALE,
+    "explained_own_write": ("yes", "no CyclicHB", "no CyclicCF"),
+    "explained_repeated_value": ("unknown 2.2", "unknown", "unknown"),
+    "explained_counter": ("unknown 1.0",) * 3,
+}
+SAID = {
+    "checked_run": ("check", "cc yes"),
+    "refuted_run": ("refute", "cc no WriteCORead"),
+    "open_call": (
+        "replay",
+        "ok 0.0;ok 1.0;ok 1.0;ok 0;none;seen;none;seen;none;none;ok 0.0;"
+        '["memory",[[["w",0,1,"?"]],[["r",0,1]]]];ok 0;verdict 0 explained;ok;verdict 1 explained;ok;yes',
+    ),
+    "repeated_verdict": (
+        "replay",
+        "ok 0.0;ok 0.0;ok 1.0;ok 1.0;ok 0;seen;none;seen;none;none;none;ok 0;ok 1;take 0 0.0;verdict 0 explained;verdict 1 explained;"
+        "ok;refused 24;refused 25;open 1;verdict 2 explained;ok;yes;ok;open 1",
+    ),
+}
+DRIVEN = ("many_clients",)
+
+
+class Command(NamedTuple):
+    """A command of a page, the lines that it has to write, and the mark before its block."""
+
+    place: str
+    text: str
+    wanted: list
+    mark: str
+    why: str
+
+
+def commands_of(page, name):
+    """The commands that a page shows, in order."""
+    lines = page.read_text(encoding="utf-8").split("\n")
+    mark, at = ("", ""), 0
+    while at < len(lines):
+        found = COMMAND.fullmatch(lines[at])
+        if not found:
+            if lines[at].strip() and not lines[at].startswith("    "):
+                told = MARK.fullmatch(lines[at].strip())
+                mark = told.groups() if told else ("", "")
+            at += 1
+            continue
+        first, text, at = at, found[2], at + 1
+        while text.endswith("\\"):
+            text, at = f"{text}\n{lines[at].strip()}", at + 1
+        wanted = []
+        while at < len(lines) and not COMMAND.fullmatch(lines[at]) and (lines[at].startswith(found[1]) or not lines[at].strip()):
+            wanted.append(lines[at].removeprefix(found[1]))
+            at += 1
+        yield Command(f"{name}:{first + 1}", text, "\n".join(wanted).rstrip().split("\n"), *mark)
+
+
+def is_written(wanted, found):
+    """Whether the lines found are those that are wanted, where `...` stands for any lines."""
+    if not wanted:
+        return not found
+    if wanted[0].strip() == "...":
+        return any(is_written(wanted[1:], found[at:]) for at in range(len(found) + 1))
+    return bool(found) and wanted[0] == found[0] and is_written(wanted[1:], found[1:])
+
+
+def copy_of(root, program, folder):
+    """A copy of the repository without its crates, with the program in its place, and the environment that finds it."""
+    left_out = shutil.ignore_patterns(".git", "crates", "out", "__pycache__")
+    shutil.copytree(root, folder / "copy", ignore=left_out)
+    built, named = folder / "copy" / BUILT, folder / "bin" / "causal_judge"
+    for path in (built, named):
+        path.parent.mkdir(parents=True)
+        path.symlink_to(pathlib.Path(program).resolve())
+    return folder / "copy", {**os.environ, "PATH": f"{named.parent}:{os.environ['PATH']}", "PYTHONDONTWRITEBYTECODE": "1"}
+
+
+def written_by(command, folder, environment):
+    """The lines that a command writes to both outputs."""
+    how = {"cwd": folder, "env": environment, "stdin": subprocess.DEVNULL, "stdout": subprocess.PIPE, "stderr": subprocess.STDOUT}
+    try:
+        done = subprocess.run(["bash", "-c", command.text], check=False, timeout=SECONDS, **how)
+    except subprocess.TimeoutExpired:
+        return [f"no end within {SECONDS} seconds"]
+    return done.stdout.decode(errors="replace").rstrip().split("\n")
+
+
+def fault_of(command, folder, environment):
+    """What is wrong with what a command writes, in lines; none where it is as wanted."""
+    found, wanted = written_by(command, folder, environment), command.wanted
+    if command.mark:
+        found, wanted = ([KIND.sub("KIND", line) for line in lines] for lines in (found, wanted))
+    if is_written(wanted, found):
+        return []
+    return [f"{command.place}: {command.text}", *(f"    - {line}" for line in wanted), *(f"    + {line}" for line in found[:40])]
+
+
+def try_page(page, given, folder):
+    """The faults of each command of a page that is run."""
+    copy, environment = copy_of(given.root, given.program[0], folder)
+    for command in commands_of(page, str(page.relative_to(given.root))):
+        if command.mark == "not run" or command.mark and not given.long:
+            print(f"{command.place}: left out: {command.why}")
+        else:
+            yield fault_of(command, copy, environment)
+
+
+def try_pages(given):
+    """The faults of each command that is run, page by page."""
+    for page in sorted({page for pattern in PAGES for page in given.root.glob(pattern)}):
+        if not any(part in ("out", "__pycache__") for part in page.parts):
+            with tempfile.TemporaryDirectory() as room:
+                yield from try_page(page, given, pathlib.Path(room))
+
+
+def outcome(program, words, path):
+    """The status and both outputs of a run over a file."""
+    done = subprocess.run([*program, *words], input=path.read_bytes(), capture_output=True, check=False, timeout=SECONDS)
+    return done.returncode, done.stdout.decode(), done.stderr.decode()
+
+
+def wanted_of(path):
+    """The command lines for a file of examples/ whose answer is known, with that answer."""
+    name = path.stem
+    if name in SAID:
+        command, lines = SAID[name]
+        yield command.split(), lines.replace(";", "\n") + "\n"
+    if name in JUDGED:
+        lines = "".join(f"{criterion} {word}\n" for criterion, word in zip(("cc", "cm", "ccv"), JUDGED[name]))
+        yield from ((["judge", "--workers", str(workers)], lines) for workers in (1, 2, 16))
+    for words, shown in ((["explain"], path.with_suffix(".txt")), (["explain", "--svg"], path.parent.parent / "docs" / f"{name}.svg")):
+        if shown.is_file():
+            yield words, shown.read_text(encoding="utf-8")
+
+
+def runs_of(given):
+    """The faults of each run over a file of examples/."""
+    for path in sorted((given.root / "examples").glob("*.json")):
+        is_known = False
+        for words, wanted in wanted_of(path):
+            is_known, found = True, outcome(given.program, words, path)
+            yield [] if found == (0, wanted, "") else [f"{' '.join(words)} < examples/{path.name}: {found!r}, wanted {wanted!r}"]
+        for store in STORES if path.stem in DRIVEN else ():
+            is_known, words = True, ["drive", store]
+            status, text, error = outcome(given.program, words, path)
+            asked = read_driven(json.dumps(json.loads(path.read_text())).encode())
+            faults = driven.faults(given.program, order_of(words), asked, text) if (status, error) == (0, "") else [status, error]
+            yield [f"{' '.join(words)} < examples/{path.name}: {faults}"] if faults else []
+        if not is_known:
+            yield [f"examples/{path.name}: nothing is said of it"]
+
+
+def main():
+    parser = argparse.ArgumentParser(description=__doc__, formatter_class=argparse.RawDescriptionHelpFormatter)
+    parser.add_argument("--long", action="store_true")
+    parser.add_argument("--root", type=pathlib.Path, default=ROOT)
+    given = with_program(parser)
+    passed = failed = 0
+    for faults in (*try_pages(given), *runs_of(given)):
+        passed, failed = passed + (not faults), failed + bool(faults)
+        if faults:
+            print(*faults, sep="\n", flush=True)
+    end(passed, failed)
+
+
+if __name__ == "__main__":
+    main()

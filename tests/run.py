@@ -1,0 +1,217 @@
+#!/usr/bin/env python3
+"""Runs all tests of the process over a program, some side by side, and counts what passed.
+
+    python3 tests/run.py [--long] [--size PERCENT] [--jobs N] [PART..]
+
+The program is the one that CAUSAL_JUDGE names, or else crates/causal_judge/out/causal_judge. The parts are those of PARTS below, or
+those that are named. Seeds and numbers of cases are fixed: `--size` makes the numbers smaller for a slow program, and `--long` makes
+them as large as is worth hours. For each part a line says what came out, after the output of the part where something failed.
+
+What a part needs and the machine lacks is named as skipped, with the line that installs it. The last line is
+`N passed, M failed`, with `, K skipped` after it where something was, and the status is 1 where something failed.
+"""
+
+import argparse
+import contextlib
+import os
+import pathlib
+import shutil
+import signal
+import subprocess
+import sys
+import tempfile
+import time
+from concurrent.futures import ThreadPoolExecutor, as_completed
+from typing import Callable, NamedTuple
+
+from counting import end, read_last_line
+
+ROOT = pathlib.Path(__file__).resolve().parent.parent
+BUILT = ROOT / "crates" / "causal_judge" / "out" / "causal_judge"
+ARCHIVE = ROOT / "crates" / "causal_judge_library" / "out" / "libcausal_judge_library.a"
+MOST_SECONDS, MOST_LONG_SECONDS = 900, 12 * 3600
+SHOWN_LINES, SHOWN_CHARACTERS = 40, 400
+RUNNING = set()
+INSTALLS = {"bash": "apt-get install bash", "cc": "apt-get install gcc", "ar": "apt-get install binutils"}
+
+
+class Given(NamedTuple):
+    """What a run was asked for: the program, the percentage of the usual cases, whether it may take long, and a folder."""
+
+    program: str
+    size: int
+    is_long: bool
+    room: str
+
+    def many(self, usual, longest):
+        """A number of cases."""
+        return str(max(1, (longest if self.is_long else usual) * self.size // 100))
+
+    def of(self, name, *words):
+        """The words that run a script of this folder over the program."""
+        return [f"tests/{name}.py", *words, "--", self.program]
+
+    def longer(self):
+        return ["--long"] if self.is_long else []
+
+
+class Part(NamedTuple):
+    """A part: its name, the words after Python that run it, the tools that it needs, and a file that has to be there."""
+
+    name: str
+    words: Callable[[Given], list]
+    tools: tuple = ()
+    file: Callable[[Given], pathlib.Path] = lambda given: pathlib.Path(given.program)
+    install: str = ""
+    is_long: bool = False
+
+
+class Ended(NamedTuple):
+    """How a part ended: its counts, its seconds and what it said, or why it was skipped."""
+
+    counts: tuple
+    seconds: float = 0.0
+    text: str = ""
+    skipped: str = ""
+
+
+def by_rattle(given):
+    """The program as Rattle's own compiler makes it."""
+    return pathlib.Path(f"{given.program}.by-rattle")
+
+
+PARTS = (
+    Part("tables", lambda given: given.of("tables")),
+    Part("tables_by_rattle", lambda given: ["tests/tables.py", "--", str(by_rattle(given))], file=by_rattle, install="rt ci builds it"),
+    Part("documents", lambda given: given.of("documents", *given.longer()), ("bash",)),
+    Part("python_examples", lambda given: given.of("python_examples", "--seeds", given.many(8, 40), *given.longer())),
+    Part("mangled", lambda given: given.of("mangled", "1", "--count", given.many(3_000, 200_000))),
+    Part("pieces", lambda given: given.of("pieces", "1", given.many(1_200, 20_000))),
+    Part("long_pieces", lambda given: given.of("pieces", "5", given.many(20, 1_000), "400")),
+    Part("replayed", lambda given: [*given.of("replayed", f"{given.room}/scripts", "--make", "17", given.many(240, 5_000)), "replay"]),
+    Part("driven", lambda given: given.of("driven", "1", given.many(250, 1_500))),
+    Part("full_drives", lambda given: given.of("driven", "2", given.many(4, 60), "--full", "--object", "memory")),
+    Part("full_drives_of_all", lambda given: given.of("driven", "3", given.many(0, 40), "--full"), is_long=True),
+    Part("explained", lambda given: given.of("explained", "1", given.many(200, 4_000))),
+    Part("lines", lambda given: given.of("lines", "1", given.many(120, 1_000))),
+    Part("million_operations", lambda given: given.of("lines", "2", "1", "--operations", given.many(0, 1_000_000)), is_long=True),
+    Part("streams", lambda given: given.of("streams", "--steps", given.many(20, 50))),
+    Part("refused_memory", lambda given: given.of("refused_memory", *given.longer()), ("cc",)),
+    Part(
+        "library",
+        lambda given: ["embed/run.py", "--compare", given.many(1_500, 30_000)],
+        ("cc", "ar"),
+        lambda given: ARCHIVE,
+        "./check --library builds it",
+    ),
+)
+
+
+def lacks(part, given):
+    """What a part needs and does not find, with the line that helps."""
+    for tool in part.tools:
+        if not shutil.which(tool):
+            return f"{tool} is missing: {INSTALLS[tool]}"
+    return "" if part.file(given).is_file() else f"{part.file(given).name} is missing: {part.install}"
+
+
+def end_group(process):
+    """Ends a process and all that it started."""
+    with contextlib.suppress(ProcessLookupError):
+        os.killpg(process.pid, signal.SIGKILL)
+
+
+def stop(number, frame):
+    """Ends what runs when this process is to end."""
+    for process in list(RUNNING):
+        end_group(process)
+    os._exit(128 + number)
+
+
+def status_within(process, seconds):
+    """The status of a process, or what it lacks. All that it started ends with it."""
+    RUNNING.add(process)
+    try:
+        return process.wait(seconds)
+    except subprocess.TimeoutExpired:
+        return f"none within {seconds} seconds"
+    finally:
+        end_group(process)
+        process.wait()
+        RUNNING.discard(process)
+
+
+def counts_of(text, status):
+    """The counts of a part by its last line, and by its status: what ends badly has failed."""
+    passed, failed, skipped = read_last_line(text) or (int(status == 0), 0, 0)
+    return passed, failed or int(status != 0), skipped
+
+
+def run_part(part, given):
+    """Runs a part to its end."""
+    missing = lacks(part, given)
+    if missing:
+        return Ended((0, 0, 1), skipped=missing)
+    begun = time.monotonic()
+    how = {"cwd": ROOT, "stdin": subprocess.DEVNULL, "stderr": subprocess.STDOUT, "start_new_session": True}
+    how["env"] = {**os.environ, "CAUSAL_JUDGE": given.program, "PYTHONDONTWRITEBYTECODE": "1"}
+    with tempfile.TemporaryFile("w+", errors="replace") as said:
+        process = subprocess.Popen([sys.executable, *part.words(given)], stdout=said, **how)
+        status = status_within(process, MOST_LONG_SECONDS if given.is_long else MOST_SECONDS)
+        said.seek(0)
+        text = said.read().rstrip()
+    if status not in (0, 1):
+        text += f"\nstatus {status}"
+    return Ended(counts_of(text, status), time.monotonic() - begun, text)
+
+
+def show(part, ended):
+    """Prints how a part ended: what it said where something failed, and a line."""
+    if ended.skipped:
+        print(f"{part.name}: skipped: {ended.skipped}", flush=True)
+        return
+    lines = [line[:SHOWN_CHARACTERS] for line in ended.text.split("\n") if not read_last_line(line)]
+    if not ended.counts[1]:
+        lines = [f"{part.name}: {line}" for line in lines if "skipped" in line or "left out" in line]
+    if lines:
+        print(*lines[:SHOWN_LINES], *(["..", *lines[-3:]] if len(lines) > SHOWN_LINES else []), sep="\n")
+    passed, failed, skipped = ended.counts
+    more = f", {skipped} skipped" if skipped else ""
+    print(f"{part.name}: {passed} passed, {failed} failed{more} ({ended.seconds:.0f} seconds)", flush=True)
+
+
+def chosen(asked, is_built):
+    """The parts that are named, or all that a run of this kind has."""
+    unknown = set(asked.parts) - {part.name for part in PARTS}
+    if unknown:
+        sys.exit(f"no part {', '.join(sorted(unknown))}; the parts are {', '.join(part.name for part in PARTS)}")
+    if asked.parts:
+        return [part for part in PARTS if part.name in asked.parts]
+    return [part for part in PARTS if (asked.long or not part.is_long) and (is_built or part.name != "tables_by_rattle")]
+
+
+def main():
+    parser = argparse.ArgumentParser(description=__doc__, formatter_class=argparse.RawDescriptionHelpFormatter)
+    parser.add_argument("--long", action="store_true")
+    parser.add_argument("--size", type=int, default=100)
+    parser.add_argument("--jobs", type=int, default=min(os.cpu_count() or 2, 4))
+    parser.add_argument("parts", nargs="*", metavar="PART")
+    asked = parser.parse_args()
+    program = pathlib.Path(os.environ.get("CAUSAL_JUDGE") or BUILT).resolve()
+    parts, total = chosen(asked, program == BUILT), [0, 0, 0]
+    if not program.is_file():
+        print(f"no program {program}: rt ci builds it, or CAUSAL_JUDGE names one")
+        end(0, 1)
+    for number in (signal.SIGTERM, signal.SIGINT, signal.SIGHUP):
+        signal.signal(number, stop)
+    with tempfile.TemporaryDirectory(prefix="tests-") as room, ThreadPoolExecutor(asked.jobs) as pool:
+        given = Given(str(program), asked.size, asked.long, room)
+        running = {pool.submit(run_part, part, given): part for part in parts}
+        for done in as_completed(running):
+            show(running[done], done.result())
+            total = [sum(pair) for pair in zip(total, done.result().counts)]
+    end(*total)
+
+
+if __name__ == "__main__":
+    main()
