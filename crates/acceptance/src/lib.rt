@@ -63,6 +63,8 @@ mod recordings;
 #[cfg(test)]
 mod refused;
 #[cfg(test)]
+mod refused_memory;
+#[cfg(test)]
 mod refused_scripts;
 #[cfg(test)]
 mod refuted;
