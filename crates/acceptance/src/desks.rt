@@ -58,14 +58,16 @@ const WORKED: [&str; 4] = [
     "0; refused 8; Open(1); 0; Open(1); ok; Yes",
 ];
 
-/// Prints what was answered.
+/// Prints what was answered where memory was refused.
 #[test]
 fn abandoned(rt: HostRuntime) -> Result<(), Fail> {
     let answers = match answered(&rt, WORKED_TWICE) {
         Ok(answers) => answers,
         Err(_refused) => answered(&rt, WORKED_TWICE)?,
     };
-    println!(rt; "{answers}")?;
+    if answers.as_str() != WORKED[0] {
+        println!(rt; "{answers}")?;
+    }
     assert!(rt; WORKED.contains(&answers.as_str()), "{answers}");
     Ok(())
 }

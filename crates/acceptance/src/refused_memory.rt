@@ -7,6 +7,7 @@ use crate::desks::answered;
 use crate::recordings::{begun, ended, operations_of};
 use crate::replicas::{acted, received};
 use causal_memory::AsTakenIn;
+use history::MAX_SESSIONS;
 use lamport_store::ByStamp;
 use objects::{Queue, QueueCall, Register, RegisterCall, RegisterRet};
 use recorder::{Lanes, RecordError, Session, new_recorder};
@@ -170,8 +171,51 @@ fn act_and_receive_in_the_store_by_stamps(rt: HostRuntime) -> Result<(), Fail> {
         Ok(answers) => answers,
         Err(_refused) => answers_of_two::<ByStamp>(rt.alloc())?,
     };
-    let wanted = "";
+    let wanted =
+        "Done 1 [];Done 2 [];Done 1 [];Popped(Some(8)) 2 [];Popped(None) 3 [];Popped(Some(9)) 4 [];Popped(None) 5 [];";
     assert_eq!(rt; answers.as_str(), wanted);
+    Ok(())
+}
+
+/// So many pushes, with a pop behind each, are more updates than a replica by stamps applies without a copy of the object.
+const PAIRS: u64 = 40;
+
+/// What the replica pops at last, where a push comes in that stands before the last three of these pushes: the last of them.
+fn answers_from_a_copy(alloc: Global) -> Result<String, AllocError> {
+    let mut replica: Replica<Queue, ByStamp> = Replica::new(alloc, 1, 2, Delivery::Causal, &())?;
+    let mut answers = String::new(alloc);
+    if !pushed_and_popped(&mut replica) {
+        return String::from_str(alloc, "a call refused twice");
+    }
+    let push = UpdateOf::of(0, 0, 0, 75, QueueCall::Push(99), [0; MAX_SESSIONS]);
+    receive(alloc, &mut answers, &mut replica, Some(push))?;
+    pop_twice(alloc, &mut answers, &mut replica)?;
+    Ok(answers)
+}
+
+/// Pushes and pops: whether each call was made.
+fn pushed_and_popped(replica: &mut Replica<Queue, ByStamp>) -> bool {
+    for value in 0..PAIRS {
+        if acted(replica, QueueCall::Push(value)).is_err() {
+            return false;
+        }
+        if acted(replica, QueueCall::Pop).is_err() {
+            return false;
+        }
+    }
+    true
+}
+
+#[test]
+fn act_and_receive_from_a_copy(rt: HostRuntime) -> Result<(), Fail> {
+    let answers = match answers_from_a_copy(rt.alloc()) {
+        Ok(answers) => answers,
+        Err(_refused) => answers_from_a_copy(rt.alloc())?,
+    };
+    assert_eq!(rt;
+        answers.as_str(),
+        "Popped(Some(39)) 81 [];Popped(None) 82 [];"
+    );
     Ok(())
 }
 
