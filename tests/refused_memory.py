@@ -1,19 +1,19 @@
 #!/usr/bin/env python3
-"""Refuses the allocations of a program, one in each run, and says which runs do not end as they should.
+"""Refuses the allocations of a program, one in each run, and reports each run that does not end right.
 
     python3 tests/refused_memory.py [--long] [--threads N] [--tests PROGRAM] -- PROGRAM
 
-A run on each input below is repeated with one of its allocations refused, until a run asks for no more. Each third allocation is
-refused so, and with `--long` each one. A run has to end with its usual answer, of `drive` with one that driven.py finds no fault in, or
-with status 4, `no memory` on standard error and nothing written; of `judge --lines` what is written by then may be the answers of some
-first lines.
+Each input below is run again and again, with another allocation refused each time, until a run makes no more. `--long` refuses every
+allocation; without it every third one is refused. A run has to end with its usual answer, or with status 4, `no memory` on standard
+error and nothing written. `judge --lines` may have written the answers of some first lines before. What `drive` writes may differ from
+run to run: driven.py has to find no fault in it.
 
-The same is done with the tests below of crates/acceptance, which make a call again where memory was refused to it. Each has to pass
-in each run, and `abandoned` has to print each answer that a refusal can lead to. `rt ci` leaves the program that has these tests;
-without it they are skipped.
+The same is done with the tests below of crates/acceptance, which repeat a call where memory was refused to it. Each has to pass in
+each run, and `abandoned` has to print each answer that a refusal can lead to. `rt ci` leaves the program that has these tests; without
+it they are skipped.
 
-The allocations are those of the C library: malloc, calloc, realloc and their aligned kin, in whose place stands a small library that
-`cc` makes. Without a C compiler all is skipped.
+A small library, which `cc` builds, replaces the allocations of the C library: malloc, calloc, realloc and their aligned kin. Without a
+C compiler everything is skipped.
 """
 
 import argparse
@@ -215,7 +215,7 @@ def refused_run(folder, words, data, number):
 
 
 def refused_runs(sweep, words, data, first):
-    """The runs of which one allocation was refused: the first one, and each behind it by the stride."""
+    """The runs of which one allocation was refused: this one first, and then in steps of the stride."""
     numbers = itertools.count(first, sweep.stride)
     while True:
         batch = list(itertools.islice(numbers, 2 * sweep.threads))
@@ -239,8 +239,8 @@ def is_first_lines(text, usual):
 
 
 def is_right(program, words, data, usual, found):
-    """Whether a run may end so: as usual, or for want of memory. What clients write may differ from run to run, and of lines the first
-    may be answered by then."""
+    """Whether a run may end like this: as usual, or for want of memory. Some first lines may be answered before, and what clients write
+    may differ from run to run."""
     if found in (usual, NO_MEMORY):
         return True
     if "--lines" in words:
@@ -250,7 +250,7 @@ def is_right(program, words, data, usual, found):
     return not driven.faults(program, order_of(words), read_driven(data), found[1].decode())
 
 
-def told(name, runs, wrong):
+def reported(name, runs, wrong):
     """Prints how many runs there were, and how some of those ended that are not right; gives both numbers."""
     print(f"{len(runs):5} refused, {len(wrong)} not right: {name}", flush=True)
     for run in wrong[:SHOWN]:
@@ -269,11 +269,11 @@ def swept_input(sweep, program, words, text, wanted, first):
     if not runs:
         print(f"no allocation was seen: {name}", flush=True)
         return 0, 1
-    return told(name, runs, [run for run in runs if not is_right(program, words, text.encode(), usual, run.found)])
+    return reported(name, runs, [run for run in runs if not is_right(program, words, text.encode(), usual, run.found)])
 
 
 def swept_inputs(sweep, program):
-    """The same of all inputs. They begin at different allocations, so that the strides of all meet each one that they share."""
+    """The same of each input. They begin at different allocations, so that together they refuse each one that all of them make."""
     lines = [(words, text, wanted) for command, text, wanted in INPUTS for words in command_lines(command)]
     for at, (words, text, wanted) in enumerate(lines):
         yield swept_input(sweep, program, words, text, wanted, 1 + at % sweep.stride)
@@ -285,13 +285,13 @@ def is_passed(found):
 
 
 def swept_test(sweep, tests, name, texts):
-    """How many refusals of a test's run end right, and how many do not; each text that no run printed counts as one that does not."""
+    """How many refusals of a test's run end right, and how many do not. A text that no run printed counts as one that does not."""
     usual = outcome([str(tests), name], b"")
     runs = list(refused_runs(sweep._replace(stride=1), [str(tests), name], b"", 1)) if is_passed(usual) else []
     if not runs:
         print(f"not passed where nothing is refused, or without an allocation: {name}: {usual!r}", flush=True)
         return 0, 1
-    passed, failed = told(name, runs, [run for run in runs if not is_passed(run.found)])
+    passed, failed = reported(name, runs, [run for run in runs if not is_passed(run.found)])
     printed = usual[1] + b"".join(run.found[1] for run in runs)
     missing = [text for text in texts if text.encode() not in printed]
     for text in missing:

@@ -50,7 +50,7 @@ const WORKED_TWICE: &str = "file three_of_one_session; work; ask 0; work; ask 0;
 /// What is answered: nothing is refused, or memory is refused to the check of the first, the second or the third piece. The
 /// piece that was taken then stays open until the case is settled.
 ///
-/// The gate sees the first. `tests/refused_memory.py`, which refuses each allocation of `abandoned` in turn, has to see each.
+/// The gate sees the first row. `tests/refused_memory.py` refuses each allocation of `abandoned` in turn, and has to see the others.
 const WORKED: [&str; 4] = [
     "0; 3; Yes; 0; Yes; ok; Yes",
     "0; refused 8; Open(3); 2; Open(1); ok; Yes",
@@ -226,8 +226,8 @@ fn ticket_of<K: ShelfName>(given: &Given<K>, number: &str) -> Option<Ticket<Memo
     Some(given.tickets.get(number)?.again())
 }
 
-/// Files a case: its number. It is filed once more where memory was refused: the answers then tell whether the refusal left
-/// the board.
+/// Files a case: its number. It is filed once more where memory was refused: later answers show whether the refusal left the
+/// board as it was.
 fn filed<K: ShelfName, P: Wait + AllocGlobal>(
     rt: &P,
     desk: &Desk<Memory, K>,

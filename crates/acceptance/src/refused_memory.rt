@@ -1,13 +1,13 @@
-//! Calls that are made again where memory was refused to them, and then find what they find where it was not.
+//! Calls that are made again where memory was refused to them, and then find what they would have found.
 //!
-//! The gate refuses nothing. `tests/refused_memory.py` runs these tests once for each of their allocations, which is refused.
-//! Where that was one of a text, or of what a test begins with, the test makes all of its calls again.
+//! The gate refuses nothing. `tests/refused_memory.py` runs each of these tests once for each of its allocations, and refuses
+//! that one. Where memory was refused to a text, or to what a test sets up, the test makes all of its calls again.
 
 use crate::desks::answered;
-use crate::recordings::{begun, ended, operations_of};
+use crate::recordings::{advice, operations_of};
 use crate::replicas::{acted, received};
 use causal_memory::AsTakenIn;
-use history::MAX_SESSIONS;
+use history::{MAX_SESSIONS, OpId};
 use lamport_store::ByStamp;
 use objects::{Queue, QueueCall, Register, RegisterCall, RegisterRet};
 use recorder::{Lanes, RecordError, Session, new_recorder};
@@ -16,7 +16,7 @@ use snapshot::{Sealed, seal};
 use std::alloc::{AllocError, Global};
 use std::test::Fail;
 
-/// So many writes a session makes before a read that stays pending.
+/// How many writes a session makes before a read that stays pending.
 const WRITES: u64 = 5;
 
 /// What a seal holds of two such sessions.
@@ -31,23 +31,45 @@ fn recorded(alloc: Global) -> Result<String, RecordError> {
     let (Some(mut second), Some(mut first)) = (sessions.pop(), sessions.pop()) else {
         return Ok(String::from_str(alloc, "no two sessions")?);
     };
-    if !wrote_all(alloc, &mut first) || !wrote_all(alloc, &mut second) {
-        return Ok(String::from_str(alloc, "a call refused twice")?);
+    if !wrote_all(alloc, &mut first, 0) || !wrote_all(alloc, &mut second, 1) {
+        return Ok(String::from_str(alloc, "a call refused twice, or another operation")?);
     }
     Ok(held(alloc, &lanes)?)
 }
 
-/// Writes, and begins a read: whether each call was made.
-fn wrote_all(alloc: Global, session: &mut Session<Register>) -> bool {
-    for value in 0..WRITES {
-        if !begun(session, RegisterCall::Write(value + 1)) {
-            return false;
-        }
-        if !ended(alloc, session, RegisterRet::Done) {
+/// Writes in this session, and begins a read: whether each of these is the operation that is due.
+fn wrote_all(alloc: Global, writer: &mut Session<Register>, session: u64) -> bool {
+    for index in 0..WRITES {
+        let due = OpId { session, index };
+        if !wrote(alloc, writer, RegisterCall::Write(index + 1), due) {
             return false;
         }
     }
-    begun(session, RegisterCall::Read)
+    let index = WRITES;
+    has_begun(writer, RegisterCall::Read, OpId { session, index })
+}
+
+/// Makes a call that returns nothing: whether it is the operation that is due, and its receipt is of that one.
+fn wrote(alloc: Global, writer: &mut Session<Register>, call: RegisterCall, due: OpId) -> bool {
+    if !has_begun(writer, call, due) {
+        return false;
+    }
+    match writer.finish(RegisterRet::Done, advice(alloc, 0)) {
+        Ok(receipt) => receipt.op() == due,
+        Err(_refused) => false,
+    }
+}
+
+/// Begins a call, and once more where memory was refused: whether it is the operation that is due.
+fn has_begun(session: &mut Session<Register>, call: RegisterCall, due: OpId) -> bool {
+    let begun = match session.begin(call) {
+        Err(RecordError::Memory) => session.begin(call),
+        begun => begun,
+    };
+    match begun {
+        Ok(op) => op == due,
+        Err(_refused) => false,
+    }
 }
 
 /// What a seal holds of these lanes.
@@ -76,7 +98,7 @@ fn begin_and_seal(rt: HostRuntime) -> Result<(), Fail> {
     Ok(())
 }
 
-/// What two replicas of a queue answer. The second has pushed and popped before the two pushes of the first come, the later
+/// What two replicas of a queue answer. The second pushes and pops before it receives the two pushes of the first, the later
 /// one first.
 fn answers_of_two<P: UpdateOrder>(alloc: Global) -> Result<String, AllocError> {
     let mut first: Replica<Queue, P> = Replica::new(alloc, 0, 2, Delivery::Causal, &())?;
@@ -104,7 +126,7 @@ fn pop_twice<P: UpdateOrder>(
     Ok(())
 }
 
-/// Asks a replica, puts its answer behind the others, and gives its update.
+/// Asks a replica, adds its answer to the others, and gives its update.
 fn act<P: UpdateOrder>(
     alloc: Global,
     answers: &mut String,
@@ -142,7 +164,7 @@ fn receive<P: UpdateOrder>(
     }
 }
 
-/// Puts the number of a refusal behind the answers.
+/// Adds the number of a refusal to the answers.
 fn push_refusal(
     alloc: Global,
     answers: &mut String,
@@ -177,10 +199,11 @@ fn act_and_receive_in_the_store_by_stamps(rt: HostRuntime) -> Result<(), Fail> {
     Ok(())
 }
 
-/// So many pushes, with a pop behind each, are more updates than a replica by stamps applies without a copy of the object.
+/// How many pushes a replica makes, with a pop after each: enough that it keeps a copy of its queue on the way.
 const PAIRS: u64 = 40;
 
-/// What the replica pops at last, where a push comes in that stands before the last three of these pushes: the last of them.
+/// What the replica pops at last. It has received a push that goes before the last three of its own pushes, so that the last of
+/// these is left.
 fn answers_from_a_copy(alloc: Global) -> Result<String, AllocError> {
     let mut replica: Replica<Queue, ByStamp> = Replica::new(alloc, 1, 2, Delivery::Causal, &())?;
     let mut answers = String::new(alloc);
@@ -219,7 +242,7 @@ fn act_and_receive_from_a_copy(rt: HostRuntime) -> Result<(), Fail> {
     Ok(())
 }
 
-/// Two cases are filed, one of them without a certificate, and a third whose file would come back from a full desk.
+/// Three cases are filed, the second without a certificate, and the third by the call that gives back the file.
 const FILED: &str =
     "file read_after_its_write; ask 0; file without_a_certificate; file_or_back no_operation; see 0; see 1; \
     see 2; ask 0; ask 1; ask 2; take; take; take";
