@@ -199,18 +199,19 @@ fn act_and_receive_in_the_store_by_stamps(rt: HostRuntime) -> Result<(), Fail> {
     Ok(())
 }
 
-/// How many pushes a replica makes, with a pop after each: enough that it keeps a copy of its queue on the way.
-const PAIRS: u64 = 40;
+/// How many pushes and then pops a replica makes: enough that it keeps a copy of its queue on the way.
+const PUSHES: u64 = 70;
 
-/// What the replica pops at last. It has received a push that goes before the last three of its own pushes, so that the last of
-/// these is left.
+const POPS: u64 = 66;
+
+/// What the replica pops at last. It has received a push that goes before the last three of its own pushes.
 fn answers_from_a_copy(alloc: Global) -> Result<String, AllocError> {
     let mut replica: Replica<Queue, ByStamp> = Replica::new(alloc, 1, 2, Delivery::Causal, &())?;
     let mut answers = String::new(alloc);
     if !pushed_and_popped(&mut replica) {
         return String::from_str(alloc, "a call refused twice");
     }
-    let push = UpdateOf::of(0, 0, 0, 75, QueueCall::Push(99), [0; MAX_SESSIONS]);
+    let push = UpdateOf::of(0, 0, 0, 68, QueueCall::Push(99), [0; MAX_SESSIONS]);
     receive(alloc, &mut answers, &mut replica, Some(push))?;
     pop_twice(alloc, &mut answers, &mut replica)?;
     Ok(answers)
@@ -218,10 +219,12 @@ fn answers_from_a_copy(alloc: Global) -> Result<String, AllocError> {
 
 /// Pushes and pops: whether each call was made.
 fn pushed_and_popped(replica: &mut Replica<Queue, ByStamp>) -> bool {
-    for value in 0..PAIRS {
+    for value in 0..PUSHES {
         if acted(replica, QueueCall::Push(value)).is_err() {
             return false;
         }
+    }
+    for _pop in 0..POPS {
         if acted(replica, QueueCall::Pop).is_err() {
             return false;
         }
@@ -237,7 +240,7 @@ fn act_and_receive_from_a_copy(rt: HostRuntime) -> Result<(), Fail> {
     };
     assert_eq!(rt;
         answers.as_str(),
-        "Popped(Some(39)) 81 [];Popped(None) 82 [];"
+        "Popped(Some(66)) 137 [];Popped(Some(99)) 138 [];"
     );
     Ok(())
 }
