@@ -13,7 +13,7 @@ each run, and `abandoned` has to print each answer that a refusal can lead to. `
 it they are skipped.
 
 A small library, which `cc` builds, replaces the allocations of the C library: malloc, calloc, realloc and their aligned kin. Without a
-C compiler everything is skipped.
+C compiler everything is skipped, and so is a program that `rt try` built, whose allocations are its own.
 """
 
 import argparse
@@ -299,14 +299,38 @@ def swept_test(sweep, tests, name, texts):
     return passed, failed + len(missing)
 
 
-def swept(given, folder):
+def swept_tests(sweep, tests):
+    """The same of each test."""
+    for name, texts in REPEATING:
+        yield swept_test(sweep, tests, name, texts)
+
+
+def swept(given, folder, skips):
     """How many refusals end right, and how many do not, of each run in turn."""
     with ThreadPoolExecutor(given.threads) as pool:
         sweep = Sweep(folder, pool, given.threads, 1 if given.long else STRIDE)
-        yield from swept_inputs(sweep, given.program)
-        if given.tests.is_file():
-            for name, texts in REPEATING:
-                yield swept_test(sweep, given.tests, name, texts)
+        if "program" not in skips:
+            yield from swept_inputs(sweep, given.program)
+        if "tests" not in skips:
+            yield from swept_tests(sweep, given.tests)
+
+
+def allocates_itself(path):
+    """Whether a program was built with address checks, as `rt try` builds it: the C library's allocations are not its own then."""
+    return path.is_file() and b"__asan_init" in path.read_bytes()
+
+
+def skipped_parts(given):
+    """The parts that are skipped, each with the reason."""
+    skips = {}
+    for part, path in (("program", pathlib.Path(given.program[0])), ("tests", given.tests)):
+        if not shutil.which("cc"):
+            skips[part] = "there is no C compiler: `apt-get install gcc` installs one"
+        elif allocates_itself(path):
+            skips[part] = f"{path} was built with address checks, and does not allocate by the C library"
+    if not given.tests.is_file():
+        skips["tests"] = f"there is no {given.tests}: `rt ci` builds it"
+    return skips
 
 
 def main():
@@ -315,16 +339,15 @@ def main():
     parser.add_argument("--threads", type=int, default=os.cpu_count() or 2)
     parser.add_argument("--tests", type=pathlib.Path, default=TESTS)
     given = with_program(parser)
-    if not shutil.which("cc"):
-        print("skipped: there is no C compiler. `apt-get install gcc` installs one.")
-        end(0, 0, 1)
-    with tempfile.TemporaryDirectory() as name:
-        build_library(pathlib.Path(name))
-        numbers = list(swept(given, pathlib.Path(name)))
-    skipped = 0 if given.tests.is_file() else 1
-    if skipped:
-        print(f"skipped: the tests of crates/acceptance, since there is no {given.tests}. `rt ci` builds it.")
-    end(sum(passed for passed, _ in numbers), sum(failed for _, failed in numbers), skipped)
+    skips = skipped_parts(given)
+    numbers = []
+    if len(skips) < 2:
+        with tempfile.TemporaryDirectory() as name:
+            build_library(pathlib.Path(name))
+            numbers = list(swept(given, pathlib.Path(name), skips))
+    for part, reason in skips.items():
+        print(f"skipped: the allocations of the {part}, since {reason}")
+    end(sum(passed for passed, _ in numbers), sum(failed for _, failed in numbers), len(skips))
 
 
 if __name__ == "__main__":
