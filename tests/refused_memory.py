@@ -1,50 +1,136 @@
 #!/usr/bin/env python3
-"""Refuses each allocation of a program in turn, and says which outcomes are not right.
+"""Refuses the allocations of a program, one in each run, and reports each run that does not end right.
 
-    python3 bench/refused_memory.py -- PROGRAM
+    python3 tests/refused_memory.py [--long] [--threads N] [--tests PROGRAM] -- PROGRAM
 
-A run on each input below is repeated with its first allocation refused, then its second, and so on until one asks for no more.
-It has to end with its usual answer, of `drive` with one that driven.py finds no fault in, or with status 4, `no memory` on standard
-error and nothing written. The allocations are those of the C library, which a small library that `cc` makes stands before: malloc,
-calloc, realloc and their aligned kin.
+Each input below is run again and again, with another allocation refused each time, until a run makes no more. `--long` refuses every
+allocation; without it every third one is refused. A run has to end with its usual answer, or with status 4, `no memory` on standard
+error and nothing written. `judge --lines` may have written the answers of some first lines before. What `drive` writes may differ from
+run to run: driven.py has to find no fault in it.
+
+The same is done with the tests below of crates/acceptance, which repeat a call where memory was refused to it. Each has to pass in
+each run, and `abandoned` has to print each answer that a refusal can lead to. `rt ci` leaves the program that has these tests; without
+it they are skipped.
+
+A small library, which `cc` builds, replaces the allocations of the C library: malloc, calloc, realloc and their aligned kin. Without a
+C compiler everything is skipped, and so is a program that `rt try` built, whose allocations are its own.
 """
 
 import argparse
 import itertools
 import os
 import pathlib
+import shutil
 import subprocess
 import tempfile
+from concurrent.futures import ThreadPoolExecutor
+from typing import NamedTuple
 
 import driven
 from command_words import OPTIONS, order_of, with_program
+from counting import end
 from reading import read_driven
 
-INPUTS = (
-    ("judge", '["memory",[[["w",0,1]],[["r",0,1]]]]'),
-    ("judge", '["memory",[[["w",0,1],["r",0,2]],[["w",0,2],["r",0,1]]]]'),
-    ("judge", '["memory",[[["w",2,1],["w",0,1],["w",1,1]],[["w",0,2],["r",2,0],["r",1,1],["r",0,2]]]]'),
-    ("judge", '["memory",[[["w",0,1]],[["w",0,2],["r",0,1],["r",0,2]]]]'),
-    ("judge", '["memory",[[["w",0,1],["w",1,1]],[["r",1,1],["w",0,2]],[["r",0,2],["r",0,1]]]]'),
-    ("judge", '["memory",[[["w",0,1]],[["w",0,1]],[["r",0,1]]]]'),
-    ("judge", '["counter",[[["inc"]],[["get",1]]]]'),
-    ("judge --lines", '["memory",[[["w",0,1]],[["r",0,1]]]]\n[]\n["counter",[[["inc"]],[["get",1]]]]\n'),
-    ("explain", '["memory",[[["w",0,1],["r",0,0]],[["w",3,1]],[["w",3,1]]]]'),
-    ("check", '[["queue",[[["push",5]],[["pop",5]],[["pop",5]]]],["cc",[[[1,0,0]],[[1,1,0]],[[1,0,1]]],[[[0]],[[0,1]],[[0,2]]]]]'),
-    ("check", '[["counter",[[["inc"]],[["get",1]]]],["ccv",[[[1,0]],[[1,1]]],[0,1]]]'),
-    ("refute", '[["memory",[[["w",0,1],["w",1,1]],[["r",1,1],["w",0,2]],[["r",0,2],["r",0,1]]]],"cc",'
-     '["WriteCORead",[[0,0],[0,1],[1,0],[1,1]],[[1,1],[2,0],[2,1]]]]'),
-    ("refute", '[["memory",[[["w",0,1]],[["w",0,2],["r",0,1],["r",0,2]]]],"cm",["CyclicHB",[1,2],[["co",[[1,0],[1,1]],[[1,1],[1,2]]],'
-     '["rf",0,[1,1]],["co",[[0,0],[1,1],[1,2]],[[1,2]]],["rf",2,[1,2]],["tr",1,3]]]]'),
-    ("replay", '["memory",2,[["start"],["look",0],["begin",0,["w",0,1]],["begin",1,["r",0]],["end",1,1],["look",0,5],["show",0]]]'),
-    ("replay", '["memory",2,[["begin",0,["w",0,1]],["end",0,"ok"],["begin",1,["r",0]],["end",1,1],["start"],["look",0,6],'
-     '["file",0,["cc",[[[1,0]],[[1,1]]],[[[0]],[[0,1]]]]],["work",0,0,0],["put",0,0],["ask",0]]]'),
-    ("drive causal", '["memory",[[["w",0,1],["r",0,"?"]]]]'),
-    ("drive causal --seals 1", '["memory",[[["w",0,1],["r",0,"?"]],[["r",0,"?"],["w",0,2,"?"]]],[[0,5]]]'),
-    ("drive lamport --eager --stop 1", '["queue",[[["push",5],["pop","?"]],[["pop","?"],["push",6,"?"]]]]'),
-)
+MOST_SECONDS = 60
+STRIDE = 3
+SHOWN = 3
 WORKERS = ("1", "2")
 NO_MEMORY = (4, b"", b"no memory\n")
+TESTS = pathlib.Path(__file__).resolve().parent.parent / "crates" / "acceptance" / "out" / "acceptance_tests"
+
+YES = "cc yes\ncm yes\nccv yes\n"
+PLAIN = '["memory",[[["w",0,1]],[["r",0,1]]]]'
+STALE = '["memory",[[["w",0,1],["w",1,1]],[["r",1,1],["w",0,2]],[["r",0,2],["r",0,1]]]]'
+AGAINST_CM = '["memory",[[["w",2,1],["w",0,1],["w",1,1]],[["w",0,2],["r",2,0],["r",1,1],["r",0,2]]]]'
+AGAINST_CCV = '["memory",[[["w",0,1],["r",0,2]],[["w",0,2],["r",0,1]]]]'
+CYCLIC = '["memory",[[["w",0,1]],[["w",0,2],["r",0,1],["r",0,2]]]]'
+REPEATED = '["memory",[[["w",0,1],["r",0,0]],[["w",3,1]],[["w",3,1]]]]'
+POPS = '["queue",[[["push",5]],[["pop",5],["pop",null]]]]'
+LOGGED = "\n".join((PLAIN, "[]", STALE, '["memory"', POPS, AGAINST_CM, ""))
+
+# A command, an input, and a text in its usual answer.
+INPUTS = (
+    ("judge", PLAIN, YES),
+    ("judge", STALE, "cc no WriteCORead\ncm no WriteCORead\nccv no WriteCORead\n"),
+    ("judge", '["memory",[[["r",1,1],["w",0,1]],[["r",0,1],["w",1,1]]]]', "cc no CyclicCO\ncm no CyclicCO\nccv no CyclicCO\n"),
+    ("judge", AGAINST_CM, "cc yes\ncm no WriteHBInitRead\nccv yes\n"),
+    ("judge", AGAINST_CCV, "cc yes\ncm yes\nccv no CyclicCF\n"),
+    ("judge", CYCLIC, "cc yes\ncm no CyclicHB\nccv no CyclicCF\n"),
+    ("judge", '["memory",[[["w",0,1]],[["w",0,1]],[["r",0,1]]]]', YES),
+    ("judge", '["memory",[[["r",0,5],["w",0,1]],[["r",0,1]]],[[0,5]]]', YES),
+    ("judge", '["register",[[["w",1],["r",1]],[["r",0]]]]', YES),
+    ("judge", '["counter",[[["inc"]],[["get",1]]]]', "cc unknown 1.0\ncm unknown 1.0\nccv unknown 1.0\n"),
+    ("judge", '["set",[[["add",1],["has",1,true]],[["rem",1]]]]', YES),
+    ("judge", POPS, "cc unknown 1.0\ncm unknown 1.0\nccv unknown 1.0\n"),
+    ("judge", '["counters",[[["inc",3],["get",3,1]],[["get",3,0]]]]', YES),
+    ("judge", '["sets",[[["add",1,2]],[["has",1,2,true]]]]', "cc unknown 1.0\ncm unknown 1.0\nccv unknown 1.0\n"),
+    ("judge", '["queues",[[["push",1,5],["pop",1,5]],[["pop",1,null]]]]', YES),
+    ("judge --expect cc,ccv", AGAINST_CCV, "cc yes\ncm yes\nccv no CyclicCF\n"),
+    ("judge --lines", LOGGED, "cc yes; cm yes; ccv yes\nrefused 2\ncc no WriteCORead"),
+    (
+        "check",
+        '[["queue",[[["push",5]],[["pop",5]],[["pop",5]]]],["cc",[[[1,0,0]],[[1,1,0]],[[1,0,1]]],[[[0]],[[0,1]],[[0,2]]]]]',
+        "cc yes\n",
+    ),
+    ("check", '[["memory",[[["w",0,1]],[["r",0,1]]]],["cm",[[[1,0]],[[1,1]]],[[[0]],[[0,1]]]]]', "cm yes\n"),
+    ("check", '[["memory",[[["w",0,1]],[["r",0,2]]]],["cm",[[[1,0]],[[1,1]]],[[[0]],[[0,1]]]]]', "cm unknown 1.0\n"),
+    ("check", '[["counter",[[["inc"]],[["get",1]]]],["ccv",[[[1,0]],[[1,1]]],[0,1]]]', "ccv yes\n"),
+    ("explain", REPEATED, "cc unknown 0.1\n"),
+    ("explain", CYCLIC, "cm no CyclicHB\n"),
+    ("explain --json", CYCLIC, '["cm","no",["CyclicHB",'),
+    ("explain --json", POPS, '["ccv","unknown",[1,0]]'),
+    ("explain --json --certificates", PLAIN, '["ccv","yes",["ccv",'),
+    ("explain --json --certificates", AGAINST_CCV, '["ccv","no",["CyclicCF",'),
+    ("explain --svg", STALE, "<title>cc no WriteCORead"),
+    ("explain --svg", POPS, "<title>cc unknown 1.0"),
+    ("refute", f'[{STALE},"cc",["WriteCORead",[[0,0],[0,1],[1,0],[1,1]],[[1,1],[2,0],[2,1]]]]', "cc no WriteCORead\n"),
+    ("refute", f'[{AGAINST_CCV},"ccv",["CyclicCF",[["cf",[[1,0],[1,1]],[0,0]],["cf",[[0,0],[0,1]],[1,0]]]]]', "ccv no CyclicCF\n"),
+    (
+        "refute",
+        f'[{CYCLIC},"cm",["CyclicHB",[1,2],[["co",[[1,0],[1,1]],[[1,1],[1,2]]],["rf",0,[1,1]],["co",[[0,0],[1,1],[1,2]],[[1,2]]],'
+        '["rf",2,[1,2]],["tr",1,3]]]]',
+        "cm no CyclicHB\n",
+    ),
+    (
+        "replay",
+        '["memory",2,[["start"],["look",0],["begin",0,["w",0,1]],["begin",1,["r",0]],["end",1,1],["look",0,5],["show",0]]]',
+        '["memory",[[["w",0,1,"?"]],[["r",0,1]]]]',
+    ),
+    (
+        "replay",
+        '["memory",2,[["begin",0,["w",0,1]],["end",0,"ok"],["begin",1,["r",0]],["end",1,1],["start"],["look",0,6],'
+        '["file",0,["cc",[[[1,0]],[[1,1]]],[[[0]],[[0,1]]]]],["work",0,0,0],["put",0,0],["ask",0],["take"],["work",0,1,0],["put",0,1],'
+        '["ask",0]]]',
+        "verdict 1 explained\nok\nyes\n",
+    ),
+    (
+        "replay",
+        '["memory",1,[["begin",0,["r",0]],["end",0,7],["start",[1]],["look",0,4],["file",0,"cc"],["refute",0,["ThinAirRead",[0,0]]],'
+        '["ask",0]],[[1,3]]]',
+        "no ThinAirRead\n",
+    ),
+    (
+        "replay",
+        '["queue",1,[["begin",0,["push",5]],["end",0,"ok"],["begin",0,["pop"]],["start",[1]],["look",0,4],["show",0],["file",0,"ccv"],'
+        '["ask",0]]]',
+        '["queue",[[["push",5],["pop","?"]]]]\nok 0\nunknown\n',
+    ),
+    ("drive causal", '["memory",[[["w",0,1],["r",0,"?"]]]]', YES),
+    ("drive causal --seals 1", '["memory",[[["w",0,1],["r",0,"?"]],[["r",0,"?"],["w",0,2,"?"]]],[[0,5]]]', "cc yes\n"),
+    ("drive lamport --eager --stop 1", '["queue",[[["push",5],["pop","?"]],[["pop","?"],["push",6,"?"]]]]', '["queue",'),
+)
+
+# Tests of crates/acceptance, each with the texts that it has to print in some run.
+REPEATING = (
+    ("refused_memory::begin_and_seal", ()),
+    ("refused_memory::act_and_receive_in_the_causal_store", ()),
+    ("refused_memory::act_and_receive_in_the_store_by_stamps", ()),
+    ("refused_memory::act_and_receive_from_a_copy", ()),
+    ("refused_memory::file", ()),
+    ("seals::a_seal_holds_what_it_is_told_and_more", ()),
+    ("seals::a_seal_meets_the_session", ()),
+    ("desks::abandoned", ("refused 8; Open(3); 2", "refused 8; Open(2); 1", "refused 8; Open(1); 0")),
+)
 
 LIBRARY = r"""
 #define _GNU_SOURCE
@@ -86,28 +172,57 @@ int posix_memalign(void **p, size_t a, size_t n) {
 """
 
 
-def library(folder):
-    """The library that refuses, built."""
-    source, built = folder / "refusing.c", folder / "refusing.so"
+class Sweep(NamedTuple):
+    """What refuses, and which allocations: a folder with the library, threads that run side by side, and the stride."""
+
+    folder: pathlib.Path
+    pool: ThreadPoolExecutor
+    threads: int
+    stride: int
+
+
+class Refused(NamedTuple):
+    """How a run ended one of whose allocations was refused."""
+
+    number: int
+    found: tuple
+
+
+def build_library(folder):
+    """Builds the library that refuses."""
+    source = folder / "refusing.c"
     source.write_text(LIBRARY)
-    subprocess.run(["cc", "-shared", "-fPIC", "-O1", "-o", str(built), str(source)], check=True)
-    return built
+    subprocess.run(["cc", "-shared", "-fPIC", "-O1", "-o", str(folder / "refusing.so"), str(source)], check=True)
 
 
 def outcome(words, data, **extra):
     """How a run ends: its status, and what it wrote."""
-    done = subprocess.run(words, input=data, capture_output=True, check=False, timeout=60, env={**os.environ, **extra})
+    try:
+        done = subprocess.run(words, input=data, capture_output=True, check=False, timeout=MOST_SECONDS, env={**os.environ, **extra})
+    except subprocess.TimeoutExpired:
+        return f"no end within {MOST_SECONDS} seconds", b"", b""
     return done.returncode, done.stdout, done.stderr
 
 
-def outcomes(words, data, refusing, mark):
-    """How the run ends with its first allocation refused, with its second, and so on."""
-    for number in itertools.count(1):
-        found = outcome(words, data, LD_PRELOAD=str(refusing), REFUSED_ALLOCATION=str(number), REFUSED_MARK=str(mark))
-        if not mark.exists():
+def refused_run(folder, words, data, number):
+    """How a run ends with this allocation refused; none where it made fewer."""
+    mark = folder / f"refused_{number}"
+    found = outcome(words, data, LD_PRELOAD=str(folder / "refusing.so"), REFUSED_ALLOCATION=str(number), REFUSED_MARK=str(mark))
+    if not mark.exists():
+        return None
+    mark.unlink()
+    return Refused(number, found)
+
+
+def refused_runs(sweep, words, data, first):
+    """The runs of which one allocation was refused: this one first, and then in steps of the stride."""
+    numbers = itertools.count(first, sweep.stride)
+    while True:
+        batch = list(itertools.islice(numbers, 2 * sweep.threads))
+        runs = list(sweep.pool.map(lambda number: refused_run(sweep.folder, words, data, number), batch))
+        yield from (run for run in runs if run)
+        if None in runs:
             return
-        mark.unlink()
-        yield number, found
 
 
 def command_lines(command):
@@ -118,37 +233,121 @@ def command_lines(command):
     return [[*words, "--workers", workers] for workers in WORKERS]
 
 
+def is_first_lines(text, usual):
+    """Whether a text is some first lines of the usual one."""
+    return usual.startswith(text) and text[-1:] in (b"", b"\n")
+
+
 def is_right(program, words, data, usual, found):
-    """Whether a run may end so: as usual, or for want of memory. What clients write may differ from run to run, and of lines the first
-    may be answered by then."""
-    if "--lines" in words and (found[0], found[2]) == (4, b"no memory\n"):
-        return found[1] == b"" or usual[1].startswith(found[1]) and found[1].endswith(b"\n")
-    if words[0] != "drive" or found == NO_MEMORY:
-        return found in (usual, NO_MEMORY)
-    return (found[0], found[2]) == (0, b"") and not driven.faults(program, order_of(words), read_driven(data), found[1].decode())
+    """Whether a run may end like this: as usual, or for want of memory. Some first lines may be answered before, and what clients write
+    may differ from run to run."""
+    if found in (usual, NO_MEMORY):
+        return True
+    if "--lines" in words:
+        return (found[0], found[2]) == (4, b"no memory\n") and is_first_lines(found[1], usual[1])
+    if words[0] != "drive" or (found[0], found[2]) != (0, b""):
+        return False
+    return not driven.faults(program, order_of(words), read_driven(data), found[1].decode())
 
 
-def wrong_ends(program, words, data, refusing, mark):
-    """How many allocations a run makes, and those whose refusal does not end as it is due."""
-    usual = outcome([*program, *words], data)
-    ends = list(outcomes([*program, *words], data, refusing, mark))
-    return len(ends), [end for end in ends if not is_right(program, words, data, usual, end[1])]
+def reported(name, runs, wrong):
+    """Prints how many runs there were, and how some of those ended that are not right; gives both numbers."""
+    print(f"{len(runs):5} refused, {len(wrong)} not right: {name}", flush=True)
+    for run in wrong[:SHOWN]:
+        print(f"      allocation {run.number}: {run.found!r}")
+    return len(runs) - len(wrong), len(wrong)
+
+
+def swept_input(sweep, program, words, text, wanted, first):
+    """How many refusals of an input's run end right, and how many do not."""
+    name = f"{' '.join(words)} {text[:60]!r}"
+    usual = outcome([*program, *words], text.encode())
+    if wanted.encode() not in usual[1]:
+        print(f"without {wanted!r}, where nothing is refused: {name}: {usual!r}", flush=True)
+        return 0, 1
+    runs = list(refused_runs(sweep, [*program, *words], text.encode(), first))
+    if not runs:
+        print(f"no allocation was seen: {name}", flush=True)
+        return 0, 1
+    return reported(name, runs, [run for run in runs if not is_right(program, words, text.encode(), usual, run.found)])
+
+
+def swept_inputs(sweep, program):
+    """The same of each input. They begin at different allocations, so that together they refuse each one that all of them make."""
+    lines = [(words, text, wanted) for command, text, wanted in INPUTS for words in command_lines(command)]
+    for at, (words, text, wanted) in enumerate(lines):
+        yield swept_input(sweep, program, words, text, wanted, 1 + at % sweep.stride)
+
+
+def is_passed(found):
+    """Whether a test passed, by what its program wrote."""
+    return found[0] == 0 and found[1].endswith(b"\ntest result: ok\n")
+
+
+def swept_test(sweep, tests, name, texts):
+    """How many refusals of a test's run end right, and how many do not. A text that no run printed counts as one that does not."""
+    usual = outcome([str(tests), name], b"")
+    runs = list(refused_runs(sweep._replace(stride=1), [str(tests), name], b"", 1)) if is_passed(usual) else []
+    if not runs:
+        print(f"not passed where nothing is refused, or without an allocation: {name}: {usual!r}", flush=True)
+        return 0, 1
+    passed, failed = reported(name, runs, [run for run in runs if not is_passed(run.found)])
+    printed = usual[1] + b"".join(run.found[1] for run in runs)
+    missing = [text for text in texts if text.encode() not in printed]
+    for text in missing:
+        print(f"      no run printed {text!r}", flush=True)
+    return passed, failed + len(missing)
+
+
+def swept_tests(sweep, tests):
+    """The same of each test."""
+    for name, texts in REPEATING:
+        yield swept_test(sweep, tests, name, texts)
+
+
+def swept(given, folder, skips):
+    """How many refusals end right, and how many do not, of each run in turn."""
+    with ThreadPoolExecutor(given.threads) as pool:
+        sweep = Sweep(folder, pool, given.threads, 1 if given.long else STRIDE)
+        if "program" not in skips:
+            yield from swept_inputs(sweep, given.program)
+        if "tests" not in skips:
+            yield from swept_tests(sweep, given.tests)
+
+
+def allocates_itself(path):
+    """Whether a program was built with address checks, as `rt try` builds it: the C library's allocations are not its own then."""
+    return path.is_file() and b"__asan_init" in path.read_bytes()
+
+
+def skipped_parts(given):
+    """The parts that are skipped, each with the reason."""
+    skips = {}
+    for part, path in (("program", pathlib.Path(given.program[0])), ("tests", given.tests)):
+        if not shutil.which("cc"):
+            skips[part] = "there is no C compiler: `apt-get install gcc` installs one"
+        elif allocates_itself(path):
+            skips[part] = f"{path} was built with address checks, and does not allocate by the C library"
+    if not given.tests.is_file():
+        skips["tests"] = f"there is no {given.tests}: `rt ci` builds it"
+    return skips
 
 
 def main():
     parser = argparse.ArgumentParser(description=__doc__, formatter_class=argparse.RawDescriptionHelpFormatter)
-    program = with_program(parser).program
-    bad = 0
-    with tempfile.TemporaryDirectory() as name:
-        folder = pathlib.Path(name)
-        refusing = library(folder)
-        for words, text in [(words, text) for command, text in INPUTS for words in command_lines(command)]:
-            many, wrong = wrong_ends(program, words, text.encode(), refusing, folder / "mark")
-            bad += len(wrong)
-            print(f"{many:5} refused, {len(wrong)} not right: {' '.join(words)} {text[:60]}", flush=True)
-            for number, found in wrong[:3]:
-                print(f"      allocation {number}: {found!r}")
-    raise SystemExit(1 if bad else 0)
+    parser.add_argument("--long", action="store_true")
+    parser.add_argument("--threads", type=int, default=os.cpu_count() or 2)
+    parser.add_argument("--tests", type=pathlib.Path, default=TESTS)
+    given = with_program(parser)
+    skips = skipped_parts(given)
+    numbers = []
+    if len(skips) < 2:
+        with tempfile.TemporaryDirectory() as name:
+            build_library(pathlib.Path(name))
+            numbers = list(swept(given, pathlib.Path(name), skips))
+    for part, reason in skips.items():
+        print(f"skipped: the allocations of the {part}, since {reason}")
+    end(sum(passed for passed, _ in numbers), sum(failed for _, failed in numbers), len(skips))
 
 
 if __name__ == "__main__":

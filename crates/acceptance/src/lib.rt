@@ -50,6 +50,8 @@ mod recorder_tests;
 #[cfg(test)]
 mod recordings;
 #[cfg(test)]
+mod refused_memory;
+#[cfg(test)]
 mod replica_runs;
 #[cfg(test)]
 mod replicas;
