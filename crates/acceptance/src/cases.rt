@@ -1,8 +1,8 @@
 //! Cases as lines of text, `name | input | wanted answer`.
 
 use crate::{
-    advised, applied_calls, command_lines, cut_histories, desks, found_patterns, judged_lines,
-    judgements, made_certificates, patterns, replica_runs, replicas, texts,
+    advised, applied_calls, command_lines, cut_histories, desks, found_patterns, judgements,
+    made_certificates, patterns, replica_runs, replicas, texts,
 };
 use std::alloc::AllocError;
 use std::sync::Wait;
@@ -11,10 +11,6 @@ use std::thread::Threads;
 /// What is asked of the input of a case.
 #[derive(Clone, Copy)]
 pub enum Question {
-    /// What `judge --lines` by so many workers says of its lines, whose bytes come so many a read call.
-    Lines(usize, usize),
-    /// What a run that answers all its lines at once says of them.
-    LinesAtOnce,
     /// What `judge` or `judge_with` of the library by so many workers says of it.
     JudgeBy(usize),
     /// Which order its words give.
@@ -88,8 +84,6 @@ fn answer_to<P: Threads + Wait + Sync + AllocGlobal>(
     input: &str,
 ) -> Result<String, AllocError> {
     match question {
-        Question::Lines(workers, piece) => judged_lines::said(rt, workers, piece, input),
-        Question::LinesAtOnce => judged_lines::said_at_once(rt, input),
         Question::JudgeBy(workers) => judgements::said(rt, workers, input),
         Question::Order => command_lines::ordered(rt.alloc(), input),
         Question::Cut => cut_histories::cut(rt.alloc(), input),

@@ -2,10 +2,9 @@
 //! have: what `judge` says of them, and up to where the search and the maker of certificates go.
 
 use crate::histories::memory;
-use crate::running::said_of;
+use crate::judgements::said;
 use cert_check::Criterion;
 use certify_cm::make_memory;
-use engine::{Judging, Order, Workers};
 use pattern_search::find;
 use std::alloc::{AllocError, Global};
 use std::sync::Wait;
@@ -56,15 +55,20 @@ fn history_of(alloc: Global, more: usize, cycle: bool) -> Result<String, AllocEr
     Ok(text)
 }
 
-/// What `judge` says of such a history.
+/// What `judge` of the library says of such a history for each criterion.
 fn said_of_pairs<P: Threads + Wait + Sync + AllocGlobal>(
     rt: &P,
     more: usize,
     cycle: bool,
 ) -> Result<String, AllocError> {
     let text = history_of(rt.alloc(), more, cycle)?;
-    let order = Order::Judge(Judging::by(Workers::usual()));
-    said_of(rt, order, text.as_bytes())
+    let mut answers = String::new(rt.alloc());
+    for criterion in ["cc", "cm", "ccv"] {
+        let input = format!(in rt.alloc(); "judge {criterion} {text}")?;
+        answers.push_str(said(rt, 2, input.as_str())?.as_str())?;
+        answers.push_str(";")?;
+    }
+    Ok(answers)
 }
 
 /// Whether a pattern against causal memory is found in such a history, and whether a certificate of it is made.
@@ -78,9 +82,9 @@ fn found_and_made(alloc: Global, more: usize, cycle: bool) -> Result<(bool, bool
     Ok((found, made))
 }
 
-const MET: &str = "0 cc yes;cm yes;ccv yes;";
+const MET: &str = "Yes;Yes;Yes;";
 
-const CYCLIC: &str = "0 cc yes;cm no CyclicHB;ccv no CyclicCF;";
+const CYCLIC: &str = "Yes;No(CyclicHB);No(CyclicCF);";
 
 #[test]
 fn any_number_of_pairs_is_decided(rt: HostRuntime) -> Result<(), Fail> {
