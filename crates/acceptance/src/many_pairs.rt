@@ -45,15 +45,16 @@ fn history_of(alloc: Global, more: usize, cycle: bool) -> Result<String, AllocEr
     push_rivals(&mut text, alloc, 1, 249, 248)?;
     push_rivals(&mut text, alloc, 2, 249, 147)?;
     push_rivals(&mut text, alloc, 3, 0, more)?;
-    if cycle {
-        text.push_str(r#"[["w",8,1]],[["w",8,2],["r",8,1],["r",8,2],"#)?;
-    } else {
-        text.push_str("[")?;
-    }
-    text.push_str(r#"["r",11,1],["r",12,1],["r",13,1],["r",21,1],["r",22,1],["r",23,1],"#)?;
-    text.push_str(r#"["r",1,2],["r",2,2],["r",3,2]]]]"#)?;
+    text.push_str(if cycle { CYCLE } else { "[" })?;
+    text.push_str(LAST_READS)?;
     Ok(text)
 }
+
+/// A session with a write, and how the last session begins that sees its own write as the earlier one and as the later one.
+const CYCLE: &str = r#"[["w",8,1]],[["w",8,2],["r",8,1],["r",8,2],"#;
+
+const LAST_READS: &str =
+    r#"["r",11,1],["r",12,1],["r",13,1],["r",21,1],["r",22,1],["r",23,1],["r",1,2],["r",2,2],["r",3,2]]]]"#;
 
 /// What `judge` of the library says of such a history for each criterion.
 fn said_of_pairs<P: Threads + Wait + Sync + AllocGlobal>(
