@@ -222,7 +222,8 @@ pub fn made_for<O: SeqObject>(
     }
 }
 
-fn made_for_memory(
+/// The same of a memory, by what is read too.
+pub fn made_for_memory(
     alloc: Global,
     criterion: Criterion,
     advice: &[Option<Advice>],

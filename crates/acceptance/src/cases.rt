@@ -1,8 +1,8 @@
 //! Cases as lines of text, `name | input | wanted answer`.
 
 use crate::{
-    advised, applied_calls, command_lines, cut_histories, desks, found_patterns, judged_lines,
-    judgements, made_certificates, patterns, replica_runs, replicas, texts,
+    advised, applied_calls, command_lines, cut_histories, desks, found_patterns, judgements,
+    made_certificates, patterns, replica_runs, replicas, texts,
 };
 use std::alloc::AllocError;
 use std::sync::Wait;
@@ -11,10 +11,6 @@ use std::thread::Threads;
 /// What is asked of the input of a case.
 #[derive(Clone, Copy)]
 pub enum Question {
-    /// What `judge --lines` by so many workers says of its lines, whose bytes come so many a read call.
-    Lines(usize, usize),
-    /// What a run that answers all its lines at once says of them.
-    LinesAtOnce,
     /// What `judge` or `judge_with` of the library by so many workers says of it.
     JudgeBy(usize),
     /// Which order its words give.
@@ -87,24 +83,23 @@ fn answer_to<P: Threads + Wait + Sync + AllocGlobal>(
     question: Question,
     input: &str,
 ) -> Result<String, AllocError> {
+    let alloc = rt.alloc();
     match question {
-        Question::Lines(workers, piece) => judged_lines::said(rt, workers, piece, input),
-        Question::LinesAtOnce => judged_lines::said_at_once(rt, input),
         Question::JudgeBy(workers) => judgements::said(rt, workers, input),
-        Question::Order => command_lines::ordered(rt.alloc(), input),
-        Question::Cut => cut_histories::cut(rt.alloc(), input),
-        Question::Find => found_patterns::found(rt.alloc(), input),
-        Question::Show => patterns::shown(rt.alloc(), input),
-        Question::Make => made_certificates::made(rt.alloc(), input),
-        Question::MakeByProgramOrder => made_certificates::made_by_program_order(rt.alloc(), input),
-        Question::MakeAsAdvised => advised::made(rt.alloc(), input),
-        Question::ExplainAsAdvised => advised::explained(rt.alloc(), input),
-        Question::Explain => made_certificates::explained(rt.alloc(), input),
+        Question::Order => command_lines::ordered(alloc, input),
+        Question::Cut => cut_histories::cut(alloc, input),
+        Question::Find => found_patterns::found(alloc, input),
+        Question::Show => patterns::shown(alloc, input),
+        Question::Make => made_certificates::made(alloc, input, true),
+        Question::MakeByProgramOrder => made_certificates::made(alloc, input, false),
+        Question::MakeAsAdvised => advised::made(alloc, input),
+        Question::ExplainAsAdvised => advised::explained(alloc, input),
+        Question::Explain => made_certificates::explained(alloc, input),
         Question::Desk => desks::answered(rt, input),
-        Question::Write => texts::written(rt.alloc(), input),
-        Question::Copy => texts::copied(rt.alloc(), input),
-        Question::Apply => applied_calls::applied(rt.alloc(), input),
-        Question::Replicate => replicas::replicated(rt.alloc(), input),
-        Question::ReplicateAtRandom => replica_runs::replayed(rt.alloc(), input),
+        Question::Write => texts::written(alloc, input),
+        Question::Copy => texts::copied(alloc, input),
+        Question::Apply => applied_calls::applied(alloc, input),
+        Question::Replicate => replicas::replicated(alloc, input),
+        Question::ReplicateAtRandom => replica_runs::replayed(alloc, input),
     }
 }

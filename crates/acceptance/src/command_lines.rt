@@ -2,7 +2,7 @@
 
 use crate::cases::Question;
 use crate::tables::as_wanted;
-use engine::{Drive, Expected, Judging, Order, Usage, command_of};
+use command_line::{Drive, Expected, Judging, Order, Usage, command_of};
 use std::alloc::{AllocError, Global};
 use std::test::Fail;
 

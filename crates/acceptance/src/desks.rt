@@ -213,7 +213,7 @@ fn answer_on_case<K: ShelfName, P: Wait + AllocGlobal>(
         "put" => put(rt, desk, given, &ticket, rest),
         "ask" => told(rt.alloc(), &desk.ask(rt, &ticket)),
         "refute" => refuted(rt, desk, &ticket, rest),
-        "pattern" => kept(rt, desk, &ticket),
+        "pattern" => told(rt.alloc(), &desk.pattern(rt, &ticket)?),
         "settle" => done(rt.alloc(), desk.settle(rt, &ticket)),
         "see" => seen(rt.alloc(), ticket.file(desk)),
         _ => String::from_str(rt.alloc(), "no step"),
@@ -407,15 +407,6 @@ fn refuted<K: ShelfName, P: Wait + AllocGlobal>(
         Some(pattern) => done(rt.alloc(), desk.refute(rt, ticket, pattern)),
         None => String::from_str(rt.alloc(), "no pattern"),
     }
-}
-
-/// The pattern that a case keeps.
-fn kept<K: ShelfName, P: Wait + AllocGlobal>(
-    rt: &P,
-    desk: &Desk<Memory, K>,
-    ticket: &Ticket<Memory, K>,
-) -> Result<String, AllocError> {
-    told(rt.alloc(), &desk.pattern(rt, ticket)?)
 }
 
 /// How an event without a value ended.

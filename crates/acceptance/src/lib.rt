@@ -1,8 +1,8 @@
-//! Tests that need calls: what the objects answer, runs over readers and writers that misbehave, patterns and certificates, desks
-//! and their workers, recorders and their seals, replicas, and runs whose output is not determined.
+//! Tests that need calls and no engine: what the objects answer, the orders that words give, patterns and certificates, desks and
+//! their workers, recorders and their seals, replicas, and clients that run at the same time.
 //!
 //! Most cases are lines of text, `name | input | wanted answer`, which one test reads. What the words of a command line and an
-//! input give is a case of the crate `cases`.
+//! input give is a case of the crate `cases`, and runs over readers and writers that fail are tests of `whole_runs`.
 #![tactic(auto)]
 
 #[cfg(test)]
@@ -22,23 +22,17 @@ mod cut_histories;
 #[cfg(test)]
 mod desks;
 #[cfg(test)]
-mod devices;
-#[cfg(test)]
-mod drives;
-#[cfg(test)]
-mod failures;
-#[cfg(test)]
 mod found_patterns;
 #[cfg(test)]
 mod histories;
-#[cfg(test)]
-mod judged_lines;
 #[cfg(test)]
 mod judgements;
 #[cfg(test)]
 mod made_certificates;
 #[cfg(test)]
 mod many_pairs;
+#[cfg(test)]
+mod meeting;
 #[cfg(test)]
 mod objects_alone;
 #[cfg(test)]
@@ -56,10 +50,6 @@ mod replica_runs;
 #[cfg(test)]
 mod replicas;
 #[cfg(test)]
-mod running;
-#[cfg(test)]
-mod runs;
-#[cfg(test)]
 mod seal_cut;
 #[cfg(test)]
 mod seal_steps;
@@ -73,5 +63,3 @@ mod texts;
 mod worded;
 #[cfg(test)]
 mod workers;
-#[cfg(test)]
-mod worlds;

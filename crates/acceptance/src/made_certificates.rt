@@ -1,5 +1,6 @@
 //! What certificates are made of small histories.
 
+use crate::advised::{made_for, made_for_memory};
 use crate::cases::Question;
 use crate::histories::{criterion_first, memory, op_of};
 use crate::tables::as_wanted;
@@ -68,25 +69,21 @@ fn made_certificate_may_explain_all_or_not(rt: HostRuntime) -> Result<(), Fail> 
 
 /// The vector and the schedule of an operation in the certificate that is made, where the input has the name of a
 /// criterion, an operation and a history. For causal convergence the one list stands in the place of the schedule.
-pub fn made(alloc: Global, input: &str) -> Result<String, AllocError> {
+///
+/// The certificate is made of what was read, or by program order alone.
+pub fn made(alloc: Global, input: &str, by_reads: bool) -> Result<String, AllocError> {
     let Some((criterion, op, history)) = asked(input) else {
         return String::from_str(alloc, "no criterion, operation and history");
     };
-    match memory(alloc, history) {
-        Some(history) => told(alloc, made_for(alloc, &history, criterion)?, op),
-        None => String::from_str(alloc, "no history of a memory"),
-    }
-}
-
-/// The same of the certificate by program order alone.
-pub fn made_by_program_order(alloc: Global, input: &str) -> Result<String, AllocError> {
-    let Some((criterion, op, history)) = asked(input) else {
-        return String::from_str(alloc, "no criterion, operation and history");
+    let Some(history) = memory(alloc, history) else {
+        return String::from_str(alloc, "no history of a memory");
     };
-    match memory(alloc, history) {
-        Some(history) => told(alloc, by_program_order(alloc, &history, criterion)?, op),
-        None => String::from_str(alloc, "no history of a memory"),
-    }
+    let made = if by_reads {
+        made_for_memory(alloc, criterion, &[], &history)?
+    } else {
+        made_for(alloc, criterion, &[], &history)?
+    };
+    told(alloc, made, op)
 }
 
 /// The first operation that the certificate that is made does not explain, where the input has the name of a criterion
@@ -106,7 +103,7 @@ fn explained_in(
     history: History<Memory>,
     criterion: Criterion,
 ) -> Result<String, AllocError> {
-    match made_for(alloc, &history, criterion)? {
+    match made_for_memory(alloc, criterion, &[], &history)? {
         Some(made) => explained_by(alloc, history, made),
         None => String::from_str(alloc, "none"),
     }
@@ -136,30 +133,6 @@ fn asked(input: &str) -> Option<(Criterion, OpId, &str)> {
     let (criterion, rest) = criterion_first(input)?;
     let (op, history) = rest.split_once(' ')?;
     Some((criterion, op_of(op)?, history))
-}
-
-fn made_for(
-    alloc: Global,
-    history: &History<Memory>,
-    criterion: Criterion,
-) -> Result<Option<Certificate>, AllocError> {
-    match criterion {
-        Criterion::Cc => certify_cc::make_memory(alloc, history, &[]),
-        Criterion::Cm => certify_cm::make_memory(alloc, history, &[]),
-        Criterion::Ccv => certify_ccv::make_memory(alloc, history, &[]),
-    }
-}
-
-fn by_program_order(
-    alloc: Global,
-    history: &History<Memory>,
-    criterion: Criterion,
-) -> Result<Option<Certificate>, AllocError> {
-    match criterion {
-        Criterion::Cc => certify_cc::make(alloc, history, &[]),
-        Criterion::Cm => certify_cm::make(alloc, history, &[]),
-        Criterion::Ccv => certify_ccv::make(alloc, history, &[]),
-    }
 }
 
 /// The vector and the schedule of an operation in a certificate, or the one list in the place of the schedule.

@@ -2,10 +2,9 @@
 //! have: what `judge` says of them, and up to where the search and the maker of certificates go.
 
 use crate::histories::memory;
-use crate::running::said_of;
+use crate::judgements::said;
 use cert_check::Criterion;
 use certify_cm::make_memory;
-use engine::{Judging, Order, Workers};
 use pattern_search::find;
 use std::alloc::{AllocError, Global};
 use std::sync::Wait;
@@ -46,25 +45,31 @@ fn history_of(alloc: Global, more: usize, cycle: bool) -> Result<String, AllocEr
     push_rivals(&mut text, alloc, 1, 249, 248)?;
     push_rivals(&mut text, alloc, 2, 249, 147)?;
     push_rivals(&mut text, alloc, 3, 0, more)?;
-    if cycle {
-        text.push_str(r#"[["w",8,1]],[["w",8,2],["r",8,1],["r",8,2],"#)?;
-    } else {
-        text.push_str("[")?;
-    }
-    text.push_str(r#"["r",11,1],["r",12,1],["r",13,1],["r",21,1],["r",22,1],["r",23,1],"#)?;
-    text.push_str(r#"["r",1,2],["r",2,2],["r",3,2]]]]"#)?;
+    text.push_str(if cycle { CYCLE } else { "[" })?;
+    text.push_str(LAST_READS)?;
     Ok(text)
 }
 
-/// What `judge` says of such a history.
+/// A session with a write, and how the last session begins that sees its own write as the earlier one and as the later one.
+const CYCLE: &str = r#"[["w",8,1]],[["w",8,2],["r",8,1],["r",8,2],"#;
+
+const LAST_READS: &str =
+    r#"["r",11,1],["r",12,1],["r",13,1],["r",21,1],["r",22,1],["r",23,1],["r",1,2],["r",2,2],["r",3,2]]]]"#;
+
+/// What `judge` of the library says of such a history for each criterion.
 fn said_of_pairs<P: Threads + Wait + Sync + AllocGlobal>(
     rt: &P,
     more: usize,
     cycle: bool,
 ) -> Result<String, AllocError> {
     let text = history_of(rt.alloc(), more, cycle)?;
-    let order = Order::Judge(Judging::by(Workers::usual()));
-    said_of(rt, order, text.as_bytes())
+    let mut answers = String::new(rt.alloc());
+    for criterion in ["cc", "cm", "ccv"] {
+        let input = format!(in rt.alloc(); "judge {criterion} {text}")?;
+        answers.push_str(said(rt, 2, input.as_str())?.as_str())?;
+        answers.push_str(";")?;
+    }
+    Ok(answers)
 }
 
 /// Whether a pattern against causal memory is found in such a history, and whether a certificate of it is made.
@@ -78,9 +83,9 @@ fn found_and_made(alloc: Global, more: usize, cycle: bool) -> Result<(bool, bool
     Ok((found, made))
 }
 
-const MET: &str = "0 cc yes;cm yes;ccv yes;";
+const MET: &str = "Yes;Yes;Yes;";
 
-const CYCLIC: &str = "0 cc yes;cm no CyclicHB;ccv no CyclicCF;";
+const CYCLIC: &str = "Yes;No(CyclicHB);No(CyclicCF);";
 
 #[test]
 fn any_number_of_pairs_is_decided(rt: HostRuntime) -> Result<(), Fail> {

@@ -182,6 +182,27 @@ impl<C: Copy> Mirror<C> {
         Ok(())
     }
 
+    /// Takes in what the replica did, and puts its update to those that were sent.
+    fn note<R: Drop>(
+        &mut self,
+        acted: &ActedOf<C, R>,
+        sent: &mut Vec<Sent<C>>,
+    ) -> Result<(), AllocError> {
+        self.clock = acted.advice.stamp;
+        self.operations = self.operations.saturating_add(1);
+        let Some(update) = &acted.update else {
+            return Ok(());
+        };
+        let own = Sent {
+            update: update.again(),
+            bit: next_bit(sent),
+            known: self.bits,
+        };
+        self.take_in(&own)?;
+        sent.push(own)?;
+        Ok(())
+    }
+
     /// How far the updates of a session reach.
     fn reach(&self, session: usize) -> u16 {
         let mut reach = 0;
@@ -332,26 +353,31 @@ fn asks<O: SeqObject, P: UpdateOrder>(
     let Some(call) = call_at(history, session, index) else {
         return Ok(false);
     };
-    let updates = ordered(alloc, site.mirror.taken.as_slice(), stated)?;
-    if !same_names(site.replica.taken_in(), updates.as_slice()) {
+    let Some(wanted) = wanted_answer(alloc, history, site, stated, call)? else {
         return Ok(false);
-    }
-    let wanted = replayed_answer(alloc, history, updates.as_slice(), call)?;
+    };
     let Ok(acted) = acted(&mut site.replica, call) else {
         return Ok(false);
     };
     let agrees = acted.ret == wanted && is_told(&acted, &site.mirror, stated, session);
-    site.mirror.clock = acted.advice.stamp;
-    site.mirror.operations = site.mirror.operations.saturating_add(1);
-    if let Some(update) = &acted.update {
-        let known = site.mirror.bits;
-        let bit = next_bit(sent);
-        let update = update.again();
-        let own = Sent { update, bit, known };
-        site.mirror.take_in(&own)?;
-        sent.push(own)?;
-    }
+    site.mirror.note(&acted, sent)?;
     Ok(agrees)
+}
+
+/// What a replica is to answer; none where it has not taken in what its mirror has, in the order that is stated.
+fn wanted_answer<O: SeqObject, P: UpdateOrder>(
+    alloc: Global,
+    history: &History<O>,
+    site: &Site<O, P>,
+    stated: Stated,
+    call: O::Call,
+) -> Result<Option<O::Ret>, AllocError> {
+    let updates = ordered(alloc, site.mirror.taken.as_slice(), stated)?;
+    if !same_names(site.replica.taken_in(), updates.as_slice()) {
+        return Ok(None);
+    }
+    let wanted = replayed_answer(alloc, history, updates.as_slice(), call)?;
+    Ok(Some(wanted))
 }
 
 /// The bit of the next update.

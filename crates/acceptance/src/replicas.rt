@@ -224,18 +224,28 @@ fn update_of<O: SeqObject>(
     if let Ok(number) = text.parse::<usize>() {
         return sent.get(number).copied();
     }
-    let mut parts = text.split('.');
-    let session: u8 = parts.next()?.parse().ok()?;
-    let index: u8 = parts.next()?.parse().ok()?;
-    let number: u64 = parts.next()?.parse().ok()?;
-    let stamp: u64 = parts.next()?.parse().ok()?;
-    let seen = seen_in(parts.next()?);
-    let call = match call_at(history, usize::from(session), usize::from(index)) {
+    let (op, rest) = op_first(text)?;
+    let (number, rest) = rest.split_once('.')?;
+    let (stamp, seen) = rest.split_once('.')?;
+    let call = match call_at(history, usize::from(op.0), usize::from(op.1)) {
         Some(call) => call,
         None => call_at(history, 1, 0)?,
     };
-    let update = UpdateOf::of(session, u64::from(index), number, stamp, call, seen);
-    Some(update.again())
+    Some(UpdateOf::of(
+        op.0,
+        u64::from(op.1),
+        number.parse().ok()?,
+        stamp.parse().ok()?,
+        call,
+        seen_in(seen),
+    ))
+}
+
+/// The session and the index that a text names first, and the rest of the text.
+fn op_first(text: &str) -> Option<((u8, u8), &str)> {
+    let (session, rest) = text.split_once('.')?;
+    let (index, rest) = rest.split_once('.')?;
+    Some(((session.parse().ok()?, index.parse().ok()?), rest))
 }
 
 /// Numbers with slashes between them, for the first sessions.

@@ -6,18 +6,13 @@ use script::ScriptError;
 use std::alloc::{AllocError, Global};
 use std::test::Fail;
 
-/// The status after a failure, and its line.
-fn status_and_line(alloc: Global, error: RunError) -> Result<String, AllocError> {
-    let line = fault_line(alloc, &error)?;
-    let status = status_of(&Err(error));
-    format!(in alloc; "{status} {line}")
-}
-
 /// The cases whose failure has another status or another line than the wanted ones.
 fn otherwise(alloc: Global, cases: &[(RunError, &str)]) -> Result<String, AllocError> {
     let mut otherwise = String::new(alloc);
     for (error, wanted) in cases {
-        let said = status_and_line(alloc, *error)?;
+        let status = status_of(&Err(*error));
+        let line = fault_line(alloc, error)?;
+        let said = format!(in alloc; "{status} {line}")?;
         if said.as_str() != *wanted {
             otherwise.push_str(format!(in alloc; "{said} for {wanted}\n")?.as_str())?;
         }

@@ -1,0 +1,89 @@
+//! Two clients of a store that run at the same time.
+
+use crate::histories::memory;
+use crate::workers::{FIRST, SECOND, is_set_in_time};
+use causal_memory::AsTakenIn;
+use driver::{DriveError, DrivePlan, drive};
+use history::Gate;
+use objects::Memory;
+use operations::{AnyHistory, OpId, write_history};
+use replica::Delivery;
+use std::sync::Wait;
+use std::sync::atomic::{AtomicBool, Ordering};
+use std::test::Fail;
+use std::thread::Threads;
+
+/// Holds the first call of each of two clients at its entry until the other client has entered too.
+#[derive(Drop)]
+struct Meeting {
+    first: AtomicBool,
+    second: AtomicBool,
+    first_met: AtomicBool,
+    second_met: AtomicBool,
+}
+
+impl Meeting {
+    fn new() -> Meeting {
+        Meeting {
+            first: AtomicBool::new(false),
+            second: AtomicBool::new(false),
+            first_met: AtomicBool::new(false),
+            second_met: AtomicBool::new(false),
+        }
+    }
+
+    /// Whether each client found the other there.
+    fn have_met(&self) -> bool {
+        self.first_met.load(Ordering::SeqCst) && self.second_met.load(Ordering::SeqCst)
+    }
+}
+
+impl Gate for Meeting {
+    fn enter(&self, op: OpId) {
+        if op == FIRST {
+            self.first.store(true, Ordering::SeqCst);
+            self.first_met
+                .store(is_set_in_time(&self.second), Ordering::SeqCst);
+        }
+        if op == SECOND {
+            self.second.store(true, Ordering::SeqCst);
+            self.second_met
+                .store(is_set_in_time(&self.first), Ordering::SeqCst);
+        }
+    }
+
+    fn leave(&self, _op: OpId) {}
+}
+
+/// The histories that are sealed of two clients of the causal store, and whether the clients ran at the same time.
+fn driven_two<P: Threads + Wait + Sync + AllocGlobal>(
+    rt: &P,
+    text: &str,
+) -> Result<String, DriveError> {
+    let Some(history) = memory(rt.alloc(), text) else {
+        return Err(DriveError::NoSuch);
+    };
+    let plan = DrivePlan {
+        delivery: Delivery::Causal,
+        seals: 0,
+        stop: None,
+    };
+    let meeting = Meeting::new();
+    let seals = drive::<Memory, AsTakenIn, P, Meeting>(rt, rt.alloc(), &history, plan, &meeting)?;
+    let mut said = String::new(rt.alloc());
+    for sealed in seals.as_slice() {
+        let recorded = AnyHistory::Memory(sealed.history().copy(rt.alloc())?);
+        said.push_str(write_history(rt.alloc(), &recorded)?.as_str())?;
+    }
+    let met = meeting.have_met();
+    Ok(format!(in rt.alloc(); "{said} {met}")?)
+}
+
+#[test]
+fn drive_two(rt: HostRuntime) -> Result<(), Fail> {
+    let two = r#"["memory",[[["w",0,1]],[["w",1,1]]]]"#;
+    let said = driven_two(&rt, two)?;
+    let wanted = format!(in rt.alloc(); "{two} true")?;
+    assert_eq!(rt; said.as_str(), wanted.as_str());
+    Ok(())
+}

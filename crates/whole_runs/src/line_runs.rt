@@ -1,0 +1,159 @@
+//! Histories in lines, in pieces and over readers that fail.
+
+use crate::devices::{Device, Failing, NEVER, Sink};
+use crate::running::{said_over, told};
+use engine::{Judging, MAX_INPUT_BYTES, Order, Workers, judge_lines};
+use std::alloc::AllocError;
+use std::io::{ErrorKind, Read};
+use std::sync::Wait;
+use std::test::Fail;
+use std::thread::Threads;
+
+/// For each case its name, what is expected and the lines, and what is wanted. A percent sign is written for a line feed.
+const LINES: &str = r#"
+no_line | - | 0
+one_line | - ["memory",[]]% | 0 cc yes; cm yes; ccv yes%
+line_without_its_line_feed | - ["memory",[]] | 0 cc yes; cm yes; ccv yes%
+two_lines | - ["memory",[[["r",0,7]]]]%["memory",[]]% | 0 cc no ThinAirRead; cm no ThinAirRead; ccv no ThinAirRead%cc yes; cm yes; ccv yes%
+last_line_without_its_line_feed | - ["memory",[]]%["memory",[[["r",0,7]]]] | 0 cc yes; cm yes; ccv yes%cc no ThinAirRead; cm no ThinAirRead; ccv no ThinAirRead%
+empty_line | - % | 1 refused 1%
+empty_lines | - %% | 1 refused 1%refused 1%
+empty_line_between | - ["memory",[]]%%["memory",[]] | 1 cc yes; cm yes; ccv yes%refused 1%cc yes; cm yes; ccv yes%
+blanks_around | -  ["memory", []] % | 0 cc yes; cm yes; ccv yes%
+refused_lines_among_others | - ["memory",[[["x"]]]]%["memory",[]]%["foo",[]]%["memory",[[["r",0,"?"],["w",0,1]]]]%{}%["counter",[[["inc"],["get",1]]]]% | 1 refused 4 0.0%cc yes; cm yes; ccv yes%refused 3%refused 5 0.1%refused 2%cc yes; cm yes; ccv yes%
+all_objects | - ["register",[[["w",7],["r",7]]]]%["counter",[[["inc"],["get",1]],[["get",0]]]]%["set",[[["add",1],["has",1,true]]]]%["queue",[[["push",5],["pop",5]]]]%["memory",[[["w",0,1]],[["r",0,1]]]]%["counters",[[["get",0,0]]]]%["sets",[[],[["has",0,1,true]]]]%["queues",[[["push",1,5]],[["pop",1,5]]]]% | 0 cc yes; cm yes; ccv yes%cc yes; cm yes; ccv yes%cc yes; cm yes; ccv yes%cc yes; cm yes; ccv yes%cc yes; cm yes; ccv yes%cc yes; cm yes; ccv yes%cc unknown 1.0; cm unknown 1.0; ccv unknown 1.0%cc unknown 1.0; cm unknown 1.0; ccv unknown 1.0%
+all_are_as_expected | cc,cm,ccv ["memory",[]]%["counter",[]]% | 0 cc yes; cm yes; ccv yes%cc yes; cm yes; ccv yes%
+one_is_not_as_expected | ccv ["memory",[]]%["memory",[[["w",0,1],["r",0,2]],[["w",0,2],["r",0,1]]]]%["memory",[]]% | 5 cc yes; cm yes; ccv yes%cc yes; cm yes; ccv no CyclicCF%cc yes; cm yes; ccv yes%
+what_is_not_expected_does_not_count | cc,cm ["memory",[[["w",0,1],["r",0,2]],[["w",0,2],["r",0,1]]]]% | 0 cc yes; cm yes; ccv no CyclicCF%
+one_is_unknown | cm ["memory",[]]%["register",[[["r",5]]]]% | 6 cc yes; cm yes; ccv yes%cc unknown 0.0; cm unknown 0.0; ccv unknown 0.0%
+no_counts_more_than_unknown | cm ["memory",[[["r",0,7]]]]%["register",[[["r",5]]]]% | 5 cc no ThinAirRead; cm no ThinAirRead; ccv no ThinAirRead%cc unknown 0.0; cm unknown 0.0; ccv unknown 0.0%
+no_counts_more_than_unknown_before_it | cm ["register",[[["r",5]]]]%["memory",[[["r",0,7]]]]% | 5 cc unknown 0.0; cm unknown 0.0; ccv unknown 0.0%cc no ThinAirRead; cm no ThinAirRead; ccv no ThinAirRead%
+refusal_counts_most | cc ["memory",[[["r",0,7]]]]%[]%["register",[[["r",5]]]]% | 1 cc no ThinAirRead; cm no ThinAirRead; ccv no ThinAirRead%refused 2%cc unknown 0.0; cm unknown 0.0; ccv unknown 0.0%
+"#;
+
+#[test]
+fn lines_in_pieces_are_answered_in_order(rt: HostRuntime) -> Result<(), Fail> {
+    assert_eq!(rt; otherwise(&rt, 1, 1)?.as_str(), "");
+    assert_eq!(rt; otherwise(&rt, 16, 7)?.as_str(), "");
+    Ok(())
+}
+
+/// The cases of which `judge --lines` by so many workers says something else, where so many bytes come a read call.
+fn otherwise<P: Threads + Wait + Sync + AllocGlobal>(
+    rt: &P,
+    workers: usize,
+    piece: usize,
+) -> Result<String, AllocError> {
+    let mut otherwise = String::new(rt.alloc());
+    for line in LINES.trim_start().lines() {
+        let (case, wanted) = line.rsplit_once(" | ").unwrap_or((line, ""));
+        let (_, input) = case.split_once(" | ").unwrap_or(("", ""));
+        let said = said(rt, workers, piece, input)?;
+        if said.as_str().trim_end() != wanted {
+            otherwise.push_str(format!(in rt.alloc(); "{case}: {said}\n")?.as_str())?;
+        }
+    }
+    Ok(otherwise)
+}
+
+/// What `judge --lines` by so many workers says of a case whose bytes come so many a read call.
+fn said<P: Threads + Wait + Sync + AllocGlobal>(
+    rt: &P,
+    workers: usize,
+    piece: usize,
+    case: &str,
+) -> Result<String, AllocError> {
+    let (expected, text) = case.split_once(' ').unwrap_or((case, ""));
+    let Some(judging) = judging_of(workers, expected) else {
+        return String::from_str(rt.alloc(), "no order");
+    };
+    let text = text.replace(rt.alloc(), "%", "\n")?;
+    let mut device = Device::new(text.as_bytes(), 0, piece, NEVER);
+    let mut sink = Sink::new(rt.alloc(), 64, NEVER);
+    let judged = judge_lines(rt, &mut device, &mut sink, judging);
+    told(rt.alloc(), judged, &sink)
+}
+
+/// How so many workers judge, where a list names what is expected of each line, or is `-`.
+fn judging_of(workers: usize, expected: &str) -> Option<Judging> {
+    let mut judging = Judging::by(Workers::of(workers)?);
+    for name in expected.split(',') {
+        match name {
+            "cc" => {
+                judging.expected.cc = true;
+            }
+            "cm" => {
+                judging.expected.cm = true;
+            }
+            "ccv" => {
+                judging.expected.ccv = true;
+            }
+            "-" => {}
+            _ => return None,
+        }
+    }
+    Some(judging)
+}
+
+#[test]
+fn lines_in_memory_are_answered_by_one_answer(rt: HostRuntime) -> Result<(), Fail> {
+    let usual = Order::JudgeLines(Judging::by(Workers::usual()));
+    let mut nothing = Device::new(b"", 0, 64, NEVER);
+    let said = said_over(
+        &rt,
+        usual,
+        &mut nothing,
+        &mut Sink::new(rt.alloc(), 64, NEVER),
+    )?;
+    assert_eq!(rt; said.as_str(), "0 ");
+    let causal = Order::JudgeLines(judging_of(2, "cc").expect(&rt, "an order"));
+    let mut some = Device::new(SOME_LINES.as_bytes(), 0, 64, NEVER);
+    let said = said_over(
+        &rt,
+        causal,
+        &mut some,
+        &mut Sink::new(rt.alloc(), 64, NEVER),
+    )?;
+    assert_eq!(rt; said.as_str(), SOME_ANSWERS);
+    Ok(())
+}
+
+const SOME_LINES: &str = "[\"memory\",[]]\n[]\n[\"memory\",[[[\"r\",0,7]]]]";
+
+const SOME_ANSWERS: &str =
+    "0 cc yes; cm yes; ccv yes%refused 2%cc no ThinAirRead; cm no ThinAirRead; ccv no ThinAirRead%";
+
+const TWO_LINES: &str = "[\"memory\",[]]\n[\"memory\",[]]\n";
+
+const FAILING_IN_THE_SECOND_LINE: Failing = Failing {
+    first: 18,
+    end: u64::MAX,
+    kind: ErrorKind::Other,
+};
+
+#[test]
+fn what_was_answered_before_a_fault_stays(rt: HostRuntime) -> Result<(), Fail> {
+    let judging = judging_of(4, "-").expect(&rt, "an order");
+    let mut device = Device::new(TWO_LINES.as_bytes(), 0, 1, FAILING_IN_THE_SECOND_LINE);
+    let mut sink = Sink::new(rt.alloc(), 64, NEVER);
+    let judged = judge_lines(&rt, &mut device, &mut sink, judging);
+    let said = told(rt.alloc(), judged, &sink)?;
+    assert_eq!(rt; said.as_str(), "3 cc yes; cm yes; ccv yes%read fault");
+    Ok(())
+}
+
+#[test]
+fn too_long_a_line_is_refused_and_passed_over(rt: HostRuntime) -> Result<(), Fail> {
+    let judging = judging_of(2, "cc").expect(&rt, "an order");
+    let blanks = MAX_INPUT_BYTES + 65_537;
+    let before = Device::new(b"[\"memory\",[]]\n", blanks, 65_536, NEVER);
+    let behind = Device::new(b" \n[\"memory\",[]]\n", 0, 65_536, NEVER);
+    let mut sink = Sink::new(rt.alloc(), 64, NEVER);
+    let judged = judge_lines(&rt, &mut before.chain(behind), &mut sink, judging);
+    let said = told(rt.alloc(), judged, &sink)?;
+    assert_eq!(rt;
+        said.as_str(),
+        "1 cc yes; cm yes; ccv yes%refused 9%cc yes; cm yes; ccv yes%"
+    );
+    Ok(())
+}

@@ -1,0 +1,136 @@
+//! Runs over readers and writers that give or take a byte a call, or fail.
+
+use crate::devices::{Device, Failing, NEVER, Sink};
+use crate::running::said_over;
+use engine::{Judging, MAX_INPUT_BYTES, MAX_READ_CALLS, Order, Workers, read_input};
+use std::alloc::AllocError;
+use std::io::ErrorKind;
+use std::sync::Wait;
+use std::test::Fail;
+use std::thread::Threads;
+
+const HISTORY: &[u8] = b"[\"memory\",[[[\"r\",0,7]]]]";
+
+const LONGER_HISTORY: &[u8] = b"[\"memory\",[[[\"w\",0,1]],[[\"r\",0,1]]]]";
+
+/// What `judge` says over a device, and how many read calls it made.
+fn said_of_reads<P: Threads + Wait + Sync + AllocGlobal>(
+    rt: &P,
+    mut device: Device<'_>,
+) -> Result<String, AllocError> {
+    let mut sink = Sink::new(rt.alloc(), 1, NEVER);
+    let order = Order::Judge(Judging::by(Workers::usual()));
+    let said = said_over(rt, order, &mut device, &mut sink)?;
+    let calls = device.calls;
+    format!(in rt.alloc(); "{said} after {calls} reads")
+}
+
+#[test]
+fn as_many_read_calls_are_made_as_may_be(rt: HostRuntime) -> Result<(), Fail> {
+    let blanks = MAX_READ_CALLS as usize - 1 - HISTORY.len();
+    let answered = said_of_reads(&rt, Device::new(HISTORY, blanks, 1, NEVER))?;
+    let wanted = "0 cc no ThinAirRead%cm no ThinAirRead%ccv no ThinAirRead% after 1048576 reads";
+    assert_eq!(rt; answered.as_str(), wanted);
+    let failed = said_of_reads(&rt, Device::new(HISTORY, blanks + 1, 1, NEVER))?;
+    assert_eq!(rt; failed.as_str(), "3 read fault after 1048576 reads");
+    Ok(())
+}
+
+const INTERRUPTED_THREE_TIMES: Failing = Failing {
+    first: 2,
+    end: 5,
+    kind: ErrorKind::Interrupted,
+};
+
+const INTERRUPTED_EVER_SINCE: Failing = Failing {
+    first: 2,
+    end: u64::MAX,
+    kind: ErrorKind::Interrupted,
+};
+
+#[test]
+fn an_interrupted_read_is_made_again_and_counted(rt: HostRuntime) -> Result<(), Fail> {
+    let answered = said_of_reads(&rt, Device::new(HISTORY, 0, 1, INTERRUPTED_THREE_TIMES))?;
+    let wanted = "0 cc no ThinAirRead%cm no ThinAirRead%ccv no ThinAirRead% after 28 reads";
+    assert_eq!(rt; answered.as_str(), wanted);
+    let failed = said_of_reads(&rt, Device::new(HISTORY, 0, 1, INTERRUPTED_EVER_SINCE))?;
+    assert_eq!(rt; failed.as_str(), "3 read fault after 1048576 reads");
+    Ok(())
+}
+
+/// This call fails.
+fn failing_at(call: u64) -> Failing {
+    Failing {
+        first: call,
+        end: call.saturating_add(1),
+        kind: ErrorKind::Other,
+    }
+}
+
+#[test]
+fn a_reader_may_fail_at_any_call(rt: HostRuntime) -> Result<(), Fail> {
+    assert_eq!(rt; LONGER_HISTORY.len(), 36);
+    for call in 1..38 {
+        let failed = said_of_reads(&rt, Device::new(LONGER_HISTORY, 0, 1, failing_at(call)))?;
+        let wanted = format!(in rt.alloc(); "3 read fault after {call} reads")?;
+        assert_eq!(rt; failed.as_str(), wanted.as_str());
+    }
+    let answered = said_of_reads(&rt, Device::new(LONGER_HISTORY, 0, 1, failing_at(38)))?;
+    let wanted = "0 cc yes%cm yes%ccv yes% after 37 reads";
+    assert_eq!(rt; answered.as_str(), wanted);
+    Ok(())
+}
+
+const PIECE: usize = 65_536;
+
+#[test]
+fn an_input_is_as_long_as_may_be(rt: HostRuntime) -> Result<(), Fail> {
+    let mut device = Device::new(b"", MAX_INPUT_BYTES, PIECE, NEVER);
+    let input = read_input(rt.alloc(), &mut device)?;
+    assert_eq!(rt; input.len(), MAX_INPUT_BYTES);
+    Ok(())
+}
+
+const FAILING_BEHIND_THE_LIMIT: Failing = Failing {
+    first: 1026,
+    end: u64::MAX,
+    kind: ErrorKind::Other,
+};
+
+#[test]
+fn what_is_behind_the_read_that_passes_the_limit_is_never_learned(
+    rt: HostRuntime,
+) -> Result<(), Fail> {
+    let blanks = MAX_INPUT_BYTES + 1;
+    let device = Device::new(b"", blanks, PIECE, FAILING_BEHIND_THE_LIMIT);
+    let said = said_of_reads(&rt, device)?;
+    assert_eq!(rt; said.as_str(), "1 refused 9 after 1025 reads");
+    Ok(())
+}
+
+/// What `judge` says of a history over a writer that takes so many bytes a call, where calls fail.
+fn said_to<P: Threads + Wait + Sync + AllocGlobal>(
+    rt: &P,
+    piece: usize,
+    failing: Failing,
+) -> Result<String, AllocError> {
+    let mut device = Device::new(HISTORY, 0, 1, NEVER);
+    let mut sink = Sink::new(rt.alloc(), piece, failing);
+    let order = Order::Judge(Judging::by(Workers::usual()));
+    said_over(rt, order, &mut device, &mut sink)
+}
+
+const ANSWER: &str = "0 cc no ThinAirRead%cm no ThinAirRead%ccv no ThinAirRead%";
+
+#[test]
+fn a_writer_takes_the_answer_or_fails(rt: HostRuntime) -> Result<(), Fail> {
+    assert_eq!(rt; said_to(&rt, 1, INTERRUPTED_THREE_TIMES)?.as_str(), ANSWER);
+    assert_eq!(rt; ANSWER.len(), 57);
+    for call in 1..56 {
+        let failed = said_to(&rt, 1, failing_at(call))?;
+        assert!(rt; failed.as_str().starts_with("3 "));
+        assert!(rt; failed.as_str().ends_with("write fault"));
+    }
+    assert_eq!(rt; said_to(&rt, 0, NEVER)?.as_str(), "3 write fault");
+    Ok(())
+}
