@@ -90,6 +90,8 @@ PARTS = (
     Part("long_pieces", lambda given: given.of("pieces", "5", given.many(20, 1_000), "400")),
     Part("replayed", lambda given: [*given.of("replayed", f"{given.room}/scripts", "--make", "17", given.many(240, 5_000)), "replay"]),
     Part("driven", lambda given: given.of("driven", "1", given.many(250, 1_500))),
+    Part("live_clients", lambda given: given.of("live_clients")),
+    Part("large_inputs", lambda given: given.of("large_inputs")),
     Part("full_drives", lambda given: given.of("driven", "2", given.many(4, 60), "--full", "--object", "memory")),
     Part("full_drives_of_all", lambda given: given.of("driven", "3", given.many(0, 40), "--full"), is_long=True),
     Part("explained", lambda given: given.of("explained", "1", given.many(200, 4_000))),

@@ -1,72 +1,83 @@
-//! Measures a recorder beside plain lists under one lock: `recorder_speed [ROUNDS]`.
+//! Measures a recorder and its seals on one thread.
 //!
-//! Each line is a measure: what is done, on how many threads at once, how many each of them does in a round, and how long
-//! one takes in the shortest of ROUNDS rounds, from the first thread's start to the last one's end. With no argument there
-//! is one round, and no time is written.
+//! Standard output says of each measure how many operations were recorded and sealed. Standard error says how long a pair of
+//! `begin` and `finish` took, and a seal, each in the quickest of some rounds.
 #![tactic(auto)]
 
-mod figure;
-mod gate;
-mod lane_pairs;
-mod lane_seals;
-mod locked_pairs;
-mod locked_seals;
-mod operation;
-mod pace;
-mod plain_lists;
-mod sizes;
-mod span;
-
-use crate::figure::{Figure, Measure};
-use anyhow::{Context, Result};
+use anyhow::Result;
+use history::{Advice, TakenIn};
+use object_trait::SeqObject;
+use objects::{Register, RegisterCall, RegisterRet};
+use recorder::{RecordError, Session, new_recorder};
+use snapshot::seal;
 use std::alloc::Global;
-use std::env;
-use std::rt::Env;
-use std::sync::Wait;
-use std::thread::Threads;
-use std::time::Clock;
+use std::time::{Clock, Instant};
+
+/// Places of a lane: the greatest number.
+const PLACES: usize = 256;
+
+const ROUNDS: usize = 200;
+
+/// What one round did: how many operations its seal holds, and how many nanoseconds a pair and the seal took.
+#[derive(Clone, Copy)]
+struct Round {
+    held: usize,
+    pair: u128,
+    seal: u128,
+}
 
 fn main(rt: HostRuntime) -> Result<()> {
-    let asked = rounds_of(&rt)?;
-    let mut figures = figures();
-    for _round in 0..asked.unwrap_or(1) {
-        run_each(&rt, rt.alloc(), &mut figures)?;
-    }
-    for figure in &figures {
-        figure.print(&rt, asked.is_some())?;
-    }
-    Ok(())
-}
-
-/// The number of rounds that the command line asks for.
-fn rounds_of(rt: &(impl Env + Alloc)) -> Result<Option<u32>> {
-    match env::args(rt)?.nth(1) {
-        Some(word) => Ok(Some(word.parse::<u32>().context("reading the number of rounds")?)),
-        None => Ok(None),
-    }
-}
-
-fn figures() -> [Figure; 8] {
-    [
-        Figure::new(Measure::LanePairs, 1),
-        Figure::new(Measure::LockedPairs, 1),
-        Figure::new(Measure::LanePairs, 2),
-        Figure::new(Measure::LockedPairs, 2),
-        Figure::new(Measure::LanePairs, 4),
-        Figure::new(Measure::LockedPairs, 4),
-        Figure::new(Measure::LaneSeals, 4),
-        Figure::new(Measure::LockedSeals, 4),
-    ]
-}
-
-/// Makes a round of each measure.
-fn run_each<R: Threads + Wait + Clock + Sync>(
-    rt: &R,
-    alloc: Global,
-    figures: &mut [Figure],
-) -> Result<()> {
-    for figure in figures {
-        figure.run(rt, alloc)?;
+    for sessions in [1, 4, 16] {
+        let mut best = round(&rt, rt.alloc(), sessions)?;
+        for _more in 1..ROUNDS {
+            best = quicker(best, round(&rt, rt.alloc(), sessions)?);
+        }
+        let Round { held, pair, seal } = best;
+        println!(rt; "sessions {sessions}: {held} operations recorded and sealed")?;
+        eprintln!(rt; "sessions {sessions}: {pair} ns a pair, {seal} ns a seal")?;
     }
     Ok(())
+}
+
+/// The shorter times of two rounds.
+fn quicker(one: Round, other: Round) -> Round {
+    Round {
+        held: other.held,
+        pair: one.pair.min(other.pair),
+        seal: one.seal.min(other.seal),
+    }
+}
+
+/// One round: fills the lanes of a recorder of so many sessions, and seals it.
+fn round(rt: &impl Clock, alloc: Global, sessions: usize) -> Result<Round> {
+    let start = Register::plain(alloc)?;
+    let (lanes, mut own) = new_recorder::<Register>(alloc, sessions, PLACES, start)?;
+    let begun = Instant::now(rt)?;
+    for session in own.iter_mut() {
+        for value in 0..PLACES as u64 {
+            record(alloc, session, value)?;
+        }
+    }
+    let filled = Instant::now(rt)?;
+    let sealed = seal(alloc, &lanes, &[])?;
+    let held = sealed.advice().len();
+    Ok(Round {
+        held,
+        pair: filled.duration_since(begun).as_nanos() / (held as u128).max(1),
+        seal: Instant::now(rt)?.duration_since(filled).as_nanos(),
+    })
+}
+
+/// One pair, with advice that has nothing but a stamp.
+fn record(alloc: Global, session: &mut Session<Register>, value: u64) -> Result<(), RecordError> {
+    session.begin(RegisterCall::Write(value))?;
+    let advice = Advice {
+        counts: [0; 16],
+        stamp: value,
+        order: TakenIn::of(Vec::new(alloc)),
+    };
+    match session.finish(RegisterRet::Done, advice) {
+        Ok(_receipt) => Ok(()),
+        Err((error, _advice)) => Err(error),
+    }
 }
