@@ -28,9 +28,9 @@ struct Round {
 
 fn main(rt: HostRuntime) -> Result<()> {
     for sessions in [1, 4, 16] {
-        let mut best = round(&rt, rt.alloc(), sessions)?;
+        let mut best = measured(&rt, rt.alloc(), sessions)?;
         for _more in 1..ROUNDS {
-            best = quicker(best, round(&rt, rt.alloc(), sessions)?);
+            best = quicker(best, measured(&rt, rt.alloc(), sessions)?);
         }
         let Round { held, pair, seal } = best;
         println!(rt; "sessions {sessions}: {held} operations recorded and sealed")?;
@@ -49,7 +49,7 @@ fn quicker(one: Round, other: Round) -> Round {
 }
 
 /// One round: fills the lanes of a recorder of so many sessions, and seals it.
-fn round(rt: &impl Clock, alloc: Global, sessions: usize) -> Result<Round> {
+fn measured(rt: &impl Clock, alloc: Global, sessions: usize) -> Result<Round> {
     let start = Register::plain(alloc)?;
     let (lanes, mut own) = new_recorder::<Register>(alloc, sessions, PLACES, start)?;
     let begun = Instant::now(rt)?;
