@@ -25,6 +25,7 @@ from concurrent.futures import ThreadPoolExecutor, as_completed
 from typing import Callable, NamedTuple
 
 from counting import end, read_last_line
+from streams import is_unproved
 
 ROOT = pathlib.Path(__file__).resolve().parent.parent
 BUILT = ROOT / "crates" / "causal_judge" / "out" / "causal_judge"
@@ -56,7 +57,8 @@ class Given(NamedTuple):
 
 
 class Part(NamedTuple):
-    """A part: its name, the words after Python that run it, the tools that it needs, and a file that has to be there."""
+    """A part: its name, the words after Python that run it, the tools that it needs, a file that has to be there and what makes it, and
+    whether it is for --long alone, always or with a program that `rt try` built."""
 
     name: str
     words: Callable[[Given], list]
@@ -64,6 +66,7 @@ class Part(NamedTuple):
     file: Callable[[Given], pathlib.Path] = lambda given: pathlib.Path(given.program)
     install: str = ""
     is_long: bool = False
+    is_long_unproved: bool = False
 
 
 class Ended(NamedTuple):
@@ -98,7 +101,7 @@ PARTS = (
     Part("lines", lambda given: given.of("lines", "1", given.many(120, 1_000))),
     Part("million_operations", lambda given: given.of("lines", "2", "1", "--operations", given.many(0, 1_000_000)), is_long=True),
     Part("streams", lambda given: given.of("streams", "--steps", given.many(20, 50))),
-    Part("refused_memory", lambda given: given.of("refused_memory", *given.longer()), ("cc",)),
+    Part("refused_memory", lambda given: given.of("refused_memory", *given.longer()), ("cc",), is_long_unproved=True),
     Part(
         "library",
         lambda given: ["embed/run.py", "--compare", given.many(1_500, 30_000)],
@@ -114,6 +117,8 @@ def lacks(part, given):
     for tool in part.tools:
         if not shutil.which(tool):
             return f"{tool} is missing: {INSTALLS[tool]}"
+    if part.is_long_unproved and not given.is_long and is_unproved([given.program]):
+        return "it takes many minutes with a program that rt try built: --long runs it"
     return "" if part.file(given).is_file() else f"{part.file(given).name} is missing: {part.install}"
 
 
