@@ -1,15 +1,14 @@
 //! Histories in which the happened-before relation of an operation has about 100,000 pairs that the causal order doesn't
-//! have: what `judge` says of them, and up to where the search and the maker of certificates go.
+//! have: what is decided of them, and up to where the search and the maker of certificates go.
 
 use crate::histories::memory;
-use crate::judgements::said;
 use cert_check::Criterion;
 use certify_cm::make_memory;
+use decision::{Decision, decide_all};
+use memory_order::IndexedMemory;
 use pattern_search::find;
 use std::alloc::{AllocError, Global};
-use std::sync::Wait;
 use std::test::Fail;
-use std::thread::Threads;
 
 /// Puts two sessions into a text. The first has so many idle reads, a write of a variable and a mark; the second has
 /// another write of the variable, so many idle reads and a mark.
@@ -56,20 +55,31 @@ const CYCLE: &str = r#"[["w",8,1]],[["w",8,2],["r",8,1],["r",8,2],"#;
 const LAST_READS: &str =
     r#"["r",11,1],["r",12,1],["r",13,1],["r",21,1],["r",22,1],["r",23,1],["r",1,2],["r",2,2],["r",3,2]]]]"#;
 
-/// What `judge` of the library says of such a history for each criterion.
-fn said_of_pairs<P: Threads + Wait + Sync + AllocGlobal>(
-    rt: &P,
-    more: usize,
-    cycle: bool,
-) -> Result<String, AllocError> {
-    let text = history_of(rt.alloc(), more, cycle)?;
-    let mut answers = String::new(rt.alloc());
-    for criterion in ["cc", "cm", "ccv"] {
-        let input = format!(in rt.alloc(); "judge {criterion} {text}")?;
-        answers.push_str(said(rt, 2, input.as_str())?.as_str())?;
-        answers.push_str(";")?;
+/// What is decided of such a history for each criterion.
+fn decided(alloc: Global, more: usize, cycle: bool) -> Result<String, AllocError> {
+    let text = history_of(alloc, more, cycle)?;
+    let Some(history) = memory(alloc, text.as_str()) else {
+        return String::from_str(alloc, "no history of a memory");
+    };
+    let indexed = IndexedMemory::of(alloc, &history)?;
+    let decisions = decide_all(alloc, &indexed)?;
+    let cc = told(alloc, &decisions.cc)?;
+    let cm = told(alloc, &decisions.cm)?;
+    let ccv = told(alloc, &decisions.ccv)?;
+    format!(in alloc; "{cc}; {cm}; {ccv}")
+}
+
+/// What is decided, in the words of `judge`.
+fn told(alloc: Global, decision: &Decision) -> Result<String, AllocError> {
+    match decision {
+        Decision::Meets => String::from_str(alloc, "yes"),
+        Decision::Excluded(pattern) => {
+            let kind = pattern.kind();
+            format!(in alloc; "no {kind:?}")
+        }
+        Decision::ExcludedBy(kind) => format!(in alloc; "no {kind:?}"),
+        Decision::Open => String::from_str(alloc, "unknown"),
     }
-    Ok(answers)
 }
 
 /// Whether a pattern against causal memory is found in such a history, and whether a certificate of it is made.
@@ -83,18 +93,18 @@ fn found_and_made(alloc: Global, more: usize, cycle: bool) -> Result<(bool, bool
     Ok((found, made))
 }
 
-const MET: &str = "Yes;Yes;Yes;";
+const MET: &str = "yes; yes; yes";
 
-const CYCLIC: &str = "Yes;No(CyclicHB);No(CyclicCF);";
+const CYCLIC: &str = "yes; no CyclicHB; no CyclicCF";
 
 #[test]
 fn any_number_of_pairs_is_decided(rt: HostRuntime) -> Result<(), Fail> {
-    assert_eq!(rt; said_of_pairs(&rt, 0, false)?.as_str(), MET);
-    assert_eq!(rt; said_of_pairs(&rt, 248, false)?.as_str(), MET);
-    assert_eq!(rt; said_of_pairs(&rt, 249, false)?.as_str(), MET);
-    assert_eq!(rt; said_of_pairs(&rt, 0, true)?.as_str(), CYCLIC);
-    assert_eq!(rt; said_of_pairs(&rt, 244, true)?.as_str(), CYCLIC);
-    assert_eq!(rt; said_of_pairs(&rt, 245, true)?.as_str(), CYCLIC);
+    assert_eq!(rt; decided(rt.alloc(), 0, false)?.as_str(), MET);
+    assert_eq!(rt; decided(rt.alloc(), 248, false)?.as_str(), MET);
+    assert_eq!(rt; decided(rt.alloc(), 249, false)?.as_str(), MET);
+    assert_eq!(rt; decided(rt.alloc(), 0, true)?.as_str(), CYCLIC);
+    assert_eq!(rt; decided(rt.alloc(), 244, true)?.as_str(), CYCLIC);
+    assert_eq!(rt; decided(rt.alloc(), 245, true)?.as_str(), CYCLIC);
     Ok(())
 }
 
