@@ -2,7 +2,7 @@
 
 use crate::devices::{Device, Failing, NEVER, Sink};
 use crate::running::{said_over, told};
-use engine::{Judging, MAX_INPUT_BYTES, Order, Workers, judge_lines};
+use engine::{Judging, MAX_INPUT_BYTES, MAX_READ_CALLS, Order, Workers, judge_lines};
 use std::alloc::AllocError;
 use std::io::{ErrorKind, Read};
 use std::sync::Wait;
@@ -155,5 +155,17 @@ fn too_long_a_line_is_refused_and_passed_over(rt: HostRuntime) -> Result<(), Fai
         said.as_str(),
         "1 cc yes; cm yes; ccv yes%refused 9%cc yes; cm yes; ccv yes%"
     );
+    Ok(())
+}
+
+#[test]
+fn a_line_is_passed_over_in_so_many_read_calls(rt: HostRuntime) -> Result<(), Fail> {
+    let judging = judging_of(2, "cc").expect(&rt, "an order");
+    let before = Device::new(b"", MAX_INPUT_BYTES + 65_537, 65_536, NEVER);
+    let behind = Device::new(b"", MAX_READ_CALLS as usize + 1, 1, NEVER);
+    let mut sink = Sink::new(rt.alloc(), 64, NEVER);
+    let judged = judge_lines(&rt, &mut before.chain(behind), &mut sink, judging);
+    let said = told(rt.alloc(), judged, &sink)?;
+    assert_eq!(rt; said.as_str(), "3 refused 9%read fault");
     Ok(())
 }
