@@ -75,17 +75,22 @@ fn has_begun(session: &mut Session<Register>, call: RegisterCall, due: OpId) -> 
 /// What a seal holds of these lanes.
 fn held(alloc: Global, lanes: &Lanes<Register>) -> Result<String, AllocError> {
     match sealed(alloc, lanes) {
-        Ok(sealed) => operations_of(alloc, sealed.history()),
-        Err(_refused) => String::from_str(alloc, "a seal refused twice"),
+        Some(sealed) => operations_of(alloc, sealed.history()),
+        None => String::from_str(alloc, "a seal refused twice"),
     }
 }
 
 /// A seal of these lanes, asked for once more where memory was refused.
-fn sealed(alloc: Global, lanes: &Lanes<Register>) -> Result<Sealed<Register>, RecordError> {
-    match seal(alloc, lanes, &[]) {
-        Ok(sealed) => Ok(sealed),
-        Err(_refused) => seal(alloc, lanes, &[]),
+fn sealed(alloc: Global, lanes: &Lanes<Register>) -> Option<Sealed<Register>> {
+    match sealed_once(alloc, lanes) {
+        Some(sealed) => Some(sealed),
+        None => sealed_once(alloc, lanes),
     }
+}
+
+/// A seal of these lanes, where memory is not refused.
+fn sealed_once(alloc: Global, lanes: &Lanes<Register>) -> Option<Sealed<Register>> {
+    seal(alloc, lanes, &[]).ok()
 }
 
 #[test]
