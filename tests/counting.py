@@ -22,3 +22,13 @@ def end(passed, failed, skipped=0):
     """Writes the last line and ends the process, with status 1 where a case failed or none passed."""
     print(last_line(passed, failed, skipped), flush=True)
     sys.exit(1 if failed or not passed + skipped else 0)
+
+
+def end_after(cases):
+    """Counts cases, each a name and whether it holds, prints those that do not, and ends the process."""
+    passed, failed = 0, 0
+    for name, holds in cases:
+        passed, failed = passed + holds, failed + (not holds)
+        if not holds:
+            print(f"{name}: no", flush=True)
+    end(passed, failed)

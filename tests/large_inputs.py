@@ -14,7 +14,7 @@ import json
 import subprocess
 
 from command_words import with_program
-from counting import end
+from counting import end_after
 
 STEPS = 65_536
 IDLE = ["r", 9, 0]
@@ -68,12 +68,7 @@ def cases(program):
 
 def main():
     given = with_program(argparse.ArgumentParser(description=__doc__, formatter_class=argparse.RawDescriptionHelpFormatter))
-    passed, failed = 0, 0
-    for name, holds in cases(given.program):
-        passed, failed = passed + holds, failed + (not holds)
-        if not holds:
-            print(f"{name}: no", flush=True)
-    end(passed, failed)
+    end_after(cases(given.program))
 
 
 if __name__ == "__main__":

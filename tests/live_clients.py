@@ -10,12 +10,13 @@ The last line is `N passed, M failed`, and the status is 1 where something faile
 """
 
 import argparse
+import itertools
 import json
 import pathlib
 import subprocess
 
 from command_words import with_program
-from counting import end
+from counting import end_after
 from driven import taken_apart
 from objects import UNKNOWN
 
@@ -107,12 +108,7 @@ def main():
     parser = argparse.ArgumentParser(description=__doc__, formatter_class=argparse.RawDescriptionHelpFormatter)
     parser.add_argument("--eager-runs", type=int, default=200)
     given = with_program(parser)
-    passed, failed = 0, 0
-    for name, holds in (*small_cases(given.program), *large_cases(given.program, given.eager_runs)):
-        passed, failed = passed + holds, failed + (not holds)
-        if not holds:
-            print(f"{name}: no", flush=True)
-    end(passed, failed)
+    end_after(itertools.chain(small_cases(given.program), large_cases(given.program, given.eager_runs)))
 
 
 if __name__ == "__main__":
