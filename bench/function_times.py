@@ -6,7 +6,7 @@
 Run `prove` at the top of a clone in which nothing was checked before: what an earlier check kept takes no time. It takes
 some three hours of one processor. A log has the clock, in seconds, before each line that `rt check --jobs 1` prints: a line
 for each function as its proof ends. So the time of a function is the time since the line before it. The first function of a
-crate also pays for what stands apart from functions, as the crate's definitions and lemmas.
+crate also pays for what is in no function, as the crate's definitions and lemmas.
 """
 
 import os

@@ -15,7 +15,7 @@ pub struct Answer {
     pub errors: Vec<u8>,
 }
 
-/// What `causal_judge` answers to the words behind its name, split at blanks, and an input.
+/// What `causal_judge` answers to the words after its name, split at blanks, and an input.
 pub fn answer_to<R: Threads + Wait + Sync + AllocGlobal + Clock>(
     rt: &R,
     words: &str,

@@ -1,6 +1,6 @@
 //! A table of cases, and how it is read.
 //!
-//! A line is empty, a comment behind `#`, the name of a case, or a mark, a blank and what stands behind it:
+//! A line is empty, a comment after `#`, the name of a case, or a mark, a blank and a text:
 //!
 //!     $ WORDS     a command line of the case, or of each case that has none of its own where it stands before the first case
 //!     < TEXT      a line of the input; `<< FILE` for the bytes of a file
