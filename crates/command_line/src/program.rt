@@ -1,9 +1,9 @@
 //! The commands of the program, as `clap` is told of them.
-ghost use Rattle.std.specs.Prelude.{◌≡◌, false, IfOk};
-ghost use Rattle.clap.specs.Words.{app_of};
+ghost use Rattle.std.specs.Prelude.{◌≡◌, codes, false, IfOk};
+ghost use Rattle.clap.specs.Words.{app_of, new_app, with_rule};
 ghost use Rattle.clap.specs.declared.builder.Command.TheViews.{out-Command};
 ghost use Rattle.command_line.specs.CommandLine.{check, command_line, drive, explain, explaining, judge, judging, refute, replay};
-ghost use Rattle.command_line.specs.CommandLine.{sealing, storing};
+ghost use Rattle.command_line.specs.CommandLine.{expect, flag, sealing, storing, workers};
 
 use crate::arguments::{
     expect_option, flag_option, seals_option, stop_option, store_argument, workers_option,
@@ -47,15 +47,22 @@ fn judge_command<'a>(alloc: Global) -> Result<Command<'a>, AllocError>
     ensures app { IfOk result (λ command. app_of command ≡ judge) }
     ensures local { IfOk result (λ command. (out-Command command).has_globals ≡ false) }
 {
+    expecting_command(alloc)?.arg(flag_option(
+        alloc,
+        "lines",
+        "Judges a history in each line, and answers each with one line",
+    ))
+}
+
+// The same without `--lines`.
+fn expecting_command<'a>(alloc: Global) -> Result<Command<'a>, AllocError>
+    ensures app { IfOk result (λ command. app_of command ≡ with_rule (with_rule (new_app (codes "judge")) workers) expect) }
+    ensures local { IfOk result (λ command. (out-Command command).has_globals ≡ false) }
+{
     Command::new(alloc, "judge")
         .about("Reads a history and judges it")
         .arg(workers_option(alloc))?
-        .arg(expect_option(alloc))?
-        .arg(flag_option(
-            alloc,
-            "lines",
-            "Judges a history in each line, and answers each with one line",
-        ))
+        .arg(expect_option(alloc))
 }
 
 fn check_command<'a>(alloc: Global) -> Result<Command<'a>, AllocError>
@@ -71,6 +78,15 @@ fn explain_command<'a>(alloc: Global) -> Result<Command<'a>, AllocError>
     ensures app { IfOk result (λ command. app_of command ≡ explain) }
     ensures local { IfOk result (λ command. (out-Command command).has_globals ≡ false) }
 {
+    certifying_command(alloc)?.arg(flag_option(alloc, "svg", "Draws it as one picture"))
+}
+
+// The same without `--svg`.
+fn certifying_command<'a>(alloc: Global) -> Result<Command<'a>, AllocError>
+    ensures app { IfOk result
+        (λ command. app_of command ≡ with_rule (with_rule (new_app (codes "explain")) (flag (codes "json"))) (flag (codes "certificates"))) }
+    ensures local { IfOk result (λ command. (out-Command command).has_globals ≡ false) }
+{
     Command::new(alloc, "explain")
         .about("Reads a history, and shows why it meets each criterion or does not")
         .arg(flag_option(alloc, "json", "Shows it as JSON"))?
@@ -78,8 +94,7 @@ fn explain_command<'a>(alloc: Global) -> Result<Command<'a>, AllocError>
             alloc,
             "certificates",
             "Shows with --json the certificate of each criterion that is met",
-        ))?
-        .arg(flag_option(alloc, "svg", "Draws it as one picture"))
+        ))
 }
 
 fn refute_command<'a>(alloc: Global) -> Result<Command<'a>, AllocError>

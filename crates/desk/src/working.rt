@@ -31,17 +31,46 @@ impl<O: Refutable, K: ShelfName> Desk<O, K> {
         let mut put = 0;
         let mut held = None;
         for _turn in 0..MAX_TURNS {
-            let Some((ticket, op)) = self.take(rt) else {
+            let Some((checker, is_put)) = self.work_once(rt, gate, held)? else {
                 return Ok(put);
             };
-            let mut checker = self.checker_of(held, &ticket)?;
-            let verdict = check_between(self.alloc(), gate, &mut checker, op)?;
             held = Some(checker);
-            if self.put(rt, &ticket, verdict).is_ok() {
+            if is_put {
                 put += 1;
             }
         }
         Ok(put)
+    }
+
+    /// Takes one piece, and checks it by the checker that a worker holds or by a new one: that checker, and whether the
+    /// verdict was put. `None` where nothing is left to take.
+    fn work_once<'a, G: Gate>(
+        &'a self,
+        rt: &impl Wait,
+        gate: &G,
+        held: Option<CaseChecker<'a, O, K>>,
+    ) -> Result<Option<(CaseChecker<'a, O, K>, bool)>, AllocError> {
+        let Some((ticket, op)) = self.take(rt) else {
+            return Ok(None);
+        };
+        let (checker, verdict) = self.check_with(gate, held, &ticket, op)?;
+        let is_put = self.put(rt, &ticket, verdict).is_ok();
+        Ok(Some((checker, is_put)))
+    }
+
+    /// Checks a piece by the checker that a worker holds, where it is of the case of the ticket, or else by one of that case.
+    fn check_with<'a, G: Gate>(
+        &'a self,
+        gate: &G,
+        held: Option<CaseChecker<'a, O, K>>,
+        ticket: &Ticket<O, K>,
+        op: OpId,
+    ) -> Result<(CaseChecker<'a, O, K>, Verdict<O, K>), AllocError>
+        requires { HasPiece ticket.now.file op }
+    {
+        let mut checker = self.checker_of(held, ticket)?;
+        let verdict = check_between(self.alloc(), gate, &mut checker, op)?;
+        Ok((checker, verdict))
     }
 
     /// The checker that a worker holds, where it is of the case of a ticket, or else one of that case.

@@ -1,6 +1,7 @@
 pub mod Advising
 pub mod Seen
 pub mod Columns
+pub mod FoundByWalks
 pub mod FoundLooks
 pub mod ConsistentCuts
 pub mod Filtered

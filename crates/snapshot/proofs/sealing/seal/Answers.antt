@@ -1,9 +1,20 @@
 use Rattle.std.proofs.Common.{◌∙◌, subst}
-use Rattle.snapshot.specs.Seals.{AdvisesAll, HoldsAll}
+use Rattle.snapshot.specs.Seals.{AdvisesAll, HoldsAll, IsSealOf}
+use Rattle.snapshot.proofs.FoundByWalks.{found_by_walk}
 use Rattle.snapshot.proofs.sealing.seal.Goals as goal
 
 pub returns-clause-holds : goal.returns-clause-holds
 returns-clause-holds g c = subst (λ rs. HoldsAll c.in_ok-sealed.field-0.history rs) (c.in_ok-walk.ensures.kept.1 ∙ c.in_ok-looker.ensures.receipts) c.in_ok-sealed.ensures.holds
 
+pub returns-clause-seal : goal.returns-clause-seal
+returns-clause-seal g c = subst (λ ls. IsSealOf ls c.in_ok-sealed.field-0) (c.in_ok-walk.ensures.kept.0 ∙ c.in_ok-looker.ensures.lanes) c.in_ok-sealed.ensures.seal
+
 pub returns-clause-advises : goal.returns-clause-advises
 returns-clause-advises g c = subst (λ rs. AdvisesAll c.in_ok-sealed.field-0 rs) (c.in_ok-walk.ensures.kept.1 ∙ c.in_ok-looker.ensures.receipts) c.in_ok-sealed.ensures.advises
+
+pub returns-clause-found : goal.returns-clause-found
+returns-clause-found g c =
+    found_by_walk c.args.lanes.now c.args.told.now c.in_ok-sealed.field-0.history c.in_ok-looker.looker c.walk.new.looker c.in_ok-plan.plan c.walk.new.plan
+    c.lanes.result c.places.result c.told.result.now c.in_ok-looker.ensures.lanes c.in_ok-looker.ensures.receipts c.in_ok-looker.ensures.looks
+    c.lanes.ensures c.places.ensures.places c.told.ensures.told c.told.ensures.counts c.places.ensures.most c.in_ok-plan.ensures
+    c.in_ok-walk.ensures.walked c.in_ok-walk.ensures.kept c.in_ok-sealed.ensures.found
