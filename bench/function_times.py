@@ -4,17 +4,18 @@
     python3 bench/function_times.py table LOGS [COUNT]      prints both tables in Markdown from these logs
 
 Run `prove` at the top of a clone in which nothing was checked before: what an earlier check kept takes no time. It takes
-some three hours of one processor. A log has the clock, in seconds, before each line that `rt check --jobs 1` prints: a line
-for each function as its proof ends. So the time of a function is the time since the line before it. The first function of a
-crate also pays for what is in no function, as the crate's definitions and lemmas.
+some three hours of one processor. A log has before each line that `rt check --jobs 1` prints the seconds of a processor that
+the check took so far. A line comes for each function as its proof ends, so the time of a function is what was taken since the
+line before it. That includes parts of later functions that are checked early, and the first function of a crate also pays for
+what is in no function, as the crate's definitions and lemmas.
 """
 
 import os
 import re
 import subprocess
 import sys
-import time
 
+TICKS = os.sysconf("SC_CLK_TCK")
 CHECKED = re.compile(r"(\d+\.\d+) checked (\S+), (\d+) of \d+")
 STAMPED = re.compile(r"(\d+\.\d+) ")
 
@@ -45,14 +46,29 @@ def lowest_first(libraries):
     return order
 
 
+def used(process):
+    """The seconds of a processor that a process and all that it started took so far."""
+    try:
+        with open(f"/proc/{process}/stat", encoding="ascii", errors="replace") as stat:
+            fields = stat.read().rpartition(")")[2].split()
+        with open(f"/proc/{process}/task/{process}/children", encoding="ascii") as children:
+            started = children.read().split()
+    except OSError:
+        return 0.0
+    return sum(map(int, fields[11:15])) / TICKS + sum(used(int(child)) for child in started)
+
+
 def prove(name, log):
-    """Proves a crate, writes what the check prints into a log, each line after the clock, and returns the status."""
+    """Proves a crate, writes what the check prints into a log, each line after the time taken, and returns the status."""
     words = ["rt", "check", "--jobs", "1"]
     how = {"cwd": f"crates/{name}", "stdout": subprocess.PIPE, "stderr": subprocess.STDOUT, "errors": "replace"}
     with open(log, "w", encoding="utf-8") as kept, subprocess.Popen(words, **how) as ran:
-        kept.write(f"{time.time():.2f} begins\n")
+        taken = 0.0
+        kept.write(f"{taken:.2f} begins\n")
         for line in ran.stdout:
-            kept.write(f"{time.time():.2f} {line}")
+            # a child that has just ended is counted a moment later, with what its parent waited for
+            taken = max(taken, used(ran.pid))
+            kept.write(f"{taken:.2f} {line}")
     return ran.returncode
 
 
