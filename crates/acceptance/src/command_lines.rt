@@ -45,14 +45,21 @@ fn words_give_an_order_or_a_fault(rt: HostRuntime) -> Result<(), Fail> {
 
 /// The order that the words in a text give, with the number of its workers; or `fault`, where they give none.
 pub fn ordered(alloc: Global, text: &str) -> Result<String, AllocError> {
-    let words: Vec<&str> = text.split_whitespace().collect(alloc)?;
+    let words = words_in(alloc, text)?;
     match command_of(alloc, words.as_slice()) {
         Ok(order) => text_of(alloc, order),
-        Err(Usage::Fault(text)) if text.as_str().starts_with("error: ") => {
-            String::from_str(alloc, "fault")
-        }
+        Err(Usage::Fault(_text)) => String::from_str(alloc, "fault"),
         Err(usage) => format!(in alloc; "{usage:?}"),
     }
+}
+
+/// The words in a text.
+fn words_in(alloc: Global, text: &str) -> Result<Vec<String>, AllocError> {
+    let mut words = Vec::new(alloc);
+    for word in text.split_whitespace() {
+        words.push(String::from_str(alloc, word)?)?;
+    }
+    Ok(words)
 }
 
 /// The word of an order, and what it has beside its command.
