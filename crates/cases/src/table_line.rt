@@ -40,7 +40,10 @@ impl<'t> TableLine<'t> {
             ">>" => Some(TableLine::OutputFile(rest)),
             "!" => Some(TableLine::Errors(rest)),
             "!!" => Some(TableLine::ErrorsFile(rest)),
-            "=" => rest.parse::<u8>().ok().map(TableLine::Status),
+            "=" => match rest.parse::<u8>() {
+                Ok(status) => Some(TableLine::Status(status)),
+                Err(_) => None,
+            },
             _ if line.bytes().all(is_of_a_name) => Some(TableLine::Name(line)),
             _ => None,
         }
