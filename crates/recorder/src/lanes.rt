@@ -1,7 +1,7 @@
 ghost use Rattle.std.specs.Prelude.{◌≡◌, ◌<◌, ◌≤◌, ℕ, length, slice_get, Some, IfOk, IfErr};
 ghost use Rattle.std.specs.Arc.{arc_value};
 ghost use Rattle.recorder.specs.Recorders.{AreLanes, IsRecorder, cells_of};
-ghost use Rattle.recorder.specs.Refusals.{RefusesLimits};
+ghost use Rattle.recorder.specs.Refusals.{AreLimits, RefusesLimits};
 
 use crate::lane::Lane;
 use crate::record_error::RecordError;
@@ -77,6 +77,7 @@ pub fn new_recorder<O: SeqObject>(
     start: O::Start,
 ) -> Result<(Arc<Lanes<O>>, Vec<Session<O>>), RecordError>
     requires { O.is_start start }
+    ensures limits { IfOk result (λ _. AreLimits k cap) }
     ensures recorder { IfOk result (λ r. IsRecorder k cap start (arc_value r.0) r.1.items) }
     ensures refused { IfErr result (λ e. RefusesLimits k cap e) }
 {
