@@ -139,7 +139,7 @@ or_none : (x y : Option Cell) → or_else x y ≡ None → (x ≡ None) × (y �
 or_none None y e = (refl, e)
 or_none (Some d) y e = absurd (cc)
 
-or_some : (x y : Option Cell) (c : Cell) → or_else x y ≡ Some c → (x ≡ Some c) ⊎ ((x ≡ None) × (y ≡ Some c))
+pub or_some : (x y : Option Cell) (c : Cell) → or_else x y ≡ Some c → (x ≡ Some c) ⊎ ((x ≡ None) × (y ≡ Some c))
 or_some None y c e = inr (refl, e)
 or_some (Some d) y c e = inl e
 
@@ -152,25 +152,33 @@ none_named f (suc n) s e (suc i) l =
 none_of_lanes : (f : ℕ → Option Cell) (n s : ℕ) → first_named f 0 n ≡ None → s < n → f s ≡ None
 none_of_lanes f n s e l = subst (λ (x : ℕ). f x ≡ None) (let x : 0 + s ≡ s = omega arith in x) (none_named f n 0 e s l)
 
-abbrev is_return : Cell → Bool
+abbrev pub is_return : Cell → Bool
 is_return (Return o) = true
 is_return (Call o) = false
 
-return_named : (f : ℕ → Option Cell) → ((s : ℕ) (c : Cell) → f s ≡ Some c → is_return c ≡ true) → (n s : ℕ) (c : Cell) → first_named f s n ≡ Some c → is_return c ≡ true
-return_named f each zero s c e = absurd (cc)
-return_named f each (suc n) s c e = elim (or_some (f s) (first_named f (s + 1) n) c e) [
+-- of cells that are all return cells, or all call cells, the first that is named is one
+pub named_alike : (b : Bool) (f : ℕ → Option Cell) → ((s : ℕ) (c : Cell) → f s ≡ Some c → is_return c ≡ b) → (n s : ℕ) (c : Cell) → first_named f s n ≡ Some c → is_return c ≡ b
+named_alike b f each zero s c e = absurd (cc)
+named_alike b f each (suc n) s c e = elim (or_some (f s) (first_named f (s + 1) n) c e) [
   | inl here ↦ each s c here
-  | inr later ↦ return_named f each n (s + 1) c later.1
+  | inr later ↦ named_alike b f each n (s + 1) c later.1
 ]
 
 module _ (p : Plan) where
-  next_is_return : (s : ℕ) (c : Cell) → next_return p s ≡ Some c → is_return c ≡ true
+  pub next_is_return : (s : ℕ) (c : Cell) → next_return p s ≡ Some c → is_return c ≡ true
   next_is_return s c e = by (last_failing (λ i. was_read (seen_at p.looks (return_cell s i))) (told_of p s)) (nat_lt (returns_found p s) p.cap && not (was_read (seen_at p.looks (return_cell s (returns_found p s))))) e
     where
       by : (o : Option ℕ) (b : Bool) → or_else (named_at (return_cell s) o) (if b then Some (return_cell s (returns_found p s)) else None) ≡ Some c → is_return c ≡ true
       by (Some i) b d = let same : return_cell s i ≡ c = cc in ap is_return (sym same)
       by None true d = let same : return_cell s (returns_found p s) ≡ c = cc in ap is_return (sym same)
       by None false d = absurd (cc)
+
+  pub next_is_call : (s : ℕ) (c : Cell) → next_call p s ≡ Some c → is_return c ≡ false
+  next_is_call s c e = by (nat_lt (calls_found p s) p.cap && not (was_read (seen_at p.looks (call_cell s (calls_found p s))))) e
+    where
+      by : (b : Bool) → (if b then Some (call_cell s (calls_found p s)) else None) ≡ Some c → is_return c ≡ false
+      by true d = let same : call_cell s (calls_found p s) ≡ c = cc in ap is_return (sym same)
+      by false d = absurd (cc)
 
   -- once a call cell is next, or none, no return cell is
   pub returns_over : next_cell p ≡ None → (s : ℕ) → s < p.lanes → next_return p s ≡ None
@@ -181,7 +189,7 @@ module _ (p : Plan) where
 
   pub returns_over_at : (o : OpId) → next_cell p ≡ Some (Call o) → (s : ℕ) → s < p.lanes → next_return p s ≡ None
   returns_over_at o e s l = elim (or_some (first_named (next_return p) 0 p.lanes) (first_named (next_call p) 0 p.lanes) (Call o) e) [
-    | inl h ↦ let t : is_return (Call o) ≡ true = return_named (next_return p) next_is_return p.lanes 0 (Call o) h in absurd (cc)
+    | inl h ↦ let t : is_return (Call o) ≡ true = named_alike true (next_return p) next_is_return p.lanes 0 (Call o) h in absurd (cc)
     | inr h ↦ none_of_lanes (next_return p) p.lanes s h.0 l
   ]
 

@@ -16,3 +16,5 @@ pub mod TableLemmas
 pub mod Walked
 pub mod RunPlaces
 pub mod SealedSessions
+pub mod ReturnsFirst
+pub mod PlanLooks

@@ -1,7 +1,7 @@
 -- What stands for a plan, and what a walk does. (This project's profile.)
-use Rattle.std.specs.Prelude.{◌≡◌, ℕ, ◌+◌, ◌<◌, ◌≤◌, Bool, true, false, List, ◌++◌, length, Option, Some, None, slice_get}
+use Rattle.std.specs.Prelude.{◌≡◌, ℕ, ◌+◌, ◌<◌, ◌≤◌, Bool, true, false, List, ◌++◌, length, Option, Some, None, slice_get, slice_index}
 use Rattle.snapshot.specs.declared.lane_plan.LanePlan.{LanePlan}
-use Rattle.snapshot.specs.Plans.{Look, Plan, seen_at, was_read, return_cell, call_cell, told_of, after_looks, Follows, IsFinished}
+use Rattle.snapshot.specs.Plans.{Look, Plan, seen_at, was_read, return_cell, call_cell, told_of, fresh_plan, after_looks, Follows, IsFinished}
 use Rattle.snapshot.specs.Steps.PlanStates.{PlanState}
 
 -- of what was seen, one for each place, those from a place on: full up to `found`, and behind it either none, or empty at once
@@ -28,6 +28,17 @@ pub record Stands (st : PlanState) (p : Plan) : Type 0 where
   pub many : length st.lanes ≡ p.lanes
   pub cap : st.cap ≡ p.cap
   pub lanes : (s : ℕ) (l : LanePlan) → slice_get st.lanes s ≡ Some l → IsLanePlan p.cap (told_of p s) (λ i. seen_at p.looks (return_cell s i)) (λ i. seen_at p.looks (call_cell s i)) l
+
+-- a state stands for looks that a new plan asked for, each at the cell that was next
+pub record StandsForLooks (st : PlanState) : Type 0 where
+  pub lanes : ℕ
+  pub cap : ℕ
+  pub told : List ℕ
+  pub looks : List Look
+  pub many : length told ≡ lanes
+  pub within : (s : ℕ) → slice_index told s ≤ cap
+  pub follows : Follows (fresh_plan lanes cap told) looks
+  pub stands : Stands st (after_looks (fresh_plan lanes cap told) looks)
 
 -- the list of looks grew by looks at the cells that the plan names from what they saw, in this order, and the plan took
 -- them in

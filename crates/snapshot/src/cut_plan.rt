@@ -1,6 +1,6 @@
 ghost use Rattle.std.specs.Prelude.{◌≡◌, ℕ, ◌<◌, ◌≤◌, length, IfOk, IfSome, IsSome, None, slice_index};
 ghost use Rattle.snapshot.specs.Plans.{Plan, calls_found, fresh_plan, looked_at, next_cell, returns_found};
-ghost use Rattle.snapshot.specs.Walks.{Stands};
+ghost use Rattle.snapshot.specs.Walks.{Stands, StandsForLooks};
 ghost use Rattle.snapshot.specs.Steps.PlanStates.{call_of, first_of, looks_left, return_of, state_next};
 
 use crate::cell::Cell;
@@ -22,10 +22,13 @@ pub struct CutPlan {
 
 impl Model for CutPlan {
     ghost use Rattle.snapshot.specs.Steps.PlanStates.{PlanState};
+    ghost use Rattle.snapshot.specs.Walks.{StandsForLooks};
 
     ghost Value = { PlanState };
 
     ghost view = { λ p. record { cap = p.cap; lanes = p.lanes.items } };
+
+    ghost invariant = { λ p. StandsForLooks (record { cap = p.cap; lanes = p.lanes.items }) };
 }
 
 impl CutPlan {
@@ -44,11 +47,23 @@ impl CutPlan {
         Ok(CutPlan { cap, lanes })
     }
 
+    /// How many places each lane has.
+    pub(crate) fn places(&self) -> usize
+        ensures places { result ≡ self.now.cap }
+        ensures looked { StandsForLooks self.now }
+    {
+        self.cap
+    }
+
     /// The cell that is next: the same until `give` is called, and none when the plan is done. O(k).
+    ///
+    /// Whoever is handed a plan learns from `looked` that it stands for looks, so that the rules hold of these.
     pub fn next(&self) -> Option<Cell>
+        ensures looked { StandsForLooks self.now }
         ensures next { result ≡ state_next self.now }
         ensures rule { (p : Plan) → Stands self.now p → result ≡ next_cell p }
     {
+        let _places = self.places();
         match self.first_return() {
             Some(cell) => Some(cell),
             None => self.first_call(),

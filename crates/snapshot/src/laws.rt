@@ -3,9 +3,10 @@
 ghost use Rattle.std.specs.Prelude.{◌≡◌, ◌↔◌, ℕ, ◌+◌, ◌<◌, ◌≤◌, ◌++◌, ◌∷◌, [], Bool, List, Some, length, slice_get, slice_index, take};
 ghost use Rattle.history.specs.History.{session};
 ghost use Rattle.recorder.specs.Sessions.{session_operation};
-ghost use Rattle.snapshot.specs.Plans.{Plan, fresh_plan, after_looks, next_cell, returns_found, calls_found, Follows};
+ghost use Rattle.snapshot.specs.LookOrder.{ReturnsComeFirst};
+ghost use Rattle.snapshot.specs.Plans.{Look, Plan, fresh_plan, after_looks, next_cell, returns_found, calls_found, Follows};
 ghost use Rattle.snapshot.specs.Seals.{known_returns};
-ghost use Rattle.snapshot.specs.Walks.{Stands, WalksToTheEnd};
+ghost use Rattle.snapshot.specs.Walks.{Stands, Walks, WalksToTheEnd};
 ghost use Rattle.snapshot.specs.Steps.PlanStates.{PlanState};
 ghost use Rattle.snapshot.specs.Runs.{CanFollow, Event, HasBegun, HasEnded, HasSealed, IsAt, IsRun, begun, ended, looks, sealed, sealers};
 ghost use Rattle.snapshot.specs.Runs.Event.{Looked, Started};
@@ -89,4 +90,13 @@ pub fn walks_give_consistent_cuts<O: SeqObject>()
         → IsRun k cap es → IsAt es j (Started z told) → Stands old (fresh_plan k cap told)
         → WalksToTheEnd old [] new (looks z es)
         → IsConsistentCut es z (sealed start es (after_looks (fresh_plan k cap told) (looks z es))) }
+{}
+
+/// A new plan asks for all return cells before all call cells, of whatever number of operations it was told and whatever is
+/// answered: whoever looks at each cell that `next` names and gives the answer, or calls `walk`, to the end or not.
+pub fn returns_come_before_calls()
+    ensures asked { (k cap : ℕ) (told : List ℕ) (looks : List Look) → Follows (fresh_plan k cap told) looks
+        → ReturnsComeFirst looks }
+    ensures walked { (k cap : ℕ) (told : List ℕ) (old new : PlanState) (looks : List Look)
+        → Stands old (fresh_plan k cap told) → Walks old [] new looks → ReturnsComeFirst looks }
 {}
