@@ -63,6 +63,7 @@ impl CutPlan {
         ensures next { result ≡ state_next self.now }
         ensures rule { (p : Plan) → Stands self.now p → result ≡ next_cell p }
     {
+        // (the check learns here what the type keeps)
         let _places = self.places();
         match self.first_return() {
             Some(cell) => Some(cell),

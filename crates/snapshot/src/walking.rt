@@ -17,6 +17,7 @@ pub fn walk<L: Looker>(plan: &mut CutPlan, looker: &mut L) -> Result<(), AllocEr
     ensures returns_first { GrewByReturnsFirst (L.looks looker.old) (L.looks looker.new) }
     ensures kept { L.keeps looker.old looker.new }
 {
+    // (the check learns here what the type keeps)
     let _places = plan.places();
     while let Some(cell) = plan.next() {
         let full = looker.look(cell)?;
