@@ -1,12 +1,14 @@
 #!/usr/bin/env python3
-"""Runs a program on inputs of the largest sizes: a script of 65,536 steps, and histories with about 100,000 happened-before pairs.
+"""Runs a program on inputs of the largest sizes: a script of 65,536 steps, histories with about 100,000 happened-before pairs, derivations
+of 100,000 lines, and texts of 67,108,864 bytes.
 
     python3 tests/large_inputs.py -- PROGRAM
 
 The script records nothing, so its sealer is done after two looks: each further look is refused, and each step has its line. In each history the
 happened-before relation of an operation has as many pairs, or a few more or fewer, as the makers of certificates keep of one that the
-causal order does not have: it is decided all the same. The last line is `N passed, M failed`, and the status is 1 where
-something failed.
+causal order does not have: it is decided all the same, and `explain` says in words and as JSON whether it has a certificate of causal
+memory. Each line of a derivation holds, and one line more than there may be is one too many; so is one byte more of a text. The last
+line is `N passed, M failed`, and the status is 1 where something failed.
 """
 
 import argparse
@@ -21,6 +23,22 @@ IDLE = ["r", 9, 0]
 MET = "cc yes\ncm yes\nccv yes\n"
 CYCLIC = "cc yes\ncm no CyclicHB\nccv no CyclicCF\n"
 PAIRS = ((0, False), (248, False), (249, False), (0, True), (244, True), (245, True))
+WRITTEN = "  An order explains every known return: explain --json --certificates writes it."
+GIVEN_UP = "  An order explains every known return, but no certificate is written: a happened-before relation has more than 100,000 pairs."
+CYCLE = ["memory", [[["w", 0, 1]], [["w", 0, 2], ["r", 0, 1], ["r", 0, 2]]]]
+MOST_LINES = 100_000
+MOST_BYTES = 67_108_864
+ONE_WRITE = ["memory", [[["w", 0, 1]]]]
+CERTIFIED = [ONE_WRITE, ["cc", [[[1]]], [[[0]]]]]
+REFUTED = [["memory", [[["r", 0, 7]]]], "cc", ["ThinAirRead", [0, 0]]]
+ANSWERS = (
+    ("judge", ONE_WRITE, MET),
+    ("check", CERTIFIED, "cc yes\n"),
+    ("explain", ONE_WRITE, f"cc yes\n{WRITTEN}\ncm yes\n{WRITTEN}\nccv yes\n{WRITTEN}\n"),
+    ("refute", REFUTED, "cc no ThinAirRead\n"),
+    ("replay", ["memory", 1, [["take"]]], "none\n"),
+    ("drive causal", ONE_WRITE, f'["memory",[[["w",0,1]]]]\n{MET}'),
+)
 
 
 def full_script():
@@ -51,19 +69,42 @@ def many_pairs(more, is_cyclic):
     return ["memory", [*sessions, last + [["r", key, 2] for key in (1, 2, 3)]]]
 
 
-def said(program, command, value):
-    """The status of a run and what it wrote."""
-    text = json.dumps(value, separators=(",", ":"))
-    done = subprocess.run([*program, command], input=text, capture_output=True, check=False, text=True)
+def derivation(lines):
+    """A claim whose derivation has so many lines. The first four show that a write is before another, and that one before it; each
+    further one shows from both that the second is before itself."""
+    first = ["co", [[1, 0], [1, 1]], [[1, 1], [1, 2]]], ["rf", 0, [1, 1]], ["co", [[0, 0], [1, 1], [1, 2]], [[1, 2]]], ["rf", 2, [1, 2]]
+    return [CYCLE, "cm", ["CyclicHB", [1, 2], [*first, *[["tr", 1, 3]] * (lines - len(first))]]]
+
+
+def said(program, command, value, size=0):
+    """The status of a run and what it wrote. Behind the value stand blanks up to so many bytes."""
+    text = json.dumps(value, separators=(",", ":")).ljust(size)
+    done = subprocess.run([*program, *command.split()], input=text, capture_output=True, check=False, text=True)
     return done.returncode, done.stdout, done.stderr
+
+
+def cases_of_pairs(program):
+    """The cases of histories with about 100,000 happened-before pairs."""
+    for more, is_cyclic in PAIRS:
+        found = said(program, "judge", many_pairs(more, is_cyclic))
+        yield f"pairs {more} {is_cyclic}", found == (0, CYCLIC if is_cyclic else MET, "")
+    for more, line in ((248, WRITTEN), (249, GIVEN_UP)):
+        wanted = f"cc yes\n{WRITTEN}\ncm yes\n{line}\nccv yes\n{WRITTEN}\n"
+        yield f"pairs {more} in words", said(program, "explain", many_pairs(more, False)) == (0, wanted, "")
+        status, text, _ = said(program, "explain --json --certificates", many_pairs(more, False))
+        certificates = [reason[2] is not None for reason in json.loads(text)] if status == 0 else []
+        yield f"pairs {more} with certificates", certificates == [True, line == WRITTEN, True]
 
 
 def cases(program):
     """A name and an outcome for each case."""
     yield f"each of {STEPS} steps is answered", said(program, "replay", full_script()) == (0, full_replies(), "")
-    for more, is_cyclic in PAIRS:
-        found = said(program, "judge", many_pairs(more, is_cyclic))
-        yield f"pairs {more} {is_cyclic}", found == (0, CYCLIC if is_cyclic else MET, "")
+    yield from cases_of_pairs(program)
+    yield f"{MOST_LINES} lines", said(program, "refute", derivation(MOST_LINES)) == (0, "cm no CyclicHB\n", "")
+    yield f"{MOST_LINES} lines and one", said(program, "refute", derivation(MOST_LINES + 1)) == (1, "", "refused 23\n")
+    for command, value, answer in ANSWERS:
+        yield f"{MOST_BYTES} bytes, {command}", said(program, command, value, MOST_BYTES) == (0, answer, "")
+        yield f"{MOST_BYTES} bytes and one, {command}", said(program, command, value, MOST_BYTES + 1) == (1, "", "refused 9\n")
 
 
 def main():

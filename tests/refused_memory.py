@@ -1,12 +1,11 @@
 #!/usr/bin/env python3
 """Refuses the allocations of a program, one in each run, and reports each run that does not end right.
 
-    python3 tests/refused_memory.py [--long] [--threads N] [--tests PROGRAM] -- PROGRAM
+    python3 tests/refused_memory.py [--threads N] [--tests PROGRAM] -- PROGRAM
 
-Each input below is run again and again, with another allocation refused each time, until a run makes no more. `--long` refuses every
-allocation; without it every third one is refused. A run has to end with its usual answer, or with status 4, `no memory` on standard
-error and nothing written. `judge --lines` may have written the answers of some first lines before. What `drive` writes may differ from
-run to run: driven.py has to find no fault in it.
+Each input below is run again and again, with the next allocation refused each time, until a run makes no more. A run has to end with
+its usual answer, or with status 4, `no memory` on standard error and nothing written. `judge --lines` may have written the answers of
+some first lines before. What `drive` writes may differ from run to run: driven.py has to find no fault in it.
 
 The same is done with the tests below of crates/acceptance, which repeat a call where memory was refused to it. Each has to pass in
 each run, and `abandoned` has to print each answer that a refusal can lead to. `rt ci` leaves the program that has these tests; without
@@ -32,7 +31,6 @@ from counting import end
 from reading import read_driven
 
 MOST_SECONDS = 60
-STRIDE = 3
 SHOWN = 3
 WORKERS = ("1", "2")
 NO_MEMORY = (4, b"", b"no memory\n")
@@ -75,6 +73,7 @@ INPUTS = (
     ("check", '[["memory",[[["w",0,1]],[["r",0,1]]]],["cm",[[[1,0]],[[1,1]]],[[[0]],[[0,1]]]]]', "cm yes\n"),
     ("check", '[["memory",[[["w",0,1]],[["r",0,2]]]],["cm",[[[1,0]],[[1,1]]],[[[0]],[[0,1]]]]]', "cm unknown 1.0\n"),
     ("check", '[["counter",[[["inc"]],[["get",1]]]],["ccv",[[[1,0]],[[1,1]]],[0,1]]]', "ccv yes\n"),
+    ("explain", PLAIN, "cm yes\n  An order explains every known return: "),
     ("explain", REPEATED, "cc unknown 0.1\n"),
     ("explain", CYCLIC, "cm no CyclicHB\n"),
     ("explain --json", CYCLIC, '["cm","no",["CyclicHB",'),
@@ -173,12 +172,11 @@ int posix_memalign(void **p, size_t a, size_t n) {
 
 
 class Sweep(NamedTuple):
-    """What refuses, and which allocations: a folder with the library, threads that run side by side, and the stride."""
+    """What refuses: a folder with the library, and threads that run side by side."""
 
     folder: pathlib.Path
     pool: ThreadPoolExecutor
     threads: int
-    stride: int
 
 
 class Refused(NamedTuple):
@@ -214,9 +212,9 @@ def refused_run(folder, words, data, number):
     return Refused(number, found)
 
 
-def refused_runs(sweep, words, data, first):
-    """The runs of which one allocation was refused: this one first, and then in steps of the stride."""
-    numbers = itertools.count(first, sweep.stride)
+def refused_runs(sweep, words, data):
+    """The runs of which one allocation was refused: the first, and then each next one."""
+    numbers = itertools.count(1)
     while True:
         batch = list(itertools.islice(numbers, 2 * sweep.threads))
         runs = list(sweep.pool.map(lambda number: refused_run(sweep.folder, words, data, number), batch))
@@ -258,14 +256,14 @@ def reported(name, runs, wrong):
     return len(runs) - len(wrong), len(wrong)
 
 
-def swept_input(sweep, program, words, text, wanted, first):
+def swept_input(sweep, program, words, text, wanted):
     """How many refusals of an input's run end right, and how many do not."""
     name = f"{' '.join(words)} {text[:60]!r}"
     usual = outcome([*program, *words], text.encode())
     if wanted.encode() not in usual[1]:
         print(f"without {wanted!r}, where nothing is refused: {name}: {usual!r}", flush=True)
         return 0, 1
-    runs = list(refused_runs(sweep, [*program, *words], text.encode(), first))
+    runs = list(refused_runs(sweep, [*program, *words], text.encode()))
     if not runs:
         print(f"no allocation was seen: {name}", flush=True)
         return 0, 1
@@ -273,10 +271,10 @@ def swept_input(sweep, program, words, text, wanted, first):
 
 
 def swept_inputs(sweep, program):
-    """The same of each input. They begin at different allocations, so that together they refuse each one that all of them make."""
-    lines = [(words, text, wanted) for command, text, wanted in INPUTS for words in command_lines(command)]
-    for at, (words, text, wanted) in enumerate(lines):
-        yield swept_input(sweep, program, words, text, wanted, 1 + at % sweep.stride)
+    """The same of each input, by each number of workers."""
+    for command, text, wanted in INPUTS:
+        for words in command_lines(command):
+            yield swept_input(sweep, program, words, text, wanted)
 
 
 def is_passed(found):
@@ -287,7 +285,7 @@ def is_passed(found):
 def swept_test(sweep, tests, name, texts):
     """How many refusals of a test's run end right, and how many do not. A text that no run printed counts as one that does not."""
     usual = outcome([str(tests), name], b"")
-    runs = list(refused_runs(sweep._replace(stride=1), [str(tests), name], b"", 1)) if is_passed(usual) else []
+    runs = list(refused_runs(sweep, [str(tests), name], b"")) if is_passed(usual) else []
     if not runs:
         print(f"not passed where nothing is refused, or without an allocation: {name}: {usual!r}", flush=True)
         return 0, 1
@@ -308,7 +306,7 @@ def swept_tests(sweep, tests):
 def swept(given, folder, skips):
     """How many refusals end right, and how many do not, of each run in turn."""
     with ThreadPoolExecutor(given.threads) as pool:
-        sweep = Sweep(folder, pool, given.threads, 1 if given.long else STRIDE)
+        sweep = Sweep(folder, pool, given.threads)
         if "program" not in skips:
             yield from swept_inputs(sweep, given.program)
         if "tests" not in skips:
@@ -335,7 +333,6 @@ def skipped_parts(given):
 
 def main():
     parser = argparse.ArgumentParser(description=__doc__, formatter_class=argparse.RawDescriptionHelpFormatter)
-    parser.add_argument("--long", action="store_true")
     parser.add_argument("--threads", type=int, default=os.cpu_count() or 2)
     parser.add_argument("--tests", type=pathlib.Path, default=TESTS)
     given = with_program(parser)

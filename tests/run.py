@@ -101,7 +101,7 @@ PARTS = (
     Part("lines", lambda given: given.of("lines", "1", given.many(120, 1_000))),
     Part("million_operations", lambda given: given.of("lines", "2", "1", "--operations", given.many(0, 1_000_000)), is_long=True),
     Part("streams", lambda given: given.of("streams", "--steps", given.many(20, 50))),
-    Part("refused_memory", lambda given: given.of("refused_memory", *given.longer()), ("cc",), is_long_unproved=True),
+    Part("refused_memory", lambda given: given.of("refused_memory"), ("cc",), is_long_unproved=True),
     Part(
         "library",
         lambda given: ["embed/run.py", "--compare", given.many(1_500, 30_000)],

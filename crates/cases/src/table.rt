@@ -2,7 +2,7 @@
 //!
 //! A line is empty, a comment after `#`, the name of a case, or a mark, a blank and a text:
 //!
-//!     $ WORDS     a command line of the case, or of each case that has none of its own where it stands before the first case
+//!     $ WORDS     a command line of the case. Before the first case: one of each case that has none of its own
 //!     < TEXT      a line of the input; `<< FILE` for the bytes of a file
 //!     > TEXT      a line of standard output; `>> FILE`
 //!     ! TEXT      a line of standard error; `!! FILE`

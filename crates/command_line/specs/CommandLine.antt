@@ -52,8 +52,12 @@ judge = with_rule (with_rule (with_rule (new_app (codes "judge")) workers) expec
 abbrev pub check : App
 check = with_rule (new_app (codes "check")) workers
 
+-- the command `explain` with what is shown as JSON; and whole
+abbrev pub certifying : App
+certifying = with_rule (with_rule (new_app (codes "explain")) (flag (codes "json"))) (flag (codes "certificates"))
+
 abbrev pub explain : App
-explain = with_rule (with_rule (with_rule (new_app (codes "explain")) (flag (codes "json"))) (flag (codes "certificates"))) (flag (codes "svg"))
+explain = with_rule certifying (flag (codes "svg"))
 
 abbrev pub refute : App
 refute = new_app (codes "refute")

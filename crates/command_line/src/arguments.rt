@@ -71,7 +71,9 @@ pub fn seals_option<'a>(alloc: Global) -> Arg<'a>
         .value_name("N")
         .action(ArgAction::Set)
         .value_parser(ValueParser::unsigned(0, MAX_SEALS as u64))
-        .help("How many histories are sealed while clients run, from 0 to 8; 0 where none is given")
+        .help(
+            "How many histories are sealed while clients run, from 0 to 8; 0 where none is given. They need not come in the order of time",
+        )
 }
 
 /// Whose client never ends its last call.

@@ -2,8 +2,8 @@
 ghost use Rattle.std.specs.Prelude.{◌≡◌, codes, false, IfOk};
 ghost use Rattle.clap.specs.Words.{app_of, new_app, with_rule};
 ghost use Rattle.clap.specs.declared.builder.Command.TheViews.{out-Command};
-ghost use Rattle.command_line.specs.CommandLine.{check, command_line, drive, explain, explaining, judge, judging, refute, replay};
-ghost use Rattle.command_line.specs.CommandLine.{expect, flag, sealing, storing, workers};
+ghost use Rattle.command_line.specs.CommandLine.{certifying, check, command_line, drive, explain, explaining, judge, judging, refute, replay};
+ghost use Rattle.command_line.specs.CommandLine.{expect, sealing, storing, workers};
 
 use crate::arguments::{
     expect_option, flag_option, seals_option, stop_option, store_argument, workers_option,
@@ -83,8 +83,7 @@ fn explain_command<'a>(alloc: Global) -> Result<Command<'a>, AllocError>
 
 // The same without `--svg`.
 fn certifying_command<'a>(alloc: Global) -> Result<Command<'a>, AllocError>
-    ensures app { IfOk result
-        (λ command. app_of command ≡ with_rule (with_rule (new_app (codes "explain")) (flag (codes "json"))) (flag (codes "certificates"))) }
+    ensures app { IfOk result (λ command. app_of command ≡ certifying) }
     ensures local { IfOk result (λ command. (out-Command command).has_globals ≡ false) }
 {
     Command::new(alloc, "explain")

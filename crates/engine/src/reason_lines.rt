@@ -15,7 +15,7 @@ use wording::{Worded, push_unexplained, words_of_repeated_values};
 ///
 /// What they say is no promise, but for the parts of the history in them: each is judged by itself before it is told. Fails for
 /// want of memory alone. The cost is that of the words and the core of a pattern, or that of a certificate where one does not
-/// explain an operation, and of the history without the variables whose values are not distinct.
+/// explain an operation or a memory meets causal memory, and of the history without the variables whose values are not distinct.
 pub(crate) fn lines_of_reason(
     alloc: Global,
     history: &AnyHistory,
@@ -23,13 +23,38 @@ pub(crate) fn lines_of_reason(
     reason: &Reason,
 ) -> Result<Vec<String>, AllocError> {
     match reason {
-        Reason::Explained => one_line(
-            alloc,
-            "An order explains every known return: explain --json --certificates writes it.",
-        ),
+        Reason::Explained => lines_of_met(alloc, history, criterion),
         Reason::Shown(pattern) => lines_of_pattern(alloc, history, criterion, pattern),
         Reason::Present(kind) => lines_of_kind(alloc, *kind),
         Reason::Unexplained(place) => lines_of_unknown(alloc, history, criterion, *place),
+    }
+}
+
+// The line on what is met: how its certificate is written, or why none is.
+fn lines_of_met(
+    alloc: Global,
+    history: &AnyHistory,
+    criterion: Criterion,
+) -> Result<Vec<String>, AllocError> {
+    let words = if has_certificate(alloc, history, criterion)? {
+        "An order explains every known return: explain --json --certificates writes it."
+    } else {
+        "An order explains every known return, but no certificate is written: a happened-before relation has more than 100,000 pairs."
+    };
+    one_line(alloc, words)
+}
+
+// Whether a certificate is made of a history that meets a criterion. For causal memory a memory may have none.
+fn has_certificate(
+    alloc: Global,
+    history: &AnyHistory,
+    criterion: Criterion,
+) -> Result<bool, AllocError> {
+    match (history, criterion) {
+        (AnyHistory::Memory(history), Criterion::Cm) => {
+            Ok(certify_cm::make_memory(alloc, history, &[])?.is_some())
+        }
+        _ => Ok(true),
     }
 }
 

@@ -9,26 +9,38 @@ use std::sync::Wait;
 use std::test::Fail;
 use std::thread::Threads;
 
-/// For each case its name, what is expected and the lines, and what is wanted. A percent sign is written for a line feed.
+/// For each case its name, what is expected and the lines, and what is wanted. A percent sign is written for a line feed. A line that
+/// begins with two blanks goes on where the line before it ends.
 const LINES: &str = r#"
 no_line | - | 0
 one_line | - ["memory",[]]% | 0 cc yes; cm yes; ccv yes%
 line_without_its_line_feed | - ["memory",[]] | 0 cc yes; cm yes; ccv yes%
 two_lines | - ["memory",[[["r",0,7]]]]%["memory",[]]% | 0 cc no ThinAirRead; cm no ThinAirRead; ccv no ThinAirRead%cc yes; cm yes; ccv yes%
-last_line_without_its_line_feed | - ["memory",[]]%["memory",[[["r",0,7]]]] | 0 cc yes; cm yes; ccv yes%cc no ThinAirRead; cm no ThinAirRead; ccv no ThinAirRead%
+last_line_without_its_line_feed | - ["memory",[]]%["memory",[[["r",0,7]]]] | 0 cc yes; cm yes; ccv yes%
+  cc no ThinAirRead; cm no ThinAirRead; ccv no ThinAirRead%
 empty_line | - % | 1 refused 1%
 empty_lines | - %% | 1 refused 1%refused 1%
 empty_line_between | - ["memory",[]]%%["memory",[]] | 1 cc yes; cm yes; ccv yes%refused 1%cc yes; cm yes; ccv yes%
 blanks_around | -  ["memory", []] % | 0 cc yes; cm yes; ccv yes%
-refused_lines_among_others | - ["memory",[[["x"]]]]%["memory",[]]%["foo",[]]%["memory",[[["r",0,"?"],["w",0,1]]]]%{}%["counter",[[["inc"],["get",1]]]]% | 1 refused 4 0.0%cc yes; cm yes; ccv yes%refused 3%refused 5 0.1%refused 2%cc yes; cm yes; ccv yes%
-all_objects | - ["register",[[["w",7],["r",7]]]]%["counter",[[["inc"],["get",1]],[["get",0]]]]%["set",[[["add",1],["has",1,true]]]]%["queue",[[["push",5],["pop",5]]]]%["memory",[[["w",0,1]],[["r",0,1]]]]%["counters",[[["get",0,0]]]]%["sets",[[],[["has",0,1,true]]]]%["queues",[[["push",1,5]],[["pop",1,5]]]]% | 0 cc yes; cm yes; ccv yes%cc yes; cm yes; ccv yes%cc yes; cm yes; ccv yes%cc yes; cm yes; ccv yes%cc yes; cm yes; ccv yes%cc yes; cm yes; ccv yes%cc unknown 1.0; cm unknown 1.0; ccv unknown 1.0%cc unknown 1.0; cm unknown 1.0; ccv unknown 1.0%
+refused_lines_among_others | - ["memory",[[["x"]]]]%["memory",[]]%["foo",[]]%["memory",[[["r",0,"?"],["w",0,1]]]]%{}%
+  ["counter",[[["inc"],["get",1]]]]% | 1 refused 4 0.0%cc yes; cm yes; ccv yes%refused 3%refused 5 0.1%refused 2%
+  cc yes; cm yes; ccv yes%
+all_objects | - ["register",[[["w",7],["r",7]]]]%["counter",[[["inc"],["get",1]],[["get",0]]]]%
+  ["set",[[["add",1],["has",1,true]]]]%["queue",[[["push",5],["pop",5]]]]%["memory",[[["w",0,1]],[["r",0,1]]]]%
+  ["counters",[[["get",0,0]]]]%["sets",[[],[["has",0,1,true]]]]%["queues",[[["push",1,5]],[["pop",1,5]]]]%
+   | 0 cc yes; cm yes; ccv yes%cc yes; cm yes; ccv yes%cc yes; cm yes; ccv yes%cc yes; cm yes; ccv yes%cc yes; cm yes; ccv yes%
+  cc yes; cm yes; ccv yes%cc unknown 1.0; cm unknown 1.0; ccv unknown 1.0%cc unknown 1.0; cm unknown 1.0; ccv unknown 1.0%
 all_are_as_expected | cc,cm,ccv ["memory",[]]%["counter",[]]% | 0 cc yes; cm yes; ccv yes%cc yes; cm yes; ccv yes%
-one_is_not_as_expected | ccv ["memory",[]]%["memory",[[["w",0,1],["r",0,2]],[["w",0,2],["r",0,1]]]]%["memory",[]]% | 5 cc yes; cm yes; ccv yes%cc yes; cm yes; ccv no CyclicCF%cc yes; cm yes; ccv yes%
+one_is_not_as_expected | ccv ["memory",[]]%["memory",[[["w",0,1],["r",0,2]],[["w",0,2],["r",0,1]]]]%["memory",[]]%
+   | 5 cc yes; cm yes; ccv yes%cc yes; cm yes; ccv no CyclicCF%cc yes; cm yes; ccv yes%
 what_is_not_expected_does_not_count | cc,cm ["memory",[[["w",0,1],["r",0,2]],[["w",0,2],["r",0,1]]]]% | 0 cc yes; cm yes; ccv no CyclicCF%
 one_is_unknown | cm ["memory",[]]%["register",[[["r",5]]]]% | 6 cc yes; cm yes; ccv yes%cc unknown 0.0; cm unknown 0.0; ccv unknown 0.0%
-no_counts_more_than_unknown | cm ["memory",[[["r",0,7]]]]%["register",[[["r",5]]]]% | 5 cc no ThinAirRead; cm no ThinAirRead; ccv no ThinAirRead%cc unknown 0.0; cm unknown 0.0; ccv unknown 0.0%
-no_counts_more_than_unknown_before_it | cm ["register",[[["r",5]]]]%["memory",[[["r",0,7]]]]% | 5 cc unknown 0.0; cm unknown 0.0; ccv unknown 0.0%cc no ThinAirRead; cm no ThinAirRead; ccv no ThinAirRead%
-refusal_counts_most | cc ["memory",[[["r",0,7]]]]%[]%["register",[[["r",5]]]]% | 1 cc no ThinAirRead; cm no ThinAirRead; ccv no ThinAirRead%refused 2%cc unknown 0.0; cm unknown 0.0; ccv unknown 0.0%
+no_counts_more_than_unknown | cm ["memory",[[["r",0,7]]]]%["register",[[["r",5]]]]%
+   | 5 cc no ThinAirRead; cm no ThinAirRead; ccv no ThinAirRead%cc unknown 0.0; cm unknown 0.0; ccv unknown 0.0%
+no_counts_more_than_unknown_before_it | cm ["register",[[["r",5]]]]%["memory",[[["r",0,7]]]]%
+   | 5 cc unknown 0.0; cm unknown 0.0; ccv unknown 0.0%cc no ThinAirRead; cm no ThinAirRead; ccv no ThinAirRead%
+refusal_counts_most | cc ["memory",[[["r",0,7]]]]%[]%["register",[[["r",5]]]]%
+   | 1 cc no ThinAirRead; cm no ThinAirRead; ccv no ThinAirRead%refused 2%cc unknown 0.0; cm unknown 0.0; ccv unknown 0.0%
 "#;
 
 #[test]
@@ -45,7 +57,8 @@ fn otherwise<P: Threads + Wait + Sync + AllocGlobal>(
     piece: usize,
 ) -> Result<String, AllocError> {
     let mut otherwise = String::new(rt.alloc());
-    for line in LINES.trim_start().lines() {
+    let cases = LINES.replace(rt.alloc(), "\n  ", "")?;
+    for line in cases.as_str().trim_start().lines() {
         let (case, wanted) = line.rsplit_once(" | ").unwrap_or((line, ""));
         let (_, input) = case.split_once(" | ").unwrap_or(("", ""));
         let said = said(rt, workers, piece, input)?;
