@@ -14,6 +14,8 @@ Lines that begin with `> ` right after a command belong to it, as those of a her
     <!-- installs: deb -->                       before a block: left out here, and run by release/test.sh
     <!-- long, any kind: threads take turns -->  before a block: run with --long alone, and `no KIND` stands for a no of any kind
 
+Each link of a page leads to a file that is there, and README.md has at most 1,500 words.
+
 The files of examples/ are judged, explained, checked, refuted, replayed and driven. What is said of them is below, or in the file of
 the same name that ends in .txt, or in the picture of that name in docs/. A file of which nothing is said is a failure.
 """
@@ -38,6 +40,8 @@ ROOT = pathlib.Path(__file__).resolve().parent.parent
 PAGES = ("README.md", "docs/*.md", "embed/*.md", "examples/**/*.md")
 BUILT = pathlib.Path("crates", "causal_judge", "out", "causal_judge")
 MARK = re.compile(r"<!-- (not run|installs|long, any kind): (.*) -->")
+LINK = re.compile(r"\]\((?!https?:)([^)#\s]+)")
+MOST_WORDS = 1_500
 COMMAND = re.compile(r"( {4,})\$ (.*)")
 LEFT_OUT = ("not run", "installs")
 KIND = re.compile(r"(?<= no )[A-Z]\w+")
@@ -158,10 +162,20 @@ def try_page(page, given, folder):
             yield fault_of(command, copy, environment)
 
 
+def told_by(page, given):
+    """The faults of what a page is: a link that leads nowhere, or more words than README.md may have."""
+    text = page.read_text(encoding="utf-8")
+    lost = [link for link in LINK.findall(text) if not (page.parent / link).exists()]
+    yield [f"{page.relative_to(given.root)}: no file {link}" for link in lost]
+    if page == given.root / "README.md":
+        yield [f"README.md has {len(text.split())} words"] if len(text.split()) > MOST_WORDS else []
+
+
 def try_pages(given):
     """The faults of each command that is run, page by page."""
     for page in sorted({page for pattern in given.page or PAGES for page in given.root.glob(pattern)}):
         if not any(part in ("out", "__pycache__") for part in page.parts):
+            yield from told_by(page, given)
             with tempfile.TemporaryDirectory() as room:
                 yield from try_page(page, given, pathlib.Path(room))
 
