@@ -203,7 +203,6 @@ debian() {
     local below=$ROOM/debian doc=usr/share/doc/causal-judge file
     put_files "$below/usr" lib/x86_64-linux-gnu vendor-completions /usr
     for file in "$below"/usr/share/man/man1/*.1; do gzip -9n "$file"; done
-    rm "$below/$doc/LICENSE"
     { echo "causal_judge"; echo; cat "$ROOT/LICENSE"; } > "$below/$doc/copyright"
     { echo "causal-judge ($DEBIAN) unstable; urgency=medium"
       echo; echo "  * See CHANGELOG.md."; echo
@@ -212,7 +211,9 @@ debian() {
     chmod 644 "$below/$doc/copyright" "$below/$doc/changelog.gz"
     mkdir -p "$below/usr/share/lintian/overrides"
     echo "# The program is byte for byte the one that the gate tested, with its symbols.
-causal-judge: unstripped-binary-or-object [usr/bin/causal_judge]" > "$below/usr/share/lintian/overrides/causal-judge"
+causal-judge: unstripped-binary-or-object [usr/bin/causal_judge]
+# README.md links to it.
+causal-judge: extra-license-file [$doc/LICENSE]" > "$below/usr/share/lintian/overrides/causal-judge"
     chmod 644 "$below/usr/share/lintian/overrides/causal-judge"
     mkdir "$below/DEBIAN"
     cat > "$below/DEBIAN/control" <<END
