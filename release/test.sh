@@ -48,7 +48,7 @@ trap clean EXIT
 [ -n "$TAR" ] || TAR=$ROOM/root.tar
 if [ ! -f "$TAR" ]; then
     echo "a clean Debian with $HOLDS .."
-    mmdebstrap --quiet --variant=minbase --include="$HOLDS" "$SUITE" "$TAR.part" && mv "$TAR.part" "$TAR"
+    mmdebstrap --quiet --format=tar --variant=minbase --include="$HOLDS" "$SUITE" "$TAR.part" && mv "$TAR.part" "$TAR"
 fi
 
 PASSED=0 FAILED=0 SKIPPED=0
