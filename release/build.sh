@@ -167,8 +167,8 @@ put_files() {
         put 644 "$ROOT/embed/causal_judge.h" "$below/include/causal_judge.h"
         put 644 "$ROOM/libcausal_judge.a" "$below/$lib/libcausal_judge.a"
         put 644 "$ROOM/libcausal_judge.so" "$below/$lib/causal_judge/libcausal_judge.so"
-        mkdir -p "$below/$lib/pkgconfig"
-        sed -e "s|@VERSION@|$VERSION|" -e "s|@PREFIX@|$4|" -e "s|@LIB@|$lib|" "$HERE/causal_judge.pc.in" > "$below/$lib/pkgconfig/causal_judge.pc"
+        sed -e "s|@VERSION@|$VERSION|" -e "s|@PREFIX@|$4|" -e "s|@LIB@|$lib|" "$HERE/causal_judge.pc.in" > "$ROOM/causal_judge.pc"
+        put 644 "$ROOM/causal_judge.pc" "$below/$lib/pkgconfig/causal_judge.pc"
     fi
     for file in "$ROOM"/man/*.1; do put 644 "$file" "$below/share/man/man1/${file##*/}"; done
     put 644 "$ROOM/completions/causal_judge.bash" "$below/share/bash-completion/completions/causal_judge"
@@ -185,7 +185,8 @@ tarball() {
     # shellcheck disable=SC2016
     put_files "$below" lib site-functions '${pcfiledir}/../..'
     put 644 "$ROOM/BUILD" "$below/BUILD"
-    (cd "$below" && find . -type f ! -name SHA256SUMS -printf '%P\n' | sort | xargs sha256sum > "$ROOM/sums" && mv "$ROOM/sums" SHA256SUMS)
+    (cd "$below" && find . -type f -printf '%P\n' | sort | xargs sha256sum > "$ROOM/sums")
+    put 644 "$ROOM/sums" "$below/SHA256SUMS"
     dated "$below"
     tar -C "$ROOM" --sort=name --mtime "@$SOURCE_DATE_EPOCH" --owner 0 --group 0 --numeric-owner --format=ustar -cf - "$name" |
         gzip -9n > "$OUT/$name.tar.gz"

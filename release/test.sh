@@ -3,7 +3,7 @@
 #
 #     release/test.sh [--out DIR] [--root TAR] [tarball] [deb] [wheel]
 #
-# It takes the packages of DIR, release/out unless given. For each it unpacks a clean Debian, installs the package by the lines of README.md,
+# It takes the packages of DIR, release/out unless given. For each it unpacks a clean Debian, installs the package by README.md's lines,
 # and runs there each command that README.md shows, the man pages, a completion, and the C and the Python sample against the installed
 # library. Where lintian is installed, the Debian package may have no fault but that no licence is granted.
 #
@@ -70,8 +70,8 @@ for name in ${NAMES:-tarball deb wheel}; do
     cp -r "$ROOT/tests" "$HERE/inside.sh" "$below/given"
     python3 "$ROOT/tests/documents.py" --installs "$name" > "$below/given/install.$name"
     if mount -t proc proc "$below/proc" 2> /dev/null; then BOUND=$below/proc; fi
-    chroot "$below" /usr/bin/env -i PATH=/usr/local/bin:/usr/bin:/usr/sbin:/bin:/sbin bash /given/inside.sh "$name" "$(cat "$ROOT/VERSION")" \
-        < /dev/null > "$ROOM/said" 2>&1 || true
+    chroot "$below" /usr/bin/env -i PATH=/usr/local/bin:/usr/bin:/usr/sbin:/bin:/sbin \
+        bash /given/inside.sh "$name" "$(cat "$ROOT/VERSION")" < /dev/null > "$ROOM/said" 2>&1 || true
     if [ -n "$BOUND" ]; then umount "$BOUND"; BOUND=; fi
     sed '$d' "$ROOM/said"
     line=$(tail -1 "$ROOM/said")

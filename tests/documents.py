@@ -219,7 +219,8 @@ def runs_of(given):
 
 def show_installing(package):
     """Prints the commands of README.md that install a package."""
-    found = [command.text for command in commands_of(ROOT / "README.md", "README.md") if (command.mark, command.why) == ("installs", package)]
+    commands = commands_of(ROOT / "README.md", "README.md")
+    found = [command.text for command in commands if (command.mark, command.why) == ("installs", package)]
     if not found:
         sys.exit(f"README.md does not say how to install {package}")
     print(*found, sep="\n")
