@@ -4,7 +4,8 @@
 package main
 
 /*
-#cgo LDFLAGS: ${SRCDIR}/out/libcausal_judge.a
+#cgo !installed LDFLAGS: ${SRCDIR}/out/libcausal_judge.a
+#cgo installed pkg-config: causal_judge
 #include "causal_judge.h"
 
 typedef uint8_t call(const uint8_t *, size_t, uint8_t *, size_t, size_t *);

@@ -1,15 +1,20 @@
 #!/usr/bin/env python3
 """Runs the commands that the documents show, and the files of examples/, on a program, and compares what it writes.
 
-    python3 tests/documents.py [--long] [--root DIR] -- PROGRAM
+    python3 tests/documents.py [--long] [--root DIR] [--page PAGE] -- PROGRAM
+    python3 tests/documents.py --installs NAME      prints the commands of README.md that install this package, and runs nothing
 
 A command stands in README.md, in a page of docs/ or embed/, or in a page of examples/, in an indented block, behind `$ `. It is run by
 bash in a copy of the repository whose crates/causal_judge/out/ has the program, and which finds it as `causal_judge`. What it writes to
 both outputs has to be the lines that follow in the block, up to the next `$ `. The commands of one page are run in turn in one copy.
+Lines that begin with `> ` right after a command belong to it, as those of a here-document.
 
     ...                                          in a block: any lines, or none
     <!-- not run: it needs Hadoop -->            before a block: its commands are left out
+    <!-- installs: deb -->                       before a block: left out here, and run by release/test.sh
     <!-- long, any kind: threads take turns -->  before a block: run with --long alone, and `no KIND` stands for a no of any kind
+
+Each link of a page leads to a file that is there, and README.md has at most 1,500 words.
 
 The files of examples/ are judged, explained, checked, refuted, replayed and driven. What is said of them is below, or in the file of
 the same name that ends in .txt, or in the picture of that name in docs/. A file of which nothing is said is a failure.
@@ -22,6 +27,7 @@ import pathlib
 import re
 import shutil
 import subprocess
+import sys
 import tempfile
 from typing import NamedTuple
 
@@ -33,8 +39,11 @@ from reading import read_driven
 ROOT = pathlib.Path(__file__).resolve().parent.parent
 PAGES = ("README.md", "docs/*.md", "embed/*.md", "examples/**/*.md")
 BUILT = pathlib.Path("crates", "causal_judge", "out", "causal_judge")
-MARK = re.compile(r"<!-- (not run|long, any kind): (.*) -->")
+MARK = re.compile(r"<!-- (not run|installs|long, any kind): (.*) -->")
+LINK = re.compile(r"\]\((?!https?:)([^)#\s]+)")
+MOST_WORDS = 1_500
 COMMAND = re.compile(r"( {4,})\$ (.*)")
+LEFT_OUT = ("not run", "installs")
 KIND = re.compile(r"(?<= no )[A-Z]\w+")
 SECONDS = 300
 
@@ -44,6 +53,7 @@ JUDGED = {
     "healthy_run": YES,
     "diverging_replicas": ("yes", "yes", "no CyclicCF"),
     "lost_write": INITIAL,
+    "missing_post": INITIAL,
     "stale_read": STALE,
     "thin_air_read": THIN,
     "explained_stale_read": STALE,
@@ -93,6 +103,8 @@ def commands_of(page, name):
         first, text, at = at, found[2], at + 1
         while text.endswith("\\"):
             text, at = f"{text}\n{lines[at].strip()}", at + 1
+        while at < len(lines) and lines[at].startswith(f"{found[1]}> "):
+            text, at = f"{text}\n{lines[at].removeprefix(f'{found[1]}> ')}", at + 1
         wanted = []
         while at < len(lines) and not COMMAND.fullmatch(lines[at]) and (lines[at].startswith(found[1]) or not lines[at].strip()):
             wanted.append(lines[at].removeprefix(found[1]))
@@ -144,16 +156,26 @@ def try_page(page, given, folder):
     """The faults of each command of a page that is run."""
     copy, environment = copy_of(given.root, given.program[0], folder)
     for command in commands_of(page, str(page.relative_to(given.root))):
-        if command.mark == "not run" or command.mark and not given.long:
+        if command.mark in LEFT_OUT or command.mark and not given.long:
             print(f"{command.place}: left out: {command.why}")
         else:
             yield fault_of(command, copy, environment)
 
 
+def told_by(page, given):
+    """The faults of what a page is: a link that leads nowhere, or more words than README.md may have."""
+    text = page.read_text(encoding="utf-8")
+    lost = [link for link in LINK.findall(text) if not (page.parent / link).exists()]
+    yield [f"{page.relative_to(given.root)}: no file {link}" for link in lost]
+    if page == given.root / "README.md":
+        yield [f"README.md has {len(text.split())} words"] if len(text.split()) > MOST_WORDS else []
+
+
 def try_pages(given):
     """The faults of each command that is run, page by page."""
-    for page in sorted({page for pattern in PAGES for page in given.root.glob(pattern)}):
+    for page in sorted({page for pattern in given.page or PAGES for page in given.root.glob(pattern)}):
         if not any(part in ("out", "__pycache__") for part in page.parts):
+            yield from told_by(page, given)
             with tempfile.TemporaryDirectory() as room:
                 yield from try_page(page, given, pathlib.Path(room))
 
@@ -195,13 +217,26 @@ def runs_of(given):
             yield [f"examples/{path.name}: nothing is said of it"]
 
 
+def show_installing(package):
+    """Prints the commands of README.md that install a package."""
+    commands = commands_of(ROOT / "README.md", "README.md")
+    found = [command.text for command in commands if (command.mark, command.why) == ("installs", package)]
+    if not found:
+        sys.exit(f"README.md does not say how to install {package}")
+    print(*found, sep="\n")
+
+
 def main():
     parser = argparse.ArgumentParser(description=__doc__, formatter_class=argparse.RawDescriptionHelpFormatter)
     parser.add_argument("--long", action="store_true")
     parser.add_argument("--root", type=pathlib.Path, default=ROOT)
+    parser.add_argument("--page", action="append", help="runs this page alone, and no files of examples/")
+    if sys.argv[1:2] == ["--installs"]:
+        show_installing(sys.argv[2])
+        return
     given = with_program(parser)
     passed = failed = 0
-    for faults in (*try_pages(given), *runs_of(given)):
+    for faults in (*try_pages(given), *([] if given.page else runs_of(given))):
         passed, failed = passed + (not faults), failed + bool(faults)
         if faults:
             print(*faults, sep="\n", flush=True)

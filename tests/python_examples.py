@@ -359,9 +359,37 @@ def refusal_checks(program):
     keys = judging.Keys()
     numbers = [keys["a"], keys["b"], keys["a"]]
     yield None if numbers == [0, 1, 0] else f"Keys numbers a, b, a as {numbers}"
+    yield shared_keys_fault()
     for kind, calls in OTHER_OBJECTS.items():
         form = other_object(kind, calls)
         yield None if judged(program, [form]) == [YES_LINE] else f"{form} is not met"
+
+
+class PausingKeys(judging.Keys):
+    """Keys whose threads stop between counting the keys that are there and numbering a new one."""
+
+    def __len__(self):
+        many = super().__len__()
+        time.sleep(0.001)
+        return many
+
+
+def shared_keys_fault():
+    """What is wrong with the numbers of keys that eight threads share: some keys are new to all, and some to one of them."""
+    keys, begun = PausingKeys(), threading.Barrier(CLIENTS)
+
+    def number(client):
+        begun.wait()
+        for place in range(6):
+            keys[f"everybody's {place}"], keys[f"{client}'s {place}"]
+
+    threads = [threading.Thread(target=number, args=(client,)) for client in range(CLIENTS)]
+    for thread in threads:
+        thread.start()
+    for thread in threads:
+        thread.join()
+    numbers = sorted(keys.values())
+    return None if numbers == list(range(6 + 6 * CLIENTS)) else f"Keys numbers the keys of {CLIENTS} threads {numbers}"
 
 
 OTHER_OBJECTS = {

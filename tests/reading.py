@@ -1,7 +1,7 @@
 """Reads the inputs of `judge`, `check`, `refute` and `drive` in a plain way, and refuses them in the order in which they are read.
 
 It knows the form of a report too, and nothing of the program: what it says follows docs/definitions.md and the table of refusals in
-README.md.
+docs/guide.md.
 """
 
 import re

@@ -88,6 +88,7 @@ PARTS = (
     Part("tables_by_rattle", lambda given: ["tests/tables.py", "--", str(by_rattle(given))], file=by_rattle, install="rt ci builds it"),
     Part("documents", lambda given: given.of("documents", *given.longer()), ("bash",)),
     Part("python_examples", lambda given: given.of("python_examples", "--seeds", given.many(8, 40), *given.longer())),
+    Part("recorded_stores", lambda given: given.of("recorded_stores", given.many(1_000, 20_000))),
     Part("mangled", lambda given: given.of("mangled", "1", "--count", given.many(3_000, 200_000))),
     Part("pieces", lambda given: given.of("pieces", "1", given.many(1_200, 20_000))),
     Part("long_pieces", lambda given: given.of("pieces", "5", given.many(20, 1_000), "400")),

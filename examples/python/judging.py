@@ -11,6 +11,7 @@ operations that show it, with a few that are a no by themselves.
 
 import json
 import subprocess
+import threading
 from collections.abc import Callable
 
 CRITERIA = ("cc", "cm", "ccv")
@@ -19,10 +20,15 @@ SECONDS = 60
 
 
 class Keys(dict[str, int]):
-    """The numbers of keys that are texts: each new one gets the next number."""
+    """The numbers of keys that are texts: each new one gets the next number. Threads may share it."""
+
+    def __init__(self) -> None:
+        super().__init__()
+        self.lock = threading.Lock()
 
     def __missing__(self, text: str) -> int:
-        return self.setdefault(text, len(self))
+        with self.lock:
+            return self.setdefault(text, len(self))
 
 
 def ran(program: str, words: list[str], form: list[object]) -> subprocess.CompletedProcess[str]:

@@ -11,7 +11,7 @@ What must hold:
 - A session is one client, which waits for each answer before it calls again: a second `begin` in between is refused.
 - `begin` stands before the call to the store, and `end` behind its answer. A call that never ends is written with `"?"`.
 - Each value that is written is new, and not 0, from which a variable starts: only then can a line be a `no`. `new_value` gives such
-  values.
+  values. A retry is a write of its own, with a new value, and a delete is a write of a new value that nobody reads.
 - A history has at most 16 sessions of at most 256 operations. What is more is refused.
 
 Threads and coroutines may share a history. Nobody holds its one lock while waiting for the store, and `text` shows what had been
@@ -128,7 +128,7 @@ class Call:
         self.close(returned)
 
     def drop(self) -> None:
-        """The call had no effect for certain, since the store refused it: it is not written."""
+        """The call is not written: a write that the store refused, so that it had no effect for certain, or a read that found nothing."""
         self.close(None, is_kept=False)
 
     def give_up(self) -> None:

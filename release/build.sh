@@ -1,0 +1,255 @@
+#!/usr/bin/env bash
+# Makes the packages of a release: a tarball for x86-64 Linux, a Debian package and a Python wheel, with their sums.
+#
+#     release/build.sh [--out DIR] [--no-library] [--unproved [--program FILE] [--library FILE]]
+#
+# It takes the program that ./check left, and the static library that ./check --library (or rt lib, in crates/causal_judge_library) left:
+# that proves all that the library stands on once more, which takes about an hour, so this script never does it by itself.
+#
+# ./check leaves a mark, out/gate, where the whole gate passed at a commit with nothing changed. This script refuses without the mark of
+# this commit, and where the program or the library is another one than the mark names. Then --unproved makes packages all the same: the
+# file BUILD in each says UNPROVED, and so do their names. --program and --library take other files than those that the gate left.
+# --no-library leaves the library, the header and the pkg-config file out, and BUILD says so.
+#
+# The same commit and the same files give the same bytes, in any folder: times are those of the commit, files are sorted, and all are
+# root's. Needs git, python3, dpkg-deb, help2man, gzip, binutils and, with the library, cc and the Rattle kit.
+set -euo pipefail
+export LC_ALL=C TZ=UTC
+umask 022
+
+HERE=$(cd "$(dirname "$0")" && pwd)
+ROOT=$(dirname "$HERE")
+OUT=$HERE/out
+PROGRAM=$ROOT/crates/causal_judge/out/causal_judge
+LIBRARY=$ROOT/crates/causal_judge_library/out/libcausal_judge_library.a
+MARK=$ROOT/out/gate
+UNPROVED= NO_LIBRARY= IS_OTHER=
+
+fail() {
+    echo "release/build.sh: $*" >&2
+    exit 1
+}
+
+while [ $# -gt 0 ]; do
+    case $1 in
+        --out) OUT=$2; shift ;;
+        --program) PROGRAM=$2 IS_OTHER=--program; shift ;;
+        --library) LIBRARY=$2 IS_OTHER=--library; shift ;;
+        --no-library) NO_LIBRARY=yes ;;
+        --unproved) UNPROVED=yes ;;
+        *) sed -n '2,4p' "$0" >&2; exit 2 ;;
+    esac
+    shift
+done
+
+[ -z "$IS_OTHER" ] || [ -n "$UNPROVED" ] || fail "$IS_OTHER goes with --unproved alone"
+for tool in git python3 dpkg-deb help2man gzip objdump; do
+    command -v "$tool" > /dev/null || fail "$tool is missing: apt-get install git python3 dpkg help2man gzip binutils"
+done
+[ -x "$PROGRAM" ] || fail "$PROGRAM is missing: ./check leaves it"
+if [ -z "$NO_LIBRARY" ] && [ ! -f "$LIBRARY" ]; then
+    fail "$LIBRARY is missing: ./check --library builds it, which takes about an hour more; --no-library leaves it out"
+fi
+
+VERSION=$(cat "$ROOT/VERSION")
+COMMIT=$(git -C "$ROOT" rev-parse HEAD)
+SOURCE_DATE_EPOCH=$(git -C "$ROOT" log -1 --format=%ct)
+export SOURCE_DATE_EPOCH
+CHANGED=$(git -C "$ROOT" status --porcelain)
+SAID=$("$PROGRAM" --version)
+case "$SAID " in
+    "causal_judge $VERSION "*) ;;
+    *) fail "VERSION says $VERSION, and the program says $SAID" ;;
+esac
+
+# A line of the mark, without its first word.
+marked() { sed -n "s/^$1 //p" "$MARK" 2> /dev/null || true; }
+sum() { sha256sum "$1" | cut -d ' ' -f 1; }
+
+# What the mark lacks, if anything.
+doubt() {
+    if [ ! -f "$MARK" ]; then echo "no mark out/gate: the whole gate has not passed"
+    elif [ -n "$CHANGED" ]; then echo "files differ from the commit"
+    elif [ "$(marked commit)" != "$COMMIT" ]; then echo "the gate passed at $(marked commit), and this is $COMMIT"
+    elif [ "$(marked program)" != "$(sum "$PROGRAM")" ]; then echo "the program is not the one that the gate left"
+    elif [ -z "$NO_LIBRARY" ] && [ "$(marked library)" != "$(sum "$LIBRARY")" ]; then
+        echo "the library is not one that the gate left: ./check --library"
+    fi
+}
+
+DOUBT=$(doubt)
+if [ -n "$DOUBT" ] && [ -z "$UNPROVED" ]; then
+    fail "$DOUBT. --unproved makes packages that say so"
+fi
+if [ -n "$UNPROVED" ]; then
+    NAMED=$VERSION-unproved DEBIAN=$VERSION~unproved WHEEL=$VERSION.dev0+unproved
+else
+    NAMED=$VERSION DEBIAN=$VERSION WHEEL=$VERSION
+fi
+
+ROOM=$(mktemp -d)
+trap 'rm -rf "$ROOM"' EXIT
+mkdir -p "$OUT"
+OUT=$(cd "$OUT" && pwd)
+rm -f "$OUT"/causal_judge-*.tar.gz "$OUT"/causal-judge_*.deb "$OUT"/causal_judge-*.whl "$OUT"/SHA256SUMS "$OUT"/BUILD
+
+# One archive of the library with the one C function file that it takes memory by, and a shared object of it.
+join_library() {
+    local kit room=$ROOM/objects
+    kit=$(dirname "$(rt doc | awk 'END { print $NF }')")
+    [ -f "$kit/c/liblibc_c.a" ] || fail "the Rattle kit is missing: the library takes memory by its liblibc_c.a"
+    mkdir "$room"
+    (cd "$room" && ar x "$(realpath "$LIBRARY")" && ar x "$kit/c/liblibc_c.a" heap.pic.o)
+    (cd "$room" && ar rcsD "$ROOM/libcausal_judge.a" ./*.o)
+    (cd "$room" && cc -shared -s -Wl,--build-id=none -Wl,-soname,libcausal_judge.so -o "$ROOM/libcausal_judge.so" ./*.o)
+    chmod 644 "$ROOM/libcausal_judge.a" "$ROOM/libcausal_judge.so"
+}
+
+KIT=$(marked kit)
+if [ -n "$UNPROVED" ] && command -v rt > /dev/null; then
+    KIT=$(cat "$(dirname "$(rt doc | awk 'END { print $NF }')")/KIT-ID")
+fi
+[ -n "$NO_LIBRARY" ] || join_library
+
+{
+    echo "version $VERSION"
+    echo "commit $COMMIT${CHANGED:+, with files that differ from it}"
+    echo "kit ${KIT:-unknown}"
+    if [ -n "$UNPROVED" ]; then
+        echo "gate UNPROVED: nothing is claimed of this build"
+    else
+        echo "gate passed at this commit: $(marked gate)"
+    fi
+    echo "program sha256 $(sum "$PROGRAM")"
+    if [ -n "$NO_LIBRARY" ]; then
+        echo "library none: left out by --no-library"
+    else
+        echo "library sha256 $(sum "$LIBRARY"), as rt lib left it"
+        echo "libcausal_judge.a sha256 $(sum "$ROOM/libcausal_judge.a")"
+        echo "libcausal_judge.so sha256 $(sum "$ROOM/libcausal_judge.so")"
+    fi
+} > "$ROOM/BUILD"
+
+# The man pages and the completions, from the program's own help.
+mkdir "$ROOM/bin" "$ROOM/man" "$ROOM/completions"
+ln -s "$(realpath "$PROGRAM")" "$ROOM/bin/causal_judge"
+python3 "$HERE/completions.py" "$PROGRAM" "$ROOM/completions"
+COMMANDS=$("$PROGRAM" --help | sed -n '/^Commands:/,/^$/ s/^  \([a-z]*\) .*/\1/p' | grep -v '^help$')
+page() {
+    local about
+    about=$(PATH=$ROOM/bin:$PATH; $1 --help | sed -n '1 s/^./\L&/p')
+    PATH=$ROOM/bin:$PATH help2man --no-info --section 1 --manual "User Commands" --source "causal_judge $NAMED" \
+        --version-string "$VERSION" --name "$about" "$1" | sed "s/^$1 \\\\- /${1// /-} \\\\- /" > "$ROOM/man/${1// /-}.1"
+}
+page causal_judge
+for command in $COMMANDS; do
+    page "causal_judge $command"
+done
+
+# Puts a file in its place: MODE FROM TO.
+put() { install -D -m "$1" "$2" "$3"; }
+
+# The pages and the examples, in a folder.
+put_pages() {
+    local file
+    git -C "$ROOT" ls-files README.md LICENSE CHANGELOG.md CITATION.cff CONTRIBUTING.md docs embed examples release/README.md tests/README.md \
+        bench/README.md | while read -r file; do
+        put 644 "$ROOT/$file" "$1/$file"
+    done
+    put 644 "$ROOM/BUILD" "$1/BUILD"
+}
+
+# All files of a package, below a folder, with the folders of libraries and completions of the kind.
+put_files() {
+    local below=$1 lib=$2 zsh=$3 file
+    put 755 "$PROGRAM" "$below/bin/causal_judge"
+    if [ -z "$NO_LIBRARY" ]; then
+        put 644 "$ROOT/embed/causal_judge.h" "$below/include/causal_judge.h"
+        put 644 "$ROOM/libcausal_judge.a" "$below/$lib/libcausal_judge.a"
+        put 644 "$ROOM/libcausal_judge.so" "$below/$lib/causal_judge/libcausal_judge.so"
+        sed -e "s|@VERSION@|$VERSION|" -e "s|@PREFIX@|$4|" -e "s|@LIB@|$lib|" "$HERE/causal_judge.pc.in" > "$ROOM/causal_judge.pc"
+        put 644 "$ROOM/causal_judge.pc" "$below/$lib/pkgconfig/causal_judge.pc"
+    fi
+    for file in "$ROOM"/man/*.1; do put 644 "$file" "$below/share/man/man1/${file##*/}"; done
+    put 644 "$ROOM/completions/causal_judge.bash" "$below/share/bash-completion/completions/causal_judge"
+    put 644 "$ROOM/completions/causal_judge.zsh" "$below/share/zsh/$zsh/_causal_judge"
+    put 644 "$ROOM/completions/causal_judge.fish" "$below/share/fish/vendor_completions.d/causal_judge.fish"
+    put_pages "$below/share/doc/causal-judge"
+}
+
+dated() { find "$1" -exec touch --no-dereference --date "@$SOURCE_DATE_EPOCH" {} +; }
+
+tarball() {
+    local name=causal_judge-$NAMED-x86_64-linux below
+    below=$ROOM/$name
+    # shellcheck disable=SC2016
+    put_files "$below" lib site-functions '${pcfiledir}/../..'
+    put 644 "$ROOM/BUILD" "$below/BUILD"
+    (cd "$below" && find . -type f -printf '%P\n' | sort | xargs sha256sum > "$ROOM/sums")
+    put 644 "$ROOM/sums" "$below/SHA256SUMS"
+    dated "$below"
+    tar -C "$ROOM" --sort=name --mtime "@$SOURCE_DATE_EPOCH" --owner 0 --group 0 --numeric-owner --format=ustar -cf - "$name" |
+        gzip -9n > "$OUT/$name.tar.gz"
+}
+
+# The libraries that a program wants of the system, as Debian's packages with the least version of the C library.
+depends() {
+    local least
+    least=$(objdump -T "$@" 2> /dev/null | grep -o 'GLIBC_[0-9.]*' | sed 's/GLIBC_//' | sort -uV | tail -1)
+    printf 'libc6 (>= %s)' "$least"
+    if objdump -p "$@" 2> /dev/null | grep 'NEEDED *libgcc_s' > /dev/null; then printf ', libgcc-s1'; fi
+}
+
+debian() {
+    local below=$ROOM/debian doc=usr/share/doc/causal-judge file
+    put_files "$below/usr" lib/x86_64-linux-gnu vendor-completions /usr
+    for file in "$below"/usr/share/man/man1/*.1; do gzip -9n "$file"; done
+    { echo "causal_judge"; echo; cat "$ROOT/LICENSE"; } > "$below/$doc/copyright"
+    { echo "causal-judge ($DEBIAN) unstable; urgency=medium"
+      echo; echo "  * See CHANGELOG.md."; echo
+      echo " -- $(git -C "$ROOT" log -1 --format='%an <%ae>')  $(date --rfc-email --date "@$SOURCE_DATE_EPOCH")"
+    } | gzip -9n > "$below/$doc/changelog.gz"
+    chmod 644 "$below/$doc/copyright" "$below/$doc/changelog.gz"
+    mkdir -p "$below/usr/share/lintian/overrides"
+    echo "# The program is byte for byte the one that the gate tested, with its symbols.
+causal-judge: unstripped-binary-or-object [usr/bin/causal_judge]
+# README.md links to it.
+causal-judge: extra-license-file [$doc/LICENSE]" > "$below/usr/share/lintian/overrides/causal-judge"
+    chmod 644 "$below/usr/share/lintian/overrides/causal-judge"
+    mkdir "$below/DEBIAN"
+    cat > "$below/DEBIAN/control" <<END
+Package: causal-judge
+Version: $DEBIAN
+Architecture: amd64
+Maintainer: $(git -C "$ROOT" log -1 --format='%an <%ae>')
+Installed-Size: $(du -sk --apparent-size "$below/usr" | cut -f 1)
+Depends: $(depends "$PROGRAM" $([ -n "$NO_LIBRARY" ] || echo "$ROOM/libcausal_judge.so"))
+Section: science
+Priority: optional
+Description: judge of causal consistency
+ Reads the history of a run of a replicated store, and says whether what its
+ clients were answered meets causal consistency, causal memory and causal
+ convergence. Where it does not, it shows the operations that say so.
+ .
+ $(if [ -n "$UNPROVED" ]; then echo "This build is UNPROVED: nothing is claimed of it."; else echo "Each answer rests on a proof."; fi)
+END
+    (cd "$below" && find usr -type f | sort | xargs md5sum > DEBIAN/md5sums)
+    dated "$below"
+    dpkg-deb --root-owner-group -Zxz --threads-max=1 --build "$below" "$OUT/causal-judge_${DEBIAN}_amd64.deb" > /dev/null
+}
+
+wheel() {
+    local below=$ROOM/wheel
+    put_pages "$below/share/doc/causal-judge"
+    mkdir -p "$below/share"
+    for file in "$ROOM"/man/*.1; do put 644 "$file" "$below/share/man/man1/${file##*/}"; done
+    python3 "$HERE/wheel.py" "$PROGRAM" "$below" "$WHEEL" "$(depends "$PROGRAM" | sed -n 's/.*>= 2\.\([0-9]*\).*/\1/p')" "$OUT"
+}
+
+tarball
+debian
+wheel
+cp "$ROOM/BUILD" "$OUT/BUILD"
+(cd "$OUT" && sha256sum -- *.tar.gz *.deb *.whl > SHA256SUMS)
+[ -z "$UNPROVED" ] || echo "UNPROVED: ${DOUBT:-as asked}"
+(cd "$OUT" && stat --format '%s %n' -- *.tar.gz *.deb *.whl && cat SHA256SUMS)

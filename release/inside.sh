@@ -1,0 +1,98 @@
+#!/usr/bin/env bash
+# Runs in the clean root of test.sh: installs one package by the lines of README.md, and tries it.
+#
+#     bash inside.sh NAME VERSION        # NAME is tarball, deb or wheel; /given has the packages, the tests and install.NAME
+set -uo pipefail
+NAME=$1 VERSION=$2
+export HOME=/root LC_ALL=C.UTF-8 DEBIAN_FRONTEND=noninteractive
+PASSED=0 FAILED=0 SKIPPED=0
+
+# Counts a case: its name, and the command that has to succeed.
+try() {
+    local name=$1 said
+    shift
+    if said=$("$@" 2>&1); then PASSED=$((PASSED + 1)); else FAILED=$((FAILED + 1)); echo "$NAME: $name: $said"; fi
+}
+
+mkdir /root/here && cd /root/here && cp /given/packages/* . || exit 1
+# The lines of README.md, in this shell: what they set has to last.
+set -e
+. "/given/install.$NAME" > install.log 2>&1 || { cat install.log; echo "$NAME: not installed"; echo "0 passed, 1 failed"; exit 1; }
+set +e
+cd /root/here || exit 1
+
+case $NAME in
+    tarball) BASE=$(echo /root/here/causal_judge-*-x86_64-linux) ;;
+    deb) BASE=/usr ;;
+    wheel) BASE=/root/here/judge ;;
+esac
+DOC=$BASE/share/doc/causal-judge
+LIB=$BASE/lib
+[ "$NAME" != deb ] || LIB=/usr/lib/x86_64-linux-gnu
+export PKG_CONFIG_PATH=$LIB/pkgconfig
+
+no_kit() { ! command -v rt && [ ! -e /opt/rattle ]; }
+found() { [ "$(realpath "$(command -v causal_judge)")" = "$(realpath "$BASE/bin/causal_judge")" ]; }
+says_version() { [ "$(causal_judge --version | cut -d ' ' -f 2)" = "$VERSION" ]; }
+says_build() { grep "^version $VERSION$" "$DOC/BUILD" && grep '^gate ' "$DOC/BUILD"; }
+# A page of the manual, as a reader gets it.
+has_page() { man "$1" | col -b | tr -s ' \n' ' ' | grep -F -- "$2"; }
+
+completes() {
+    bash --norc -c '
+        if [ "$1" = deb ]; then . /usr/share/bash-completion/bash_completion; _completion_loader causal_judge
+        else . "$2/share/bash-completion/completions/causal_judge"; fi
+        COMP_WORDS=(causal_judge drive --se) COMP_CWORD=2 && _causal_judge && [ "${COMPREPLY[*]}" = --seals ]
+        COMP_WORDS=(causal_judge ju) COMP_CWORD=1 && _causal_judge && [ "${COMPREPLY[*]}" = judge ]' - "$NAME" "$BASE"
+}
+
+# Each example, by each command, as the program answers it.
+compared() {
+    local command words file
+    for file in "$DOC"/examples/*.json; do
+        for command in judge check explain refute; do
+            words=$command
+            [ "$command" != explain ] || words="explain --json"
+            # shellcheck disable=SC2086
+            causal_judge $words < "$file" > due 2>&1
+            local status=$?
+            "$@" "$command" < "$file" > got 2>&1
+            [ $? = $status ] && cmp -s due got || { echo "$command < $file"; return 1; }
+        done
+    done
+}
+
+c_sample() {
+    # shellcheck disable=SC2046
+    cc -O2 "$DOC/embed/judge.c" $(pkg-config --cflags --libs causal_judge) -o judge_c && compared ./judge_c
+}
+
+python_sample() {
+    CAUSAL_JUDGE_LIBRARY=$(pkg-config --variable=shared causal_judge)
+    export CAUSAL_JUDGE_LIBRARY
+    compared python3 "$DOC/embed/causal_judge.py"
+}
+
+try "no kit" no_kit
+try "the program is found" found
+try "its version" says_version
+try "its BUILD" says_build
+try "man causal_judge" has_page causal_judge "Judges a recorded history"
+try "man causal_judge-judge" has_page causal_judge-judge "Judges a history in each line"
+if [ "$NAME" = wheel ]; then
+    SKIPPED=$((SKIPPED + 3))
+else
+    try "completion in bash" completes
+    if [ -f "$LIB/libcausal_judge.a" ]; then
+        try "the C sample" c_sample
+        try "the Python sample" python_sample
+    else
+        SKIPPED=$((SKIPPED + 2))
+    fi
+fi
+SAID=$(python3 /given/tests/documents.py --root "$DOC" --page README.md -- "$(command -v causal_judge)" 2>&1)
+read -r PAGES_PASSED PAGES_FAILED < <(echo "$SAID" | tail -1 | sed -n 's/^\([0-9]*\) passed, \([0-9]*\) failed.*/\1 \2/p')
+[ "${PAGES_PASSED:-0}" != 0 ] && [ "${PAGES_FAILED:-1}" = 0 ] || echo "$SAID"
+echo "$NAME: $PAGES_PASSED commands of README.md as it shows them"
+PASSED=$((PASSED + ${PAGES_PASSED:-0})) FAILED=$((FAILED + ${PAGES_FAILED:-1}))
+echo "$PASSED passed, $FAILED failed$([ $SKIPPED = 0 ] || echo ", $SKIPPED skipped")"

@@ -1,0 +1,96 @@
+#!/usr/bin/env bash
+# Installs each package of a release in a clean Debian without the Rattle kit, and tries it there.
+#
+#     release/test.sh [--out DIR] [--root TAR] [tarball] [deb] [wheel]
+#
+# It takes the packages of DIR, release/out unless given. For each it unpacks a clean Debian, installs the package by README.md's lines,
+# and runs there each command that README.md shows, the man pages, a completion, and the C and the Python sample against the installed
+# library. Where lintian is installed, the Debian package may have no fault but that no licence is granted.
+#
+# It runs as root, and needs mmdebstrap and a mirror of Debian: about 150 megabytes, and two to eight minutes to make the root, which
+# --root TAR keeps for the next time. Unpacked it takes 0.5 gigabytes, and then a minute a package.
+#
+# The last line is 'N passed, M failed', with ', K skipped' after it where a package has no library.
+set -euo pipefail
+
+HERE=$(cd "$(dirname "$0")" && pwd)
+ROOT=$(dirname "$HERE")
+OUT=$HERE/out TAR= NAMES=
+HOLDS=python3,python3-venv,gcc,libc6-dev,pkg-config,man-db,bsdextrautils,bash-completion
+SUITE=bookworm
+
+while [ $# -gt 0 ]; do
+    case $1 in
+        --out) OUT=$2; shift ;;
+        --root) TAR=$2; shift ;;
+        tarball | deb | wheel) NAMES="$NAMES $1" ;;
+        *) sed -n '2,4p' "$0" >&2; exit 2 ;;
+    esac
+    shift
+done
+
+fail() {
+    echo "release/test.sh: $*" >&2
+    exit 1
+}
+[ "$(id -u)" = 0 ] || fail "run it as root"
+command -v mmdebstrap > /dev/null || fail "mmdebstrap is missing: apt-get install mmdebstrap"
+[ -f "$OUT/SHA256SUMS" ] || fail "no packages in $OUT: release/build.sh makes them"
+(cd "$OUT" && sha256sum --quiet -c SHA256SUMS) || fail "the packages in $OUT are not those of its SHA256SUMS"
+
+ROOM=$(mktemp -d)
+BOUND=
+clean() {
+    [ -z "$BOUND" ] || umount "$BOUND" 2> /dev/null || true
+    rm -rf --one-file-system "$ROOM"
+}
+trap clean EXIT
+[ -n "$TAR" ] || TAR=$ROOM/root.tar
+if [ ! -f "$TAR" ]; then
+    echo "a clean Debian with $HOLDS .."
+    mmdebstrap --quiet --format=tar --variant=minbase --include="$HOLDS" "$SUITE" "$TAR.part" && mv "$TAR.part" "$TAR"
+fi
+
+PASSED=0 FAILED=0 SKIPPED=0
+# Adds the counts of a line 'N passed, M failed[, K skipped]'; any other line is a failure.
+add() {
+    if [[ $1 =~ ^([0-9]+)\ passed,\ ([0-9]+)\ failed(,\ ([0-9]+)\ skipped)?$ ]]; then
+        PASSED=$((PASSED + BASH_REMATCH[1])) FAILED=$((FAILED + BASH_REMATCH[2])) SKIPPED=$((SKIPPED + ${BASH_REMATCH[4]:-0}))
+    else
+        FAILED=$((FAILED + 1))
+    fi
+}
+
+for name in ${NAMES:-tarball deb wheel}; do
+    below=$ROOM/$name
+    mkdir "$below"
+    tar -C "$below" --numeric-owner -xf "$TAR"
+    mkdir -p "$below/given/packages" "$below/proc"
+    cp "$OUT"/*.tar.gz "$OUT"/*.deb "$OUT"/*.whl "$below/given/packages"
+    cp -r "$ROOT/tests" "$HERE/inside.sh" "$below/given"
+    python3 "$ROOT/tests/documents.py" --installs "$name" > "$below/given/install.$name"
+    if mount -t proc proc "$below/proc" 2> /dev/null; then BOUND=$below/proc; fi
+    chroot "$below" /usr/bin/env -i PATH=/usr/local/bin:/usr/bin:/usr/sbin:/bin:/sbin \
+        bash /given/inside.sh "$name" "$(cat "$ROOT/VERSION")" < /dev/null > "$ROOM/said" 2>&1 || true
+    if [ -n "$BOUND" ]; then umount "$BOUND"; BOUND=; fi
+    sed '$d' "$ROOM/said"
+    line=$(tail -1 "$ROOM/said")
+    echo "$name: $line"
+    add "$line"
+    rm -rf --one-file-system "$below"
+done
+
+if command -v lintian > /dev/null; then
+    # Only that no licence is granted may be found.
+    if found=$(lintian --profile debian --fail-on none "$OUT"/*.deb 2> /dev/null | grep -v 'copyright-without-copyright-notice'); then
+        echo "$found"
+        add "0 passed, 1 failed"
+    else
+        add "1 passed, 0 failed"
+    fi
+else
+    echo "lintian: skipped: apt-get install lintian"
+    add "0 passed, 0 failed, 1 skipped"
+fi
+echo "$PASSED passed, $FAILED failed$([ $SKIPPED = 0 ] || echo ", $SKIPPED skipped")"
+[ $FAILED = 0 ]

@@ -1,0 +1,245 @@
+#!/usr/bin/env python3
+"""Records runs of correct stores by the recipes of docs/recording.md, and wants no `no` about any of them.
+
+    python3 tests/recorded_stores.py RUNS -- PROGRAM
+
+The stores run in simulated time, a seed a run, with four clients each. Requests and answers get lost or come late, so a write may take
+effect long after its client gave it up. Replicas refuse some writes, keys are deleted, clients try again, and some stop in a call.
+
+    one copy     one replica answers everything                                               cc, cm and ccv have to be met
+    as it comes  three replicas, each write after all that it depends on, the last one wins   cc and cm
+    by stamp     the same, and the write with the greatest stamp wins                         cc and ccv
+
+The recorder is that of examples/python. A try without an answer is given up, and the next one is a write of its own with a new value. A
+delete is a write of a new value, and a read that finds nothing is left out, but for the keys that no run deletes: there it is a read of 0.
+
+Then 100 of these runs are recorded by each of two recipes that blame correct stores: a retry as one operation with its first try, and
+each read that finds nothing as a read of 0. Some of them have to be a `no`, else such runs could not tell a wrong recipe.
+"""
+
+import argparse
+import pathlib
+import random
+import subprocess
+import sys
+from typing import NamedTuple
+
+from command_words import with_program
+from counting import end
+
+sys.dont_write_bytecode = True
+sys.path.insert(0, str(pathlib.Path(__file__).resolve().parent.parent / "examples" / "python"))
+
+from recorder import History  # noqa: E402
+from store import Simulation, TimedOut  # noqa: E402
+
+CLIENTS, CALLS, TRIES = 4, 20, 3
+KEYS, DELETED_KEYS = 4, (2, 3)
+TRAVEL, LATE, MESSAGES, PAUSES, TIME_OUT = (0.1, 1.0), (4.0, 30.0), (0.1, 10.0), (0.0, 2.0), 5.0
+LOST_SHARE, LATE_SHARE, REFUSED_SHARE, DELETE_SHARE, STOP_SHARE = 0.03, 0.06, 0.03, 0.3, 0.25
+BLAMING_RUNS, LEAST_BLAMED = 100, 3
+
+
+class Kind(NamedTuple):
+    """A kind of store: how many replicas it has, whether stamps settle concurrent writes, and what it promises."""
+
+    replicas: int
+    is_by_stamp: bool
+    promised: tuple
+
+
+class Recipe(NamedTuple):
+    """How clients record: a retry as a write of its own, and what a read that finds nothing is for these keys: left out."""
+
+    is_retry_of_its_own: bool
+    left_out: tuple
+
+
+KINDS = (Kind(1, False, ("cc", "cm", "ccv")), Kind(3, False, ("cc", "cm")), Kind(3, True, ("cc", "ccv")))
+RIGHT = Recipe(True, DELETED_KEYS)
+WRONG = {"a retry as one operation": Recipe(False, DELETED_KEYS), "finding nothing as a read of 0": Recipe(True, ())}
+
+
+class Update(NamedTuple):
+    """A write as replicas tell it: its sender, what that had taken in of each replica, its stamp, the key, and the value or nothing."""
+
+    sender: int
+    before: tuple
+    stamp: tuple
+    key: int
+    value: int | None
+
+
+class Replica:
+    """What one replica holds: under each key the stamp and the value of the write that won, none where that was a delete."""
+
+    def __init__(self, kind):
+        self.is_by_stamp = kind.is_by_stamp
+        self.clock, self.seen, self.held, self.entries = 0, [0] * kind.replicas, [], {}
+
+    def take_in(self, update):
+        """A write takes effect here."""
+        self.clock = max(self.clock, update.stamp[0])
+        self.seen[update.sender] += 1
+        if not self.is_by_stamp or update.key not in self.entries or update.stamp > self.entries[update.key][0]:
+            self.entries[update.key] = update.stamp, update.value
+
+    def receive(self, update):
+        """An update comes, and it and those held back are taken in as far as all that they depend on is there."""
+        self.held.append(update)
+        while ready := next((one for one in self.held if all(map(int.__ge__, self.seen, one.before))), None):
+            self.held.remove(ready)
+            self.take_in(ready)
+
+
+class Store:
+    """The replicas, and the network between them and to their clients."""
+
+    def __init__(self, kind, simulation, rng):
+        self.simulation, self.rng = simulation, rng
+        self.replicas = [Replica(kind) for _ in range(kind.replicas)]
+
+    def travel(self):
+        """How long a request or an answer is on its way: it may be for good."""
+        fate = self.rng.random()
+        if fate < LOST_SHARE:
+            return None
+        return self.rng.uniform(*(LATE if fate < LOST_SHARE + LATE_SHARE else TRAVEL))
+
+    def ask(self, action):
+        """A client's call: what the action gave when the request arrived, which it may do after the client gave up."""
+        there, back, given = self.travel(), self.travel(), []
+        if there is not None:
+            self.simulation.after(there, lambda: given.append(action()))
+        if there is None or back is None or there + back > TIME_OUT:
+            yield TIME_OUT
+            raise TimedOut
+        yield there + back
+        return given[0]
+
+    def write(self, at, key, value):
+        """A replica is asked to write, or to delete where there is no value: whether it did."""
+        if self.rng.random() < REFUSED_SHARE:
+            return False
+        sender = self.replicas[at]
+        update = Update(at, tuple(sender.seen), (sender.clock + 1, at), key, value)
+        for replica in self.replicas:
+            if replica is sender:
+                replica.take_in(update)
+            else:
+                self.simulation.after(self.rng.uniform(*MESSAGES), lambda replica=replica: replica.receive(update))
+        return True
+
+    def read(self, at, key):
+        """What a replica holds under a key, if anything."""
+        return self.replicas[at].entries.get(key, (None, None))[1]
+
+
+def write(store, history, session, at, key, is_delete, recipe):
+    """A client writes or deletes, and tries again where no answer came."""
+    call, has_timed_out = None, False
+    for _ in range(TRIES):
+        if recipe.is_retry_of_its_own or call is None:
+            value = history.new_value()
+            call = session.begin("w", key, value)
+        try:
+            is_taken = yield from store.ask(lambda value=value: store.write(at, key, None if is_delete else value))
+        except TimedOut:
+            has_timed_out = True
+            if recipe.is_retry_of_its_own:
+                call.give_up()
+            continue
+        if is_taken:
+            call.end()
+        elif recipe.is_retry_of_its_own or not has_timed_out:
+            call.drop()
+        else:
+            call.give_up()
+        return
+    if not call.is_over:
+        call.give_up()
+
+
+def read(store, session, at, key, recipe):
+    """A client reads."""
+    call = session.begin("r", key)
+    try:
+        value = yield from store.ask(lambda: store.read(at, key))
+    except TimedOut:
+        call.give_up()
+        return
+    if value is None and key in recipe.left_out:
+        call.drop()
+    else:
+        call.end(value or 0)
+
+
+def client(store, history, at, recipe):
+    """A client of one replica, which calls, waits, pauses, and calls again. It may stop in the middle of a write."""
+    rng, session = store.rng, history.session()
+    for _ in range(CALLS):
+        yield rng.uniform(*PAUSES)
+        key = rng.randrange(KEYS)
+        if rng.random() < 0.5:
+            is_delete = key in DELETED_KEYS and rng.random() < DELETE_SHARE
+            yield from write(store, history, session, at, key, is_delete, recipe)
+        else:
+            yield from read(store, session, at, key, recipe)
+    if rng.random() < STOP_SHARE:
+        value = history.new_value()
+        session.begin("w", 0, value)
+        yield from store.ask(lambda: store.write(at, 0, value))
+
+
+def stopping(process):
+    """The process, which ends where its last call has no answer."""
+    try:
+        yield from process
+    except TimedOut:
+        return
+
+
+def recorded(seed, recipe):
+    """The history of one run."""
+    kind = KINDS[seed % len(KINDS)]
+    simulation, history = Simulation(), History("memory")
+    store = Store(kind, simulation, random.Random(seed))
+    for number in range(CLIENTS):
+        simulation.start(stopping(client(store, history, number % kind.replicas, recipe)))
+    simulation.run()
+    return history.text()
+
+
+def verdicts(program, texts):
+    """For each history its three lines."""
+    done = subprocess.run([*program, "judge", "--lines"], input="\n".join(texts), capture_output=True, check=False, text=True, timeout=800)
+    lines = [dict(word.split(" ", 1) for word in line.split("; ")) if "; " in line else {} for line in done.stdout.splitlines()]
+    return lines + [{}] * (len(texts) - len(lines))
+
+
+def faults(seed, lines):
+    """Which of the lines that the store of a seed promises are no yes."""
+    return [f"{criterion} {lines.get(criterion)}" for criterion in KINDS[seed % len(KINDS)].promised if lines.get(criterion) != "yes"]
+
+
+def main():
+    parser = argparse.ArgumentParser(description=__doc__, formatter_class=argparse.RawDescriptionHelpFormatter)
+    parser.add_argument("runs", type=int)
+    given = with_program(parser)
+    passed = failed = 0
+    texts = [recorded(seed, RIGHT) for seed in range(given.runs)]
+    for seed, lines in enumerate(verdicts(given.program, texts)):
+        found = faults(seed, lines)
+        passed, failed = passed + (not found), failed + bool(found)
+        if found:
+            print(f"seed {seed}: {'; '.join(found)}: {texts[seed]}", flush=True)
+    for name, recipe in WRONG.items():
+        found = verdicts(given.program, [recorded(seed, recipe) for seed in range(BLAMING_RUNS)])
+        blamed = sum(" no " in "; ".join(faults(seed, lines)) for seed, lines in enumerate(found))
+        print(f"{name}: {blamed} of {BLAMING_RUNS} runs are a no", flush=True)
+        passed, failed = passed + (blamed >= LEAST_BLAMED), failed + (blamed < LEAST_BLAMED)
+    end(passed, failed)
+
+
+if __name__ == "__main__":
+    main()
