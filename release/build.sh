@@ -57,10 +57,13 @@ SOURCE_DATE_EPOCH=$(git -C "$ROOT" log -1 --format=%ct)
 export SOURCE_DATE_EPOCH
 CHANGED=$(git -C "$ROOT" status --porcelain)
 SAID=$("$PROGRAM" --version)
-case "$SAID " in
-    "causal_judge $VERSION "*) ;;
-    *) fail "VERSION says $VERSION, and the program says $SAID" ;;
-esac
+KIT=$(sed -n 's/^kit //p' "$MARK" 2> /dev/null || true)
+if [ -n "$UNPROVED" ] && command -v rt > /dev/null; then
+    KIT=$(cat "$(dirname "$(rt doc | awk 'END { print $NF }')")/KIT-ID")
+fi
+if [ "$SAID" != "causal_judge $VERSION ($KIT)" ] && { [ -n "$KIT" ] || [ -z "$UNPROVED" ]; }; then
+    fail "VERSION says $VERSION and the kit is ${KIT:-unknown}, and the program says $SAID"
+fi
 
 # A line of the mark, without its first word.
 marked() { sed -n "s/^$1 //p" "$MARK" 2> /dev/null || true; }
@@ -105,10 +108,6 @@ join_library() {
     chmod 644 "$ROOM/libcausal_judge.a" "$ROOM/libcausal_judge.so"
 }
 
-KIT=$(marked kit)
-if [ -n "$UNPROVED" ] && command -v rt > /dev/null; then
-    KIT=$(cat "$(dirname "$(rt doc | awk 'END { print $NF }')")/KIT-ID")
-fi
 [ -n "$NO_LIBRARY" ] || join_library
 
 {

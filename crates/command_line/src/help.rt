@@ -1,7 +1,7 @@
 //! What the help says beside the commands and their options.
 
-/// The version of the program.
-pub const VERSION: &str = "0.1.0";
+/// The version of the program, which stands in the file VERSION too, and the kit that it is proved with.
+pub const VERSION: &str = "0.1.0 (rattle-kit-13b logic dac8208d650f15bf)";
 
 /// What the program is for.
 pub const ABOUT: &str =
@@ -54,4 +54,4 @@ a line was refused, else with --expect as above for the worst of all lines.
   1 no JSON   2 no list of a name and sessions   3 unknown NAME   4 no such
   operation   5 a known return behind an unknown one   6 too many sessions
   7 too many operations   9 over 64 MiB   29 bad first values
-The other commands have more of them: README.md tells of all."#;
+The other commands have more of them: docs/guide.md tells of all."#;
