@@ -78,7 +78,7 @@ fn shown_in(
     criterion: Criterion,
     text: &str,
 ) -> Result<&'static str, AllocError> {
-    if !is_differentiated(alloc, history)? {
+    if !is_differentiated(history) {
         return Ok("no distinct values");
     }
     let Ok(value) = Value::from_slice(alloc, text.as_bytes()) else {

@@ -5,13 +5,12 @@ use Rattle.std.proofs.Common.{arith, get_or, map, sym, subst, ⊎_elim}
 use Rattle.std.proofs.lemmas.List.FromFn.{length-map-range_with_len, get_or-map-range_with_len}
 use Rattle.history.specs.declared.op_id.OpId.{OpId}
 use Rattle.memory_order.specs.Memory.{MemoryHistory, memory_answer}
-use Rattle.memory_order.specs.MemoryHistories.{IsMemoryHistory}
 use Rattle.causal_order.specs.Orders.{op}
 use Rattle.memory_order.specs.OverwrittenReads.{HasOverwrittenRead, HasOverwrittenStart}
 use Rattle.memory_order.specs.SourceOrder.{CountsSourceOrder, IsCyclic, IsSourceOf, LacksSource}
 use Rattle.causal_order.specs.Vectors.{Counts, list_of, count, IsCounted}
 use Rattle.causal_order.proofs.EachOperation.{by_operation, by_operation-one_each, list_of-by_operation}
-use Rattle.memory_order.proofs.ReadAnswers.{history-fits}
+use Rattle.memory_order.proofs.ReadAnswers.{Fits}
 use Rattle.causal_order.proofs.Searches.{least, below-decided}
 use Rattle.memory_order.proofs.VectorsExist.{source-known, vectors-exist}
 use Rattle.causal_order.proofs.WalksExist.{full-walk}
@@ -99,14 +98,14 @@ module _ (h : MemoryHistory) (v : Counts) (order : CountsSourceOrder h v) where
   }
 
   -- the certificate shows causal consistency, where no read comes too late for what it returned
-  certificate-meets : IsMemoryHistory h → ¬ HasOverwrittenStart h → ¬ HasOverwrittenRead h → IsCausallyConsistent memory_answer h
+  certificate-meets : Fits h → ¬ HasOverwrittenStart h → ¬ HasOverwrittenRead h → IsCausallyConsistent memory_answer h
   unfolding schedules
-  certificate-meets history start read = explained-meets memory_answer h (Cc v schedules)
+  certificate-meets fits start read = explained-meets memory_answer h (Cc v schedules)
       (order.vectors, by_operation-one_each h (λ o. (scheduled o).0))
-      (sources-explain h (history-fits h _ history) start read (Cc v schedules) are_by_sources)
+      (sources-explain h fits start read (Cc v schedules) are_by_sources)
 
 -- a history with no bad pattern against causal consistency meets it
-pub consistency-met : (h : MemoryHistory) → IsMemoryHistory h → ¬ IsCyclic h → ¬ LacksSource h
+pub consistency-met : (h : MemoryHistory) → Fits h → ¬ IsCyclic h → ¬ LacksSource h
     → ¬ HasOverwrittenStart h → ¬ HasOverwrittenRead h → IsCausallyConsistent memory_answer h
-consistency-met h history acyclic present =
-    let vectors = vectors-exist h history acyclic present in certificate-meets h vectors.0 vectors.1 history
+consistency-met h fits acyclic present =
+    let vectors = vectors-exist h acyclic present in certificate-meets h vectors.0 vectors.1 fits

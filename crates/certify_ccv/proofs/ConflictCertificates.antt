@@ -7,7 +7,6 @@ use Rattle.std.proofs.lemmas.List.FromFn.{get_or-map-range_with_len}
 use Rattle.history.specs.declared.op_id.OpId.{OpId}
 use Rattle.history.specs.History.{IsOp, session}
 use Rattle.memory_order.specs.Memory.{MemoryHistory, memory_answer}
-use Rattle.memory_order.specs.MemoryHistories.{IsMemoryHistory}
 use Rattle.memory_order.specs.OverwrittenReads.{HasOverwrittenStart}
 use Rattle.memory_order.specs.Relations.{AreRivalWrites, CO, CF}
 use Rattle.causal_order.specs.Orders.{Leads}
@@ -19,7 +18,7 @@ use Rattle.causal_order.proofs.Fronts.{each-push}
 use Rattle.memory_order.proofs.MemoryLaws.{read-of_history}
 use Rattle.memory_order.proofs.OrderDecisions.{rivals-decided, source-decided, before-decided}
 use Rattle.causal_order.proofs.OrdersLaws.{session-of_history}
-use Rattle.memory_order.proofs.ReadAnswers.{history-fits}
+use Rattle.memory_order.proofs.ReadAnswers.{Fits}
 use Rattle.causal_order.proofs.PathsLaws.{leads-edge, leads-leads, leads-wider}
 use Rattle.causal_order.proofs.Searches.{IsDecided, both-decided, either-decided, least, some_operation}
 use Rattle.memory_order.proofs.VectorsExist.{vectors-exist}
@@ -173,11 +172,11 @@ module _ (h : MemoryHistory) (v : Counts) (order : CountsSourceOrder h v) where
     whole-list = whole-from (room (length h.1) lengths [] + 1) [] rule-none (λ s. omega arith) (omega arith)
 
     -- the certificate shows causal convergence, where no read of an initial value comes too late
-    certificate-meets : IsMemoryHistory h → ¬ HasOverwrittenStart h → IsCausallyConvergent memory_answer h
-    certificate-meets history start =
+    certificate-meets : Fits h → ¬ HasOverwrittenStart h → IsCausallyConvergent memory_answer h
+    certificate-meets fits start =
         let whole = whole-list in
         explained-meets memory_answer h (Ccv v whole.0) (order.vectors, whole.1.1)
-        (conflicts-explain h (history-fits h _ history) start (Ccv v whole.0) (order.vectors, whole.1.1)
+        (conflicts-explain h fits start (Ccv v whole.0) (order.vectors, whole.1.1)
         (record { order = order; by_rule = whole.1.0 }))
 
 -- what has to stand before what is in the causal order or a conflict
@@ -189,15 +188,15 @@ first-conflict h a b = ⊎_elim
     inr (conflict.0, (r.0, CO-from_sources h a r.0 r.1, r.2.0)))
 
 -- a history with no bad pattern against causal convergence meets it
-pub convergence-met : (h : MemoryHistory) → IsMemoryHistory h → ¬ LacksSource h → ¬ HasOverwrittenStart h
+pub convergence-met : (h : MemoryHistory) → Fits h → ¬ LacksSource h → ¬ HasOverwrittenStart h
     → ((a : OpId) → ¬ Leads (λ b c. CO h b c ⊎ CF h b c) a a) → IsCausallyConvergent memory_answer h
-convergence-met h history present start acyclic =
+convergence-met h fits present start acyclic =
     let none : (a : OpId) → ¬ Leads (ComesFirst h) a a =
     λ a cycle. acyclic a (leads-wider (ComesFirst h) (λ b c. CO h b c ⊎ CF h b c) (first-conflict h) a a cycle) in
     let no_cycle : ¬ IsCyclic h =
     λ cyclic. acyclic cyclic.0 (leads-edge (λ b c. CO h b c ⊎ CF h b c) cyclic.0 cyclic.0 (inl cyclic.1)) in
-    let vectors = vectors-exist h history no_cycle present in
-    certificate-meets h vectors.0 vectors.1 none history start
+    let vectors = vectors-exist h no_cycle present in
+    certificate-meets h vectors.0 vectors.1 none fits start
 
 -- there is something where what has to be so of nothing is not
 pub some-unless : {A E : Type 0} (r : Result (Option A) E) (P : Type 0) → ¬ P → IfOk r (λ o. IfNone o P) → IfOk r (λ o. IsSome o)

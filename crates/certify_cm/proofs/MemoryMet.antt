@@ -3,13 +3,12 @@ use Rattle.std.proofs.Common.{ℕ, zero, suc, ◌+◌, List, [], ◌∷◌, ◌+
 use Rattle.history.specs.declared.op_id.OpId.{OpId}
 use Rattle.history.specs.History.{IsOp}
 use Rattle.memory_order.proofs.HappenedBeforeExists.{HB-vectors}
-use Rattle.memory_order.proofs.ReadAnswers.{history-fits}
+use Rattle.memory_order.proofs.ReadAnswers.{Fits}
 use Rattle.memory_order.proofs.SourceVectors.{order-vector_ok}
 use Rattle.memory_order.proofs.VectorsExist.{vectors-exist}
 use Rattle.causal_order.proofs.WalksExist.{full-walk}
 use Rattle.memory_order.specs.HappenedBeforePatterns.{HasHBCycle, HasStartOverwrittenInHB}
 use Rattle.memory_order.specs.Memory.{MemoryHistory, memory_answer, IsDifferentiated}
-use Rattle.memory_order.specs.MemoryHistories.{IsMemoryHistory}
 use Rattle.causal_order.specs.Orders.{op, program_past}
 use Rattle.memory_order.specs.SourceOrder.{CountsSourceOrder, IsCyclic, LacksSource}
 use Rattle.causal_order.specs.Vectors.{Counts, list_of}
@@ -30,7 +29,7 @@ turns-exist now s (suc n) =
     let walk = full-walk now (list_of now (op s n)) earlier.0 in
     (walk.0 ++ s ∷ [], (earlier.0, earlier.1, record { counted = walk.0; walk = walk.1; last = refl }))
 
-module _ (h : MemoryHistory) (history : IsMemoryHistory h) (distinct : IsDifferentiated h) (v : Counts) (order : CountsSourceOrder h v)
+module _ (h : MemoryHistory) (fits : Fits h) (distinct : IsDifferentiated h) (v : Counts) (order : CountsSourceOrder h v)
     (cycle : ¬ HasHBCycle h) (start : ¬ HasStartOverwrittenInHB h) where
   -- each operation has a piece by turns of its happened-before relation
   piece-exists : (o : OpId) → IsOp h o → (schedule : List ℕ) × IsScheduledPiece memory_answer h v schedule o (program_past o)
@@ -38,7 +37,7 @@ module _ (h : MemoryHistory) (history : IsMemoryHistory h) (distinct : IsDiffere
       let now = HB-vectors h v order distinct o is_op in
       let turns = turns-exist now.0 o.session (o.index + 1) in (
         turns.0,
-        turns-piece h (history-fits h _ history) v order distinct o is_op now.0 now.1 (λ a before. cycle (o, a, before)) turns.0 turns.1
+        turns-piece h fits v order distinct o is_op now.0 now.1 (λ a before. cycle (o, a, before)) turns.0 turns.1
             (λ w r x t writes reads inside before. start (o, w, r, x, t, writes, reads, inside, before)),
       )
 
@@ -53,7 +52,7 @@ module _ (h : MemoryHistory) (history : IsMemoryHistory h) (distinct : IsDiffere
       )
 
 -- so a history with no bad pattern against causal memory meets it
-pub memory-met : (h : MemoryHistory) → IsMemoryHistory h → IsDifferentiated h → ¬ IsCyclic h → ¬ LacksSource h
+pub memory-met : (h : MemoryHistory) → Fits h → IsDifferentiated h → ¬ IsCyclic h → ¬ LacksSource h
     → ¬ HasHBCycle h → ¬ HasStartOverwrittenInHB h → IsCausalMemory memory_answer h
-memory-met h history distinct acyclic present cycle start =
-    let vectors = vectors-exist h history acyclic present in pieces-meet h history distinct vectors.0 vectors.1 cycle start
+memory-met h fits distinct acyclic present cycle start =
+    let vectors = vectors-exist h acyclic present in pieces-meet h fits distinct vectors.0 vectors.1 cycle start

@@ -8,6 +8,7 @@ use Rattle.cert_check.specs.declared.criterion.Criterion.TheVariants.{Cc, Cm, Cc
 use Rattle.cert_check.specs.Criteria.{Meets}
 use Rattle.memory_order.specs.Memory.{MemoryHistory, IsDifferentiated, memory_answer}
 use Rattle.memory_order.specs.MemoryHistories.{IsMemoryHistory}
+use Rattle.memory_order.proofs.ReadAnswers.{history-fits}
 use Rattle.memory_order.specs.OverwrittenReads.{HasOverwrittenRead, HasOverwrittenStart}
 use Rattle.memory_order.specs.Relations.{CO, CF}
 use Rattle.memory_order.specs.SourceOrder.{IsCyclic, LacksSource}
@@ -51,7 +52,7 @@ module _ (h : MemoryHistory) where
   decided-distinct Ccv distinct = distinct
 
   pub free-met : IsMemoryHistory h → (criterion : Criterion) → IsDecided h criterion → IsFreeOf h criterion → Meets memory_answer h criterion
-  free-met history criterion decided = free-meets h history (decided-distinct criterion decided) criterion
+  free-met history criterion decided = free-meets h (history-fits h _ history) (decided-distinct criterion decided) criterion
 
   module _ (distinct : IsDifferentiated h) (criterion : Criterion) (free : IsFreeOf h criterion) where
     pub free-acyclic : IsTrue (is_against CyclicCO criterion) → ¬ IsCyclic h

@@ -5,7 +5,7 @@ use Rattle.cert_check.specs.declared.criterion.Criterion.{Criterion}
 use Rattle.cert_check.specs.declared.criterion.Criterion.TheVariants.{Cc, Cm, Ccv}
 use Rattle.cert_check.specs.Criteria.{Meets}
 use Rattle.memory_order.specs.Memory.{MemoryHistory, IsDifferentiated, memory_answer}
-use Rattle.memory_order.specs.MemoryHistories.{IsMemoryHistory}
+use Rattle.memory_order.proofs.ReadAnswers.{Fits}
 use Rattle.memory_order.specs.SourceOrder.{LacksSource}
 use Rattle.bad_patterns.specs.declared.kind.Kind.{Kind}
 use Rattle.bad_patterns.specs.declared.kind.Kind.TheVariants.{CyclicCO, ThinAirRead, WriteCOInitRead, WriteCORead, WriteHBInitRead, CyclicHB, CyclicCF}
@@ -14,7 +14,7 @@ use Rattle.certify_cc.proofs.SourceCertificates.{consistency-met}
 use Rattle.certify_cm.proofs.MemoryMet.{memory-met}
 use Rattle.certify_ccv.proofs.ConflictCertificates.{convergence-met}
 
-module _ (h : MemoryHistory) (history : IsMemoryHistory h) (distinct : IsDifferentiated h) where
+module _ (h : MemoryHistory) (fits : Fits h) (distinct : IsDifferentiated h) where
   none-shown : (criterion : Criterion) → IsFreeOf h criterion → (kind : Kind) → IsTrue (is_against kind criterion) → ¬ Shows h kind
   none-shown criterion free kind against shown = free kind against (distinct, shown)
 
@@ -23,9 +23,9 @@ module _ (h : MemoryHistory) (history : IsMemoryHistory h) (distinct : IsDiffere
   all-sourced criterion free lacks = none-shown criterion free ThinAirRead refl (lacks.0, (lacks.1, lacks.2, lacks.3, lacks.4, lacks.5))
 
   pub free-meets : (criterion : Criterion) → IsFreeOf h criterion → Meets memory_answer h criterion
-  free-meets Cc free = consistency-met h history (none-shown Cc free CyclicCO refl) (all-sourced Cc free)
+  free-meets Cc free = consistency-met h fits (none-shown Cc free CyclicCO refl) (all-sourced Cc free)
       (none-shown Cc free WriteCOInitRead refl) (none-shown Cc free WriteCORead refl)
-  free-meets Cm free = memory-met h history distinct (none-shown Cm free CyclicCO refl) (all-sourced Cm free)
+  free-meets Cm free = memory-met h fits distinct (none-shown Cm free CyclicCO refl) (all-sourced Cm free)
       (none-shown Cm free CyclicHB refl) (none-shown Cm free WriteHBInitRead refl)
-  free-meets Ccv free = convergence-met h history (all-sourced Ccv free) (none-shown Ccv free WriteCOInitRead refl)
+  free-meets Ccv free = convergence-met h fits (all-sourced Ccv free) (none-shown Ccv free WriteCOInitRead refl)
       (λ a cycle. none-shown Ccv free CyclicCF refl (a, cycle))

@@ -59,7 +59,6 @@ module _ (h : MemoryHistory) where
   pub below-sourced : ¬ LacksSource h → (s n : ℕ) (es : List (Option OpId)) → ListsIfAnyBelow h s n es → ListsSourcesBelow h s n es
   below-sourced present s n es below = record {
     count = below.count;
-    short = below.short;
     each = λ i e at. if_any-source present (op s i) e (below.each i e at);
   }
 

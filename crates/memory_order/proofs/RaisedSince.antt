@@ -1,5 +1,5 @@
 -- Where vectors grow, each count that changes is one that a raise notes.
-use Rattle.std.specs.Prelude.{◌≡◌, ◌⊎◌, ℕ, ◌+◌, ◌-◌, ◌<◌, ◌≤◌, ◌++◌, List, Some, length, slice_get}
+use Rattle.std.specs.Prelude.{◌≡◌, ◌⊎◌, ℕ, ◌+◌, ◌-◌, ◌≤◌, ◌++◌, List, length}
 use Rattle.std.proofs.Common.{arith, refl, sym, ap, subst, ◌∙◌, ⊎_elim, inl, inr, length-append}
 use Rattle.history.specs.declared.op_id.OpId.{OpId}
 use Rattle.memory_order.specs.declared.growing_order.GrowingOrder.{GrowingOrder}

@@ -1,6 +1,6 @@
 -- Where no source is missing and no operation comes before itself, there are vectors of the order of program order and
 -- sources.
-use Rattle.std.specs.Prelude.{◌≡◌, ◌≢◌, ℕ, ◌≤◌, [], length, Option, Some, None}
+use Rattle.std.specs.Prelude.{◌≡◌, ◌≢◌, ℕ, [], Option, Some, None}
 use Rattle.std.proofs.Common.{arith, get_or, sym, ap, subst, ◌∙◌, inl, inr, ⊎_elim, refl}
 use Rattle.std.proofs.lemmas.Bool.{cases_eq}
 use Rattle.std.proofs.lemmas.Option.{same_Some, slice_get-get_or, slice_get_within}
@@ -9,9 +9,8 @@ use Rattle.objects.specs.declared.register.RegisterCall.TheVariants.{Write, Read
 use Rattle.objects.specs.declared.register.RegisterRet.{RegisterRet}
 use Rattle.objects.specs.declared.register.RegisterRet.TheVariants.{Done, Value}
 use Rattle.history.specs.declared.op_id.OpId.{OpId}
-use Rattle.history.specs.History.{IsOp, entry, session}
+use Rattle.history.specs.History.{IsOp, entry}
 use Rattle.memory_order.specs.Memory.{MemoryCall, MemoryHistory, initial, Reads}
-use Rattle.memory_order.specs.MemoryHistories.{IsMemoryHistory}
 use Rattle.causal_order.specs.Orders.{op}
 use Rattle.memory_order.specs.SourceOrder.{CountsSourceOrder, IsCyclic, IsSourceOf, LacksSource, SourceOrder}
 use Rattle.memory_order.proofs.ListedSources.{ListsSources}
@@ -65,36 +64,33 @@ module _ (h : MemoryHistory) (present : ¬ LacksSource h) where
   sources : Sources
   sources = by_operation h (λ o. (source-known o).0)
 
-  module _ (short : (s : ℕ) → length (session h s) ≤ 256) where
-    sources-listed : ListsSources h sources
-    unfolding sources
-    sources-listed = record {
-      sessions = by_operation-sessions h (λ o. (source-known o).0);
-      each = λ s below. record {
-        count = by_operation-length h (λ o. (source-known o).0) s;
-        short = short s;
-        each = λ i e at.
-            let es = get_or (by_operation h (λ o. (source-known o).0)) s [] in
-            let long = by_operation-length h (λ o. (source-known o).0) s in
-            let within = slice_get_within es i e at in
-            let is_op : IsOp h (op s i) = omega arith in
-            let value : (source-known (op s i)).0 ≡ e =
-            sym (by_operation-entry h (λ o. (source-known o).0) (op s i) None is_op)
-            ∙ same_Some _ _ (sym (slice_get-get_or es i None within) ∙ at) in
-            subst (λ (f : Option OpId). IsSourceOf h (op s i) f) value (source-known (op s i)).1;
-      };
-    }
+  sources-listed : ListsSources h sources
+  unfolding sources
+  sources-listed = record {
+    sessions = by_operation-sessions h (λ o. (source-known o).0);
+    each = λ s below. record {
+      count = by_operation-length h (λ o. (source-known o).0) s;
+      each = λ i e at.
+          let es = get_or (by_operation h (λ o. (source-known o).0)) s [] in
+          let long = by_operation-length h (λ o. (source-known o).0) s in
+          let within = slice_get_within es i e at in
+          let is_op : IsOp h (op s i) = omega arith in
+          let value : (source-known (op s i)).0 ≡ e =
+          sym (by_operation-entry h (λ o. (source-known o).0) (op s i) None is_op)
+          ∙ same_Some _ _ (sym (slice_get-get_or es i None within) ∙ at) in
+          subst (λ (f : Option OpId). IsSourceOf h (op s i) f) value (source-known (op s i)).1;
+    };
+  }
 
-    -- vectors exist
-    pub order-exists : ((a : OpId) → ¬ SourceOrder h a a) → (v : Counts) × CountsSourceOrder h v
-    order-exists acyclic = ⊎_elim
-        (λ (made : (v : Counts) × AreVectorsSoFar sources v × ((s : ℕ) → ¬ IsUnfinished sources v s)).
-        (made.0, counts-order h sources sources-listed made.0 made.1 made.2))
-        (λ (cycle : (a : OpId) × Comes sources a a).
-        absurd (acyclic cycle.0 (order-from_steps h sources sources-listed cycle.0 cycle.0 cycle.1)))
-        (vectors-made sources (sources-exist h sources sources-listed))
+  -- vectors exist
+  pub order-exists : ((a : OpId) → ¬ SourceOrder h a a) → (v : Counts) × CountsSourceOrder h v
+  order-exists acyclic = ⊎_elim
+      (λ (made : (v : Counts) × AreVectorsSoFar sources v × ((s : ℕ) → ¬ IsUnfinished sources v s)).
+      (made.0, counts-order h sources sources-listed made.0 made.1 made.2))
+      (λ (cycle : (a : OpId) × Comes sources a a).
+      absurd (acyclic cycle.0 (order-from_steps h sources sources-listed cycle.0 cycle.0 cycle.1)))
+      (vectors-made sources (sources-exist h sources sources-listed))
 
 -- where the causal order is no cycle too
-pub vectors-exist : (h : MemoryHistory) → IsMemoryHistory h → ¬ IsCyclic h → ¬ LacksSource h → (v : Counts) × CountsSourceOrder h v
-vectors-exist h history acyclic present = order-exists h present (λ s. (history.each s).short)
-    (λ a before. acyclic (a, CO-from_sources h a a before))
+pub vectors-exist : (h : MemoryHistory) → ¬ IsCyclic h → ¬ LacksSource h → (v : Counts) × CountsSourceOrder h v
+vectors-exist h acyclic present = order-exists h present (λ a before. acyclic (a, CO-from_sources h a a before))

@@ -1,6 +1,5 @@
 -- The order that a memory history has by the first write of each value that was read, and when it has none.
-use Rattle.std.specs.Prelude.{◌≡◌, ◌≢◌, ◌⊎◌, ◌↔◌, ℕ, ◌≤◌, List, length, Option, MatchOption, Some, slice_get}
-use Rattle.history.specs.declared.limits.TheConstants.{MAX_OPERATIONS}
+use Rattle.std.specs.Prelude.{◌≡◌, ◌≢◌, ◌⊎◌, ◌↔◌, ℕ, List, length, Option, MatchOption, Some, slice_get}
 use Rattle.history.specs.declared.op_id.OpId.{OpId}
 use Rattle.history.specs.History.{IsOp, Precedes}
 use Rattle.memory_order.specs.Memory.{MemoryHistory, initial, Writes, Reads}
@@ -36,7 +35,6 @@ module _ (h : MemoryHistory) where
   -- the sources of the first n operations of the session s
   pub record ListsSourcesBelow (s n : ℕ) (es : List (Option OpId)) : Type 0 where
     pub count : length es ≡ n
-    pub short : n ≤ MAX_OPERATIONS
     pub each : (i : ℕ) (e : Option OpId) → slice_get es i ≡ Some e → IsSourceOf (op s i) e
 
   -- vectors count, for each operation, its past in CO

@@ -1,22 +1,28 @@
-ghost use Rattle.std.specs.Prelude.{◌≢◌, ◌↔◌, All, IfOk, IsTrue};
+//! Whether the values of a memory history are distinct.
+
+ghost use Rattle.std.specs.Prelude.{◌≢◌, ◌↔◌, All, IsTrue};
 ghost use Rattle.memory_order.specs.Memory.{initial, IsDifferentiated};
 ghost use Rattle.memory_order.specs.Steps.Written.{AreOnce, IsSorted, ListsWrites};
 
+use crate::placed_writes::{MAX_WRITES, NO_WRITE, place_writes};
 use crate::reads::initial_value;
-use crate::writes::{Write, sorted_writes};
+use crate::writes::Write;
 use history::History;
 use objects::Memory;
-use std::alloc::{AllocError, Global};
 
 /// Whether the history has distinct values: no variable is written twice with one value, and no write writes its
 /// variable's initial value.
 ///
-/// Fails for want of memory alone. O(n log n) for n operations.
-pub fn is_differentiated(alloc: Global, h: &History<Memory>) -> Result<bool, AllocError>
-    ensures { IfOk result (λ yes. IsTrue yes ↔ IsDifferentiated h.now) }
+/// It takes no memory: the writes are sorted in an array of 128 KB, which has room for those of any history. O(n log n) for n
+/// operations.
+pub fn is_differentiated(h: &History<Memory>) -> bool
+    ensures { IsTrue result ↔ IsDifferentiated h.now }
 {
-    let writes = sorted_writes(alloc, h)?;
-    Ok(are_distinct(h, &writes))
+    let mut places = [NO_WRITE; MAX_WRITES];
+    let count = place_writes(h, &mut places);
+    let writes = &mut places[..count];
+    writes.sort_unstable_by_key(|write| (write.key, write.value));
+    are_distinct(h, writes)
 }
 
 /// Whether the history has distinct values, from its writes. O(n log m) for n writes and m entries of the start.

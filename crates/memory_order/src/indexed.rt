@@ -2,6 +2,7 @@
 
 ghost use Rattle.std.specs.Prelude.{◌≡◌, ◌↔◌, IfOk, IfSome, IsTrue, MatchOption};
 ghost use Rattle.memory_order.specs.Memory.{IsDifferentiated};
+ghost use Rattle.memory_order.specs.SourceOrder.{CountsSourceOrder};
 ghost use Rattle.memory_order.specs.Steps.Indexed.{HasNoWriteBefore, IsLastWriteBefore, IsOrdered, IsUnordered};
 ghost use Rattle.memory_order.specs.Steps.Indexed.{IsSourceIfAny, ListsReads, ListsSourcesIfAny, listed_source};
 ghost use Rattle.memory_order.specs.Steps.Written.{AreByVariable, AreInOrder, IsSorted, ListsWrites};
@@ -144,6 +145,13 @@ impl<'a> IndexedMemory<'a> {
             Some(vectors) => Some(CausalOrder::of(self, vectors)),
             None => None,
         }
+    }
+
+    /// The vectors of its causal order, where it has one. O(n) for n operations, whose index is dropped.
+    pub(crate) fn into_order(self) -> Option<Vectors>
+        ensures { MatchOption result (IsUnordered self.entry) (CountsSourceOrder self.entry) }
+    {
+        self.order
     }
 }
 

@@ -6,6 +6,7 @@ use Rattle.memory_order.specs.MemoryHistories.{IsMemoryHistory}
 use Rattle.pattern_search.specs.Searches.{HasLargeHB, IsClear}
 use Rattle.bad_patterns.specs.Kinds.{is_against, IsFreeOf, IsPresent}
 use Rattle.std.specs.Prelude.{IsTrue, Some}
+use Rattle.memory_order.proofs.ReadAnswers.{history-fits}
 use Rattle.decision.proofs.Completeness.{free-meets}
 use Rattle.pattern_search.proofs.NothingFound.{free-memory}
 use Rattle.decision.proofs.Decided.{free-ordered}
@@ -51,4 +52,4 @@ returns-in-Nothing c =
     let same = rw c.in-Some.is at c.order.ensures.order in
     let clear = subst (λ (h : MemoryHistory). IsClear h) same (rw c.in-Nothing.is at c.in_ok-pattern.ensures) in
     let is_history = subst (λ (h : MemoryHistory). IsMemoryHistory h) c.history.ensures c.value_is_history.ensures in
-    free-meets c.args.memory.now is_history c.requires.distinct Cm (free-memory c.args.memory.now c.requires.free clear)
+    free-meets c.args.memory.now (history-fits c.args.memory.now _ is_history) c.requires.distinct Cm (free-memory c.args.memory.now c.requires.free clear)

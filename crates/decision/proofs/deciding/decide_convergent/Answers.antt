@@ -4,6 +4,7 @@ use Rattle.memory_order.specs.Memory.{MemoryHistory}
 use Rattle.memory_order.specs.MemoryHistories.{IsMemoryHistory}
 use Rattle.bad_patterns.specs.declared.kind.Kind.TheVariants.{CyclicCF}
 use Rattle.bad_patterns.specs.Kinds.{Shows}
+use Rattle.memory_order.proofs.ReadAnswers.{history-fits}
 use Rattle.decision.proofs.Completeness.{free-meets}
 use Rattle.decision.proofs.Decided.{free-ordered}
 use Rattle.pattern_search.proofs.NothingFound.{free-convergent}
@@ -19,4 +20,4 @@ returns-in-None c =
     let same = rw c.in-Some.is at c.order.ensures.order in
     let acyclic = subst (λ (m : MemoryHistory). ¬ Shows m CyclicCF) same ((rw c.in-None.is at c.in_ok-pattern.ensures.none) refl) in
     let is_history = subst (λ (m : MemoryHistory). IsMemoryHistory m) c.history.ensures c.value_is_history.ensures in
-    free-meets h is_history c.requires.distinct Ccv (free-convergent h c.requires.free acyclic)
+    free-meets h (history-fits h _ is_history) c.requires.distinct Ccv (free-convergent h c.requires.free acyclic)

@@ -1,4 +1,3 @@
-use Rattle.std.specs.Prelude.{◌⊎◌}
 use Rattle.std.proofs.Common.{⊎_elim, inl, inr}
 use Rattle.history.specs.declared.op_id.OpId.{OpId}
 use Rattle.memory_order.specs.SourceOrder.{LacksSource, SourceOrder}
