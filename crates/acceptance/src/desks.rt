@@ -213,7 +213,7 @@ fn answer_on_case<K: ShelfName, P: Wait + AllocGlobal>(
         "put" => put(rt, desk, given, &ticket, rest),
         "ask" => told(rt.alloc(), &desk.ask(rt, &ticket)),
         "refute" => refuted(rt, desk, &ticket, rest),
-        "pattern" => told(rt.alloc(), &desk.pattern(rt, &ticket)?),
+        "pattern" => kept(rt, desk, &ticket),
         "settle" => done(rt.alloc(), desk.settle(rt, &ticket)),
         "see" => seen(rt.alloc(), ticket.file(desk)),
         _ => String::from_str(rt.alloc(), "no step"),
@@ -331,7 +331,7 @@ fn taken<K: ShelfName, P: Wait + AllocGlobal>(
 }
 
 /// The number of a case, and an operation.
-fn piece(alloc: Global, number: usize, op: OpId) -> Result<String, AllocError> {
+fn piece(alloc: Global, number: u32, op: OpId) -> Result<String, AllocError> {
     let OpId { session, index } = op;
     format!(in alloc; "{number} {session}.{index}")
 }
@@ -406,6 +406,18 @@ fn refuted<K: ShelfName, P: Wait + AllocGlobal>(
     match pattern_of(rt.alloc(), pattern) {
         Some(pattern) => done(rt.alloc(), desk.refute(rt, ticket, pattern)),
         None => String::from_str(rt.alloc(), "no pattern"),
+    }
+}
+
+/// The pattern that a case keeps.
+fn kept<K: ShelfName, P: Wait + AllocGlobal>(
+    rt: &P,
+    desk: &Desk<Memory, K>,
+    ticket: &Ticket<Memory, K>,
+) -> Result<String, AllocError> {
+    match desk.pattern(rt, ticket) {
+        Ok(pattern) => told(rt.alloc(), &pattern),
+        Err(_no_memory) => Err(AllocError),
     }
 }
 

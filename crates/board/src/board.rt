@@ -37,7 +37,7 @@ impl<M: Mark> Model for Board<M> {
 
     ghost view = { λ b. b.cases.items };
 
-    ghost invariant = { λ b. MAX_CASES ≤ vec_capacity b.cases };
+    ghost invariant = { λ b. (MAX_CASES ≤ vec_capacity b.cases) × (length b.cases.items ≤ MAX_CASES) };
 }
 
 impl<M: Mark> Board<M> {
@@ -51,9 +51,10 @@ impl<M: Mark> Board<M> {
         Ok(Board { cases })
     }
 
-    /// How many cases were filed.
+    /// How many cases were filed: at most 64.
     pub fn cases(&self) -> usize
-        ensures { result ≡ length self.now }
+        ensures cases { result ≡ length self.now }
+        ensures few { result ≤ MAX_CASES }
     {
         self.cases.len()
     }

@@ -20,16 +20,14 @@ module _ {S C R : Type 0} where
   RefusesCheck file o Memory = HasPiece file o
   RefusesCheck file o _ = ⊥
 
-  -- why a verdict is not put: it is of another case; else its row had one when the lock was held, or the board has no such case
+  -- why a verdict is not put: it is of another case; else its row had one when the lock was held
   abbrev pub RefusesVerdict : CaseOf S C R → VerdictOf S C R → DeskError → Type 0
   RefusesVerdict ticket verdict Stranger = ¬ IsSameCase verdict.case_of ticket
   RefusesVerdict ticket verdict Doubled = IsSameCase verdict.case_of ticket
-  RefusesVerdict ticket verdict NoSuch = IsSameCase verdict.case_of ticket
   RefusesVerdict ticket verdict _ = ⊥
 
--- why a pattern is not taken: it does not pass its test, memory ran out, or the board has no such case
+-- why a pattern is not taken: it does not pass its test, or memory ran out
 abbrev pub RefusesPattern : Type 0 → DeskError → Type 0
 RefusesPattern passes NotThatPattern = ¬ passes
 RefusesPattern passes Memory = ⊤
-RefusesPattern passes NoSuch = passes
 RefusesPattern passes _ = ⊥

@@ -1,11 +1,11 @@
 ghost use Rattle.std.specs.Prelude.{◌≡◌, ◌≢◌, ◌<◌, ◌≤◌, ◌↔◌, ℕ, ◌∷◌, ◌++◌, [], false, length, option_copied, slice_get};
-ghost use Rattle.std.specs.Prelude.{IfOk, IfErr, IfSome, IsNone, IsTrue, MatchOption, None, OnOk, OnErr, Some};
+ghost use Rattle.std.specs.Prelude.{IfOk, IfErr, IfSome, IsNone, IsSome, IsTrue, MatchOption, None, OnOk, OnErr, Some};
 ghost use Rattle.board.specs.Boards.{CaseState, fresh_case, row_of, handed_out, refuted};
 ghost use Rattle.board.specs.Events.{IsChanged, IsIdleAt, IsDueOf, IsStanding};
 ghost use Rattle.board.specs.CaseFiles.{AreRowsFor, HasPiece};
 ghost use Rattle.desk.specs.Files.{PassesFor};
 ghost use Rattle.desk.specs.Answers.{IsTrueAnswer};
-ghost use Rattle.desk.specs.Steps.Cases.{IsPut, refusal_of_ticket, refusal_of_verdict};
+ghost use Rattle.desk.specs.Steps.Cases.{IsFiled, IsPut, refusal_of_ticket, refusal_of_verdict};
 
 use crate::shelf::Shelf;
 use crate::shelf_name::ShelfName;
@@ -14,10 +14,12 @@ use crate::token::Token;
 use crate::verdict::Verdict;
 use bad_patterns::Pattern;
 use board::{Answer, Board, BoardError, CaseRows, MAX_CASES, Piece};
+use cert_check::CaseFile;
 use history::OpId;
 use refutable::Refutable;
 use std::alloc::{AllocError, Global};
 use std::marker::Model;
+use std::sync::Wait;
 
 /// The board of a desk. What it says of a case is true of the file that the case's token shows.
 #[derive(Drop)]
@@ -47,14 +49,43 @@ impl<O: Refutable, K: ShelfName> Cases<O, K> {
     }
 
     /// Whether 64 cases are filed.
-    pub fn is_full(&self) -> bool
+    fn is_full(&self) -> bool
         ensures { IsTrue result ↔ (MAX_CASES ≤ length self.now) }
     {
         self.board.cases() >= MAX_CASES
     }
 
+    /// Places a file on the shelf and files its case with these rows. The `Err` has the file where 64 cases are filed, and none
+    /// where memory runs out.
+    pub fn file_or_back(
+        &mut self,
+        rt: &impl Wait,
+        shelf: &Shelf<O>,
+        file: CaseFile<O>,
+        rows: CaseRows,
+    ) -> Result<Ticket<O, K>, Option<CaseFile<O>>>
+        requires shelf { shelf.now ≡ K.shelf }
+        requires rows { AreRowsFor file rows }
+        ensures file { IfOk result (λ t. t.file ≡ file) }
+        ensures filed { IfOk result (λ t. IsFiled t rows self.old self.new) }
+        ensures back { IfErr result (λ back. IfSome back (λ f. f ≡ file)) }
+        ensures full { IfErr result (λ back. IsSome back → MAX_CASES ≤ length self.old) }
+        ensures unchanged { OnErr result (self.new ≡ self.old) }
+    {
+        if self.is_full() {
+            return Err(Some(file));
+        }
+        let Ok(token) = shelf.place(rt, file) else {
+            return Err(None);
+        };
+        match self.file(token.again(), rows) {
+            Ok(number) => Ok(Ticket::of(number as u32, token)),
+            Err(_full) => Err(None),
+        }
+    }
+
     /// Files a case, and gives its number.
-    pub fn file(&mut self, token: Token<O, K>, rows: CaseRows) -> Result<usize, BoardError>
+    fn file(&mut self, token: Token<O, K>, rows: CaseRows) -> Result<usize, BoardError>
         requires rows { AreRowsFor token.file rows }
         ensures number { IfOk result (λ number. number ≡ length self.old) }
         ensures filed { OnOk result (self.new ≡ self.old ++ fresh_case token rows ∷ []) }
@@ -94,10 +125,11 @@ impl<O: Refutable, K: ShelfName> Cases<O, K> {
         ensures number { result.number ≡ number }
         ensures file { (s : CaseState _) → slice_get self.now number ≡ Some s → result.file ≡ s.mark.file }
     {
+        let _cases = self.board.cases();
         let Some(mark) = self.board.mark(number) else {
             unreachable!();
         };
-        Ticket::of(number, mark.again())
+        Ticket::of(number as u32, mark.again())
     }
 
     /// A case of a ticket's number and place has the ticket's file. It does nothing: what it ensures is the law.
@@ -106,7 +138,7 @@ impl<O: Refutable, K: ShelfName> Cases<O, K> {
         ensures { (s : CaseState _) → slice_get self.now ticket.now.number ≡ Some s
             → s.mark.place ≡ ticket.now.place → s.mark.file ≡ ticket.now.file }
     {
-        if let Some(mark) = self.board.mark(ticket.number()) {
+        if let Some(mark) = self.board.mark(ticket.index()) {
             shelf.agree(mark, ticket.token());
         }
     }
@@ -122,7 +154,7 @@ impl<O: Refutable, K: ShelfName> Cases<O, K> {
         let ticket = verdict.ticket();
         self.agree(shelf, ticket);
         self.board.put(
-            ticket.number(),
+            ticket.index(),
             ticket.token(),
             verdict.op(),
             verdict.outcome(),
@@ -146,7 +178,7 @@ impl<O: Refutable, K: ShelfName> Cases<O, K> {
     {
         self.agree(shelf, ticket);
         self.board
-            .refute(ticket.number(), ticket.token(), pattern, true)
+            .refute(ticket.index(), ticket.token(), pattern, true)
     }
 
     /// How a case stands, where there is one of the ticket's number and place.
@@ -157,7 +189,7 @@ impl<O: Refutable, K: ShelfName> Cases<O, K> {
         ensures refused { IfErr result (λ e. refusal_of_ticket self.now ticket.now ≡ Some e) }
     {
         self.agree(shelf, ticket);
-        self.board.ask(ticket.number(), ticket.token())
+        self.board.ask(ticket.index(), ticket.token())
     }
 
     /// The pattern that was accepted against a case.
@@ -173,7 +205,7 @@ impl<O: Refutable, K: ShelfName> Cases<O, K> {
         ensures refused { IfErr result (λ e. refusal_of_ticket self.now ticket.now ≡ Some e) }
     {
         self.agree(shelf, ticket);
-        self.board.pattern(ticket.number(), ticket.token())
+        self.board.pattern(ticket.index(), ticket.token())
     }
 
     /// Whether a case of the ticket's number and place has a row for an operation without a verdict.
@@ -182,7 +214,7 @@ impl<O: Refutable, K: ShelfName> Cases<O, K> {
         ensures closed { result ≡ false → (s : CaseState _) → slice_get self.now ticket.now.number ≡ Some s
             → s.mark.place ≡ ticket.now.place → row_of s op ≢ Some None }
     {
-        match self.board.row(ticket.number(), ticket.token(), op) {
+        match self.board.row(ticket.index(), ticket.token(), op) {
             Ok(Some(None)) => true,
             Ok(Some(Some(_)) | None) | Err(_) => false,
         }

@@ -105,19 +105,12 @@ impl<O: Refutable, K: ShelfName> Desk<O, K> {
         ensures file { IfOk result (λ t. t.file ≡ file) }
         ensures back { IfErr result (λ back. IfSome back (λ f. f ≡ file)) }
     {
-        let Ok(rows) = CaseRows::of(self.alloc, &file) else {
-            return Err(None);
-        };
-        let mut cases = self.cases.lock(rt);
-        if cases.is_full() {
-            return Err(Some(file));
-        }
-        let Ok(token) = self.shelf.place(rt, file) else {
-            return Err(None);
-        };
-        match cases.file(token.again(), rows) {
-            Ok(number) => Ok(Ticket::of(number, token)),
-            Err(_full) => Err(None),
+        match CaseRows::of(self.alloc, &file) {
+            Ok(rows) => self
+                .cases
+                .lock(rt)
+                .file_or_back(rt, &self.shelf, file, rows),
+            Err(_no_memory) => Err(None),
         }
     }
 
@@ -151,8 +144,8 @@ impl<O: Refutable, K: ShelfName> Desk<O, K> {
 
     /// Puts a verdict into its row.
     ///
-    /// `Stranger` exactly where it is of another case than the ticket's; else `Doubled` where the row has a verdict. The board
-    /// is then as before. `NoSuch` where the board has no such case, which no run meets. O(1).
+    /// `Stranger` exactly where it is of another case than the ticket's; else `Doubled` where the row has a verdict, or where the
+    /// board has no such case, which no run meets. The board is then as before. O(1).
     pub fn put(
         &self,
         rt: &impl Wait,
@@ -168,15 +161,14 @@ impl<O: Refutable, K: ShelfName> Desk<O, K> {
         }
         match self.cases.lock(rt).put(&self.shelf, &verdict) {
             Ok(()) => Ok(()),
-            Err(BoardError::Doubled) => Err(DeskError::Doubled),
-            Err(_no_such_row) => Err(DeskError::NoSuch),
+            Err(_not_put) => Err(DeskError::Doubled),
         }
     }
 
     /// Takes a pattern against a case. A second good pattern changes nothing.
     ///
-    /// `NotThatPattern` where it does not pass its test, which is made outside the lock, and `Memory`. The board is then as
-    /// before. `NoSuch` where the board has no such case, which no run meets. The cost is that of `check_pattern`.
+    /// `NotThatPattern` where it does not pass its test, which is made outside the lock, and `Memory`, also where the board has
+    /// no such case, which no run meets. The board is then as before. The cost is that of `check_pattern`.
     pub fn refute(
         &self,
         rt: &impl Wait,
@@ -192,7 +184,7 @@ impl<O: Refutable, K: ShelfName> Desk<O, K> {
         }
         match self.cases.lock(rt).refute(&self.shelf, ticket, pattern) {
             Ok(()) => Ok(()),
-            Err(_no_such_case) => Err(DeskError::NoSuch),
+            Err(_no_such_case) => Err(DeskError::Memory),
         }
     }
 
@@ -231,8 +223,9 @@ impl<O: Refutable, K: ShelfName> Desk<O, K> {
         &self,
         rt: &impl Wait,
         ticket: &Ticket<O, K>,
-    ) -> Result<Option<Pattern>, AllocError>
-        ensures { IfOk result (λ p. IfSome p (PassesFor O.passes ticket.now.file)) }
+    ) -> Result<Option<Pattern>, DeskError>
+        ensures passes { IfOk result (λ p. IfSome p (PassesFor O.passes ticket.now.file)) }
+        ensures refused { IfErr result (λ e. e ≡ DeskError.Memory) }
     {
         let cases = self.cases.lock(rt);
         match cases.pattern(&self.shelf, ticket) {

@@ -15,7 +15,7 @@ use std::marker::Model;
 /// It is to go to the desk that gave it.
 #[derive(Drop)]
 pub struct Ticket<O: SeqObject, K: ShelfName> {
-    number: usize,
+    number: u32,
     token: Token<O, K>,
 }
 
@@ -29,17 +29,24 @@ impl<O: SeqObject, K: ShelfName> Model for Ticket<O, K> {
 
 impl<O: SeqObject, K: ShelfName> Ticket<O, K> {
     /// The ticket of a case.
-    pub(crate) fn of(number: usize, token: Token<O, K>) -> Ticket<O, K>
+    pub(crate) fn of(number: u32, token: Token<O, K>) -> Ticket<O, K>
         ensures { result ≡ record { number = number; place = token.place; file = token.file } }
     {
         Ticket { number, token }
     }
 
     /// The number of the case, in the order of filing from 0.
-    pub fn number(&self) -> usize
+    pub fn number(&self) -> u32
         ensures { result ≡ self.now.number }
     {
         self.number
+    }
+
+    /// The place of the case on its board: its number.
+    pub(crate) fn index(&self) -> usize
+        ensures { result ≡ self.now.number }
+    {
+        self.number as usize
     }
 
     /// What shows where the file is.

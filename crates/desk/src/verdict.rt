@@ -42,7 +42,7 @@ impl<O: SeqObject, K: ShelfName> Verdict<O, K> {
     }
 
     /// The number of the case.
-    pub fn case(&self) -> usize
+    pub fn case(&self) -> u32
         ensures { result ≡ self.now.case_of.number }
     {
         self.ticket.number()

@@ -50,12 +50,26 @@ impl<O: Refutable, K: ShelfName> Desk<O, K> {
         gate: &G,
         held: Option<CaseChecker<'a, O, K>>,
     ) -> Result<Option<(CaseChecker<'a, O, K>, bool)>, AllocError> {
-        let Some((ticket, op)) = self.take(rt) else {
-            return Ok(None);
-        };
-        let (checker, verdict) = self.check_with(gate, held, &ticket, op)?;
-        let is_put = self.put(rt, &ticket, verdict).is_ok();
-        Ok(Some((checker, is_put)))
+        match self.take(rt) {
+            None => Ok(None),
+            Some((ticket, op)) => Ok(Some(self.work_on(rt, gate, held, &ticket, op)?)),
+        }
+    }
+
+    /// The same for a piece that was taken.
+    fn work_on<'a, G: Gate>(
+        &'a self,
+        rt: &impl Wait,
+        gate: &G,
+        held: Option<CaseChecker<'a, O, K>>,
+        ticket: &Ticket<O, K>,
+        op: OpId,
+    ) -> Result<(CaseChecker<'a, O, K>, bool), AllocError>
+        requires { HasPiece ticket.now.file op }
+    {
+        let (checker, verdict) = self.check_with(gate, held, ticket, op)?;
+        let is_put = self.put(rt, ticket, verdict).is_ok();
+        Ok((checker, is_put))
     }
 
     /// Checks a piece by the checker that a worker holds, where it is of the case of the ticket, or else by one of that case.
