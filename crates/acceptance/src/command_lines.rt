@@ -48,8 +48,17 @@ pub fn ordered(alloc: Global, text: &str) -> Result<String, AllocError> {
     let words = words_in(alloc, text)?;
     match command_of(alloc, words.as_slice()) {
         Ok(order) => text_of(alloc, order),
-        Err(Usage::Fault(_text)) => String::from_str(alloc, "fault"),
+        Err(Usage::Fault(said)) => text_of_fault(alloc, said.as_str()),
         Err(usage) => format!(in alloc; "{usage:?}"),
+    }
+}
+
+/// `fault`, where what is said of one begins with `error: `; else what is said.
+fn text_of_fault(alloc: Global, said: &str) -> Result<String, AllocError> {
+    if said.starts_with("error: ") {
+        String::from_str(alloc, "fault")
+    } else {
+        String::from_str(alloc, said)
     }
 }
 

@@ -19,7 +19,7 @@ use std::thread;
 use std::thread::Threads;
 
 /// Turns of waiting, after which a thread goes on alone.
-const TURNS: u64 = 20_000_000;
+const TURNS: u64 = 1_000_000;
 
 /// The first operation of the first session.
 pub const FIRST: OpId = OpId {
