@@ -23,7 +23,7 @@ OUT=$HERE/out
 PROGRAM=$ROOT/crates/causal_judge/out/causal_judge
 LIBRARY=$ROOT/crates/causal_judge_library/out/libcausal_judge_library.a
 MARK=$ROOT/out/gate
-UNPROVED= NO_LIBRARY= IS_OTHER=
+UNPROVED='' NO_LIBRARY='' IS_OTHER=''
 
 fail() {
     echo "release/build.sh: $*" >&2
@@ -201,7 +201,8 @@ depends() {
 }
 
 debian() {
-    local below=$ROOM/debian doc=usr/share/doc/causal-judge file
+    local below=$ROOM/debian doc=usr/share/doc/causal-judge file linked=("$PROGRAM")
+    [ -n "$NO_LIBRARY" ] || linked+=("$ROOM/libcausal_judge.so")
     put_files "$below/usr" lib/x86_64-linux-gnu vendor-completions /usr
     for file in "$below"/usr/share/man/man1/*.1; do gzip -9n "$file"; done
     { echo "causal_judge"; echo; cat "$ROOT/LICENSE"; } > "$below/$doc/copyright"
@@ -223,7 +224,7 @@ Version: $DEBIAN
 Architecture: amd64
 Maintainer: $(git -C "$ROOT" log -1 --format='%an <%ae>')
 Installed-Size: $(du -sk --apparent-size "$below/usr" | cut -f 1)
-Depends: $(depends "$PROGRAM" $([ -n "$NO_LIBRARY" ] || echo "$ROOM/libcausal_judge.so"))
+Depends: $(depends "${linked[@]}")
 Section: science
 Priority: optional
 Description: judge of causal consistency
