@@ -124,7 +124,7 @@ fi
     if [ -n "$NO_LIBRARY" ]; then
         echo "library none: left out by --no-library"
     else
-        echo "library sha256 $(sum "$LIBRARY"), as rt lib left it"
+        echo "library sha256 $(sum "$LIBRARY")"
         echo "libcausal_judge.a sha256 $(sum "$ROOM/libcausal_judge.a")"
         echo "libcausal_judge.so sha256 $(sum "$ROOM/libcausal_judge.so")"
     fi
