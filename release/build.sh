@@ -130,18 +130,31 @@ fi
     fi
 } > "$ROOM/BUILD"
 
-# The man pages and the completions, from the program's own help.
+# The man pages and the completions, from the program's own help. help2man makes a page of a help up to its options; what comes after
+# them has lines and columns that it would join, so it is taken over as it is.
 mkdir "$ROOM/bin" "$ROOM/man" "$ROOM/completions"
-ln -s "$(realpath "$PROGRAM")" "$ROOM/bin/causal_judge"
+cat > "$ROOM/bin/causal_judge" <<END
+#!/bin/sh
+"$(realpath "$PROGRAM")" "\$@" | awk '/^Options:/ { last = 1 } last && /^\$/ { over = 1 } !over { print }'
+END
+chmod 755 "$ROOM/bin/causal_judge"
 python3 "$HERE/completions.py" "$PROGRAM" "$ROOM/completions"
 COMMANDS=$("$PROGRAM" --help | sed -n '/^Commands:/,/^$/ s/^  \([a-z]*\) .*/\1/p' | grep -v '^help$')
 page() {
     local about
     about=$(PATH=$ROOM/bin:$PATH; $1 --help | sed -n '1 s/^./\L&/p')
     PATH=$ROOM/bin:$PATH help2man --no-info --section 1 --manual "User Commands" --source "causal_judge $NAMED" \
-        --version-string "$VERSION" --name "$about" "$1" | sed "s/^$1 \\\\- /${1// /-} \\\\- /" > "$ROOM/man/${1// /-}.1"
+        --version-string "$VERSION" --name "$about" --opt-include "$ROOM/after" "$1" |
+        sed "s/^$1 \\\\- /${1// /-} \\\\- /" > "$ROOM/man/${1// /-}.1"
 }
+{
+    printf '[INPUT AND ANSWERS]\n.nf\n'
+    "$PROGRAM" --help | awk 'over { print } /^Options:/ { last = 1 } last && /^$/ { over = 1 }' |
+        sed -e 's/\\/\\e/g' -e "s/^[.']/\\\\\\&&/" -e 's/-/\\-/g'
+    printf '.fi\n'
+} > "$ROOM/after"
 page causal_judge
+rm "$ROOM/after"
 for command in $COMMANDS; do
     page "causal_judge $command"
 done
@@ -152,8 +165,8 @@ put() { install -D -m "$1" "$2" "$3"; }
 # The pages and the examples, in a folder.
 put_pages() {
     local file
-    git -C "$ROOT" ls-files README.md LICENSE CHANGELOG.md CITATION.cff CONTRIBUTING.md docs embed examples release/README.md tests/README.md \
-        bench/README.md | while read -r file; do
+    git -C "$ROOT" ls-files README.md LICENSE CHANGELOG.md CITATION.cff CONTRIBUTING.md docs embed examples release/README.md \
+        tests/README.md bench/README.md | while read -r file; do
         put 644 "$ROOT/$file" "$1/$file"
     done
     put 644 "$ROOM/BUILD" "$1/BUILD"
