@@ -162,14 +162,19 @@ done
 # Puts a file in its place: MODE FROM TO.
 put() { install -D -m "$1" "$2" "$3"; }
 
-# The pages and the examples, in a folder.
+# The pages and the examples, once: as the commit has them, or, where files differ from it, as they are now.
+PAGES="README.md LICENSE CHANGELOG.md CITATION.cff CONTRIBUTING.md docs embed examples release/README.md tests/README.md bench/README.md"
+mkdir "$ROOM/pages"
+# shellcheck disable=SC2086
+if [ -z "$CHANGED" ]; then
+    git -C "$ROOT" archive "$COMMIT" $PAGES | tar -xf - -C "$ROOM/pages"
+else
+    (cd "$ROOT" && git ls-files $PAGES | tar -cf - -T -) | tar -xf - -C "$ROOM/pages"
+fi
+cp "$ROOM/BUILD" "$ROOM/pages/BUILD"
 put_pages() {
     local file
-    git -C "$ROOT" ls-files README.md LICENSE CHANGELOG.md CITATION.cff CONTRIBUTING.md docs embed examples release/README.md \
-        tests/README.md bench/README.md | while read -r file; do
-        put 644 "$ROOT/$file" "$1/$file"
-    done
-    put 644 "$ROOM/BUILD" "$1/BUILD"
+    (cd "$ROOM/pages" && find . -type f -printf '%P\n') | while read -r file; do put 644 "$ROOM/pages/$file" "$1/$file"; done
 }
 
 # All files of a package, below a folder, with the folders of libraries and completions of the kind.
@@ -177,7 +182,7 @@ put_files() {
     local below=$1 lib=$2 zsh=$3 file
     put 755 "$PROGRAM" "$below/bin/causal_judge"
     if [ -z "$NO_LIBRARY" ]; then
-        put 644 "$ROOT/embed/causal_judge.h" "$below/include/causal_judge.h"
+        put 644 "$ROOM/pages/embed/causal_judge.h" "$below/include/causal_judge.h"
         put 644 "$ROOM/libcausal_judge.a" "$below/$lib/libcausal_judge.a"
         put 644 "$ROOM/libcausal_judge.so" "$below/$lib/causal_judge/libcausal_judge.so"
         sed -e "s|@VERSION@|$VERSION|" -e "s|@PREFIX@|$4|" -e "s|@LIB@|$lib|" "$HERE/causal_judge.pc.in" > "$ROOM/causal_judge.pc"
@@ -218,7 +223,7 @@ debian() {
     [ -n "$NO_LIBRARY" ] || linked+=("$ROOM/libcausal_judge.so")
     put_files "$below/usr" lib/x86_64-linux-gnu vendor-completions /usr
     for file in "$below"/usr/share/man/man1/*.1; do gzip -9n "$file"; done
-    { echo "causal_judge"; echo; cat "$ROOT/LICENSE"; } > "$below/$doc/copyright"
+    { echo "causal_judge"; echo; cat "$ROOM/pages/LICENSE"; } > "$below/$doc/copyright"
     { echo "causal-judge ($DEBIAN) unstable; urgency=medium"
       echo; echo "  * See CHANGELOG.md."; echo
       echo " -- $(git -C "$ROOT" log -1 --format='%an <%ae>')  $(date --rfc-email --date "@$SOURCE_DATE_EPOCH")"
