@@ -23,7 +23,7 @@ OUT=$HERE/out
 PROGRAM=$ROOT/crates/causal_judge/out/causal_judge
 LIBRARY=$ROOT/crates/causal_judge_library/out/libcausal_judge_library.a
 MARK=$ROOT/out/gate
-UNPROVED= NO_LIBRARY= IS_OTHER=
+UNPROVED='' NO_LIBRARY='' IS_OTHER=''
 
 fail() {
     echo "release/build.sh: $*" >&2
@@ -123,24 +123,37 @@ join_library() {
     if [ -n "$NO_LIBRARY" ]; then
         echo "library none: left out by --no-library"
     else
-        echo "library sha256 $(sum "$LIBRARY"), as rt lib left it"
+        echo "library sha256 $(sum "$LIBRARY")"
         echo "libcausal_judge.a sha256 $(sum "$ROOM/libcausal_judge.a")"
         echo "libcausal_judge.so sha256 $(sum "$ROOM/libcausal_judge.so")"
     fi
 } > "$ROOM/BUILD"
 
-# The man pages and the completions, from the program's own help.
+# The man pages and the completions, from the program's own help. help2man makes a page of a help up to its options; what comes after
+# them has lines and columns that it would join, so it is taken over as it is.
 mkdir "$ROOM/bin" "$ROOM/man" "$ROOM/completions"
-ln -s "$(realpath "$PROGRAM")" "$ROOM/bin/causal_judge"
+cat > "$ROOM/bin/causal_judge" <<END
+#!/bin/sh
+"$(realpath "$PROGRAM")" "\$@" | awk '/^Options:/ { last = 1 } last && /^\$/ { over = 1 } !over { print }'
+END
+chmod 755 "$ROOM/bin/causal_judge"
 python3 "$HERE/completions.py" "$PROGRAM" "$ROOM/completions"
 COMMANDS=$("$PROGRAM" --help | sed -n '/^Commands:/,/^$/ s/^  \([a-z]*\) .*/\1/p' | grep -v '^help$')
 page() {
     local about
     about=$(PATH=$ROOM/bin:$PATH; $1 --help | sed -n '1 s/^./\L&/p')
     PATH=$ROOM/bin:$PATH help2man --no-info --section 1 --manual "User Commands" --source "causal_judge $NAMED" \
-        --version-string "$VERSION" --name "$about" "$1" | sed "s/^$1 \\\\- /${1// /-} \\\\- /" > "$ROOM/man/${1// /-}.1"
+        --version-string "$VERSION" --name "$about" --opt-include "$ROOM/after" "$1" |
+        sed "s/^$1 \\\\- /${1// /-} \\\\- /" > "$ROOM/man/${1// /-}.1"
 }
+{
+    printf '[INPUT AND ANSWERS]\n.nf\n'
+    "$PROGRAM" --help | awk 'over { print } /^Options:/ { last = 1 } last && /^$/ { over = 1 }' |
+        sed -e 's/\\/\\e/g' -e "s/^[.']/\\\\\\&&/" -e 's/-/\\-/g'
+    printf '.fi\n'
+} > "$ROOM/after"
 page causal_judge
+rm "$ROOM/after"
 for command in $COMMANDS; do
     page "causal_judge $command"
 done
@@ -148,14 +161,19 @@ done
 # Puts a file in its place: MODE FROM TO.
 put() { install -D -m "$1" "$2" "$3"; }
 
-# The pages and the examples, in a folder.
+# The pages and the examples, once: as the commit has them, or, where files differ from it, as they are now.
+PAGES="README.md LICENSE CHANGELOG.md CITATION.cff CONTRIBUTING.md docs embed examples release/README.md tests/README.md bench/README.md"
+mkdir "$ROOM/pages"
+# shellcheck disable=SC2086
+if [ -z "$CHANGED" ]; then
+    git -C "$ROOT" archive "$COMMIT" $PAGES | tar -xf - -C "$ROOM/pages"
+else
+    (cd "$ROOT" && git ls-files $PAGES | tar -cf - -T -) | tar -xf - -C "$ROOM/pages"
+fi
+cp "$ROOM/BUILD" "$ROOM/pages/BUILD"
 put_pages() {
     local file
-    git -C "$ROOT" ls-files README.md LICENSE CHANGELOG.md CITATION.cff CONTRIBUTING.md docs embed examples release/README.md tests/README.md \
-        bench/README.md | while read -r file; do
-        put 644 "$ROOT/$file" "$1/$file"
-    done
-    put 644 "$ROOM/BUILD" "$1/BUILD"
+    (cd "$ROOM/pages" && find . -type f -printf '%P\n') | while read -r file; do put 644 "$ROOM/pages/$file" "$1/$file"; done
 }
 
 # All files of a package, below a folder, with the folders of libraries and completions of the kind.
@@ -163,7 +181,7 @@ put_files() {
     local below=$1 lib=$2 zsh=$3 file
     put 755 "$PROGRAM" "$below/bin/causal_judge"
     if [ -z "$NO_LIBRARY" ]; then
-        put 644 "$ROOT/embed/causal_judge.h" "$below/include/causal_judge.h"
+        put 644 "$ROOM/pages/embed/causal_judge.h" "$below/include/causal_judge.h"
         put 644 "$ROOM/libcausal_judge.a" "$below/$lib/libcausal_judge.a"
         put 644 "$ROOM/libcausal_judge.so" "$below/$lib/causal_judge/libcausal_judge.so"
         sed -e "s|@VERSION@|$VERSION|" -e "s|@PREFIX@|$4|" -e "s|@LIB@|$lib|" "$HERE/causal_judge.pc.in" > "$ROOM/causal_judge.pc"
@@ -200,10 +218,11 @@ depends() {
 }
 
 debian() {
-    local below=$ROOM/debian doc=usr/share/doc/causal-judge file
+    local below=$ROOM/debian doc=usr/share/doc/causal-judge file linked=("$PROGRAM")
+    [ -n "$NO_LIBRARY" ] || linked+=("$ROOM/libcausal_judge.so")
     put_files "$below/usr" lib/x86_64-linux-gnu vendor-completions /usr
     for file in "$below"/usr/share/man/man1/*.1; do gzip -9n "$file"; done
-    { echo "causal_judge"; echo; cat "$ROOT/LICENSE"; } > "$below/$doc/copyright"
+    { echo "causal_judge"; echo; cat "$ROOM/pages/LICENSE"; } > "$below/$doc/copyright"
     { echo "causal-judge ($DEBIAN) unstable; urgency=medium"
       echo; echo "  * See CHANGELOG.md."; echo
       echo " -- $(git -C "$ROOT" log -1 --format='%an <%ae>')  $(date --rfc-email --date "@$SOURCE_DATE_EPOCH")"
@@ -222,7 +241,7 @@ Version: $DEBIAN
 Architecture: amd64
 Maintainer: $(git -C "$ROOT" log -1 --format='%an <%ae>')
 Installed-Size: $(du -sk --apparent-size "$below/usr" | cut -f 1)
-Depends: $(depends "$PROGRAM" $([ -n "$NO_LIBRARY" ] || echo "$ROOM/libcausal_judge.so"))
+Depends: $(depends "${linked[@]}")
 Section: science
 Priority: optional
 Description: judge of causal consistency

@@ -15,10 +15,16 @@ try() {
 }
 
 mkdir /root/here && cd /root/here && cp /given/packages/* . || exit 1
-# The lines of README.md, in this shell: what they set has to last.
+# The lines of README.md, in this shell: what they set has to last. They end in the folder with the pages and the examples.
+IS_INSTALLED=''
+exec 3>&1
+trap '[ -n "$IS_INSTALLED" ] || { cat /tmp/install.log; echo "$NAME: not installed"; echo "0 passed, 1 failed"; } >&3' EXIT
 set -e
-. "/given/install.$NAME" > install.log 2>&1 || { cat install.log; echo "$NAME: not installed"; echo "0 passed, 1 failed"; exit 1; }
+# shellcheck source=/dev/null
+. "/given/install.$NAME" > /tmp/install.log 2>&1
 set +e
+IS_INSTALLED=yes
+DOC=$PWD
 cd /root/here || exit 1
 
 case $NAME in
@@ -26,7 +32,6 @@ case $NAME in
     deb) BASE=/usr ;;
     wheel) BASE=/root/here/judge ;;
 esac
-DOC=$BASE/share/doc/causal-judge
 LIB=$BASE/lib
 [ "$NAME" != deb ] || LIB=/usr/lib/x86_64-linux-gnu
 export PKG_CONFIG_PATH=$LIB/pkgconfig

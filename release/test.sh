@@ -8,14 +8,14 @@
 # library. Where lintian is installed, the Debian package may have no fault but that no licence is granted.
 #
 # It runs as root, and needs mmdebstrap and a mirror of Debian: about 150 megabytes, and two to eight minutes to make the root, which
-# --root TAR keeps for the next time. Unpacked it takes 0.5 gigabytes, and then a minute a package.
+# --root TAR keeps for the next time. It takes a gigabyte of /tmp while it runs, and a minute a package.
 #
 # The last line is 'N passed, M failed', with ', K skipped' after it where a package has no library.
 set -euo pipefail
 
 HERE=$(cd "$(dirname "$0")" && pwd)
 ROOT=$(dirname "$HERE")
-OUT=$HERE/out TAR= NAMES=
+OUT=$HERE/out TAR='' NAMES=''
 HOLDS=python3,python3-venv,gcc,libc6-dev,pkg-config,man-db,bsdextrautils,bash-completion
 SUITE=bookworm
 
