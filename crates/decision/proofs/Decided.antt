@@ -1,6 +1,7 @@
 -- What is decided where no kind against causal consistency is present.
-use Rattle.std.proofs.Common.{refl, ⊎_elim}
-use Rattle.bad_patterns.specs.declared.kind.Kind.TheVariants.{CyclicCO, ThinAirRead}
+use Rattle.std.specs.Prelude.{◌≡◌, ◌⊎◌}
+use Rattle.std.proofs.Common.{refl, subst, ⊎_elim}
+use Rattle.bad_patterns.specs.declared.kind.Kind.TheVariants.{CyclicCO, CyclicHB, ThinAirRead}
 use Rattle.bad_patterns.specs.declared.pattern.Pattern.{Pattern}
 use Rattle.bad_patterns.specs.Kinds.{IsFreeOf}
 use Rattle.bad_patterns.specs.Patterns.{IsBadPattern, kind_of}
@@ -11,6 +12,9 @@ use Rattle.memory_order.specs.Memory.{MemoryHistory, IsDifferentiated}
 use Rattle.memory_order.specs.SourceOrder.{LacksSource, SourceOrder}
 use Rattle.memory_order.specs.Steps.Indexed.{IsUnordered}
 use Rattle.memory_order.proofs.FirstWrites.{CO-from_sources}
+use Rattle.pattern_search.specs.declared.searched.Searched.{Searched}
+use Rattle.pattern_search.specs.declared.searched.Searched.TheVariants.{Nothing}
+use Rattle.pattern_search.specs.Searches.{ComesTo, HasPattern}
 use Rattle.pattern_search.proofs.NothingFound.{against-memory}
 use Rattle.decision.specs.declared.deciding.Decisions.{Decisions}
 use Rattle.decision.specs.Decisions.{IsDecided, decision_for}
@@ -29,6 +33,14 @@ module _ (h : MemoryHistory) where
       (λ (cyclic : (a : OpId) × SourceOrder h a a). free CyclicCO refl (distinct, (cyclic.0, CO-from_sources h cyclic.0 cyclic.0 cyclic.1)))
       (λ (lacks : LacksSource h). free ThinAirRead refl (distinct, (lacks.0, (lacks.1, lacks.2, lacks.3, lacks.4, lacks.5))))
       unordered
+
+  -- where no read is present, none is shown
+  pub cycles-left : (A B : Type 0) (starts cycles : Searched) → starts ≡ Nothing → HasPattern starts ⊎ ComesTo h CyclicHB A B cycles
+      → ComesTo h CyclicHB A B cycles
+  cycles-left A B starts cycles nothing found = ⊎_elim
+      (λ (shown : HasPattern starts). absurd (subst (λ (s : Searched). HasPattern s) nothing shown))
+      (λ (comes : ComesTo h CyclicHB A B cycles). comes)
+      found
 
   -- what is decided for each criterion
   pub all-decided : (all : Decisions) → IsDecided h Cc all.cc → IsDecided h Cm all.cm → IsDecided h Ccv all.ccv

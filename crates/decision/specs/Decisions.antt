@@ -6,18 +6,20 @@ use Rattle.cert_check.specs.declared.criterion.Criterion.TheVariants.{Cc, Cm, Cc
 use Rattle.cert_check.specs.Criteria.{Meets}
 use Rattle.memory_order.specs.Memory.{MemoryHistory, IsDifferentiated, memory_answer}
 use Rattle.bad_patterns.specs.Kinds.{IsTrueNo}
-use Rattle.bad_patterns.specs.Patterns.{IsBadPattern}
+use Rattle.bad_patterns.specs.Patterns.{IsBadPattern, kind_of}
+use Rattle.pattern_search.specs.FirstKinds.{ComesFirst}
 use Rattle.pattern_search.specs.Searches.{HasLargeHB}
 use Rattle.decision.specs.declared.deciding.Decision.{Decision}
 use Rattle.decision.specs.declared.deciding.Decisions.{Decisions}
 use Rattle.decision.specs.declared.deciding.Decision.TheVariants as decisions
 
 -- the history meets the criterion, or a pattern excludes it, or a kind does, where some happened-before relation has more than
--- 19,999 pairs that the causal order doesn't have, or values are not distinct
+-- 19,999 pairs that the causal order doesn't have, or values are not distinct; the kind is the first that is against the criterion
+-- and present
 abbrev pub IsDecided : MemoryHistory → Criterion → Decision → Type 0
 IsDecided h criterion decisions.Meets = Meets memory_answer h criterion
-IsDecided h criterion (decisions.Excluded pattern) = IsBadPattern h criterion pattern
-IsDecided h criterion (decisions.ExcludedBy kind) = IsTrueNo h criterion kind × HasLargeHB h (Some MAX_RAISES)
+IsDecided h criterion (decisions.Excluded pattern) = IsBadPattern h criterion pattern × ComesFirst h criterion (kind_of pattern)
+IsDecided h criterion (decisions.ExcludedBy kind) = IsTrueNo h criterion kind × HasLargeHB h (Some MAX_RAISES) × ComesFirst h criterion kind
 IsDecided h criterion decisions.Open = ¬ IsDifferentiated h
 
 -- the decision for one criterion

@@ -1,19 +1,21 @@
 //! The decision whether a memory history meets a criterion.
 
-ghost use Rattle.std.specs.Prelude.{◌≢◌, IfOk, IsTrue};
+ghost use Rattle.std.specs.Prelude.{◌≢◌, IfOk, IsTrue, None};
 ghost use Rattle.bad_patterns.specs.Kinds.{IsFreeOf};
 ghost use Rattle.cert_check.specs.declared.criterion.Criterion.{Criterion as AnyCriterion};
 ghost use Rattle.cert_check.specs.declared.criterion.Criterion.TheVariants.{Cc, Ccv, Cm};
 ghost use Rattle.decision.specs.Decisions.{IsDecided, decision_for};
 ghost use Rattle.cert_check.specs.Criteria.{Meets};
+ghost use Rattle.memory_order.specs.HappenedBeforePatterns.{HasHBCycle, HasStartOverwrittenInHB};
 ghost use Rattle.memory_order.specs.Memory.{IsDifferentiated, memory_answer};
+ghost use Rattle.pattern_search.specs.Searches.{AreSearched};
 
 use crate::session_orders::is_shown_by_orders;
 use bad_patterns::laws::present_kinds_exclude_criteria;
 use bad_patterns::{Kind, Pattern};
 use cert_check::Criterion;
 use memory_order::{CausalOrder, IndexedMemory};
-use pattern_search::{Searched, find_conflicts, find_in, search_happened_before};
+use pattern_search::{Searched, SearchedKinds, find_conflicts, find_in, search_happened_before};
 use std::alloc::{AllocError, Global};
 
 /// How many pairs that the causal order doesn't have make the happened-before relations of a history dearer than orders of its
@@ -25,10 +27,11 @@ const FEW_PAIRS: u32 = 64;
 pub enum Decision {
     /// The history meets the criterion.
     Meets,
-    /// It does not meet the criterion: the pattern shows that.
+    /// It does not meet the criterion: the pattern shows that. Its kind is the first that is against the criterion and present.
     Excluded(Pattern),
-    /// It does not meet the criterion, since this kind is present; a derivation that shows it might have more than 100,000
-    /// lines. Only where some happened-before relation has more than 19,999 pairs that the causal order doesn't have.
+    /// It does not meet the criterion, since this kind is present, the first that is against it; a derivation that shows the kind
+    /// might have more than 100,000 lines. Only where some happened-before relation has more than 19,999 pairs that the causal
+    /// order doesn't have.
     ExcludedBy(Kind),
     /// Its values are not distinct, and nothing is decided.
     Open,
@@ -37,7 +40,8 @@ pub enum Decision {
 /// Whether a memory history of distinct values meets a criterion.
 ///
 /// It does exactly where no kind of bad pattern against the criterion is present (Bouajjani, Enea, Guerraoui and Hamza, "On
-/// Verifying Causal Consistency", POPL 2017), so kinds are looked for, and no certificate is made. For causal memory orders of
+/// Verifying Causal Consistency", POPL 2017), so kinds are looked for, and no certificate is made. Where it does not, the decision
+/// names the first kind that is present, whether a pattern of it is found or not. For causal memory orders of
 /// the sessions' pasts are tried before happened-before relations are made, which have no limit on their pairs. `Open` exactly
 /// where values are not distinct.
 ///
@@ -155,12 +159,30 @@ fn decide_consistent(alloc: Global, memory: &IndexedMemory) -> Result<Decision, 
     if is_shown_by_orders(alloc, &order)? {
         return Ok(Decision::Meets);
     }
+    let searched = search_happened_before(alloc, &order, None)?;
+    Ok(decision_of(memory, searched))
+}
+
+/// What a search of all happened-before relations decides of causal memory, where no kind against causal consistency is present.
+fn decision_of(memory: &IndexedMemory, searched: SearchedKinds) -> Decision
+    requires distinct { IsDifferentiated memory.now }
+    requires free { IsFreeOf memory.now Cc }
+    requires searched { AreSearched memory.now None (¬ HasStartOverwrittenInHB memory.now) (¬ HasHBCycle memory.now) searched }
+    ensures { IsDecided memory.now Cm result }
+{
+    memory.history().value_is_history();
     present_kinds_exclude_criteria();
-    match search_happened_before(alloc, &order, None)? {
-        Searched::Pattern(pattern) => Ok(Decision::Excluded(pattern)),
-        Searched::Present(kind) => Ok(Decision::ExcludedBy(kind)),
+    let SearchedKinds { starts, cycles } = searched;
+    match starts {
+        Searched::Pattern(start) => Decision::Excluded(start),
+        Searched::Present => Decision::ExcludedBy(Kind::WriteHBInitRead),
         Searched::Open => unreachable!(),
-        Searched::Nothing => Ok(Decision::Meets),
+        Searched::Nothing => match cycles {
+            Searched::Pattern(cycle) => Decision::Excluded(cycle),
+            Searched::Present => Decision::ExcludedBy(Kind::CyclicHB),
+            Searched::Open => unreachable!(),
+            Searched::Nothing => Decision::Meets,
+        },
     }
 }
 
@@ -172,10 +194,8 @@ fn is_clear_by_few(alloc: Global, order: &CausalOrder) -> Result<bool, AllocErro
     ensures { IfOk result (λ yes. IsTrue yes → Meets memory_answer order.now Cm) }
 {
     order.history().value_is_history();
-    match search_happened_before(alloc, order, Some(FEW_PAIRS))? {
-        Searched::Nothing => Ok(true),
-        Searched::Pattern(_) | Searched::Present(_) | Searched::Open => Ok(false),
-    }
+    let searched = search_happened_before(alloc, order, Some(FEW_PAIRS))?;
+    Ok(searched.is_nothing())
 }
 
 /// Whether a memory history that no pattern against causal consistency is in meets causal convergence.

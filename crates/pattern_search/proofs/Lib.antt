@@ -6,6 +6,7 @@ pub mod RoutesBack
 pub mod ReadPatterns
 pub mod KnownBefore
 pub mod NothingFound
+pub mod FirstKindLaws
 pub mod HappenedReads
 pub mod SearchedLaws
 pub mod PlacedLists

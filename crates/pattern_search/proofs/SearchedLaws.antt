@@ -1,10 +1,11 @@
 -- What follows for what a search of happened-before relations comes to.
-use Rattle.std.proofs.Common.{◌≡◌, ℕ, ◌+◌, ◌-◌, ◌<◌, ◌≤◌, List, Ok, Err, Result, length, inr, ⊎_elim, refl, sym, arith, lt-ltb, ltb-true, subst, eq-or-lt_of_le}
-use Rattle.std.specs.Prelude.{IfOk, IsTrue, None, Option, Some}
+use Rattle.std.proofs.Common.{◌≡◌, ℕ, ◌+◌, ◌-◌, ◌<◌, ◌≤◌, List, Ok, Err, Result, length, inl, inr, ⊎_elim, refl, sym, arith, lt-ltb, ltb-true, subst, eq-or-lt_of_le}
+use Rattle.std.specs.Prelude.{◌⊎◌, IfOk, IsTrue, None, Option, Some}
 use Rattle.std.proofs.lemmas.Bool.{cases_lt}
 use Rattle.history.specs.declared.op_id.OpId.{OpId}
 use Rattle.history.specs.History.{IsOp, session}
 use Rattle.memory_order.specs.declared.growing_order.Raise.{Raise}
+use Rattle.memory_order.specs.HappenedBeforePatterns.{HasHBCycle, HasStartOverwrittenInHB}
 use Rattle.memory_order.specs.Memory.{MemoryHistory, IsDifferentiated}
 use Rattle.memory_order.specs.Relations.{HB}
 use Rattle.causal_order.specs.Orders.{op, program_past}
@@ -14,47 +15,74 @@ use Rattle.memory_order.proofs.HappenedBeforeLaws.{HB-earlier, HB-of_history, in
 use Rattle.memory_order.proofs.HappenedBeforeVectors.{supported-strict}
 use Rattle.causal_order.proofs.OrdersLaws.{session-of_history}
 use Rattle.bad_patterns.specs.declared.derivation.Line.{Line}
-use Rattle.bad_patterns.specs.declared.kind.Kind.TheVariants as kinds
+use Rattle.bad_patterns.specs.declared.kind.Kind.{Kind}
+use Rattle.bad_patterns.specs.declared.kind.Kind.TheVariants.{WriteHBInitRead, CyclicHB}
 use Rattle.bad_patterns.specs.declared.pattern.Pattern.TheVariants as patterns
+use Rattle.bad_patterns.specs.declared.pattern.Pattern.{Pattern as BadPattern}
 use Rattle.bad_patterns.specs.Derivations.{IsDerivation}
+use Rattle.bad_patterns.specs.Kinds.{is_against}
+use Rattle.bad_patterns.specs.Patterns.{IsBadPattern, kind_of}
+use Rattle.cert_check.specs.declared.criterion.Criterion.{Criterion}
+use Rattle.cert_check.specs.declared.criterion.Criterion.TheVariants.{Cc, Cm, Ccv}
 use Rattle.pattern_search.specs.declared.searched.Searched.{Searched}
 use Rattle.pattern_search.specs.declared.searched.Searched.TheVariants.{Pattern, Present, Open, Nothing}
-use Rattle.pattern_search.specs.Searches.{ComesTo, HasLargeHB, HasPattern, IsClear, either}
-use Rattle.pattern_search.specs.Steps.Relations.{HasNoCycle, HasLarge, HasNoRelation, HasNoStart, IsClearBefore, IsRelation, IsStartOverwritten}
+use Rattle.pattern_search.specs.declared.searched.SearchedKinds.{SearchedKinds}
+use Rattle.pattern_search.specs.Searches.{AreSearched, ComesTo, HasLargeHB, HasPattern, either}
+use Rattle.pattern_search.specs.Steps.Found.{IsFirstHappened}
+use Rattle.pattern_search.specs.Steps.Relations.{HasLarge, HasNoCycle, HasNoCycleBefore, HasNoRelation, HasNoStart, HasNoStartBefore}
+use Rattle.pattern_search.specs.Steps.Relations.{IsRelation, IsStartOverwritten}
 
 -- what holds of each result holds of a result
 pub ok-weaker : {A E : Type 0} (r : Result A E) (P Q : A → Type 0) → ((x : A) → P x → Q x) → IfOk r P → IfOk r Q
 ok-weaker (Ok x) P Q weaker p = weaker x p
 ok-weaker (Err e) P Q weaker p = p
 
-module _ (h : MemoryHistory) where
-  pub comes-weaker : (A B C D : Type 0) → (A → C) → (B → D) → (s : Searched) → ComesTo h A B s → ComesTo h C D s
-  comes-weaker A B C D undecided nothing (Pattern pattern) comes = comes
-  comes-weaker A B C D undecided nothing (Present kind) comes = comes
-  comes-weaker A B C D undecided nothing Open comes = undecided comes
-  comes-weaker A B C D undecided nothing Nothing comes = nothing comes
+-- a pattern that is shown stays
+pub either-pattern : (s t : Searched) → HasPattern s → HasPattern (either s t)
+either-pattern (Pattern pattern) t shown = shown
+either-pattern Present t shown = absurd shown
+either-pattern Open t shown = absurd shown
+either-pattern Nothing t shown = absurd shown
 
-  pub comes-pattern : (A B C D : Type 0) (s : Searched) → HasPattern s → ComesTo h A B s → ComesTo h C D s
-  comes-pattern A B C D (Pattern pattern) shown comes = comes
-  comes-pattern A B C D (Present kind) shown comes = absurd shown
-  comes-pattern A B C D Open shown comes = absurd shown
-  comes-pattern A B C D Nothing shown comes = absurd shown
+-- what is no pattern
+pub not-pattern : (s : Searched) → (s ≡ Present) ⊎ ((s ≡ Open) ⊎ (s ≡ Nothing)) → ¬ HasPattern s
+not-pattern s found shown = ⊎_elim
+    (λ (is : s ≡ Present). subst (λ (t : Searched). HasPattern t) is shown)
+    (λ (other : (s ≡ Open) ⊎ (s ≡ Nothing)). ⊎_elim
+    (λ (is : s ≡ Open). subst (λ (t : Searched). HasPattern t) is shown)
+    (λ (is : s ≡ Nothing). subst (λ (t : Searched). HasPattern t) is shown)
+    other)
+    found
+
+module _ (h : MemoryHistory) where
+  pub comes-weaker : (kind : Kind) (A B C D : Type 0) → (A → C) → (B → D) → (s : Searched) → ComesTo h kind A B s → ComesTo h kind C D s
+  comes-weaker kind A B C D undecided nothing (Pattern pattern) comes = comes
+  comes-weaker kind A B C D undecided nothing Present comes = comes
+  comes-weaker kind A B C D undecided nothing Open comes = undecided comes
+  comes-weaker kind A B C D undecided nothing Nothing comes = nothing comes
+
+  pub comes-pattern : (kind : Kind) (A B C D : Type 0) (s : Searched) → HasPattern s → ComesTo h kind A B s → ComesTo h kind C D s
+  comes-pattern kind A B C D (Pattern pattern) shown comes = comes
+  comes-pattern kind A B C D Present shown comes = absurd shown
+  comes-pattern kind A B C D Open shown comes = absurd shown
+  comes-pattern kind A B C D Nothing shown comes = absurd shown
 
   -- two searches come to nothing where both do
-  pub comes-either : (A B C : Type 0) (s t : Searched) → ComesTo h A B s → ComesTo h A C t → ComesTo h A (B × C) (either s t)
-  comes-either A B C (Pattern pattern) t first second = first
-  comes-either A B C (Present kind) (Pattern pattern) first second = second
-  comes-either A B C (Present kind) (Present other) first second = first
-  comes-either A B C (Present kind) Open first second = first
-  comes-either A B C (Present kind) Nothing first second = first
-  comes-either A B C Open (Pattern pattern) first second = second
-  comes-either A B C Open (Present kind) first second = second
-  comes-either A B C Open Open first second = first
-  comes-either A B C Open Nothing first second = first
-  comes-either A B C Nothing (Pattern pattern) first second = second
-  comes-either A B C Nothing (Present kind) first second = second
-  comes-either A B C Nothing Open first second = second
-  comes-either A B C Nothing Nothing first second = (first, second)
+  pub comes-either : (kind : Kind) (A B C : Type 0) (s t : Searched) → ComesTo h kind A B s → ComesTo h kind A C t
+      → ComesTo h kind A (B × C) (either s t)
+  comes-either kind A B C (Pattern pattern) t first second = first
+  comes-either kind A B C Present (Pattern pattern) first second = second
+  comes-either kind A B C Present Present first second = first
+  comes-either kind A B C Present Open first second = first
+  comes-either kind A B C Present Nothing first second = first
+  comes-either kind A B C Open (Pattern pattern) first second = second
+  comes-either kind A B C Open Present first second = second
+  comes-either kind A B C Open Open first second = first
+  comes-either kind A B C Open Nothing first second = first
+  comes-either kind A B C Nothing (Pattern pattern) first second = second
+  comes-either kind A B C Nothing Present first second = second
+  comes-either kind A B C Nothing Open first second = second
+  comes-either kind A B C Nothing Nothing first second = (first, second)
 
   -- a relation that has so many pairs has them later in its session too
   more-later : IsDifferentiated h → (o p : OpId) → IsOp h o → IsTrue (program_past o p) → (n : ℕ) → HasMorePairs h p n → HasMorePairs h o n
@@ -122,70 +150,147 @@ module _ (h : MemoryHistory) where
   absent-cycle : (o : OpId) → ¬ IsOp h o → HasNoCycle h o
   absent-cycle o absent a before = absent (HB-of_history h o a a before)
 
-  -- a session without operations
-  pub clear-empty : (s : ℕ) → length (session h s) ≡ 0 → IsClearBefore h s → IsClearBefore h (s + 1)
-  clear-empty s empty before p below = ⊎_elim
-      (λ (same : p.session ≡ s).
-      let absent : ¬ IsOp h p = λ is_op.
-      let size : length (session h p.session) ≡ 0 = subst (λ (t : ℕ). length (session h t) ≡ 0) (sym same) empty in omega arith in
-      (absent-start p absent, absent-cycle p absent))
-      (λ (earlier : p.session < s). before p earlier)
-      (let up_to : p.session ≤ s = omega arith in eq-or-lt_of_le up_to)
+  -- what is so of what is no operation, and of an operation where it is so of a later one of its session, is so of one session
+  -- more: of one without operations, and of one of whose last operation it is so
+  module _ (P : OpId → Type 0) (absent : (o : OpId) → ¬ IsOp h o → P o)
+      (earlier : (o p : OpId) → IsOp h o → p.session ≡ o.session → p.index ≤ o.index → P o → P p) where
+    one-empty : (s : ℕ) → length (session h s) ≡ 0 → ((o : OpId) → o.session < s → P o) → (o : OpId) → o.session < s + 1 → P o
+    one-empty s empty before p below = ⊎_elim
+        (λ (same : p.session ≡ s).
+        let none : ¬ IsOp h p = λ is_op.
+        let size : length (session h p.session) ≡ 0 = subst (λ (t : ℕ). length (session h t) ≡ 0) (sym same) empty in omega arith in
+        absent p none)
+        (λ (lower : p.session < s). before p lower)
+        (let up_to : p.session ≤ s = omega arith in eq-or-lt_of_le up_to)
 
-  -- a session whose last relation has nothing
-  pub clear-last : (o : OpId) → IsOp h o → o.index + 1 ≡ length (session h o.session) → HasNoStart h o → HasNoCycle h o
-      → IsClearBefore h o.session → IsClearBefore h (o.session + 1)
-  clear-last o is_op last start cycle before p below = ⊎_elim
-      (λ (same : p.session ≡ o.session). ⊎_elim
-      (λ (inside : p.index < length (session h p.session)).
-      let size : p.index < length (session h o.session) = subst (λ (t : ℕ). p.index < length (session h t)) same inside in
-      (earlier-start o p is_op same (omega arith) start, earlier-cycle o p is_op same (omega arith) cycle))
-      (λ (past : length (session h p.session) ≤ p.index).
-      let absent : ¬ IsOp h p = λ is. omega arith in
-      (absent-start p absent, absent-cycle p absent))
-      (cases_lt p.index (length (session h p.session))))
-      (λ (earlier : p.session < o.session). before p earlier)
-      (let up_to : p.session ≤ o.session = omega arith in eq-or-lt_of_le up_to)
+    one-last : (o : OpId) → IsOp h o → o.index + 1 ≡ length (session h o.session) → P o → ((p : OpId) → p.session < o.session → P p)
+        → (p : OpId) → p.session < o.session + 1 → P p
+    one-last o is_op last holds before p below = ⊎_elim
+        (λ (same : p.session ≡ o.session). ⊎_elim
+        (λ (inside : p.index < length (session h p.session)).
+        let size : p.index < length (session h o.session) = subst (λ (t : ℕ). p.index < length (session h t)) same inside in
+        earlier o p is_op same (omega arith) holds)
+        (λ (past : length (session h p.session) ≤ p.index).
+        let none : ¬ IsOp h p = λ is. omega arith in
+        absent p none)
+        (cases_lt p.index (length (session h p.session))))
+        (λ (lower : p.session < o.session). before p lower)
+        (let up_to : p.session ≤ o.session = omega arith in eq-or-lt_of_le up_to)
 
   -- all sessions
-  pub clear-all : (n : ℕ) → length h.1 ≤ n → IsClearBefore h n → IsClear h
-  clear-all n ended clear = (
-    λ (o, a, before).
-        let below = session-of_history h o (HB-of_history h o a a before) in
-        (clear o (omega arith)).1 a before,
-    λ (o, w, r, x, v, writes, reads, kept, before).
-        let below = session-of_history h o (HB-of_history h o w r before) in
-        (clear o (omega arith)).0 w r (x, v, writes, reads, kept, before),
-  )
+  pub no-start-all : (n : ℕ) → length h.1 ≤ n → HasNoStartBefore h n → ¬ HasStartOverwrittenInHB h
+  no-start-all n ended none (o, w, r, x, v, writes, reads, kept, before) =
+      let below = session-of_history h o (HB-of_history h o w r before) in
+      none o (omega arith) w r (x, v, writes, reads, kept, before)
+
+  pub no-cycle-all : (n : ℕ) → length h.1 ≤ n → HasNoCycleBefore h n → ¬ HasHBCycle h
+  no-cycle-all n ended none (o, a, before) =
+      let below = session-of_history h o (HB-of_history h o a a before) in
+      none o (omega arith) a before
+
+  -- both searches of all sessions
+  pub searched-all : (most : Option ℕ) (n : ℕ) → length h.1 ≤ n → (kinds : SearchedKinds)
+      → AreSearched h most (HasNoStartBefore h n) (HasNoCycleBefore h n) kinds
+      → AreSearched h most (¬ HasStartOverwrittenInHB h) (¬ HasHBCycle h) kinds
+  searched-all most n ended kinds searched = record {
+    starts = comes-weaker WriteHBInitRead (HasLargeHB h most) (HasNoStartBefore h n) (HasLargeHB h most) (¬ HasStartOverwrittenInHB h)
+        (λ is. is) (no-start-all n ended) kinds.starts searched.starts;
+    cycles = ⊎_elim
+        (λ (shown : HasPattern kinds.starts). inl shown)
+        (λ (comes : ComesTo h CyclicHB (HasLargeHB h most) (HasNoCycleBefore h n) kinds.cycles).
+        inr (comes-weaker CyclicHB (HasLargeHB h most) (HasNoCycleBefore h n) (HasLargeHB h most) (¬ HasHBCycle h)
+        (λ is. is) (no-cycle-all n ended) kinds.cycles comes))
+        searched.cycles;
+  }
+
+  -- a read that is shown ends them
+  pub searched-shown : (most : Option ℕ) (A B C D : Type 0) (kinds : SearchedKinds) → HasPattern kinds.starts
+      → AreSearched h most A B kinds → AreSearched h most C D kinds
+  searched-shown most A B C D kinds shown searched = record {
+    starts = comes-pattern WriteHBInitRead (HasLargeHB h most) A (HasLargeHB h most) C kinds.starts shown searched.starts;
+    cycles = inl shown;
+  }
+
+  -- a session without operations
+  pub searched-empty : (most : Option ℕ) (s : ℕ) → length (session h s) ≡ 0 → (kinds : SearchedKinds)
+      → AreSearched h most (HasNoStartBefore h s) (HasNoCycleBefore h s) kinds
+      → AreSearched h most (HasNoStartBefore h (s + 1)) (HasNoCycleBefore h (s + 1)) kinds
+  searched-empty most s empty kinds searched = record {
+    starts = comes-weaker WriteHBInitRead (HasLargeHB h most) (HasNoStartBefore h s) (HasLargeHB h most) (HasNoStartBefore h (s + 1))
+        (λ is. is) (one-empty (HasNoStart h) absent-start earlier-start s empty) kinds.starts searched.starts;
+    cycles = ⊎_elim
+        (λ (shown : HasPattern kinds.starts). inl shown)
+        (λ (comes : ComesTo h CyclicHB (HasLargeHB h most) (HasNoCycleBefore h s) kinds.cycles).
+        inr (comes-weaker CyclicHB (HasLargeHB h most) (HasNoCycleBefore h s) (HasLargeHB h most) (HasNoCycleBefore h (s + 1))
+        (λ is. is) (one-empty (HasNoCycle h) absent-cycle earlier-cycle s empty) kinds.cycles comes))
+        searched.cycles;
+  }
+
+  -- a search that is left open
+  pub comes-open : (kind : Kind) (most : Option ℕ) (A B : Type 0) (s : Searched) → HasLargeHB h most
+      → ComesTo h kind (HasLargeHB h most) A s → ComesTo h kind (HasLargeHB h most) B (either s Open)
+  comes-open kind most A B s undecided first =
+      comes-weaker kind (HasLargeHB h most) (A × ⊥) (HasLargeHB h most) B (λ is. is) (λ (is : A × ⊥). absurd is.1) (either s Open)
+      (comes-either kind (HasLargeHB h most) A ⊥ s Open first undecided)
+
+  pub searched-open : (most : Option ℕ) (A B C D : Type 0) → HasLargeHB h most → (so_far kinds : SearchedKinds)
+      → kinds.starts ≡ either so_far.starts Open → kinds.cycles ≡ either so_far.cycles Open
+      → AreSearched h most A B so_far → AreSearched h most C D kinds
+  searched-open most A B C D large so_far kinds starts cycles searched = record {
+    starts = rw starts (comes-open WriteHBInitRead most A C so_far.starts large searched.starts);
+    cycles = ⊎_elim
+        (λ (shown : HasPattern so_far.starts). inl (rw starts (either-pattern so_far.starts Open shown)))
+        (λ (comes : ComesTo h CyclicHB (HasLargeHB h most) B so_far.cycles).
+        inr (rw cycles (comes-open CyclicHB most B D so_far.cycles large comes)))
+        searched.cycles;
+  }
 
   -- what a search of sessions and one of a relation come to
-  pub comes-start : (most : Option ℕ) (A : Type 0) (o : OpId) (s t : Searched) → ComesTo h (HasLargeHB h most) A s
-      → ComesTo h ⊥ (HasNoStart h o) t → ComesTo h (HasLargeHB h most) (A × HasNoStart h o) (either s t)
-  comes-start most A o s t first second =
-      comes-either (HasLargeHB h most) A (HasNoStart h o) s t first
-      (comes-weaker ⊥ (HasNoStart h o) (HasLargeHB h most) (HasNoStart h o) (λ large. absurd large) (λ none. none) t second)
+  pub comes-last : (kind : Kind) (most : Option ℕ) (A B C : Type 0) → (A → B → C) → (s t : Searched)
+      → ComesTo h kind (HasLargeHB h most) A s → ComesTo h kind ⊥ B t → ComesTo h kind (HasLargeHB h most) C (either s t)
+  comes-last kind most A B C both s t first second =
+      comes-weaker kind (HasLargeHB h most) (A × B) (HasLargeHB h most) C (λ is. is) (λ (is : A × B). both is.0 is.1) (either s t)
+      (comes-either kind (HasLargeHB h most) A B s t first
+      (comes-weaker kind ⊥ B (HasLargeHB h most) B (λ large. absurd large) (λ none. none) t second))
 
-  pub comes-cycle : (most : Option ℕ) (A : Type 0) (o : OpId) (s t : Searched) → ComesTo h (HasLargeHB h most) A s
-      → ComesTo h ⊥ (HasNoCycle h o) t → ComesTo h (HasLargeHB h most) (A × HasNoCycle h o) (either s t)
-  comes-cycle most A o s t first second =
-      comes-either (HasLargeHB h most) A (HasNoCycle h o) s t first
-      (comes-weaker ⊥ (HasNoCycle h o) (HasLargeHB h most) (HasNoCycle h o) (λ large. absurd large) (λ none. none) t second)
+  module _ (most : Option ℕ) (o : OpId) (is_op : IsOp h o) (last : o.index + 1 ≡ length (session h o.session)) where
+    pub starts-last : (s t : Searched) → ComesTo h WriteHBInitRead (HasLargeHB h most) (HasNoStartBefore h o.session) s
+        → ComesTo h WriteHBInitRead ⊥ (HasNoStart h o) t → ComesTo h WriteHBInitRead (HasLargeHB h most) (HasNoStartBefore h (o.session + 1)) (either s t)
+    starts-last = comes-last WriteHBInitRead most (HasNoStartBefore h o.session) (HasNoStart h o) (HasNoStartBefore h (o.session + 1))
+        (λ before none. one-last (HasNoStart h) absent-start earlier-start o is_op last none before)
 
-  -- a session that leaves the search open
-  pub comes-open : (most : Option ℕ) (A B : Type 0) (s : Searched) → HasLargeHB h most → ComesTo h (HasLargeHB h most) A s
-      → ComesTo h (HasLargeHB h most) B (either s Open)
-  comes-open most A B s undecided first =
-      comes-weaker (HasLargeHB h most) (A × ⊥) (HasLargeHB h most) B (λ is. is) (λ (is : A × ⊥). absurd is.1) (either s Open)
-      (comes-either (HasLargeHB h most) A ⊥ s Open first undecided)
+    pub cycles-last : (s : Searched) → ComesTo h CyclicHB (HasLargeHB h most) (HasNoCycleBefore h o.session × HasNoCycle h o) s
+        → ComesTo h CyclicHB (HasLargeHB h most) (HasNoCycleBefore h (o.session + 1)) s
+    cycles-last = comes-weaker CyclicHB (HasLargeHB h most) (HasNoCycleBefore h o.session × HasNoCycle h o) (HasLargeHB h most) (HasNoCycleBefore h (o.session + 1))
+        (λ is. is)
+        (λ (clear : HasNoCycleBefore h o.session × HasNoCycle h o). one-last (HasNoCycle h) absent-cycle earlier-cycle o is_op last clear.1 clear.0)
 
-  -- a session whose relation is searched whole
-  pub comes-last : (most : Option ℕ) (o : OpId) → IsOp h o → o.index + 1 ≡ length (session h o.session) → (s : Searched)
-      → ComesTo h (HasLargeHB h most) ((IsClearBefore h o.session × HasNoStart h o) × HasNoCycle h o) s
-      → ComesTo h (HasLargeHB h most) (IsClearBefore h (o.session + 1)) s
-  comes-last most o is_op last s comes =
-      comes-weaker (HasLargeHB h most) ((IsClearBefore h o.session × HasNoStart h o) × HasNoCycle h o) (HasLargeHB h most) (IsClearBefore h (o.session + 1))
-      (λ is. is)
-      (λ (clear : (IsClearBefore h o.session × HasNoStart h o) × HasNoCycle h o). clear-last o is_op last clear.0.1 clear.1 clear.0.0) s comes
+    -- a session whose relation shows a read, and one whose relation is searched whole
+    pub searched-start : (A : Type 0) (so_far kinds : SearchedKinds) (start : Searched) → kinds.starts ≡ either so_far.starts start → HasPattern kinds.starts
+        → AreSearched h most (HasNoStartBefore h o.session) A so_far → ComesTo h WriteHBInitRead ⊥ (HasNoStart h o) start
+        → AreSearched h most (HasNoStartBefore h (o.session + 1)) (HasNoCycleBefore h (o.session + 1)) kinds
+    searched-start A so_far kinds start starts shown searched found = record {
+      starts = rw starts (starts-last so_far.starts start searched.starts found);
+      cycles = inl shown;
+    }
+
+    pub searched-last : (so_far kinds : SearchedKinds) (start : Searched) → kinds.starts ≡ either so_far.starts start
+        → AreSearched h most (HasNoStartBefore h o.session) (HasNoCycleBefore h o.session) so_far → ComesTo h WriteHBInitRead ⊥ (HasNoStart h o) start
+        → (ComesTo h CyclicHB (HasLargeHB h most) (HasNoCycleBefore h o.session) so_far.cycles
+        → ComesTo h CyclicHB (HasLargeHB h most) (HasNoCycleBefore h o.session × HasNoCycle h o) kinds.cycles)
+        → AreSearched h most (HasNoStartBefore h (o.session + 1)) (HasNoCycleBefore h (o.session + 1)) kinds
+    searched-last so_far kinds start starts searched found cycles = record {
+      starts = rw starts (starts-last so_far.starts start searched.starts found);
+      cycles = ⊎_elim
+          (λ (shown : HasPattern so_far.starts). inl (rw starts (either-pattern so_far.starts start shown)))
+          (λ (comes : ComesTo h CyclicHB (HasLargeHB h most) (HasNoCycleBefore h o.session) so_far.cycles). inr (cycles-last kinds.cycles (cycles comes)))
+          searched.cycles;
+    }
+
+  -- two searches for a cycle
+  pub comes-cycle : (most : Option ℕ) (A : Type 0) (o : OpId) (s t : Searched) → ComesTo h CyclicHB (HasLargeHB h most) A s
+      → ComesTo h CyclicHB ⊥ (HasNoCycle h o) t → ComesTo h CyclicHB (HasLargeHB h most) (A × HasNoCycle h o) (either s t)
+  comes-cycle most A o = comes-last CyclicHB most A (HasNoCycle h o) (A × HasNoCycle h o) (λ first second. (first, second))
 
   -- a relation with so many pairs has fewer too
   pub large-less : (m n : ℕ) → m ≤ n → HasLargeHB h (Some n) → HasLargeHB h (Some m)
@@ -205,6 +310,32 @@ module _ (h : MemoryHistory) where
     },
   )
 
+  -- no read is shown: then none is present, or some relation is large
+  pub start-left : (s : Searched) → ¬ HasPattern s → ComesTo h WriteHBInitRead (HasLargeHB h (Some 100000)) (¬ HasStartOverwrittenInHB h) s
+      → (¬ HasStartOverwrittenInHB h) ⊎ HasLargeHB h (Some 19999)
+  start-left (Pattern pattern) none comes = absurd (none tt)
+  start-left Present none comes = inr comes.1
+  start-left Open none comes = inr (large-less 19999 100000 (omega arith) comes)
+  start-left Nothing none comes = inl comes
+
+  -- what is against causal memory for a cycle is so for the criterion that such cycles are against
+  bad-for : (criterion : Criterion) → IsTrue (is_against CyclicHB criterion) → (pattern : BadPattern) → IsBadPattern h Cm pattern
+      → IsBadPattern h criterion pattern
+  bad-for Cc against pattern bad = absurd cc
+  bad-for Cm against pattern bad = bad
+  bad-for Ccv against pattern bad = absurd cc
+
+  -- a cycle that is shown
+  pub cycle-found : (criterion : Criterion) (starts : Searched) (pattern : BadPattern) → IsTrue (is_against CyclicHB criterion) → ¬ HasPattern starts
+      → ComesTo h WriteHBInitRead (HasLargeHB h (Some 100000)) (¬ HasStartOverwrittenInHB h) starts
+      → HasPattern starts ⊎ ComesTo h CyclicHB (HasLargeHB h (Some 100000)) (¬ HasHBCycle h) (Pattern pattern)
+      → IsBadPattern h criterion pattern × IsFirstHappened h (kind_of pattern)
+  cycle-found criterion starts pattern against none comes cycles = ⊎_elim
+      (λ (shown : HasPattern starts). absurd (none shown))
+      (λ (found : IsBadPattern h Cm pattern × (kind_of pattern ≡ CyclicHB)).
+      (bad-for criterion against pattern found.0, inr (found.1, start-left starts none comes)))
+      cycles
+
   module _ (distinct : IsDifferentiated h) (relation : OpId × Counts × List Raise) (is : IsRelation h relation) (A B : Type 0) where
     -- each raise added a pair
     large-raises : 19999 < length relation.2 → HasLargeHB h (Some 19999)
@@ -212,19 +343,18 @@ module _ (h : MemoryHistory) where
 
     -- a read of the initial value after a write is shown by a derivation, or its kind is present
     pub start-shown : (w r : OpId) → IsStartOverwritten h relation.0 w r → (lines : List Line) → IsDerivation h relation.0 lines w r
-        → ComesTo h A B (Pattern (patterns.WriteHBInitRead relation.0 lines))
-    start-shown w r (x, v, writes, reads, kept, before) lines derivation = (
-      record { differentiated = distinct; against = refl; shown = (w, r, x, v, writes, reads, kept, derivation) },
-      λ a same. absurd cc,
-    )
+        → ComesTo h WriteHBInitRead A B (Pattern (patterns.WriteHBInitRead relation.0 lines))
+    start-shown w r (x, v, writes, reads, kept, before) lines derivation =
+        (record { differentiated = distinct; against = refl; shown = (w, r, x, v, writes, reads, kept, derivation) }, refl)
 
-    pub start-present : (w r : OpId) → IsStartOverwritten h relation.0 w r → 19999 < length relation.2 → ComesTo h A B (Present kinds.WriteHBInitRead)
+    pub start-present : (w r : OpId) → IsStartOverwritten h relation.0 w r → 19999 < length relation.2 → ComesTo h WriteHBInitRead A B Present
     start-present w r (x, v, writes, reads, kept, before) many =
-        (refl, (distinct, (relation.0, w, r, x, v, writes, reads, kept, before)), large-raises many)
+        ((distinct, (relation.0, w, r, x, v, writes, reads, kept, before)), large-raises many)
 
     -- so is a cycle
-    pub cycle-shown : (a : OpId) (lines : List Line) → IsDerivation h relation.0 lines a a → ComesTo h A B (Pattern (patterns.CyclicHB relation.0 lines))
-    cycle-shown a lines derivation = (record { differentiated = distinct; against = refl; shown = (a, derivation) }, λ b same. absurd cc)
+    pub cycle-shown : (a : OpId) (lines : List Line) → IsDerivation h relation.0 lines a a
+        → ComesTo h CyclicHB A B (Pattern (patterns.CyclicHB relation.0 lines))
+    cycle-shown a lines derivation = (record { differentiated = distinct; against = refl; shown = (a, derivation) }, refl)
 
-    pub cycle-present : (a : OpId) → HB h relation.0 a a → 19999 < length relation.2 → ComesTo h A B (Present kinds.CyclicHB)
-    cycle-present a before many = (refl, (distinct, (relation.0, a, before)), large-raises many)
+    pub cycle-present : (a : OpId) → HB h relation.0 a a → 19999 < length relation.2 → ComesTo h CyclicHB A B Present
+    cycle-present a before many = ((distinct, (relation.0, a, before)), large-raises many)

@@ -1,2 +1,3 @@
+pub mod FirstKinds
 pub mod Searches
 pub mod Steps

@@ -1,6 +1,7 @@
 ghost use Rattle.std.specs.Prelude.{◌≡◌, ◌↔◌, ◌≢◌, ℕ, IfNone, IfOk, IfSome, IsTrue, MatchOption};
 ghost use Rattle.bad_patterns.specs.Kinds.{IsFreeOf, IsThinAirRead, Shows, is_against};
-ghost use Rattle.bad_patterns.specs.Patterns.{IsBadPattern};
+ghost use Rattle.bad_patterns.specs.Patterns.{IsBadPattern, kind_of};
+ghost use Rattle.pattern_search.specs.FirstKinds.{ComesFirst, ComesFirstOrLarge};
 ghost use Rattle.pattern_search.specs.Searches.{IsFreeOrLarge};
 ghost use Rattle.pattern_search.specs.Steps.Found.{IsFirst, IsFirstFound, IsFirstOf};
 ghost use Rattle.bad_patterns.specs.declared.kind.Kind.TheVariants.{CyclicCF};
@@ -24,16 +25,17 @@ use std::alloc::{AllocError, Global};
 /// A pattern that shows that the history does not meet the criterion, where the search finds one.
 ///
 /// Against causal consistency and against causal convergence one is found exactly where a kind that is against the criterion
-/// is present in the history. So it is against causal memory, but where some happened-before relation has more than 19,999
-/// pairs that the causal order doesn't have: there one of the two kinds of happened-before may be missed. In a history that
+/// is present in the history, and it is of the first such kind. So it is against causal memory, but where some happened-before
+/// relation has more than 19,999 pairs that the causal order doesn't have: there one of the two kinds of happened-before may be
+/// missed, and a cycle may be found where a read of the initial value after a write is present. In a history that
 /// does not have distinct values no kind is present.
 ///
 /// Kinds are tried in turn, those alone that are against the criterion: a cycle of the causal order, a read of a value that
 /// nobody wrote, a read of the initial value after a write, a read from an overwritten write, a read of the initial value
 /// that a happened-before relation puts after a write, a happened-before relation with a cycle, and a cycle with
 /// conflicts. A thin-air read that is found is the first one. For the kinds of happened-before the relation of each
-/// session's last operation is searched: one with more than 100,000 pairs that the causal order doesn't have is left out,
-/// and so is a pattern whose derivation might have more than 100,000 lines.
+/// session's last operation is searched: one with more than 100,000 pairs that the causal order doesn't have is left out.
+/// In a relation one pair is tried for each kind, and left out where its derivation might have more than 100,000 lines.
 ///
 /// Fails for want of memory alone. O(n log n + n k) for n operations of k sessions, besides what `find_in` costs.
 pub fn find(
@@ -43,6 +45,7 @@ pub fn find(
 ) -> Result<Option<Pattern>, AllocError>
     ensures found { IfOk result (λ found. IfSome found (IsBadPattern h.now criterion)) }
     ensures first { IfOk result (λ found. IfSome found (IsFirstFound h.now)) }
+    ensures kind { IfOk result (λ found. IfSome found (λ pattern. ComesFirstOrLarge h.now criterion (kind_of pattern))) }
     ensures none { IfOk result (λ found. IfNone found (IsFreeOf h.now Cc)) }
     ensures exact { criterion ≢ Cm → IfOk result (λ found. IfNone found (IsFreeOf h.now criterion)) }
     ensures happened_before { criterion ≡ Cm → IfOk result (λ found. IfNone found (IsFreeOrLarge h.now)) }
@@ -64,6 +67,7 @@ pub fn find_in(
 ) -> Result<Option<Pattern>, AllocError>
     ensures found { IfOk result (λ found. IfSome found (IsBadPattern memory.now criterion)) }
     ensures first { IfOk result (λ found. IfSome found (IsFirstFound memory.now)) }
+    ensures kind { IfOk result (λ found. IfSome found (λ pattern. ComesFirstOrLarge memory.now criterion (kind_of pattern))) }
     ensures none { IfOk result (λ found. IfNone found (IsFreeOf memory.now Cc)) }
     ensures exact { criterion ≢ Cm → IfOk result (λ found. IfNone found (IsFreeOf memory.now criterion)) }
     ensures happened_before { criterion ≡ Cm → IfOk result (λ found. IfNone found (IsFreeOrLarge memory.now)) }
@@ -87,6 +91,7 @@ fn find_without_order(alloc: Global, memory: &IndexedMemory) -> Result<Pattern, 
     requires unordered { IsUnordered memory.now }
     ensures found { IfOk result (λ pattern. (criterion : AnyCriterion) → IsBadPattern memory.now criterion pattern) }
     ensures first { IfOk result (IsFirstFound memory.now) }
+    ensures kind { IfOk result (λ pattern. (criterion : AnyCriterion) → ComesFirst memory.now criterion (kind_of pattern)) }
 {
     if let Some(path) = cyclic_order(alloc, memory.history(), memory.sources())? {
         return Ok(Pattern::CyclicCO(path));
@@ -109,6 +114,7 @@ fn find_in_order(
     requires ordered { IsOrdered order.now }
     ensures found { IfOk result (λ found. IfSome found (IsBadPattern order.now criterion)) }
     ensures first { IfOk result (λ found. IfSome found (IsFirstFound order.now)) }
+    ensures kind { IfOk result (λ found. IfSome found (λ pattern. ComesFirstOrLarge order.now criterion (kind_of pattern))) }
     ensures none { IfOk result (λ found. IfNone found (IsFreeOf order.now Cc)) }
     ensures exact { criterion ≢ Cm → IfOk result (λ found. IfNone found (IsFreeOf order.now criterion)) }
     ensures happened_before { criterion ≡ Cm → IfOk result (λ found. IfNone found (IsFreeOrLarge order.now)) }
@@ -125,9 +131,11 @@ fn find_in_order(
 /// A read of the initial value after a write, or a read from an overwritten write, where there is one. They are against
 /// every criterion.
 fn find_overwritten(alloc: Global, order: &CausalOrder) -> Result<Option<Pattern>, AllocError>
-    requires { IsDifferentiated order.now }
+    requires differentiated { IsDifferentiated order.now }
+    requires ordered { IsOrdered order.now }
     ensures found { IfOk result (λ found. IfSome found (λ pattern. (criterion : AnyCriterion) → IsBadPattern order.now criterion pattern)) }
     ensures first { IfOk result (λ found. IfSome found (IsFirstFound order.now)) }
+    ensures kind { IfOk result (λ found. IfSome found (λ pattern. (criterion : AnyCriterion) → ComesFirst order.now criterion (kind_of pattern))) }
     ensures start { IfOk result (λ found. IfNone found (¬ HasOverwrittenStart order.now)) }
     ensures read { IfOk result (λ found. IfNone found (¬ HasOverwrittenRead order.now)) }
 {
@@ -151,6 +159,7 @@ pub fn find_conflicts(
     requires { IsDifferentiated order.now }
     ensures found { IfOk result (λ found. IfSome found (IsBadPattern order.now criterion)) }
     ensures first { IfOk result (λ found. IfSome found (IsFirstFound order.now)) }
+    ensures kind { IfOk result (λ found. IfSome found (λ pattern. kind_of pattern ≡ CyclicCF)) }
     ensures none { IfOk result (λ found. IfNone found (IsTrue (is_against CyclicCF criterion) → ¬ Shows order.now CyclicCF)) }
 {
     if !Kind::CyclicCF.is_against(criterion) {

@@ -1,15 +1,18 @@
 //! The search for patterns that happened-before relations show.
 
-ghost use Rattle.std.specs.Prelude.{◌≡◌, ◌⊎◌, ◌+◌, ◌<◌, ℕ, length, IfNone, IfOk, IfSome, IsTrue, Option, Some};
-ghost use Rattle.bad_patterns.specs.Patterns.{IsBadPattern};
+ghost use Rattle.std.specs.Prelude.{◌⊎◌, ◌+◌, ◌<◌, ◌≡◌, ℕ, length, IfNone, IfOk, IfSome, Option, Some};
+ghost use Rattle.bad_patterns.specs.Patterns.{IsBadPattern, kind_of};
+ghost use Rattle.bad_patterns.specs.declared.kind.Kind.TheVariants.{CyclicHB, WriteHBInitRead};
 ghost use Rattle.cert_check.specs.declared.criterion.Criterion.TheVariants.{Cm};
-ghost use Rattle.pattern_search.specs.Searches.{ComesTo, HasPattern, IsClear, HasLargeHB};
-ghost use Rattle.pattern_search.specs.Steps.Found.{IsFirstFound};
-ghost use Rattle.pattern_search.specs.Steps.Relations.{HasNoCycle, HasNoStart, IsClearBefore, IsRelation, IsRelationOfLast};
+ghost use Rattle.pattern_search.specs.Searches.{AreSearched, ComesTo, HasLargeHB, IsClear};
+ghost use Rattle.pattern_search.specs.Steps.Found.{IsFirstHappened};
+ghost use Rattle.pattern_search.specs.Steps.Relations.{HasNoCycle, HasNoCycleBefore, HasNoStart, HasNoStartBefore};
+ghost use Rattle.pattern_search.specs.Steps.Relations.{IsRelation, IsRelationOfLast};
+ghost use Rattle.memory_order.specs.HappenedBeforePatterns.{HasHBCycle, HasStartOverwrittenInHB};
 ghost use Rattle.memory_order.specs.Memory.{IsDifferentiated};
 
 use crate::search::{MAX_RAISES, Relation, cycle_in, derivation_of, overwritten_start_in};
-use crate::searched::Searched;
+use crate::searched::{Searched, SearchedKinds};
 use bad_patterns::{Kind, Pattern};
 use cert_check::Criterion;
 use memory_order::{CausalOrder, MAX_PAIRS};
@@ -17,8 +20,9 @@ use std::alloc::{AllocError, Global};
 
 /// A pattern of one of the kinds that rest on happened-before relations, where those are against the criterion.
 ///
-/// It is what `search_happened_before` shows with relations of at most 100,000 pairs that the causal order doesn't have. Against
-/// causal memory there is none only where none of these kinds is present, or some relation has more than 19,999 such pairs.
+/// It is what `search_happened_before` shows with relations of at most 100,000 pairs that the causal order doesn't have: a read of
+/// the initial value after a write, or else a cycle. Against causal memory there is none only where none of these kinds is present,
+/// or some relation has more than 19,999 such pairs, and only there is it a cycle where such a read is present.
 pub fn find_happened_before(
     alloc: Global,
     order: &CausalOrder,
@@ -26,29 +30,30 @@ pub fn find_happened_before(
 ) -> Result<Option<Pattern>, AllocError>
     requires { IsDifferentiated order.now }
     ensures found { IfOk result (λ found. IfSome found (IsBadPattern order.now criterion)) }
-    ensures first { IfOk result (λ found. IfSome found (IsFirstFound order.now)) }
+    ensures kind { IfOk result (λ found. IfSome found (λ pattern. IsFirstHappened order.now (kind_of pattern))) }
     ensures none { criterion ≡ Cm → IfOk result (λ found. IfNone found (IsClear order.now ⊎ HasLargeHB order.now (Some MAX_RAISES))) }
 {
     if !Kind::CyclicHB.is_against(criterion) {
         return Ok(None);
     }
-    match search_happened_before(alloc, order, Some(MAX_PAIRS))? {
-        Searched::Pattern(pattern) => Ok(Some(pattern)),
-        Searched::Present(_) => Ok(None),
-        Searched::Open => Ok(None),
-        Searched::Nothing => Ok(None),
+    let SearchedKinds { starts, cycles } = search_happened_before(alloc, order, Some(MAX_PAIRS))?;
+    match starts {
+        Searched::Pattern(start) => Ok(Some(start)),
+        Searched::Present | Searched::Open | Searched::Nothing => match cycles {
+            Searched::Pattern(cycle) => Ok(Some(cycle)),
+            Searched::Present | Searched::Open | Searched::Nothing => Ok(None),
+        },
     }
 }
 
-/// A bad pattern against causal memory, of one of the kinds that rest on happened-before relations, or whether there is
-/// none.
+/// What the happened-before relations of a history show, for each of the two kinds that rest on them.
 ///
 /// For each session the relation of its last operation is searched: it has what those of the operations before it have. A
 /// session is left out where this relation has more pairs than it may have, if a number is given, that the causal order
-/// doesn't have. A cycle is shown only where no session has a read of the initial value after a write. It comes to nothing
-/// only where none of these kinds is present. Where one is, and its derivation might have more than 100,000 lines, it comes to
-/// that kind: only where some relation has more than 19,999 pairs that the causal order doesn't have. It is open only where a
-/// session was left out: so never without a number.
+/// doesn't have: so never without a number. The search ends with the first read of the initial value after a write that is shown.
+/// For a kind it comes to nothing only where the kind is not present, and is open only where a session was left out. Where the
+/// kind is present and each derivation that was begun might have more than 100,000 lines, it says so: only where some relation has
+/// more than 19,999 pairs that the causal order doesn't have.
 ///
 /// Fails for want of memory alone. For each of k sessions O(n (log n + k^2) + m k log n) for n operations and m pairs that
 /// its relation has more than the causal order, and for each derivation O(m log m + l n) for l lines.
@@ -56,28 +61,21 @@ pub fn search_happened_before(
     alloc: Global,
     order: &CausalOrder,
     most: Option<u32>,
-) -> Result<Searched, AllocError>
+) -> Result<SearchedKinds, AllocError>
     requires { IsDifferentiated order.now }
-    ensures { IfOk result (ComesTo order.now (HasLargeHB order.now most) (IsClear order.now)) }
+    ensures { IfOk result (AreSearched order.now most (¬ HasStartOverwrittenInHB order.now) (¬ HasHBCycle order.now)) }
 {
-    let mut shown = Searched::Nothing;
+    let mut searched = SearchedKinds {
+        starts: Searched::Nothing,
+        cycles: Searched::Nothing,
+    };
     for session in 0..order.memory().history().sessions() {
-        shown = search_session(alloc, order, most, session, shown)?;
-        if is_start(&shown) {
-            return Ok(shown);
+        searched = search_session(alloc, order, most, session, searched)?;
+        if searched.starts.is_pattern() {
+            return Ok(searched);
         }
     }
-    Ok(shown)
-}
-
-/// Whether a read of the initial value after a write is shown.
-fn is_start(shown: &Searched) -> bool
-    ensures { IsTrue result → HasPattern shown.now }
-{
-    match shown {
-        Searched::Pattern(pattern) => pattern.kind() == Kind::WriteHBInitRead,
-        Searched::Present(_) | Searched::Open | Searched::Nothing => false,
-    }
+    Ok(searched)
 }
 
 /// What the sessions so far and this one come to.
@@ -86,40 +84,51 @@ fn search_session(
     order: &CausalOrder,
     most: Option<u32>,
     session: usize,
-    so_far: Searched,
-) -> Result<Searched, AllocError>
+    so_far: SearchedKinds,
+) -> Result<SearchedKinds, AllocError>
     requires distinct { IsDifferentiated order.now }
     requires exists { session < length order.now.1 }
-    requires so_far { ComesTo order.now (HasLargeHB order.now most) (IsClearBefore order.now session) so_far }
-    ensures { IfOk result (ComesTo order.now (HasLargeHB order.now most) (IsClearBefore order.now (session + 1))) }
+    requires so_far { AreSearched order.now most (HasNoStartBefore order.now session) (HasNoCycleBefore order.now session) so_far }
+    ensures { IfOk result (AreSearched order.now most (HasNoStartBefore order.now (session + 1)) (HasNoCycleBefore order.now (session + 1))) }
 {
     let h = order.history();
     match Relation::of_last(alloc, order, session, most)? {
         Some(relation) => search_relation(alloc, order, &relation, so_far),
         None if h.len(session) == 0 => Ok(so_far),
-        None => Ok(so_far.or(Searched::Open)),
+        None => Ok(SearchedKinds {
+            starts: so_far.starts.or(Searched::Open),
+            cycles: so_far.cycles.or(Searched::Open),
+        }),
     }
 }
 
-/// What the sessions so far and the one of a relation come to.
+/// What the sessions so far and the one of a relation come to. A cycle is looked for where no read is shown.
 fn search_relation(
     alloc: Global,
     order: &CausalOrder,
     relation: &Relation,
-    so_far: Searched,
-) -> Result<Searched, AllocError>
+    so_far: SearchedKinds,
+) -> Result<SearchedKinds, AllocError>
     requires distinct { IsDifferentiated order.now }
     requires relation { IsRelationOfLast order.now relation.now.0.session relation.now }
-    ensures { (most : Option ℕ) → ComesTo order.now (HasLargeHB order.now most) (IsClearBefore order.now relation.now.0.session) so_far
-        → IfOk result (ComesTo order.now (HasLargeHB order.now most) (IsClearBefore order.now (relation.now.0.session + 1))) }
+    ensures { (most : Option ℕ)
+        → AreSearched order.now most (HasNoStartBefore order.now relation.now.0.session) (HasNoCycleBefore order.now relation.now.0.session) so_far
+        → IfOk result (AreSearched order.now most (HasNoStartBefore order.now (relation.now.0.session + 1))
+        (HasNoCycleBefore order.now (relation.now.0.session + 1))) }
 {
-    match find_start(alloc, order, relation)? {
-        Searched::Pattern(start) => Ok(Searched::Pattern(start)),
-        other => search_cycle(alloc, order, relation, so_far.or(other)),
+    let start = find_start(alloc, order, relation)?;
+    let starts = so_far.starts.or(start);
+    if starts.is_pattern() {
+        return Ok(SearchedKinds {
+            starts,
+            cycles: so_far.cycles,
+        });
     }
+    let cycles = search_cycle(alloc, order, relation, so_far.cycles)?;
+    Ok(SearchedKinds { starts, cycles })
 }
 
-/// What the sessions so far and the cycles of a relation come to.
+/// What the sessions so far and a relation come to for a cycle.
 fn search_cycle(
     alloc: Global,
     order: &CausalOrder,
@@ -129,9 +138,9 @@ fn search_cycle(
     requires distinct { IsDifferentiated order.now }
     requires relation { IsRelation order.now relation.now }
     ensures { (most : Option ℕ) (s : ℕ)
-        → ComesTo order.now (HasLargeHB order.now most) (IsClearBefore order.now s × HasNoStart order.now relation.now.0) so_far
-        → IfOk result (ComesTo order.now (HasLargeHB order.now most)
-        ((IsClearBefore order.now s × HasNoStart order.now relation.now.0) × HasNoCycle order.now relation.now.0)) }
+        → ComesTo order.now CyclicHB (HasLargeHB order.now most) (HasNoCycleBefore order.now s) so_far
+        → IfOk result (ComesTo order.now CyclicHB (HasLargeHB order.now most)
+        (HasNoCycleBefore order.now s × HasNoCycle order.now relation.now.0)) }
 {
     match so_far {
         Searched::Pattern(pattern) => Ok(Searched::Pattern(pattern)),
@@ -150,7 +159,7 @@ fn find_start(
 ) -> Result<Searched, AllocError>
     requires distinct { IsDifferentiated order.now }
     requires relation { IsRelation order.now relation.now }
-    ensures { IfOk result (ComesTo order.now ⊥ (HasNoStart order.now relation.now.0)) }
+    ensures { IfOk result (ComesTo order.now WriteHBInitRead ⊥ (HasNoStart order.now relation.now.0)) }
 {
     let Some(pair) = overwritten_start_in(order, relation) else {
         return Ok(Searched::Nothing);
@@ -160,7 +169,7 @@ fn find_start(
             relation.op(),
             derivation,
         ))),
-        None => Ok(Searched::Present(Kind::WriteHBInitRead)),
+        None => Ok(Searched::Present),
     }
 }
 
@@ -172,13 +181,13 @@ fn find_cycle(
 ) -> Result<Searched, AllocError>
     requires distinct { IsDifferentiated order.now }
     requires relation { IsRelation order.now relation.now }
-    ensures { IfOk result (ComesTo order.now ⊥ (HasNoCycle order.now relation.now.0)) }
+    ensures { IfOk result (ComesTo order.now CyclicHB ⊥ (HasNoCycle order.now relation.now.0)) }
 {
     let Some(pair) = cycle_in(order, relation) else {
         return Ok(Searched::Nothing);
     };
     match derivation_of(alloc, order, relation, pair)? {
         Some(derivation) => Ok(Searched::Pattern(Pattern::CyclicHB(relation.op(), derivation))),
-        None => Ok(Searched::Present(Kind::CyclicHB)),
+        None => Ok(Searched::Present),
     }
 }

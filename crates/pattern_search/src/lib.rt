@@ -8,4 +8,4 @@ mod searched;
 
 pub use finding::{find, find_conflicts, find_in};
 pub use finding_happened_before::search_happened_before;
-pub use searched::Searched;
+pub use searched::{Searched, SearchedKinds};

@@ -1,31 +1,32 @@
-ghost use Rattle.std.specs.Prelude.{◌≡◌};
-ghost use Rattle.pattern_search.specs.Searches.{either};
+ghost use Rattle.std.specs.Prelude.{◌≡◌, ◌↔◌, IsTrue};
+ghost use Rattle.pattern_search.specs.Searches.{HasPattern, either};
 
-use bad_patterns::{Kind, Pattern};
+use bad_patterns::Pattern;
 
-/// What a search of happened-before relations comes to.
+/// What a search of happened-before relations for one kind comes to.
 #[derive(Debug, Drop)]
 pub enum Searched {
-    /// A bad pattern.
+    /// A bad pattern of the kind.
     Pattern(Pattern),
-    /// A kind that is present, where a derivation of it might have more than 100,000 lines, and none was made.
-    Present(Kind),
-    /// A relation has more pairs than it may have, and was not searched.
+    /// The kind is present, but a derivation of it might have more than 100,000 lines, and none was made.
+    Present,
+    /// Some relation was not searched, and the others do not show the kind.
     Open,
-    /// None of the kinds is there.
+    /// The kind is not present.
     Nothing,
 }
 
 impl Searched {
-    /// What two searches come to: the first pattern, else the first kind, or nothing where both come to nothing.
+    /// What two searches for a kind come to: the first pattern, else that the kind is present where one says so, and nothing
+    /// where both come to nothing.
     pub(crate) fn or(self, other: Searched) -> Searched
         ensures { result ≡ either self other }
     {
         match self {
             Searched::Pattern(pattern) => Searched::Pattern(pattern),
-            Searched::Present(kind) => match other {
+            Searched::Present => match other {
                 Searched::Pattern(pattern) => Searched::Pattern(pattern),
-                _ => Searched::Present(kind),
+                _ => Searched::Present,
             },
             Searched::Open => match other {
                 Searched::Nothing => Searched::Open,
@@ -33,5 +34,43 @@ impl Searched {
             },
             Searched::Nothing => other,
         }
+    }
+
+    /// Whether it is a pattern.
+    pub(crate) fn is_pattern(&self) -> bool
+        ensures { IsTrue result ↔ HasPattern self.now }
+    {
+        match self {
+            Searched::Pattern(_) => true,
+            Searched::Present | Searched::Open | Searched::Nothing => false,
+        }
+    }
+
+    /// Whether the kind is not present.
+    pub fn is_nothing(&self) -> bool
+        ensures { IsTrue result ↔ (self.now ≡ Searched.Nothing) }
+    {
+        match self {
+            Searched::Nothing => true,
+            Searched::Pattern(_) | Searched::Present | Searched::Open => false,
+        }
+    }
+}
+
+/// What a search of happened-before relations comes to, for each kind that rests on them.
+#[derive(Debug, Drop)]
+pub struct SearchedKinds {
+    /// For a read of the initial value after a write (`WriteHBInitRead`).
+    pub starts: Searched,
+    /// For an operation before itself (`CyclicHB`). Where `starts` is a pattern it says nothing: the search ends there.
+    pub cycles: Searched,
+}
+
+impl SearchedKinds {
+    /// Whether neither kind is present.
+    pub fn is_nothing(&self) -> bool
+        ensures { IsTrue result ↔ ((self.now.starts ≡ Searched.Nothing) × (self.now.cycles ≡ Searched.Nothing)) }
+    {
+        self.starts.is_nothing() && self.cycles.is_nothing()
     }
 }

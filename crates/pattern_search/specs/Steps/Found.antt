@@ -1,11 +1,16 @@
 -- Which pattern is found, of those that show that a history does not meet a criterion.
 --
 -- What a pattern is and what it shows does not rest on these: they say which one the search answers.
-use Rattle.std.specs.Prelude.{◌≡◌, ℕ, ◌<◌}
+use Rattle.std.specs.Prelude.{◌≡◌, ◌⊎◌, ℕ, ◌<◌, Some}
 use Rattle.history.specs.declared.op_id.OpId.{OpId}
 use Rattle.bad_patterns.specs.declared.pattern.Pattern.{Pattern}
 use Rattle.bad_patterns.specs.declared.pattern.Pattern.TheVariants.{ThinAirRead}
+use Rattle.memory_order.specs.HappenedBeforePatterns.{HasStartOverwrittenInHB}
 use Rattle.memory_order.specs.Memory.{MemoryHistory}
+use Rattle.bad_patterns.specs.declared.kind.Kind.{Kind}
+use Rattle.bad_patterns.specs.declared.kind.Kind.TheVariants.{WriteHBInitRead, CyclicHB}
+use Rattle.pattern_search.specs.declared.search.derivations.TheConstants.{MAX_RAISES}
+use Rattle.pattern_search.specs.Searches.{HasLargeHB}
 use Rattle.bad_patterns.specs.Kinds.{IsThinAirRead}
 use Rattle.causal_order.specs.Orders.{op, IsEarlier}
 
@@ -24,3 +29,9 @@ pub record IsFirstOf (h : MemoryHistory) (s : ℕ) (r : OpId) : Type 0 where
   pub thin_air : IsThinAirRead h r
   pub of_session : r.session ≡ s
   pub none_earlier : (i : ℕ) → i < r.index → ¬ IsThinAirRead h (op s i)
+
+-- the kind of a read of the initial value after a write, or that of a cycle, where such a read is not present or some relation has
+-- more than 19,999 pairs that the causal order doesn't have: a private function alone names this in its contract
+abbrev pub IsFirstHappened : MemoryHistory → Kind → Type 0
+IsFirstHappened h kind =
+    (kind ≡ WriteHBInitRead) ⊎ ((kind ≡ CyclicHB) × ((¬ HasStartOverwrittenInHB h) ⊎ HasLargeHB h (Some MAX_RAISES)))

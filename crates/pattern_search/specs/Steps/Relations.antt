@@ -61,9 +61,12 @@ module _ (h : MemoryHistory) where
   abbrev pub HasNoCycle : OpId → Type 0
   HasNoCycle o = (a : OpId) → ¬ HB h o a a
 
-  -- neither is in the relations of the operations of the first n sessions
-  abbrev pub IsClearBefore : ℕ → Type 0
-  IsClearBefore n = (o : OpId) → o.session < n → HasNoStart o × HasNoCycle o
+  -- in the relations of the operations of the first n sessions there is no such read, or no such operation
+  abbrev pub HasNoStartBefore : ℕ → Type 0
+  HasNoStartBefore n = (o : OpId) → o.session < n → HasNoStart o
+
+  abbrev pub HasNoCycleBefore : ℕ → Type 0
+  HasNoCycleBefore n = (o : OpId) → o.session < n → HasNoCycle o
 
   -- in the relation of o a write of the variable of a read that has no source is before the read, which is o or before o in
   -- program order

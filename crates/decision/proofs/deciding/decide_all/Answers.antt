@@ -1,4 +1,7 @@
+use Rattle.bad_patterns.specs.Patterns.{kind_of}
+use Rattle.cert_check.specs.declared.criterion.Criterion.TheVariants.{Cc}
 use Rattle.memory_order.specs.Memory.{IsDifferentiated}
+use Rattle.pattern_search.proofs.FirstKindLaws.{first-exact}
 use Rattle.decision.proofs.Decided.{all-decided}
 use Rattle.decision.proofs.deciding.decide_all.Goals as goal
 
@@ -11,4 +14,9 @@ returns-then-not-is_differentiated c =
     all-decided c.args.memory.now _ open_all open_all open_all
 
 pub returns : goal.returns
-returns c = all-decided c.args.memory.now _ (rw c.in-Some.is at c.in_ok-pattern.ensures.found) c.in_ok-cm.ensures c.in_ok-ccv.ensures
+returns c =
+    let h = c.args.memory.now in
+    let kind = kind_of c.in-Some.pattern in
+    let found = rw c.in-Some.is at c.in_ok-pattern.ensures.found in
+    let first = rw c.in-Some.is at c.in_ok-pattern.ensures.kind in
+    all-decided h _ (found, first-exact h Cc kind (λ same. absurd cc) found.against first) c.in_ok-cm.ensures c.in_ok-ccv.ensures

@@ -1,10 +1,17 @@
-use Rattle.std.specs.Prelude.{IfNone, IfOk}
+use Rattle.std.specs.Prelude.{IfNone, IfOk, IfSome}
 use Rattle.std.proofs.Common.{subst}
 use Rattle.memory_order.specs.Memory.{MemoryHistory}
 use Rattle.cert_check.specs.declared.criterion.Criterion.TheVariants.{Cc}
 use Rattle.bad_patterns.specs.Kinds.{IsFreeOf}
+use Rattle.bad_patterns.specs.Patterns.{kind_of}
+use Rattle.pattern_search.specs.FirstKinds.{ComesFirstOrLarge}
 use Rattle.pattern_search.specs.Searches.{IsFreeOrLarge}
 use Rattle.pattern_search.proofs.finding.find.Goals as goal
+
+pub returns-clause-kind : goal.returns-clause-kind
+returns-clause-kind c =
+    subst (λ (h : MemoryHistory). IfOk c.find_in.result (λ found. IfSome found (λ pattern. ComesFirstOrLarge h c.args.criterion (kind_of pattern))))
+    c.in_ok-memory.ensures c.find_in.ensures.kind
 
 pub returns-clause-none : goal.returns-clause-none
 returns-clause-none c =

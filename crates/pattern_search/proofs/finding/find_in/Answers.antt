@@ -1,10 +1,17 @@
-use Rattle.std.specs.Prelude.{IfNone, IfOk}
-use Rattle.std.proofs.Common.{subst}
+use Rattle.std.specs.Prelude.{IfNone, IfOk, IfSome}
+use Rattle.std.proofs.Common.{inl, subst}
 use Rattle.memory_order.specs.Memory.{MemoryHistory}
 use Rattle.cert_check.specs.declared.criterion.Criterion.TheVariants.{Cc}
 use Rattle.bad_patterns.specs.Kinds.{IsFreeOf}
+use Rattle.bad_patterns.specs.Patterns.{kind_of}
+use Rattle.pattern_search.specs.FirstKinds.{ComesFirstOrLarge}
 use Rattle.pattern_search.specs.Searches.{IsFreeOrLarge}
 use Rattle.pattern_search.proofs.finding.find_in.Goals as goal
+
+pub returns-in-Some-clause-kind : goal.returns-in-Some-clause-kind
+returns-in-Some-clause-kind c =
+    subst (λ (h : MemoryHistory). IfOk c.find_in_order.result (λ found. IfSome found (λ pattern. ComesFirstOrLarge h c.args.criterion (kind_of pattern))))
+    c.in-Some.ensures.order c.find_in_order.ensures.kind
 
 pub returns-in-Some-clause-none : goal.returns-in-Some-clause-none
 returns-in-Some-clause-none c =
@@ -22,3 +29,6 @@ returns-in-Some-clause-happened_before c is =
 
 pub returns-in_ok-find_without_order-in-None-clause-found : goal.returns-in_ok-find_without_order-in-None-clause-found
 returns-in_ok-find_without_order-in-None-clause-found c = c.in_ok-find_without_order-in-None.ensures.found c.args.criterion
+
+pub returns-in_ok-find_without_order-in-None-clause-kind : goal.returns-in_ok-find_without_order-in-None-clause-kind
+returns-in_ok-find_without_order-in-None-clause-kind c = inl (c.in_ok-find_without_order-in-None.ensures.kind c.args.criterion)

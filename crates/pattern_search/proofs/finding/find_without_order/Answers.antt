@@ -4,6 +4,7 @@ use Rattle.memory_order.specs.Memory.{MemoryHistory}
 use Rattle.memory_order.specs.SourceOrder.{IsCyclic}
 use Rattle.bad_patterns.specs.Kinds.{IsThinAirRead}
 use Rattle.memory_order.specs.Steps.Indexed.{ListsSourcesIfAny}
+use Rattle.pattern_search.proofs.FirstKindLaws.{first-cycle, first-thin_air}
 use Rattle.pattern_search.proofs.NothingFound.{unordered-shown}
 use Rattle.pattern_search.proofs.finding.find_without_order.Goals as goal
 
@@ -16,3 +17,11 @@ unreachable-requires c =
     let acyclic = rw c.in_default.is at c.in_ok-path.ensures in
     unordered-shown c.args.memory.now c.requires.unordered (subst (λ (h : MemoryHistory). ¬ IsCyclic h) c.history.ensures acyclic)
     (subst (λ (h : MemoryHistory). (r : OpId) → ¬ IsThinAirRead h r) c.history-2.ensures c.in_default-first_thin_air_read.ensures)
+
+pub returns-in-Some-clause-kind : goal.returns-in-Some-clause-kind
+returns-in-Some-clause-kind c = λ criterion. first-cycle c.args.memory.now criterion
+
+pub returns-clause-kind : goal.returns-clause-kind
+returns-clause-kind c = λ criterion.
+    let acyclic = rw c.in_default.is at c.in_ok-path.ensures in
+    first-thin_air c.args.memory.now (subst (λ (h : MemoryHistory). ¬ IsCyclic h) c.history.ensures acyclic) criterion

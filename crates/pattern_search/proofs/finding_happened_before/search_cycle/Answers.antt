@@ -1,4 +1,4 @@
-use Rattle.pattern_search.specs.Steps.Relations.{HasNoStart, IsClearBefore}
+use Rattle.pattern_search.specs.Steps.Relations.{HasNoCycleBefore}
 use Rattle.pattern_search.proofs.SearchedLaws.{comes-cycle}
 use Rattle.pattern_search.proofs.finding_happened_before.search_cycle.Goals as goal
 
@@ -7,4 +7,4 @@ returns-in_ok-cyclic-in_default c = λ most s before.
     let h = c.args.order.now in
     let o = c.args.relation.now.0 in
     let cyclic = c.in_ok-cyclic-in_default in
-    rw c.or.ensures (comes-cycle h most (IsClearBefore h s × HasNoStart h o) o c.args.so_far cyclic.cyclic before cyclic.ensures)
+    rw c.or.ensures (comes-cycle h most (HasNoCycleBefore h s) o c.args.so_far cyclic.cyclic before cyclic.ensures)

@@ -1,15 +1,16 @@
 use Rattle.std.proofs.Common.{◌+◌, ◌≤◌, length, ap, ◌∙◌, arith}
+use Rattle.memory_order.specs.HappenedBeforePatterns.{HasHBCycle, HasStartOverwrittenInHB}
 use Rattle.memory_order.specs.Memory.{MemoryHistory}
-use Rattle.pattern_search.specs.Searches.{IsClear, HasLargeHB}
-use Rattle.pattern_search.specs.Steps.Relations.{IsClearBefore}
-use Rattle.pattern_search.proofs.SearchedLaws.{clear-all, comes-pattern, comes-weaker}
+use Rattle.pattern_search.specs.Steps.Relations.{HasNoCycleBefore, HasNoStartBefore}
+use Rattle.pattern_search.proofs.SearchedLaws.{searched-all, searched-shown}
 use Rattle.pattern_search.proofs.finding_happened_before.search_happened_before.Goals as goal
 
-pub returns-then-is_start : goal.returns-then-is_start
-returns-then-is_start c =
+pub returns-then-is_pattern : goal.returns-then-is_pattern
+returns-then-is_pattern c =
     let h = c.args.order.now in
-    comes-pattern h (HasLargeHB h c.args.most) (IsClearBefore h (c.loop-session.session + 1)) (HasLargeHB h c.args.most) (IsClear h)
-    c.in_ok-shown.shown (c.is_start.ensures c.if-is_start.true) c.in_ok-shown.ensures
+    let s = c.loop-session.session + 1 in
+    searched-shown h c.args.most (HasNoStartBefore h s) (HasNoCycleBefore h s) (¬ HasStartOverwrittenInHB h) (¬ HasHBCycle h)
+    c.in_ok-searched.searched (c.is_pattern.ensures.0 c.if-is_pattern.true) c.in_ok-searched.ensures
 
 pub returns : goal.returns
 returns c =
@@ -19,5 +20,4 @@ returns c =
     let count = c.sessions-session-end.ensures.count in
     let past = c.loop-session-test.false in
     let ended : length h.1 ≤ n = omega arith in
-    comes-weaker h (HasLargeHB h c.args.most) (IsClearBefore h n) (HasLargeHB h c.args.most) (IsClear h) (λ is. is) (clear-all h n ended)
-    c.loop-session.shown c.loop-session.invariant
+    searched-all h c.args.most n ended c.loop-session.searched c.loop-session.invariant

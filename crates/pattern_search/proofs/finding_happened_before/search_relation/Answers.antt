@@ -1,16 +1,21 @@
 use Rattle.std.proofs.Common.{◌+◌}
-use Rattle.pattern_search.specs.Steps.Relations.{HasNoCycle, HasNoStart, IsClearBefore}
-use Rattle.pattern_search.specs.Searches.{ComesTo, HasLargeHB}
-use Rattle.pattern_search.proofs.SearchedLaws.{comes-last, comes-start, ok-weaker}
+use Rattle.pattern_search.specs.declared.searched.SearchedKinds.{SearchedKinds}
+use Rattle.pattern_search.specs.Steps.Relations.{HasNoCycleBefore}
+use Rattle.pattern_search.proofs.SearchedLaws.{searched-last, searched-start}
 use Rattle.pattern_search.proofs.finding_happened_before.search_relation.Goals as goal
 
-pub returns-in_default : goal.returns-in_default
-returns-in_default c = λ most before.
+pub returns-then-is_pattern : goal.returns-then-is_pattern
+returns-then-is_pattern c = λ most before.
     let h = c.args.order.now in
     let o = c.args.relation.now.0 in
-    ok-weaker c.search_cycle.result
-    (ComesTo h (HasLargeHB h most) ((IsClearBefore h o.session × HasNoStart h o) × HasNoCycle h o))
-    (ComesTo h (HasLargeHB h most) (IsClearBefore h (o.session + 1)))
-    (comes-last h most o c.requires.relation.relation_of.is_op c.requires.relation.last)
-    (c.search_cycle.ensures most o.session
-    (rw c.or.ensures (comes-start h most (IsClearBefore h o.session) o c.args.so_far c.in_ok-other.other before c.in_ok-other.ensures)))
+    let kinds : SearchedKinds = record { starts = c.or-starts.result; cycles = c.args.so_far.cycles } in
+    searched-start h most o c.requires.relation.relation_of.is_op c.requires.relation.last (HasNoCycleBefore h o.session) c.args.so_far kinds
+    c.in_ok-start.start c.or-starts.ensures (c.is_pattern.ensures.0 c.if-is_pattern.true) before c.in_ok-start.ensures
+
+pub returns : goal.returns
+returns c = λ most before.
+    let h = c.args.order.now in
+    let o = c.args.relation.now.0 in
+    let kinds : SearchedKinds = record { starts = c.or-starts.result; cycles = c.in_ok-cycles.cycles } in
+    searched-last h most o c.requires.relation.relation_of.is_op c.requires.relation.last c.args.so_far kinds
+    c.in_ok-start.start c.or-starts.ensures before c.in_ok-start.ensures (c.in_ok-cycles.ensures most o.session)
