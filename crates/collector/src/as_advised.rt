@@ -34,6 +34,8 @@ fn certificate_for<O: SeqObject>(
 impl Judged for Register {
     ghost decides = { λ h criterion. ⊥ };
 
+    ghost finds = { λ h criterion kind. ⊥ };
+
     fn find(
         _alloc: Global,
         _h: &History<Register>,
@@ -54,6 +56,8 @@ impl Judged for Register {
 
 impl Judged for Counter {
     ghost decides = { λ h criterion. ⊥ };
+
+    ghost finds = { λ h criterion kind. ⊥ };
 
     fn find(
         _alloc: Global,
@@ -76,6 +80,8 @@ impl Judged for Counter {
 impl Judged for AddRemoveSet {
     ghost decides = { λ h criterion. ⊥ };
 
+    ghost finds = { λ h criterion kind. ⊥ };
+
     fn find(
         _alloc: Global,
         _h: &History<AddRemoveSet>,
@@ -96,6 +102,8 @@ impl Judged for AddRemoveSet {
 
 impl Judged for Queue {
     ghost decides = { λ h criterion. ⊥ };
+
+    ghost finds = { λ h criterion kind. ⊥ };
 
     fn find(
         _alloc: Global,
@@ -118,6 +126,8 @@ impl Judged for Queue {
 impl Judged for Counters {
     ghost decides = { λ h criterion. ⊥ };
 
+    ghost finds = { λ h criterion kind. ⊥ };
+
     fn find(
         _alloc: Global,
         _h: &History<Counters>,
@@ -139,6 +149,8 @@ impl Judged for Counters {
 impl Judged for Sets {
     ghost decides = { λ h criterion. ⊥ };
 
+    ghost finds = { λ h criterion kind. ⊥ };
+
     fn find(
         _alloc: Global,
         _h: &History<Sets>,
@@ -159,6 +171,8 @@ impl Judged for Sets {
 
 impl Judged for Queues {
     ghost decides = { λ h criterion. ⊥ };
+
+    ghost finds = { λ h criterion kind. ⊥ };
 
     fn find(
         _alloc: Global,

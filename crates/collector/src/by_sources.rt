@@ -1,10 +1,11 @@
 ghost use Rattle.std.specs.Prelude.{◌≡◌, IfNone, IfOk, IfSome, IsSomeAnd};
-ghost use Rattle.bad_patterns.specs.Patterns.{IsBadPattern};
+ghost use Rattle.bad_patterns.specs.Patterns.{IsBadPattern, kind_of};
 ghost use Rattle.cert_check.specs.Certificates.{HasShapeOf, IsExplainedThroughout, criterion_of};
 ghost use Rattle.cert_check.specs.Criteria.{Meets};
 ghost use Rattle.cert_check.specs.declared.criterion.Criterion.TheVariants.{Cc, Ccv, Cm};
 ghost use Rattle.memory_order.specs.Memory.{IsDifferentiated, memory_answer};
 ghost use Rattle.collector.specs.Decided.{HasFewRaises, IsDecided};
+ghost use Rattle.pattern_search.specs.FirstKinds.{ComesFirstOrLarge};
 
 use crate::judged::Judged;
 use bad_patterns::Pattern;
@@ -16,6 +17,8 @@ use std::alloc::{AllocError, Global};
 
 impl Judged for Memory {
     ghost decides = { IsDecided };
+
+    ghost finds = { ComesFirstOrLarge };
 
     fn find(
         alloc: Global,
@@ -46,6 +49,7 @@ fn find(
     criterion: Criterion,
 ) -> Result<Option<Pattern>, AllocError>
     ensures found { IfOk result (λ found. IfSome found (IsBadPattern h.now criterion)) }
+    ensures kind { IfOk result (λ found. IfSome found (λ pattern. ComesFirstOrLarge h.now criterion (kind_of pattern))) }
     ensures decided { IsDecided h.now criterion → IfOk result (λ found. IfNone found (Meets memory_answer h.now criterion)) }
 {
     h.value_is_history();

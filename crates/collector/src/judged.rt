@@ -1,4 +1,6 @@
 ghost use Rattle.std.specs.Prelude.{◌≡◌, List, Option, IfNone, IfOk, IfSome, IsSomeAnd};
+ghost use Rattle.bad_patterns.specs.declared.kind.Kind.{Kind as AnyKind};
+ghost use Rattle.bad_patterns.specs.Patterns.{kind_of};
 ghost use Rattle.history.specs.History.{HistoryValue};
 ghost use Rattle.cert_check.specs.declared.criterion.Criterion.{Criterion as AnyCriterion};
 ghost use Rattle.cert_check.specs.Certificates.{HasShapeOf, IsExplainedThroughout, criterion_of};
@@ -18,6 +20,9 @@ pub trait Judged: Refutable {
     /// Whether find and make are exact for a history and a criterion.
     ghost decides: { HistoryValue Self.Start Self.Call Self.Ret → AnyCriterion → Type 0 };
 
+    /// Whether a pattern of a kind may be found: of a memory, what `pattern_search::find` says of its kind.
+    ghost finds: { HistoryValue Self.Start Self.Call Self.Ret → AnyCriterion → AnyKind → Type 0 };
+
     /// A pattern that shows that the history does not meet the criterion, where the search finds one.
     ///
     /// Fails for want of memory alone.
@@ -27,6 +32,7 @@ pub trait Judged: Refutable {
         criterion: Criterion,
     ) -> Result<Option<Pattern>, AllocError>
         ensures found { IfOk result (λ found. IfSome found (Self.passes h.now criterion)) }
+        ensures kind { IfOk result (λ found. IfSome found (λ pattern. finds h.now criterion (kind_of pattern))) }
         ensures decided { decides h.now criterion → IfOk result (λ found. IfNone found (Meets Self.answer h.now criterion)) };
 
     /// A certificate for the criterion, where one is made: from what a store told of each operation, unless what the history

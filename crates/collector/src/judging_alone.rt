@@ -27,6 +27,7 @@ pub fn judge_alone<O: Judged>(
 ) -> Result<Answer, DeskError>
     ensures founded { IfOk result (IsFounded (Meets O.answer h criterion) (O.excluded h criterion) (IsUnexplainedOf O.answer h criterion)) }
     ensures not_met { IfOk result (λ a. (kind : AnyKind) → a ≡ Answer.No kind → ¬ Meets O.answer h criterion) }
+    ensures kind { IfOk result (λ a. (kind : AnyKind) → a ≡ Answer.No kind → O.finds h criterion kind) }
     ensures decided { O.decides h criterion → IfOk result IsKnown }
     ensures error { IfErr result (λ e. e ≡ DeskError.Memory) }
 {
