@@ -51,8 +51,10 @@ def used(process):
     try:
         with open(f"/proc/{process}/stat", encoding="ascii", errors="replace") as stat:
             fields = stat.read().rpartition(")")[2].split()
-        with open(f"/proc/{process}/task/{process}/children", encoding="ascii") as children:
-            started = children.read().split()
+        started = []
+        for thread in os.listdir(f"/proc/{process}/task"):
+            with open(f"/proc/{process}/task/{thread}/children", encoding="ascii") as children:
+                started += children.read().split()
     except OSError:
         return 0.0
     return sum(map(int, fields[11:15])) / TICKS + sum(used(int(child)) for child in started)

@@ -14,13 +14,13 @@ module _ (h : MemoryHistory) (criterion : Criterion) (distinct : IsDifferentiate
   pub decided-met : (answer : Answer) → IsTrueOf (histories.Memory h) criterion answer → IsKnownOnDistinctValues (histories.Memory h) answer
       → answer ≡ Yes ↔ Meets memory_answer h criterion
   decided-met Yes met known = (λ _. met, λ _. refl)
-  decided-met (No kind) excluded known = (λ same. absurd cc, λ met. absurd (excluded.not_met met))
+  decided-met (No kind) excluded known = (λ same. absurd cc, λ met. absurd (excluded.0.not_met met))
   decided-met (Unknown place) said known = absurd (known distinct)
   decided-met (Open n) said known = absurd said
 
   pub decided-excluded : (answer : Answer) → IsTrueOf (histories.Memory h) criterion answer → IsKnownOnDistinctValues (histories.Memory h) answer
       → ((kind : Kind) × (answer ≡ No kind)) ↔ ¬ Meets memory_answer h criterion
   decided-excluded Yes met known = (λ no. absurd cc, λ unmet. absurd (unmet met))
-  decided-excluded (No kind) excluded known = (λ _. excluded.not_met, λ _. (kind, refl))
+  decided-excluded (No kind) excluded known = (λ _. excluded.0.not_met, λ _. (kind, refl))
   decided-excluded (Unknown place) said known = absurd (known distinct)
   decided-excluded (Open n) said known = absurd said

@@ -14,18 +14,18 @@ use Rattle.cert_check.specs.Certificates.{HasShapeOf, IsCaseFile, criterion_of}
 use Rattle.cert_check.specs.Criteria.{Meets}
 use Rattle.collector.specs.Judgements.{IsFounded, IsSaidOf, IsSaidOfFile, IsUnexplainedOf}
 use Rattle.engine.specs.declared.report.Report.{Report}
-use Rattle.engine.specs.Report.{IsExcluded, IsMet, IsTrueOf, IsUnexplained, NamesUnexplained, answer_for}
+use Rattle.engine.specs.Report.{IsExcludedFirst, IsMet, IsTrueOf, IsUnexplained, NamesUnexplained, answer_for}
 
 -- a founded answer is true, and names an operation only where it is unexplained
 pub founded_is_true : (history : AnyHistory) (criterion : Criterion) (answer : Answer)
-    → IsFounded (IsMet history criterion) (IsExcluded history criterion) (IsUnexplained history criterion) answer → IsTrueOf history criterion answer
+    → IsFounded (IsMet history criterion) (IsExcludedFirst history criterion) (IsUnexplained history criterion) answer → IsTrueOf history criterion answer
 founded_is_true history criterion Yes founded = founded
 founded_is_true history criterion (No kind) founded = founded
 founded_is_true history criterion (Unknown place) founded = tt
 founded_is_true history criterion (Open n) founded = founded
 
 pub founded_names : (history : AnyHistory) (criterion : Criterion) (answer : Answer)
-    → IsFounded (IsMet history criterion) (IsExcluded history criterion) (IsUnexplained history criterion) answer → NamesUnexplained history criterion answer
+    → IsFounded (IsMet history criterion) (IsExcludedFirst history criterion) (IsUnexplained history criterion) answer → NamesUnexplained history criterion answer
 founded_names history criterion Yes founded = tt
 founded_names history criterion (No kind) founded = tt
 founded_names history criterion (Unknown None) founded = tt

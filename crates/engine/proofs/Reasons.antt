@@ -1,6 +1,8 @@
 -- What is true of an answer is true of its reason.
 use Rattle.std.proofs.Common.{◌≡◌, sym, subst}
 use Rattle.operations.specs.declared.any_history.AnyHistory.{AnyHistory}
+use Rattle.operations.specs.declared.any_history.AnyHistory.TheVariants as histories
+use Rattle.bad_patterns.specs.declared.kind.Kind.{Kind}
 use Rattle.board.specs.declared.answer.Answer.{Answer}
 use Rattle.board.specs.declared.answer.Answer.TheVariants.{Yes, No, Unknown, Open}
 use Rattle.cert_check.specs.declared.criterion.Criterion.{Criterion}
@@ -9,13 +11,24 @@ use Rattle.engine.specs.declared.reason.Explanation.{Explanation}
 use Rattle.engine.specs.declared.reason.Reason.{Reason}
 use Rattle.engine.specs.declared.report.Report.{Report}
 use Rattle.engine.specs.Explaining.{EachIsReason, IsReason}
-use Rattle.engine.specs.Report.{EachIsKnownOnDistinctValues, EachIsTrueOf, EachNamesUnexplained, IsKnownOnDistinctValues, IsTrueOf, NamesUnexplained}
+use Rattle.engine.specs.Report.{EachIsKnownOnDistinctValues, EachIsTrueOf, EachNamesUnexplained, IsExcluded, IsExcludedFirst, IsKnownOnDistinctValues, IsTrueOf, NamesUnexplained}
 use Rattle.engine.specs.Steps.Unshown.{reason_of}
+
+-- a kind that excludes a criterion first excludes it
+excluded_by : (history : AnyHistory) (criterion : Criterion) (kind : Kind) → IsExcludedFirst history criterion kind → IsExcluded history criterion kind
+excluded_by (histories.Register h) criterion kind first = absurd first
+excluded_by (histories.Counter h) criterion kind first = absurd first
+excluded_by (histories.Set h) criterion kind first = absurd first
+excluded_by (histories.Queue h) criterion kind first = absurd first
+excluded_by (histories.Memory h) criterion kind first = first.0
+excluded_by (histories.Counters h) criterion kind first = absurd first
+excluded_by (histories.Sets h) criterion kind first = absurd first
+excluded_by (histories.Queues h) criterion kind first = absurd first
 
 reason_is : (history : AnyHistory) (criterion : Criterion) (answer : Answer) → IsTrueOf history criterion answer
     → IsKnownOnDistinctValues history answer → NamesUnexplained history criterion answer → IsReason history criterion (reason_of answer)
 reason_is history criterion Yes met known names = met
-reason_is history criterion (No kind) excluded known names = excluded
+reason_is history criterion (No kind) excluded known names = excluded_by history criterion kind excluded
 reason_is history criterion (Unknown place) said known names = (known, names)
 reason_is history criterion (Open n) said known names = absurd said
 

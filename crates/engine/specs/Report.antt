@@ -13,11 +13,12 @@ use Rattle.objects.specs.AddRemoveSet.{answer as set_answer}
 use Rattle.objects.specs.Queue.{answer as queue_answer}
 use Rattle.objects.specs.Keyed.{answer as keyed_answer}
 use Rattle.history.specs.History.{HistoryValue}
-use Rattle.memory_order.specs.Memory.{IsDifferentiated, memory_answer}
+use Rattle.memory_order.specs.Memory.{IsDifferentiated, MemoryHistory, memory_answer}
 use Rattle.cert_check.specs.Criteria.{Meets}
 use Rattle.cert_check.specs.CriterionNames.{name_of}
 use Rattle.bad_patterns.specs.KindNames.{kind_name}
 use Rattle.bad_patterns.specs.Kinds.{IsTrueNo}
+use Rattle.pattern_search.specs.FirstKinds.{ComesFirst}
 use Rattle.board.specs.declared.answer.Answer.{Answer}
 use Rattle.board.specs.declared.answer.Answer.TheVariants.{Yes, No, Unknown, Open}
 use Rattle.collector.specs.Judgements.{IsUnexplainedOf}
@@ -47,11 +48,19 @@ abbrev pub IsExcluded : AnyHistory → Criterion → Kind → Type 0
 IsExcluded (histories.Memory h) criterion kind = IsTrueNo h criterion kind
 IsExcluded _ criterion kind = ⊥
 
--- an answer is true of a history: with a yes it meets the criterion; a no names a kind that excludes it; unknown says
+-- the same, and of the kinds that are against the criterion and present it is the first
+abbrev pub IsFirstNo : MemoryHistory → Criterion → Kind → Type 0
+IsFirstNo h criterion kind = IsTrueNo h criterion kind × ComesFirst h criterion kind
+
+abbrev pub IsExcludedFirst : AnyHistory → Criterion → Kind → Type 0
+IsExcludedFirst (histories.Memory h) criterion kind = IsFirstNo h criterion kind
+IsExcludedFirst _ criterion kind = ⊥
+
+-- an answer is true of a history: with a yes it meets the criterion; a no names the first kind that excludes it; unknown says
 -- nothing; and none is open
 abbrev pub IsTrueOf : AnyHistory → Criterion → Answer → Type 0
 IsTrueOf history criterion Yes = IsMet history criterion
-IsTrueOf history criterion (No kind) = IsExcluded history criterion kind
+IsTrueOf history criterion (No kind) = IsExcludedFirst history criterion kind
 IsTrueOf history criterion (Unknown place) = ⊤
 IsTrueOf history criterion (Open n) = ⊥
 

@@ -2,9 +2,8 @@
 
 ghost use Rattle.std.specs.Prelude.{◌≡◌, IfErr, IfOk};
 ghost use Rattle.memory_order.specs.Memory.{memory_answer};
-ghost use Rattle.bad_patterns.specs.Kinds.{IsTrueNo};
 ghost use Rattle.decision.specs.Decisions.{IsDecided};
-ghost use Rattle.engine.specs.Report.{IsTrueOf, NamesUnexplained, IsKnownOnDistinctValues};
+ghost use Rattle.engine.specs.Report.{IsFirstNo, IsTrueOf, NamesUnexplained, IsKnownOnDistinctValues};
 ghost use Rattle.engine.specs.Report.{EachIsTrueOf, EachNamesUnexplained, EachIsKnownOnDistinctValues};
 ghost use Rattle.engine.specs.Steps.FileChecks.{ChecksFiles};
 ghost use Rattle.engine.specs.Steps.FoundedAnswers.{IsFoundedOn};
@@ -85,7 +84,7 @@ fn answer_by_certificate<F: Fn(CaseFile<Memory>) -> Result<Answer, RunError>>(
 ) -> Result<Answer, RunError>
     requires callable { F.IsAlwaysCallable check.now }
     requires checks { ChecksFiles memory_answer (F.post check.now) }
-    ensures founded { IfOk result (IsFoundedOn memory_answer IsTrueNo memory.now criterion) }
+    ensures founded { IfOk result (IsFoundedOn memory_answer IsFirstNo memory.now criterion) }
     ensures error { IfErr result (λ e. e ≡ RunError.Memory) }
 {
     let file = file_of_memory(alloc, memory, advice, criterion)?;
