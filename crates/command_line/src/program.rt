@@ -2,7 +2,8 @@
 ghost use Rattle.std.specs.Prelude.{◌≡◌, codes, false, IfOk};
 ghost use Rattle.clap.specs.Words.{app_of, new_app, with_rule};
 ghost use Rattle.clap.specs.declared.builder.Command.TheViews.{out-Command};
-ghost use Rattle.command_line.specs.CommandLine.{certifying, check, command_line, drive, explain, explaining, judge, judging, refute, replay};
+ghost use Rattle.command_line.specs.CommandLine.{certifying, check, command_line, drive, explain, explaining};
+ghost use Rattle.command_line.specs.CommandLine.{judge, judging, refute, replay};
 ghost use Rattle.command_line.specs.CommandLine.{expect, sealing, storing, workers};
 
 use crate::arguments::{

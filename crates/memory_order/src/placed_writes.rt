@@ -11,7 +11,7 @@ use objects::{Memory, RegisterCall};
 /// How many writes a history may have: 16 sessions of 256 operations.
 pub(crate) const MAX_WRITES: usize = 4096;
 
-/// What stands at a place without a write.
+/// The filler of a place without a write.
 pub(crate) const NO_WRITE: Write = Write {
     op: OpId {
         session: 0,
@@ -21,7 +21,7 @@ pub(crate) const NO_WRITE: Write = Write {
     value: 0,
 };
 
-/// Puts the writes of a history at the first places, by operation. How many they are.
+/// Puts the writes of a history at the first places, by operation, and returns their number.
 pub(crate) fn place_writes(h: &History<Memory>, places: &mut [Write]) -> usize
     requires room { length places.old ≡ MAX_WRITES }
     ensures room { length places.new ≡ MAX_WRITES }
@@ -35,7 +35,7 @@ pub(crate) fn place_writes(h: &History<Memory>, places: &mut [Write]) -> usize
     count
 }
 
-/// Puts the writes of a session behind so many of the sessions before it. How many there are then.
+/// Puts the writes of a session after those of the sessions before it, and returns the number of all.
 fn place_session(h: &History<Memory>, session: usize, before: usize, places: &mut [Write]) -> usize
     requires exists { session < length h.now.1 }
     requires room { before + MAX_OPERATIONS ≤ length places.old }

@@ -27,3 +27,7 @@ module _ (h : MemoryHistory) (criterion : Criterion) where
   -- or the kind is a cycle of happened-before, and some relation has more than 19,999 pairs that the causal order doesn't have
   abbrev pub ComesFirstOrLarge : Kind → Type 0
   ComesFirstOrLarge kind = ComesFirst kind ⊎ ((kind ≡ CyclicHB) × HasLargeHB h (Some MAX_RAISES))
+
+-- against whichever criterion
+abbrev pub ComesFirstForEach : MemoryHistory → Kind → Type 0
+ComesFirstForEach h kind = (criterion : Criterion) → ComesFirst h criterion kind

@@ -1,7 +1,7 @@
 ghost use Rattle.std.specs.Prelude.{◌≡◌, ◌↔◌, ◌≢◌, ℕ, IfNone, IfOk, IfSome, IsTrue, MatchOption};
 ghost use Rattle.bad_patterns.specs.Kinds.{IsFreeOf, IsThinAirRead, Shows, is_against};
 ghost use Rattle.bad_patterns.specs.Patterns.{IsBadPattern, kind_of};
-ghost use Rattle.pattern_search.specs.FirstKinds.{ComesFirst, ComesFirstOrLarge};
+ghost use Rattle.pattern_search.specs.FirstKinds.{ComesFirst, ComesFirstForEach, ComesFirstOrLarge};
 ghost use Rattle.pattern_search.specs.Searches.{IsFreeOrLarge};
 ghost use Rattle.pattern_search.specs.Steps.Found.{IsFirst, IsFirstFound, IsFirstOf};
 ghost use Rattle.bad_patterns.specs.declared.kind.Kind.TheVariants.{CyclicCF};
@@ -135,7 +135,7 @@ fn find_overwritten(alloc: Global, order: &CausalOrder) -> Result<Option<Pattern
     requires ordered { IsOrdered order.now }
     ensures found { IfOk result (λ found. IfSome found (λ pattern. (criterion : AnyCriterion) → IsBadPattern order.now criterion pattern)) }
     ensures first { IfOk result (λ found. IfSome found (IsFirstFound order.now)) }
-    ensures kind { IfOk result (λ found. IfSome found (λ pattern. (criterion : AnyCriterion) → ComesFirst order.now criterion (kind_of pattern))) }
+    ensures kind { IfOk result (λ found. IfSome found (λ pattern. ComesFirstForEach order.now (kind_of pattern))) }
     ensures start { IfOk result (λ found. IfNone found (¬ HasOverwrittenStart order.now)) }
     ensures read { IfOk result (λ found. IfNone found (¬ HasOverwrittenRead order.now)) }
 {

@@ -5,8 +5,8 @@ ghost use Rattle.bad_patterns.specs.Patterns.{IsBadPattern, kind_of};
 ghost use Rattle.bad_patterns.specs.declared.kind.Kind.TheVariants.{CyclicHB, WriteHBInitRead};
 ghost use Rattle.cert_check.specs.declared.criterion.Criterion.TheVariants.{Cm};
 ghost use Rattle.pattern_search.specs.Searches.{AreSearched, ComesTo, HasLargeHB, IsClear};
-ghost use Rattle.pattern_search.specs.Steps.Found.{IsFirstHappened};
-ghost use Rattle.pattern_search.specs.Steps.Relations.{HasNoCycle, HasNoCycleBefore, HasNoStart, HasNoStartBefore};
+ghost use Rattle.pattern_search.specs.Steps.Found.{AreSearchedBefore, IsFirstHappened};
+ghost use Rattle.pattern_search.specs.Steps.Relations.{HasNoCycle, HasNoStart};
 ghost use Rattle.pattern_search.specs.Steps.Relations.{IsRelation, IsRelationOfLast};
 ghost use Rattle.memory_order.specs.HappenedBeforePatterns.{HasHBCycle, HasStartOverwrittenInHB};
 ghost use Rattle.memory_order.specs.Memory.{IsDifferentiated};
@@ -51,9 +51,9 @@ pub fn find_happened_before(
 /// For each session the relation of its last operation is searched: it has what those of the operations before it have. A
 /// session is left out where this relation has more pairs than it may have, if a number is given, that the causal order
 /// doesn't have: so never without a number. The search ends with the first read of the initial value after a write that is shown.
-/// For a kind it comes to nothing only where the kind is not present, and is open only where a session was left out. Where the
-/// kind is present and each derivation that was begun might have more than 100,000 lines, it says so: only where some relation has
-/// more than 19,999 pairs that the causal order doesn't have.
+/// `Nothing` means that the kind is not present, and `Open` that a session was left out. `Present` means that the kind is present
+/// and that each derivation begun might have more than 100,000 lines: then some relation has more than 19,999 pairs that the causal
+/// order doesn't have.
 ///
 /// Fails for want of memory alone. For each of k sessions O(n (log n + k^2) + m k log n) for n operations and m pairs that
 /// its relation has more than the causal order, and for each derivation O(m log m + l n) for l lines.
@@ -88,8 +88,8 @@ fn search_session(
 ) -> Result<SearchedKinds, AllocError>
     requires distinct { IsDifferentiated order.now }
     requires exists { session < length order.now.1 }
-    requires so_far { AreSearched order.now most (HasNoStartBefore order.now session) (HasNoCycleBefore order.now session) so_far }
-    ensures { IfOk result (AreSearched order.now most (HasNoStartBefore order.now (session + 1)) (HasNoCycleBefore order.now (session + 1))) }
+    requires so_far { AreSearchedBefore order.now most session so_far }
+    ensures { IfOk result (AreSearchedBefore order.now most (session + 1)) }
 {
     let h = order.history();
     match Relation::of_last(alloc, order, session, most)? {
@@ -112,9 +112,8 @@ fn search_relation(
     requires distinct { IsDifferentiated order.now }
     requires relation { IsRelationOfLast order.now relation.now.0.session relation.now }
     ensures { (most : Option ℕ)
-        → AreSearched order.now most (HasNoStartBefore order.now relation.now.0.session) (HasNoCycleBefore order.now relation.now.0.session) so_far
-        → IfOk result (AreSearched order.now most (HasNoStartBefore order.now (relation.now.0.session + 1))
-        (HasNoCycleBefore order.now (relation.now.0.session + 1))) }
+        → AreSearchedBefore order.now most relation.now.0.session so_far
+        → IfOk result (AreSearchedBefore order.now most (relation.now.0.session + 1)) }
 {
     let start = find_start(alloc, order, relation)?;
     let starts = so_far.starts.or(start);

@@ -3,7 +3,7 @@ ghost use Rattle.pattern_search.specs.Searches.{HasPattern, either};
 
 use bad_patterns::Pattern;
 
-/// What a search of happened-before relations for one kind comes to.
+/// The result of a search of happened-before relations for one kind.
 #[derive(Debug, Drop)]
 pub enum Searched {
     /// A bad pattern of the kind.

@@ -1,7 +1,7 @@
 -- Which pattern is found, of those that show that a history does not meet a criterion.
 --
 -- What a pattern is and what it shows does not rest on these: they say which one the search answers.
-use Rattle.std.specs.Prelude.{◌≡◌, ◌⊎◌, ℕ, ◌<◌, Some}
+use Rattle.std.specs.Prelude.{◌≡◌, ◌⊎◌, ℕ, ◌<◌, Option, Some}
 use Rattle.history.specs.declared.op_id.OpId.{OpId}
 use Rattle.bad_patterns.specs.declared.pattern.Pattern.{Pattern}
 use Rattle.bad_patterns.specs.declared.pattern.Pattern.TheVariants.{ThinAirRead}
@@ -10,7 +10,9 @@ use Rattle.memory_order.specs.Memory.{MemoryHistory}
 use Rattle.bad_patterns.specs.declared.kind.Kind.{Kind}
 use Rattle.bad_patterns.specs.declared.kind.Kind.TheVariants.{WriteHBInitRead, CyclicHB}
 use Rattle.pattern_search.specs.declared.search.derivations.TheConstants.{MAX_RAISES}
-use Rattle.pattern_search.specs.Searches.{HasLargeHB}
+use Rattle.pattern_search.specs.declared.searched.SearchedKinds.{SearchedKinds}
+use Rattle.pattern_search.specs.Searches.{AreSearched, HasLargeHB}
+use Rattle.pattern_search.specs.Steps.Relations.{HasNoCycleBefore, HasNoStartBefore}
 use Rattle.bad_patterns.specs.Kinds.{IsThinAirRead}
 use Rattle.causal_order.specs.Orders.{op, IsEarlier}
 
@@ -35,3 +37,7 @@ pub record IsFirstOf (h : MemoryHistory) (s : ℕ) (r : OpId) : Type 0 where
 abbrev pub IsFirstHappened : MemoryHistory → Kind → Type 0
 IsFirstHappened h kind =
     (kind ≡ WriteHBInitRead) ⊎ ((kind ≡ CyclicHB) × ((¬ HasStartOverwrittenInHB h) ⊎ HasLargeHB h (Some MAX_RAISES)))
+
+-- the relations of the first n sessions are searched for both kinds
+abbrev pub AreSearchedBefore : MemoryHistory → Option ℕ → ℕ → SearchedKinds → Type 0
+AreSearchedBefore h most n kinds = AreSearched h most (HasNoStartBefore h n) (HasNoCycleBefore h n) kinds
