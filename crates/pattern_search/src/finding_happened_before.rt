@@ -6,7 +6,7 @@ ghost use Rattle.bad_patterns.specs.declared.kind.Kind.TheVariants.{CyclicHB, Wr
 ghost use Rattle.cert_check.specs.declared.criterion.Criterion.TheVariants.{Cm};
 ghost use Rattle.pattern_search.specs.Searches.{AreSearched, ComesTo, HasLargeHB, IsClear};
 ghost use Rattle.pattern_search.specs.Steps.Found.{AreSearchedBefore, IsFirstHappened};
-ghost use Rattle.pattern_search.specs.Steps.Relations.{HasNoCycle, HasNoStart};
+ghost use Rattle.pattern_search.specs.Steps.Relations.{HasNoCycle, HasNoCycleBefore, HasNoStart};
 ghost use Rattle.pattern_search.specs.Steps.Relations.{IsRelation, IsRelationOfLast};
 ghost use Rattle.memory_order.specs.HappenedBeforePatterns.{HasHBCycle, HasStartOverwrittenInHB};
 ghost use Rattle.memory_order.specs.Memory.{IsDifferentiated};
