@@ -4,8 +4,8 @@ pub mod CutLists
 pub mod CutPlaces
 mod Keeping
 mod SmallNumbers
-mod Stopping
+pub mod Stopping
 mod Taking
-mod Tokens
-mod Turns
-mod Walking
+pub mod Tokens
+pub mod Turns
+pub mod Walking

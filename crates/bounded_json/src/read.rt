@@ -23,7 +23,7 @@ use serde_json::Value;
 use std::alloc::Global;
 
 /// How deep `serde_json` reads.
-const MAX_DEPTH: usize = 127;
+pub const MAX_DEPTH: usize = 127;
 
 /// The value that begins with a token, cut at its place.
 #[cycle(read)]
@@ -91,6 +91,24 @@ fn read_elements<P: Place, K: Kept>(
     }
     walk_items(reader, depth)?;
     Ok(elements)
+}
+
+/// The value that begins with a token, cut at its place: one step of a reader that takes a longer text value by value.
+///
+/// `depth` is how much deeper the text may nest there. Fails exactly where `serde_json` refuses what comes, or for want of memory. O(n)
+/// for n bytes of the value, and it takes no more memory than what is kept.
+pub fn read_value<P: Place>(
+    alloc: Global,
+    token: Token<'_>,
+    reader: &mut Reader<'_>,
+    place: P,
+    depth: usize,
+) -> Result<Value, TextError>
+    ensures read { IfOk result (λ v. IsCut P.limit P.inside place depth (token_of token.entry ∷ reader.old) reader.new (view v)) }
+    ensures shorter { OnOk result (length reader.new ≤ length reader.old) }
+    ensures refused { IfErr result (IsRefused depth (token_of token.entry ∷ reader.old)) }
+{
+    read(alloc, token, reader, place, depth)
 }
 
 /// The value that the text is, where one is all of it.

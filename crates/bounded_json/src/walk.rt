@@ -36,9 +36,9 @@ fn walk(reader: &mut Reader<'_>, depth: usize) -> Result<(), Invalid>
     }
 }
 
-/// Passes the rest of a list.
+/// Passes the rest of a list, with its bracket. Fails exactly where `serde_json` refuses it.
 #[cycle(walk)]
-pub(crate) fn walk_items(reader: &mut Reader<'_>, depth: usize) -> Result<(), Invalid>
+pub fn walk_items(reader: &mut Reader<'_>, depth: usize) -> Result<(), Invalid>
     ensures value { MatchResult result (λ _. behind_items depth reader.old ≡ Some reader.new)
         (λ _. behind_items depth reader.old ≡ None) }
     ensures shorter { OnOk result (length reader.new ≤ length reader.old) }

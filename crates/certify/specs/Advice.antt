@@ -1,11 +1,11 @@
 -- What a store told of the operations of a history, trusted by nobody (this project's profile).
 use Rattle.std.specs.Prelude.{◌≡◌, ℕ, ◌+◌, ◌<◌, List, [], length, take, replicate, Option, Some, None, slice_index_or, slice_set}
-use Rattle.std.specs.List.{slice_range, sum_by}
+use Rattle.std.specs.List.{slice_range}
 use Rattle.std.proofs.Common.{zero, suc}
 use Rattle.history.specs.declared.advice.Advice.{Advice}
 use Rattle.history.specs.declared.limits.TheConstants.{MAX_SESSIONS}
 use Rattle.history.specs.declared.op_id.OpId.{OpId}
-use Rattle.history.specs.History.{HistoryValue, IsOp, session}
+use Rattle.history.specs.History.{HistoryValue, IsOp, many_before, session}
 use Rattle.causal_order.specs.Orders.{op}
 use Rattle.causal_order.specs.Vectors.{Counts, list_of}
 
@@ -29,10 +29,6 @@ order_of (Some a) = a.order
 order_of None = []
 
 module _ {S C R : Type 0} where
-  -- how many operations the first n sessions have
-  abbrev pub many_before : HistoryValue S C R → ℕ → ℕ
-  many_before h n = sum_by (λ (es : List (C × Option R)). length es) (take n h.1)
-
   -- there is advice: one entry for each operation, also where all entries are empty
   pub record IsAdvised (h : HistoryValue S C R) (advice : List (Option Advice)) : Type 0 where
     pub some : 0 < length advice

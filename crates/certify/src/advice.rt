@@ -1,8 +1,8 @@
 //! What a store told of the operations of a history.
 
 ghost use Rattle.std.specs.Prelude.{◌≡◌, ◌*◌, ◌<◌, ◌≤◌, ◌↔◌, length, IsTrue};
-ghost use Rattle.history.specs.History.{session as operations_of};
-ghost use Rattle.certify.specs.Advice.{IsAdvised, advice_in, many_before};
+ghost use Rattle.history.specs.History.{many_before, session as operations_of};
+ghost use Rattle.certify.specs.Advice.{IsAdvised, advice_in};
 ghost use Rattle.certify.specs.MemoryAdvice.{AdviceDecides};
 
 use history::{Advice, History, MAX_OPERATIONS, MAX_SESSIONS};
@@ -28,7 +28,7 @@ pub fn advice_decides(memory: &IndexedMemory, advice: &[Option<Advice>]) -> bool
 }
 
 /// The entries of a session.
-#[tactic(auto, using(crate::proofs::Advices::many_within, crate::proofs::Advices::advice_size))]
+#[tactic(auto, using(crate::proofs::Advices::within_all, crate::proofs::Advices::advice_size))]
 pub(crate) fn advice_in<'a, O: SeqObject>(
     h: &History<O>,
     advice: &'a [Option<Advice>],
@@ -45,7 +45,7 @@ pub(crate) fn advice_in<'a, O: SeqObject>(
 }
 
 /// How many operations the first sessions have.
-#[tactic(auto, using(crate::proofs::Advices::many_next))]
+#[tactic(auto, using(crate::proofs::Advices::one_more))]
 fn many_before<O: SeqObject>(h: &History<O>, sessions: usize) -> usize
     requires there { sessions ≤ length h.now.1 }
     requires few { sessions ≤ MAX_SESSIONS }

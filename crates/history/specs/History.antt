@@ -1,6 +1,6 @@
 -- Histories, as Bouajjani, Enea, Guerraoui and Hamza define them ("On Verifying Causal Consistency", POPL 2017, section 2).
-use Rattle.std.specs.Prelude.{◌≡◌, ℕ, ◌<◌, ◌≤◌, Bool, true, List, [], length, Option, Some, None, option_map, slice_get, slice_index_or}
-use Rattle.std.specs.List.{filter_map}
+use Rattle.std.specs.Prelude.{◌≡◌, ℕ, ◌+◌, ◌<◌, ◌≤◌, Bool, true, List, [], length, take, Option, Some, None, option_map, slice_get, slice_index_or}
+use Rattle.std.specs.List.{filter_map, sum_by}
 use Rattle.history.specs.declared.limits.TheConstants.{MAX_OPERATIONS, MAX_SESSIONS}
 use Rattle.history.specs.declared.op_id.OpId.{OpId}
 
@@ -20,6 +20,14 @@ module _ {S C R : Type 0} where
   -- its call, and its known return or none
   abbrev pub entry : HistoryValue S C R → OpId → Option (C × Option R)
   entry h o = slice_get (session h o.session) o.index
+
+  -- how many operations the first n sessions have
+  abbrev pub many_before : HistoryValue S C R → ℕ → ℕ
+  many_before h n = sum_by (λ (es : List (C × Option R)). length es) (take n h.1)
+
+  -- the number of an operation: those of the sessions before its own come first, then those before it in its own
+  abbrev pub number : HistoryValue S C R → OpId → ℕ
+  number h o = many_before h o.session + o.index
 
   -- the calls of a list of operations, in its order
   abbrev pub calls : HistoryValue S C R → List OpId → List C

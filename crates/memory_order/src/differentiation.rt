@@ -34,8 +34,8 @@ pub fn are_distinct(h: &History<Memory>, writes: &[Write]) -> bool
     are_once(writes) && are_not_initial(h, writes)
 }
 
-/// Whether no two operations among the writes, which are sorted, write one value to one variable.
-fn are_once(writes: &[Write]) -> bool
+/// Whether no two operations among the writes, which are sorted, write one value to one variable. O(n) for n writes.
+pub fn are_once(writes: &[Write]) -> bool
     requires { IsSorted writes.now }
     ensures { IsTrue result ↔ AreOnce writes.now }
 {

@@ -22,7 +22,7 @@ mod writes;
 
 pub use causal::CausalOrder;
 pub use conflicts::waits_with_conflicts;
-pub use differentiation::{are_distinct, is_differentiated};
+pub use differentiation::{are_distinct, are_once, is_differentiated};
 pub use found_sources::found_source;
 pub use growing_order::{Cause, Raise};
 pub use happened_before::{HappenedBefore, MAX_PAIRS, Saturation};

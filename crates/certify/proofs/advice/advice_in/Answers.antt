@@ -1,5 +1,5 @@
 use Rattle.std.proofs.Common.{arith}
-use Rattle.certify.proofs.Advices.{many_within}
+use Rattle.history.proofs.Counting.{many_within}
 use Rattle.certify.proofs.advice.advice_in.Goals as goal
 
 pub slice_bounds-result-end : goal.slice_bounds-result-end

@@ -1,6 +1,6 @@
 use Rattle.std.specs.Prelude.{◌≡◌, ◌*◌, ◌≤◌}
 use Rattle.history.specs.declared.limits.TheConstants.{MAX_OPERATIONS}
-use Rattle.certify.specs.Advice.{many_before}
+use Rattle.history.specs.History.{many_before}
 use Rattle.certify.proofs.advice.many_before.Given as goal
 
 -- the operations of the sessions so far are counted

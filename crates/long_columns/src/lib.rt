@@ -1,0 +1,2 @@
+//! Which operations of a session are before and after each operation, and what that shows.
+#![tactic(auto)]

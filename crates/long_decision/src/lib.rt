@@ -1,0 +1,2 @@
+//! Whether a long history meets the three criteria.
+#![tactic(auto)]

@@ -1,0 +1,11 @@
+use Rattle.std.specs.Prelude.{◌≡◌, ◌≤◌}
+use Rattle.history.specs.History.{many_before}
+use Rattle.long_history.specs.declared.limits.TheConstants.{MAX_NUMBERS}
+use Rattle.long_history.proofs.long_history.LongHistory.of.Given as goal
+
+-- the operations of the sessions so far are counted
+abbrev pub invariant-loop-session : goal.invariant-loop-session
+invariant-loop-session l = record {
+  count : l.operations ≡ many_before (l.start, l.sessions) l.session;
+  few : l.operations ≤ MAX_NUMBERS;
+}

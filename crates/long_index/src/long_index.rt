@@ -1,0 +1,158 @@
+//! The type of an index.
+
+ghost use Rattle.std.specs.Prelude.{◌≡◌, ◌<◌, ◌≤◌, ◌+◌, length, slice_index_or, IfSome};
+ghost use Rattle.history.specs.declared.op_id.OpId.{OpId as Operation};
+ghost use Rattle.history.specs.History.{IsOp, many_before, number};
+ghost use Rattle.memory_order.specs.Memory.{IsDifferentiated};
+ghost use Rattle.memory_order.specs.Relations.{ReadsFrom};
+ghost use Rattle.long_history.specs.LongHistories.{IsLongHistory};
+ghost use Rattle.long_history.specs.Steps.{IsNext, many};
+ghost use Rattle.long_index.specs.Parts.{AreVariables, IsNumberOf, IsPart};
+ghost use Rattle.long_index.specs.declared.part.Part.TheVariants.{SourcedRead};
+
+use crate::part::Part;
+use long_history::{LongHistory, MAX_NUMBERS};
+use std::marker::Model;
+
+/// A long history with distinct values, and what is known of its operations, by their numbers.
+#[derive(Drop)]
+pub struct LongIndex<'a> {
+    history: &'a LongHistory,
+    /// Of each session the number after that of its last operation.
+    ends: Vec<u32>,
+    /// Of each operation its session.
+    sessions: Vec<u32>,
+    /// Of each operation its variable.
+    variables: Vec<u32>,
+    /// Of each operation what is known of it.
+    parts: Vec<Part>,
+    /// Above the number of each variable.
+    bound: u32,
+}
+
+impl<'a> Model for LongIndex<'a> {
+    ghost use Rattle.long_index.specs.Indexed.{Indexed, IsIndex};
+
+    ghost Value = { Indexed };
+
+    ghost view = { λ index. record { history = index.history.now; variables = index.variables.items; bound = index.bound } };
+
+    ghost invariant = { λ index.
+        IsIndex index.history.now index.ends.items index.sessions.items index.variables.items index.parts.items index.bound };
+}
+
+impl<'a> LongIndex<'a> {
+    /// The history.
+    pub fn history(&self) -> &'a LongHistory
+        ensures { result.now ≡ self.now.history }
+    {
+        self.history
+    }
+
+    /// Its values are distinct, and its variables are numbered by key. The method does nothing: what it ensures are the laws.
+    pub fn value_is_indexed(&self)
+        ensures history { IsLongHistory self.now.history }
+        ensures distinct { IsDifferentiated self.now.history }
+        ensures variables { AreVariables self.now.history self.now.variables }
+    {
+        self.history.value_is_history();
+    }
+
+    /// How many sessions there are.
+    pub fn sessions(&self) -> u32
+        ensures count { result ≡ length self.now.history.1 }
+        ensures few { result ≤ MAX_NUMBERS }
+    {
+        self.history.sessions() as u32
+    }
+
+    /// How many operations there are: each has a number below this.
+    pub fn operations(&self) -> u32
+        ensures count { result ≡ many self.now.history }
+        ensures few { result ≤ MAX_NUMBERS }
+    {
+        self.history.operations() as u32
+    }
+
+    /// Above the number of each variable.
+    pub fn variables(&self) -> u32
+        ensures { result ≡ self.now.bound }
+    {
+        self.bound
+    }
+
+    /// The number of the first operation of a session; that of the first one after it, where it has none. O(1).
+    pub fn start(&self, session: u32) -> u32
+        requires { session < length self.now.history.1 }
+        ensures number { result ≡ many_before self.now.history session }
+        ensures within { result ≤ many self.now.history }
+    {
+        if session == 0 {
+            return 0;
+        }
+        self.ends[session as usize - 1]
+    }
+
+    /// The number after that of the last operation of a session. O(1).
+    pub fn end(&self, session: u32) -> u32
+        requires { session < length self.now.history.1 }
+        ensures number { result ≡ many_before self.now.history (session + 1) }
+        ensures within { result ≤ many self.now.history }
+    {
+        self.ends[session as usize]
+    }
+
+    /// The session of an operation. O(1).
+    pub fn session_of(&self, operation: u32) -> u32
+        requires { operation < many self.now.history }
+        ensures below { result < length self.now.history.1 }
+        ensures session { (o : Operation) → IsOp self.now.history o → number self.now.history o ≡ operation → result ≡ o.session }
+    {
+        self.sessions[operation as usize]
+    }
+
+    /// The operation before it in its session, where it is not the first. O(1).
+    pub fn before(&self, operation: u32) -> Option<u32>
+        requires { operation < many self.now.history }
+        ensures below { IfSome result (λ n. n < many self.now.history) }
+        ensures before { (o : Operation) → IsOp self.now.history o → number self.now.history o ≡ operation
+            → IsNumberOf self.now.history (IsNext self.now.history) o result }
+    {
+        if operation == self.start(self.session_of(operation)) {
+            None
+        } else {
+            Some(operation - 1)
+        }
+    }
+
+    /// What is known of an operation. O(1).
+    pub fn part(&self, operation: u32) -> Part
+        requires { operation < many self.now.history }
+        ensures below { (n : ℕ) → result ≡ SourcedRead n → n < many self.now.history }
+        ensures part { (o : Operation) → IsOp self.now.history o → number self.now.history o ≡ operation → IsPart self.now.history o result }
+    {
+        self.parts[operation as usize]
+    }
+
+    /// The write that an operation read from, where it is a known read of a written value. O(1).
+    pub fn source(&self, operation: u32) -> Option<u32>
+        requires { operation < many self.now.history }
+        ensures below { IfSome result (λ n. n < many self.now.history) }
+        ensures source { (o : Operation) → IsOp self.now.history o → number self.now.history o ≡ operation
+            → IsNumberOf self.now.history (ReadsFrom self.now.history) o result }
+    {
+        match self.part(operation) {
+            Part::SourcedRead(source) => Some(source),
+            Part::Write | Part::InitialRead | Part::ThinAirRead | Part::UnknownRead => None,
+        }
+    }
+
+    /// The number of an operation's variable: what is meant by it holds of writes and known reads alone. O(1).
+    pub fn variable(&self, operation: u32) -> u32
+        requires { operation < many self.now.history }
+        ensures below { result < self.now.bound }
+        ensures variable { result ≡ slice_index_or self.now.variables operation 0 }
+    {
+        self.variables[operation as usize]
+    }
+}

@@ -1,0 +1,2 @@
+//! Orders of all operations of a long history.
+#![tactic(auto)]

@@ -1,0 +1,2 @@
+//! Reading a long history from its text.
+#![tactic(auto)]

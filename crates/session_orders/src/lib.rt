@@ -1,0 +1,2 @@
+//! One order for each session of a long history.
+#![tactic(auto)]
