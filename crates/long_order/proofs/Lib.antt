@@ -1,0 +1,4 @@
+pub mod Orders
+pub mod Passing
+pub mod Placings
+pub mod Stuck
