@@ -1,5 +1,5 @@
 -- An order by steps shows that they make no cycle.
-use Rattle.std.specs.Prelude.{◌≡◌, ℕ, ◌<◌, List, [], Some, slice_get}
+use Rattle.std.specs.Prelude.{◌≡◌, ℕ, ◌<◌, List, [], Option, None, Some, Result, Ok, Err, IfOk, MatchOption, slice_get}
 use Rattle.std.proofs.Common.{arith, ⊎_elim}
 use Rattle.history.specs.declared.op_id.OpId.{OpId}
 use Rattle.history.specs.History.{IsOp, number}
@@ -59,3 +59,11 @@ unlisted-cyclic h (a, leads) = (
       (λ (bad : IsListedEdge h [] x y). let at = bad.1 in absurd cc)
       step) a a leads),
 )
+
+-- so an answer by no edges is one by the causal order
+pub unlisted-order : (h : MemoryHistory) {V E : Type 0} (items : V → List ℕ) (r : Result (Option V) E)
+    → IfOk r (λ out. MatchOption out ((a : OpId) × Leads (IsStepWith h (IsListedEdge h [])) a a) (λ o. IsOrderBy h [] (items o)))
+    → IfOk r (λ out. MatchOption out (IsCyclic h) (λ o. IsOrderBy h [] (items o)))
+unlisted-order h items (Ok None) leads = unlisted-cyclic h leads
+unlisted-order h items (Ok (Some o)) ordered = ordered
+unlisted-order h items (Err e) nothing = nothing
