@@ -12,13 +12,14 @@ use Rattle.memory_order.proofs.RaiseLists.{at-left, at-last}
 use Rattle.long_history.proofs.Numbers.{many-rises}
 use Rattle.long_order.specs.declared.rounds.Unfinished.{Unfinished}
 use Rattle.long_order.specs.Placements.{ArePassed, IsPlaced, IsPlacement, IsUnfinished, next_of}
-use Rattle.long_order.specs.Sessions.{AreUnfinished, IsGoneThrough}
+use Rattle.long_order.specs.Sessions.{AreUnfinished, IsGoneThrough, IsListed}
 use Rattle.long_order.proofs.Passing.{passed-more}
 
 -- of the sessions below s those that are not finished are listed, and the edges to their operations that are placed are passed
-pub record AreUnfinishedBelow (h : MemoryHistory) (edges : List (ℕ × ℕ)) (next : ℕ → ℕ) (s at : ℕ) (sessions : List Unfinished) : Type 0 where
+pub record AreUnfinishedBelow (h : MemoryHistory) (edges : List (ℕ × ℕ)) (next : ℕ → ℕ) (s at : ℕ) (sessions : List Unfinished)
+    : Type 0 where
   pub right : (j : ℕ) (u : Unfinished) → slice_get sessions j ≡ Some u → IsGoneThrough h edges next u
-  pub each : (t : ℕ) → t < s → IsUnfinished h next t → (j : ℕ) × (u : Unfinished) × (slice_get sessions j ≡ Some u) × (u.session ≡ t)
+  pub each : (t : ℕ) → t < s → IsUnfinished h next t → IsListed sessions t
   pub passed : ArePassed h edges next (many_before h s) at
 
 module _ (h : MemoryHistory) (edges : List (ℕ × ℕ)) (next order : List ℕ) (placement : IsPlacement h edges next order) where
@@ -31,7 +32,8 @@ module _ (h : MemoryHistory) (edges : List (ℕ × ℕ)) (next order : List ℕ)
 
   -- the edges that are passed at a number are passed at a greater one
   pub passed-on : (n m at : ℕ) → n ≤ m → ArePassed h edges (next_of next) n at → ArePassed h edges (next_of next) m at
-  passed-on n m at up_to passed = passed-more h edges (next_of next) (next_of next) n m at (λ (a : OpId) (placed : IsPlaced h (next_of next) a). placed) up_to passed
+  passed-on n m at up_to passed =
+      passed-more h edges (next_of next) (next_of next) n m at (λ (a : OpId) (placed : IsPlaced h (next_of next) a). placed) up_to passed
 
   module _ (s at : ℕ) (sessions : List Unfinished) (now : AreUnfinishedBelow h edges (next_of next) s at sessions) where
     -- the edges before those to its next operation

@@ -68,7 +68,10 @@ module _ (h : MemoryHistory) (edges : List (ℕ × ℕ)) (next : ℕ → ℕ) wh
       let is_from : number h a ≡ from = found.2 in (
         a,
         inr (at, subst (λ (m : ℕ). slice_get edges at ≡ Some (m, number h p)) (sym is_from) at_edge, is_a, is_op),
-        λ placed. unpassed (inr (refl, λ b is_b is.
-            let same = number-once h a b is_a is_b (is_from ∙ sym is) in
-            subst (IsPlaced h next) same placed)),
+        λ placed. unpassed (inr (
+          refl,
+          λ b is_b is.
+              let same = number-once h a b is_a is_b (is_from ∙ sym is) in
+              subst (IsPlaced h next) same placed,
+        )),
       )

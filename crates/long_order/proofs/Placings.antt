@@ -106,7 +106,8 @@ module _ (h : MemoryHistory) (also : OpId → OpId → Type 0) (named : AreOfHis
     once-cases j k n first second = ⊎_elim
         (λ (one : slice_get order j ≡ Some n). ⊎_elim
         (λ (two : slice_get order k ≡ Some n). now.once j k n one two)
-        (λ (two : (k ≡ length order) × (number h p ≡ n)). absurd (not_yet j (subst (λ (m : ℕ). slice_get order j ≡ Some m) (sym two.1) one)))
+        (λ (two : (k ≡ length order) × (number h p ≡ n)).
+        absurd (not_yet j (subst (λ (m : ℕ). slice_get order j ≡ Some m) (sym two.1) one)))
         (push-cases order (number h p) k n second))
         (λ (one : (j ≡ length order) × (number h p ≡ n)). ⊎_elim
         (λ (two : slice_get order k ≡ Some n). absurd (not_yet k (subst (λ (m : ℕ). slice_get order k ≡ Some m) (sym one.1) two)))
@@ -130,7 +131,8 @@ module _ (h : MemoryHistory) (also : OpId → OpId → Type 0) (named : AreOfHis
       each = λ a placed. ⊎_elim
           (λ (before : IsPlaced h next a).
           let place = now.each a before in (place.0, at-left order (number h p ∷ []) place.0 (number h a) place.1))
-          (λ (same : a ≡ p). (length order, at-last order (number h p) (length order) refl ∙ ap (λ (q : OpId). Some (number h q)) (sym same)))
+          (λ (same : a ≡ p).
+          (length order, at-last order (number h p) (length order) refl ∙ ap (λ (q : OpId). Some (number h q)) (sym same)))
           (placed-cases a placed);
       no_other = λ k n at. ⊎_elim
           (λ (before : slice_get order k ≡ Some n). let found = now.no_other k n before in (found.0, placed-still found.0 found.1, found.2))
@@ -201,7 +203,8 @@ module _ (h : MemoryHistory) (edges : List (ℕ × ℕ)) where
         (op t (next_of next t - many_before h t), (omega arith, omega arith), refl)
 
     -- where no session has one, all are placed
-    pub finished-placed : ((t : ℕ) → t < length h.1 → ¬ IsUnfinished h (next_of next) t) → (a : OpId) → IsOp h a → IsPlaced h (next_of next) a
+    pub finished-placed : ((t : ℕ) → t < length h.1 → ¬ IsUnfinished h (next_of next) t) → (a : OpId) → IsOp h a
+        → IsPlaced h (next_of next) a
     finished-placed finished a is_op = ⊎_elim
         (λ (placed : number h a < next_of next a.session). placed)
         (λ (left : next_of next a.session ≤ number h a).
@@ -251,8 +254,8 @@ module _ (h : MemoryHistory) (edges : List (ℕ × ℕ)) where
             omega arith)
             (λ (same : next_of after t ≡ next_of next t). omega arith)
             (placed-cases_next t));
-        so_far = so_far-placed h (IsListedEdge h edges) (listed-of_history h edges) p (next_of next) (next_of after) placed-next order now.so_far
-            is_next ready;
+        so_far = so_far-placed h (IsListedEdge h edges) (listed-of_history h edges) p (next_of next) (next_of after) placed-next order
+            now.so_far is_next ready;
       }
 
       pub grown-placed : IsGrownFrom next order after (order ++ number h p ∷ [])

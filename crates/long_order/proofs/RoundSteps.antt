@@ -42,14 +42,19 @@ module _ {X : Type 0} (xs : List X) (i : ℕ) (y : X) where
       ))
       (cases_eq k i)
 
+-- the session t is listed among the kept ones, or at the place or after it
+abbrev pub IsLeft : List Unfinished → ℕ → ℕ → ℕ → Type 0
+IsLeft sessions kept place t =
+    (j : ℕ) × (u : Unfinished) × (slice_get sessions j ≡ Some u) × (u.session ≡ t) × ((j < kept) ⊎ (place ≤ j))
+
 -- the sessions before the place have been run, and of these the kept ones stand first
-pub record IsRound (h : MemoryHistory) (edges : List (ℕ × ℕ)) (begun first next order : List ℕ) (sessions : List Unfinished) (kept place : ℕ) : Type 0 where
+pub record IsRound (h : MemoryHistory) (edges : List (ℕ × ℕ)) (begun first next order : List ℕ) (sessions : List Unfinished) (kept place : ℕ)
+    : Type 0 where
   pub few : kept ≤ place
   pub placement : IsPlacement h edges next order
   pub grown : IsGrownFrom begun first next order
   pub right : (j : ℕ) (u : Unfinished) → slice_get sessions j ≡ Some u → IsGoneThrough h edges (next_of next) u
-  pub each : (t : ℕ) → t < length h.1 → IsUnfinished h (next_of next) t
-      → (j : ℕ) × (u : Unfinished) × (slice_get sessions j ≡ Some u) × (u.session ≡ t) × ((j < kept) ⊎ (place ≤ j))
+  pub each : (t : ℕ) → t < length h.1 → IsUnfinished h (next_of next) t → IsLeft sessions kept place t
   pub stuck : length first ≡ length order → (j : ℕ) (u : Unfinished) → j < kept → slice_get sessions j ≡ Some u
       → IsStuck h edges (next_of next) u.session
 
@@ -82,16 +87,16 @@ module _ (h : MemoryHistory) (edges : List (ℕ × ℕ)) where
       });
       each = λ t inside unfinished. (let more = grown.rises t in now.each t inside (omega arith));
       stuck = λ as_long j u below at. (
-        let one = now.grown.longer in
-        let two = grown.longer in
-        subst (λ (xs : List ℕ). IsStuck h edges (next_of xs) u.session) (grown.same (omega arith)) (now.stuck (omega arith) j u below at)
-      );
+          let one = now.grown.longer in
+          let two = grown.longer in
+          subst (λ (xs : List ℕ). IsStuck h edges (next_of xs) u.session) (grown.same (omega arith)) (now.stuck (omega arith) j u below at)
+          );
     }
 
     module _ (u : Unfinished) (at_place : slice_get sessions place ≡ Some u) where
       -- a session that is looked for stands elsewhere, or it is this one
       each-cases : (t : ℕ) → t < length h.1 → IsUnfinished h (next_of next) t → (t ≡ u.session)
-          ⊎ ((j : ℕ) × (v : Unfinished) × (slice_get sessions j ≡ Some v) × (v.session ≡ t) × ((j < kept) ⊎ (place + 1 ≤ j)))
+          ⊎ IsLeft sessions kept (place + 1) t
       each-cases t inside unfinished =
           let found = now.each t inside unfinished in
           let j : ℕ = found.0 in
@@ -115,7 +120,7 @@ module _ (h : MemoryHistory) (edges : List (ℕ × ℕ)) where
         right = now.right;
         each = λ t inside unfinished. ⊎_elim
             (λ (same : t ≡ u.session). absurd (finished (subst (IsUnfinished h (next_of next)) same unfinished)))
-            (λ (found : (j : ℕ) × (v : Unfinished) × (slice_get sessions j ≡ Some v) × (v.session ≡ t) × ((j < kept) ⊎ (place + 1 ≤ j))). found)
+            (λ (found : IsLeft sessions kept (place + 1) t). found)
             (each-cases t inside unfinished);
         stuck = now.stuck;
       }
@@ -127,10 +132,10 @@ module _ (h : MemoryHistory) (edges : List (ℕ × ℕ)) where
         kept-within = let up_to = now.few in let within = slice_get_within sessions place u at_place in omega arith
 
         kept-each : (t : ℕ) → t < length h.1 → IsUnfinished h (next_of next) t
-            → (j : ℕ) × (v : Unfinished) × (slice_get (slice_set sessions kept at) j ≡ Some v) × (v.session ≡ t) × ((j < kept + 1) ⊎ (place + 1 ≤ j))
+            → IsLeft (slice_set sessions kept at) (kept + 1) (place + 1) t
         kept-each t inside unfinished = ⊎_elim
             (λ (same : t ≡ u.session). (kept, at, set-here sessions kept at kept-within, same_session ∙ sym same, inl (omega arith)))
-            (λ (found : (j : ℕ) × (v : Unfinished) × (slice_get sessions j ≡ Some v) × (v.session ≡ t) × ((j < kept) ⊎ (place + 1 ≤ j))).
+            (λ (found : IsLeft sessions kept (place + 1) t).
             let up_to = now.few in
             let j : ℕ = found.0 in
             let v : Unfinished = found.1 in
@@ -163,13 +168,13 @@ module _ (h : MemoryHistory) (edges : List (ℕ × ℕ)) where
     round-unfinished whole = record {
       right = λ j u at. now.right j u (take-from kept sessions j u at).1;
       each = λ t inside unfinished. (
-        let found = now.each t inside unfinished in
-        let within = slice_get_within sessions found.0 found.1 found.2 in
-        ⊎_elim
-        (λ (before : found.0 < kept). (found.0, found.1, take-stands kept sessions found.0 found.1 before found.2, found.3))
-        (λ (behind : place ≤ found.0). absurd (omega arith))
-        found.4
-      );
+          let found = now.each t inside unfinished in
+          let within = slice_get_within sessions found.0 found.1 found.2 in
+          ⊎_elim
+          (λ (before : found.0 < kept). (found.0, found.1, take-stands kept sessions found.0 found.1 before found.2, found.3))
+          (λ (behind : place ≤ found.0). absurd (omega arith))
+          found.4
+          );
     }
 
     pub round-stuck : length first ≡ length order → AreStuck h edges (next_of next) (take kept sessions)

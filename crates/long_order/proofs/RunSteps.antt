@@ -20,8 +20,8 @@ use Rattle.long_order.proofs.Placings.{next-operation, finished-placed, placemen
 use Rattle.long_order.proofs.Stuck.{stuck-leads}
 
 -- a test of one operation's session tells whether the operation with a number is placed
-pub number_placed-test : (h : MemoryHistory) (next : ℕ → ℕ) (n s : ℕ) → n < many h → ((a : OpId) → IsOp h a → number h a ≡ n → s ≡ a.session)
-    → (n < next s) ↔ IsNumberPlaced h next n
+pub number_placed-test : (h : MemoryHistory) (next : ℕ → ℕ) (n s : ℕ) → n < many h
+    → ((a : OpId) → IsOp h a → number h a ≡ n → s ≡ a.session) → (n < next s) ↔ IsNumberPlaced h next n
 number_placed-test h next n s below of_number = (
   (λ placed a is_op is. subst (λ (m : ℕ). m < next a.session) (sym is) (subst (λ (t : ℕ). n < next t) (of_number a is_op is) placed)),
   (λ each.
@@ -35,11 +35,12 @@ number_placed-test h next n s below of_number = (
 )
 
 one-source : (h : MemoryHistory) → IsDifferentiated h → (u w r : OpId) → ReadsFrom h u r → ReadsFrom h w r → u ≡ w
-one-source h distinct u w r first second = source-unique h u w r (distinct-source h distinct u r first) (distinct-source h distinct w r second)
+one-source h distinct u w r first second =
+    source-unique h u w r (distinct-source h distinct u r first) (distinct-source h distinct w r second)
 
 -- where the source of an operation has a number, it waits for that alone
-pub source-placed : (h : MemoryHistory) (next : ℕ → ℕ) → IsDifferentiated h → (n : ℕ) (w p : OpId) → IsOp h w → ReadsFrom h w p → number h w ≡ n
-    → IsNumberPlaced h next n → (a : OpId) → ReadsFrom h a p → IsPlaced h next a
+pub source-placed : (h : MemoryHistory) (next : ℕ → ℕ) → IsDifferentiated h → (n : ℕ) (w p : OpId) → IsOp h w → ReadsFrom h w p
+    → number h w ≡ n → IsNumberPlaced h next n → (a : OpId) → ReadsFrom h a p → IsPlaced h next a
 source-placed h next distinct n w p is_w from is placed a from_a =
     subst (IsPlaced h next) (one-source h distinct w a p from from_a) (placed w is_w is)
 
@@ -55,7 +56,8 @@ module _ (h : MemoryHistory) (edges : List (ℕ × ℕ)) (next order : List ℕ)
     p-number : number h p ≡ o
     p-number = (the_next.1).1 ∙ ap (next_of next) the_next.2 ∙ is_o
 
-    pub run-stuck : ((q : OpId) → IsOp h q → number h q ≡ o → IsWaiting h (IsListedEdge h edges) (next_of next) q) → IsStuck h edges (next_of next) s
+    pub run-stuck : ((q : OpId) → IsOp h q → number h q ≡ o → IsWaiting h (IsListedEdge h edges) (next_of next) q)
+        → IsStuck h edges (next_of next) s
     run-stuck waits = (p, the_next.1, the_next.2, waits p (the_next.1).0 p-number)
 
     module _ (ready : (q : OpId) → IsOp h q → number h q ≡ o → IsReady h (IsListedEdge h edges) (next_of next) q) (after longer : List ℕ)
@@ -82,7 +84,8 @@ module _ (h : MemoryHistory) (edges : List (ℕ × ℕ)) (next order : List ℕ)
           (omega arith) passed
 
   -- where all sessions are finished, it is an order of all operations
-  pub order-whole : (sessions : List Unfinished) → length sessions ≡ 0 → AreUnfinished h edges (next_of next) sessions → IsOrderBy h edges order
+  pub order-whole : (sessions : List Unfinished) → length sessions ≡ 0 → AreUnfinished h edges (next_of next) sessions
+      → IsOrderBy h edges order
   order-whole sessions none are = so_far-whole h (IsListedEdge h edges) (listed-of_history h edges) (next_of next) order now.so_far
       (finished-placed h edges next order now (λ t inside unfinished.
       let found = are.each t inside unfinished in
@@ -94,9 +97,10 @@ module _ (h : MemoryHistory) (edges : List (ℕ × ℕ)) (next order : List ℕ)
       → AreStuck h edges (next_of next) sessions → (a : OpId) × Leads (IsStepWith h (IsListedEdge h edges)) a a
   order-stuck sessions some are stuck =
       let first_of : (u : Unfinished) × (slice_get sessions 0 ≡ Some u) = ⊎_elim
-          (λ (found : (u : Unfinished) × (0 < length sessions) × (slice_get sessions 0 ≡ Some u) × (get_or sessions 0 u ≡ u)). (found.0, found.2))
-          (λ (past : (length sessions ≤ 0) × (slice_get sessions 0 ≡ None)). let none = past.0 in absurd (omega arith))
-          (slice_get_cases sessions 0).1 in
+      (λ (found : (u : Unfinished) × (0 < length sessions) × (slice_get sessions 0 ≡ Some u) × (get_or sessions 0 u ≡ u)).
+      (found.0, found.2))
+      (λ (past : (length sessions ≤ 0) × (slice_get sessions 0 ≡ None)). let none = past.0 in absurd (omega arith))
+      (slice_get_cases sessions 0).1 in
       let first = stuck 0 first_of.0 first_of.1 in
       stuck-leads h (IsListedEdge h edges) (listed-of_history h edges) (next_of next) now.from_start
       (λ q is_next.

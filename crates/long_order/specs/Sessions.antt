@@ -6,6 +6,10 @@ use Rattle.long_history.specs.Steps.{IsListedEdge}
 use Rattle.long_order.specs.declared.rounds.Unfinished.{Unfinished}
 use Rattle.long_order.specs.Placements.{ArePassed, IsNextToPlace, IsUnfinished, IsWaiting}
 
+-- the session t is listed
+abbrev pub IsListed : List Unfinished → ℕ → Type 0
+IsListed sessions t = (j : ℕ) × (u : Unfinished) × (slice_get sessions j ≡ Some u) × (u.session ≡ t)
+
 module _ (h : MemoryHistory) (edges : List (ℕ × ℕ)) (next : ℕ → ℕ) where
   -- it is a session of the history, and has gone through edges to its next operation alone
   pub record IsGoneThrough (u : Unfinished) : Type 0 where
@@ -19,7 +23,7 @@ module _ (h : MemoryHistory) (edges : List (ℕ × ℕ)) (next : ℕ → ℕ) wh
   -- each session with an operation that is not placed is listed
   pub record AreUnfinished (sessions : List Unfinished) : Type 0 where
     pub right : (j : ℕ) (u : Unfinished) → slice_get sessions j ≡ Some u → IsGoneThrough u
-    pub each : (t : ℕ) → t < length h.1 → IsUnfinished h next t → (j : ℕ) × (u : Unfinished) × (slice_get sessions j ≡ Some u) × (u.session ≡ t)
+    pub each : (t : ℕ) → t < length h.1 → IsUnfinished h next t → IsListed sessions t
 
   -- the next operations of the listed sessions wait
   abbrev pub AreStuck : List Unfinished → Type 0

@@ -108,7 +108,13 @@ impl Placement {
     }
 
     /// Whether the next operation of a session can be placed, with the place of the first edge that is not passed.
-    fn can_follow(&self, index: &LongIndex, edges: &[(u32, u32)], operation: u32, passed: usize) -> bool
+    fn can_follow(
+        &self,
+        index: &LongIndex,
+        edges: &[(u32, u32)],
+        operation: u32,
+        passed: usize,
+    ) -> bool
         requires sessions { vec_len self.now.next ≡ length index.now.history.1 }
         requires below { operation < many index.now.history }
         requires from_operations { AreFromOperations index.now.history edges.now }
@@ -137,7 +143,12 @@ impl Placement {
     }
 
     /// Places operations of a session while the next one can follow. Answers how far it has gone, unless it is finished.
-    fn run(&mut self, index: &LongIndex, edges: &[(u32, u32)], at: Unfinished) -> Result<Option<Unfinished>, AllocError>
+    fn run(
+        &mut self,
+        index: &LongIndex,
+        edges: &[(u32, u32)],
+        at: Unfinished,
+    ) -> Result<Option<Unfinished>, AllocError>
         requires placement { IsPlacement index.now.history edges.now self.old.next.items self.old.order.items }
         requires from_operations { AreFromOperations index.now.history edges.now }
         requires sorted { AreSortedEdges edges.now }
@@ -155,7 +166,10 @@ impl Placement {
         for operation in self.next[session]..index.end(at.session) {
             passed = self.pass(index, edges, operation, passed);
             if !self.can_follow(index, edges, operation, passed) {
-                return Ok(Some(Unfinished { session: at.session, passed }));
+                return Ok(Some(Unfinished {
+                    session: at.session,
+                    passed,
+                }));
             }
             self.place(session, operation)?;
         }
@@ -163,7 +177,12 @@ impl Placement {
     }
 
     /// The sessions that are not finished. O(k) for k sessions, and O(e) for e edges.
-    fn unfinished(&self, alloc: Global, index: &LongIndex, edges: &[(u32, u32)]) -> Result<Vec<Unfinished>, AllocError>
+    fn unfinished(
+        &self,
+        alloc: Global,
+        index: &LongIndex,
+        edges: &[(u32, u32)],
+    ) -> Result<Vec<Unfinished>, AllocError>
         requires placement { IsPlacement index.now.history edges.now self.now.next.items self.now.order.items }
         requires from_operations { AreFromOperations index.now.history edges.now }
         ensures { IfOk result (λ s. AreUnfinished index.now.history edges.now (next_of self.now.next.items) s.items) }
@@ -181,7 +200,12 @@ impl Placement {
     }
 
     /// Runs each session once, and keeps those that are not finished.
-    fn round(&mut self, index: &LongIndex, edges: &[(u32, u32)], sessions: &mut Vec<Unfinished>) -> Result<(), AllocError>
+    fn round(
+        &mut self,
+        index: &LongIndex,
+        edges: &[(u32, u32)],
+        sessions: &mut Vec<Unfinished>,
+    ) -> Result<(), AllocError>
         requires placement { IsPlacement index.now.history edges.now self.old.next.items self.old.order.items }
         requires from_operations { AreFromOperations index.now.history edges.now }
         requires sorted { AreSortedEdges edges.now }
@@ -209,7 +233,11 @@ impl Placement {
 ///
 /// Fails for want of memory alone. For n operations in k sessions and e edges, O(n + k + e) and a visit of each session that is not
 /// finished in each round; a round places an operation at least, and mostly a long run of each session.
-pub fn order(alloc: Global, index: &LongIndex, edges: &[(u32, u32)]) -> Result<Option<Vec<u32>>, AllocError>
+pub fn order(
+    alloc: Global,
+    index: &LongIndex,
+    edges: &[(u32, u32)],
+) -> Result<Option<Vec<u32>>, AllocError>
     requires from_operations { AreFromOperations index.now.history edges.now }
     requires sorted { AreSortedEdges edges.now }
     ensures { IfOk result (λ out. MatchOption out

@@ -8,4 +8,5 @@ pub returns : goal.returns
 returns c edges =
     let count : length c.loop-session.next.items ≡ length c.args.index.now.history.1 = grind arith in
     subst (IsPlacement c.args.index.now.history edges c.loop-session.next.items) (sym c.in_ok-order.ensures.items)
-    (placement-first c.args.index.now.history edges c.loop-session.next.items count (λ t below. c.loop-session.invariant.starts t (grind arith)))
+    (placement-first c.args.index.now.history edges c.loop-session.next.items count
+    (λ t below. c.loop-session.invariant.starts t (grind arith)))

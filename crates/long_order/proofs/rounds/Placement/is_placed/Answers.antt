@@ -7,9 +7,10 @@ use Rattle.long_order.proofs.rounds.Placement.is_placed.Goals as goal
 
 pub returns : goal.returns
 returns c =
-    let value = get_or_read c.args.self.now.next.items c.session_of.result c.index.result.now (grind arith) c.index.ensures 0 in
-    let test = number_placed-test c.args.index.now.history (next_of c.args.self.now.next.items) c.args.operation c.session_of.result c.requires.below
-        c.session_of.ensures.session in (
+    let next = c.args.self.now.next.items in
+    let value = get_or_read next c.session_of.result c.index.result.now (grind arith) c.index.ensures 0 in
+    let test = number_placed-test c.args.index.now.history (next_of next) c.args.operation c.session_of.result c.requires.below
+    c.session_of.ensures.session in (
       (λ below. test.0 (let less = ltb-true c.args.operation c.index.result.now below in omega arith)),
       (λ each. lt-ltb c.args.operation c.index.result.now (let less = test.1 each in omega arith)),
     )

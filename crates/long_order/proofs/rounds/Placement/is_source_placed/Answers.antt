@@ -5,11 +5,12 @@ use Rattle.long_order.proofs.RunSteps.{source-placed}
 use Rattle.long_order.proofs.rounds.Placement.is_source_placed.Goals as goal
 
 pub returns-in-Some-clause-placed : goal.returns-in-Some-clause-placed
-returns-in-Some-clause-placed c is_yes a p is_op is from =
+returns-in-Some-clause-placed c placed a p is_op is from =
     let h = c.args.index.now.history in
     let found = c.in-Some.ensures.source p is_op is in
-    source-placed h (next_of c.args.self.now.next.items) c.value_is_indexed.ensures.distinct c.in-Some.source found.0 p found.1 found.2 found.3
-    (c.is_placed.ensures.0 is_yes) a from
+    let distinct = c.value_is_indexed.ensures.distinct in
+    source-placed h (next_of c.args.self.now.next.items) distinct c.in-Some.source found.0 p found.1 found.2 found.3
+    (c.is_placed.ensures.0 placed) a from
 
 pub returns-in-Some-clause-waits : goal.returns-in-Some-clause-waits
 returns-in-Some-clause-waits c unplaced p is_op is =
@@ -22,4 +23,4 @@ returns-in-Some-clause-waits c unplaced p is_op is =
     )
 
 pub returns-in-None-clause-placed : goal.returns-in-None-clause-placed
-returns-in-None-clause-placed c is_yes a p is_op is from = absurd (c.in-None.ensures.source p is_op is a from)
+returns-in-None-clause-placed c placed a p is_op is from = absurd (c.in-None.ensures.source p is_op is a from)

@@ -11,21 +11,25 @@ use Rattle.long_order.proofs.rounds.Placement.round.Goals.{in-Some, in_default}
 pub loop-place-preserved : goal.loop-place-preserved
 loop-place-preserved c =
     let h = c.args.index.now.history in
-    let below : c.loop-place.place < length c.loop-place.sessions.items = grind arith in
-    let at_place = slice_get_read c.loop-place.sessions.items (length c.loop-place.sessions.items) c.loop-place.place c.index.result.now refl below c.index.ensures in
-    let moved = round-more h c.args.edges.now _ _ _ _ _ _ _ c.loop-place.invariant.round c.run.new.self.next.items c.run.new.self.order.items
-        c.in_ok-at.ensures.placement c.in_ok-at.ensures.grown in
+    let edges = c.args.edges.now in
+    let sessions = c.loop-place.sessions.items in
+    let before = c.index.result.now in
+    let after = c.run.new.self in
+    let run = c.in_ok-at.ensures in
+    let below : c.loop-place.place < length sessions = grind arith in
+    let at_place = slice_get_read sessions (length sessions) c.loop-place.place before refl below c.index.ensures in
+    let moved =
+        round-more h edges _ _ _ _ _ _ _ c.loop-place.invariant.round after.next.items after.order.items run.placement run.grown in
     elim c.match-branch-2.branch [
-      in-Some w ↦ rw (w.sessions-is, w.kept-is) (record {
-        size = length-set c.loop-place.sessions.items c.loop-place.kept w.in-Some.at ∙ c.loop-place.invariant.size;
+      | in-Some w ↦ rw (w.sessions-is, w.kept-is) (record {
+        size = length-set sessions c.loop-place.kept w.in-Some.at ∙ c.loop-place.invariant.size;
         round = (let same = ap (λ x. Ok x) w.in-Some.is in
-            round-kept h c.args.edges.now _ _ _ _ _ _ _ moved c.index.result.now at_place w.in-Some.at
-            (c.in_ok-at.ensures.session w.in-Some.at same) (c.in_ok-at.ensures.gone w.in-Some.at same) (c.in_ok-at.ensures.stuck w.in-Some.at same));
+            round-kept h edges _ _ _ _ _ _ _ moved before at_place w.in-Some.at (run.session w.in-Some.at same)
+            (run.gone w.in-Some.at same) (run.stuck w.in-Some.at same));
       })
       | in_default w ↦ rw (w.sessions-is, w.kept-is) (record {
         size = c.loop-place.invariant.size;
-        round = round-finished h c.args.edges.now _ _ _ _ _ _ _ moved c.index.result.now at_place
-            (c.in_ok-at.ensures.finished (ap (λ x. Ok x) w.in_default.is));
+        round = round-finished h edges _ _ _ _ _ _ _ moved before at_place (run.finished (ap (λ x. Ok x) w.in_default.is));
       })
     ]
 

@@ -18,16 +18,16 @@ loop-session-preserved c =
     let value = get_or_read next s c.index-next.result.now (omega arith) c.index-next.ensures 0 in
     let end = c.end.ensures.number in
     elim c.if-next-end.branch [
-      then-next-end+in_ok-push w ↦ (
-        let left : IsUnfinished h (next_of next) s = (let below = w.if-next-end.true in omega arith) in
-        let u : Unfinished = record { session = s; passed = w.pass-passed.result } in
-        rw (w.sessions-is, w.passed-is)
-        (subst (AreUnfinishedBelow h edges (next_of next) (s + 1) w.pass-passed.result) (sym w.in_ok-push.ensures.items)
-        (listed-more h edges next c.args.self.now.order.items c.requires.placement s c.loop-session.passed c.loop-session.sessions.items
-        c.loop-session.invariant u refl inside left
-        (subst (λ (n : ℕ). ArePassed h edges (next_of next) n w.pass-passed.result) value w.pass-passed.ensures.passed)))
-      )
+      | then-next-end+in_ok-push w ↦ (
+          let left : IsUnfinished h (next_of next) s = (let below = w.if-next-end.true in omega arith) in
+          let u : Unfinished = record { session = s; passed = w.pass-passed.result } in
+          rw (w.sessions-is, w.passed-is)
+          (subst (AreUnfinishedBelow h edges (next_of next) (s + 1) w.pass-passed.result) (sym w.in_ok-push.ensures.items)
+          (listed-more h edges next c.args.self.now.order.items c.requires.placement s c.loop-session.passed c.loop-session.sessions.items
+          c.loop-session.invariant u refl inside left
+          (subst (λ (n : ℕ). ArePassed h edges (next_of next) n w.pass-passed.result) value w.pass-passed.ensures.passed)))
+          )
       | else-next-end w ↦ rw (w.sessions-is, w.passed-is)
-        (listed-finished h edges next c.args.self.now.order.items c.requires.placement s c.loop-session.passed c.loop-session.sessions.items
-        c.loop-session.invariant (λ left. let above = w.if-next-end.false in omega arith))
+          (listed-finished h edges next c.args.self.now.order.items c.requires.placement s c.loop-session.passed c.loop-session.sessions.items
+          c.loop-session.invariant (λ left. let above = w.if-next-end.false in omega arith))
     ]
