@@ -228,11 +228,12 @@ impl Placement {
     }
 }
 
-/// An order of all operations, by number, in which each stands after the one before it in its session, after the write that it read
-/// from, and after each operation from which an edge (from, to) leads to it. `None` where these make a cycle.
+/// An order of all operations, by number: each stands after the one before it in its session, after the write that it read from, and
+/// after `from` for each edge `(from, to)` to it. `None` where these make a cycle.
 ///
-/// Fails for want of memory alone. For n operations in k sessions and e edges, O(n + k + e) and a visit of each session that is not
-/// finished in each round; a round places an operation at least, and mostly a long run of each session.
+/// The edges are sorted by `to`. Fails for want of memory alone. O(n + k + e) for n operations in k sessions and e edges, and in each round
+/// a visit of each session that is not finished; each round but the last places an operation. It takes 4 bytes an operation, 4 a session
+/// and at most 48 for each session with operations.
 pub fn order(
     alloc: Global,
     index: &LongIndex,
@@ -258,8 +259,7 @@ pub fn order(
     }
 }
 
-/// An order of all operations, by number, in which each stands after those that are causally before it. `None` where the causal order
-/// is cyclic.
+/// An order of all operations, by number: each stands after those that are causally before it. `None` where the causal order is cyclic.
 ///
 /// Fails for want of memory alone. It costs what [`order`] does.
 pub fn causal_order(alloc: Global, index: &LongIndex) -> Result<Option<Vec<u32>>, AllocError>

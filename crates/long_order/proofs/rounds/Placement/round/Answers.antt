@@ -19,7 +19,7 @@ loop-place-preserved c =
     let below : c.loop-place.place < length sessions = grind arith in
     let at_place = slice_get_read sessions (length sessions) c.loop-place.place before refl below c.index.ensures in
     let moved =
-        round-more h edges _ _ _ _ _ _ _ c.loop-place.invariant.round after.next.items after.order.items run.placement run.grown in
+    round-more h edges _ _ _ _ _ _ _ c.loop-place.invariant.round after.next.items after.order.items run.placement run.grown in
     elim c.match-branch-2.branch [
       | in-Some w ↦ rw (w.sessions-is, w.kept-is) (record {
         size = length-set sessions c.loop-place.kept w.in-Some.at ∙ c.loop-place.invariant.size;
