@@ -1,6 +1,6 @@
 -- What an index says of an operation, by its number.
 use Rattle.std.specs.Prelude.{◌≡◌, ℕ, ◌+◌, ◌-◌, ◌<◌, ◌≤◌, List, length}
-use Rattle.std.proofs.Common.{arith, ap, get_or, subst, sym, ◌∙◌}
+use Rattle.std.proofs.Common.{arith, ap, get_or, subst}
 use Rattle.std.proofs.lemmas.Option.{get_or_from_slice_get, slice_get_read}
 use Rattle.history.specs.declared.op_id.OpId.{OpId}
 use Rattle.history.specs.History.{IsOp, many_before, number}

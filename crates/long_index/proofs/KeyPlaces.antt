@@ -1,9 +1,9 @@
 -- Numbers for keys.
-use Rattle.std.specs.Prelude.{◌≡◌, ◌⊎◌, ℕ, ◌+◌, ◌<◌, ◌≤◌, All, List, Contains, IsPermutation, Option, Some, length, option_map, slice_get}
+use Rattle.std.specs.Prelude.{◌≡◌, ◌⊎◌, ℕ, ◌<◌, All, List, Contains, IsPermutation, Option, Some, length, option_map, slice_get}
 use Rattle.std.specs.List.{dedup}
 use Rattle.std.specs.List.Sorted.{IsNonDecreasingBy, IsPartitionPoint, IsStrictlyIncreasing}
 use Rattle.std.proofs.Common.{arith, ap, eqb, get_or, ltb, true, false, subst, sym, ◌∙◌, ⊎_elim}
-use Rattle.std.proofs.lemmas.Bool.{cases_eq, cases_lt, cases_order}
+use Rattle.std.proofs.lemmas.Bool.{cases_eq, cases_order}
 use Rattle.std.proofs.lemmas.Bool.Decides.{nat_tests}
 use Rattle.std.proofs.lemmas.List.Elements.{Contains-get_or}
 use Rattle.std.proofs.lemmas.List.Kept.{AllPairs-from_increasing, Contains-dedup_nat}
@@ -87,7 +87,7 @@ module _ (h : MemoryHistory) where
         let at_a = place-of x a of_a in
         let at_b = place-of y b of_b in (
           (λ (same : get_or places (number h a) 0 ≡ get_or places (number h b) 0).
-          same_Some _ _ (sym at_a ∙ ap (slice_get distinct) same ∙ at_b)),
+              same_Some _ _ (sym at_a ∙ ap (slice_get distinct) same ∙ at_b)),
           λ (same : x ≡ y). rising-once distinct rising _ _ y (at_a ∙ ap (λ (z : ℕ). Some z) same) at_b,
         )
 

@@ -1,5 +1,5 @@
 -- What is known of an operation, by its call and its return.
-use Rattle.std.specs.Prelude.{◌≡◌, ℕ, ◌+◌, ◌<◌, ◌≤◌, List, Option, Some, length, option_map, slice_index_or}
+use Rattle.std.specs.Prelude.{◌≡◌, ℕ, ◌+◌, ◌<◌, List, Option, Some, length, option_map, slice_index_or}
 use Rattle.std.proofs.Common.{arith, ap, refl, subst, sym, ◌∙◌}
 use Rattle.std.proofs.lemmas.Option.{same_Some}
 use Rattle.objects.specs.declared.register.RegisterCall.TheVariants.{Write, Read}
@@ -13,12 +13,12 @@ use Rattle.memory_order.specs.Memory.{MemoryCall, MemoryHistory, initial, Writes
 use Rattle.memory_order.specs.Relations.{ReadsFrom}
 use Rattle.memory_order.specs.Steps.Written.{IsLeastWrite, LacksWrite}
 use Rattle.memory_order.proofs.FirstWrites.{source-written}
-use Rattle.memory_order.proofs.MemoryLaws.{read-of_history, same_read, write-of_history, write-or_read}
+use Rattle.memory_order.proofs.MemoryLaws.{same_read, write-of_history, write-or_read}
 use Rattle.long_history.specs.Steps.{many}
 use Rattle.long_history.proofs.Numbers.{number-all, number-below}
 use Rattle.long_index.specs.declared.part.Part.TheVariants as parts
 use Rattle.long_index.specs.Lists.{ListsStarts}
-use Rattle.long_index.specs.Parts.{IsNumberOf, IsPart, IsThinAir}
+use Rattle.long_index.specs.Parts.{IsNumberOf, IsPart}
 use Rattle.long_index.specs.Writes.{ListsSortedWrites}
 
 module _ (h : MemoryHistory) (o : OpId) where
@@ -36,9 +36,9 @@ module _ (h : MemoryHistory) (o : OpId) where
     pub part-unknown : c.call ≡ Read → ((v : ℕ) → r ≡ Some (Value v) → ⊥) → IsPart h o parts.UnknownRead
     part-unknown is unknown = (
       (λ x v wrote.
-      let same = same_Some _ _ (sym (ap (option_map (λ (e : MemoryCall × Option RegisterRet). e.0)) at) ∙ wrote) in
-      let call : Read ≡ Write v = sym is ∙ ap (λ (d : MemoryCall). d.call) same in
-      absurd cc),
+          let same = same_Some _ _ (sym (ap (option_map (λ (e : MemoryCall × Option RegisterRet). e.0)) at) ∙ wrote) in
+          let call : Read ≡ Write v = sym is ∙ ap (λ (d : MemoryCall). d.call) same in
+          absurd cc),
       λ x v reads. unknown v (ap (λ (e : MemoryCall × Option RegisterRet). e.1) (same_Some _ _ (sym at ∙ reads))),
     )
 

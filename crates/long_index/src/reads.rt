@@ -80,13 +80,7 @@ fn part_of(h: &LongHistory, starts: &[u32], writes: &[Write], operation: &LongEn
 }
 
 /// What is known of a read of a variable that returned this value. O(log n) for n operations.
-fn part_of_read(
-    h: &LongHistory,
-    starts: &[u32],
-    writes: &[Write],
-    key: u32,
-    value: u64,
-) -> Part
+fn part_of_read(h: &LongHistory, starts: &[u32], writes: &[Write], key: u32, value: u64) -> Part
     requires starts { ListsStarts h.now (length h.now.1) starts.now }
     requires writes { ListsSortedWrites h.now writes.now }
     ensures { (o : Operation) → Reads h.now o key value → IsPart h.now o result }

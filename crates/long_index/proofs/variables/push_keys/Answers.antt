@@ -1,4 +1,3 @@
-use Rattle.std.proofs.Common.{arith}
 use Rattle.long_index.specs.Lists.{IsKeyOf}
 use Rattle.long_index.proofs.ListsLaws.{each-push, key-at, op-at}
 use Rattle.long_index.proofs.variables.push_keys.Goals as goal

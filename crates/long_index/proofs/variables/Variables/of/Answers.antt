@@ -1,5 +1,4 @@
-use Rattle.std.specs.Prelude.{All, Contains}
-use Rattle.std.proofs.Common.{subst, subst₂, sym, List, ℕ, ◌∙◌}
+use Rattle.std.proofs.Common.{subst₂, List, ℕ}
 use Rattle.long_index.specs.Lists.{ArePlaces}
 use Rattle.long_index.proofs.KeyPlaces.{places-below, places-variables}
 use Rattle.long_index.proofs.variables.Variables.of.Goals as goal
