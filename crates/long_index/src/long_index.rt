@@ -49,8 +49,8 @@ impl<'a> Model for LongIndex<'a> {
 impl<'a> LongIndex<'a> {
     /// What is known of a history, or none where its values are not distinct.
     ///
-    /// Fails for want of memory alone. O(n log n + k) for n operations in k sessions. It takes 52 bytes an operation, of which 16 stay,
-    /// and 4 a session.
+    /// Fails for want of memory alone. O(n log n + k) for n operations in k sessions. It takes at most 48 bytes an operation, of which it
+    /// keeps 16, and 4 a session.
     pub fn of(alloc: Global, h: &'a LongHistory) -> Result<Option<LongIndex<'a>>, AllocError>
         ensures { IfOk result (λ found. MatchOption found (¬ IsDifferentiated h.now) (λ index. index.history ≡ h.now)) }
     {
