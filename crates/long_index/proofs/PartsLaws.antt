@@ -1,84 +1,43 @@
 -- What is known of an operation, by its call and its return.
 use Rattle.std.specs.Prelude.{◌≡◌, ℕ, ◌+◌, ◌<◌, List, Option, Some, length, option_map, slice_index_or}
-use Rattle.std.proofs.Common.{arith, ap, refl, subst, sym, ◌∙◌}
-use Rattle.std.proofs.lemmas.Option.{same_Some}
-use Rattle.objects.specs.declared.register.RegisterCall.TheVariants.{Write, Read}
+use Rattle.std.proofs.Common.{arith, ap, refl, ◌∙◌}
+use Rattle.objects.specs.declared.register.RegisterCall.TheVariants.{Write}
 use Rattle.objects.specs.declared.register.RegisterRet.{RegisterRet}
-use Rattle.objects.specs.declared.register.RegisterRet.TheVariants.{Value}
 use Rattle.history.specs.declared.op_id.OpId.{OpId}
 use Rattle.history.specs.History.{IsOp, entry, many_before, number}
 use Rattle.causal_order.proofs.OrdersLaws.{session-of_history}
 use Rattle.memory_order.specs.declared.writes.Write.{Write as WriteEntry}
-use Rattle.memory_order.specs.Memory.{MemoryCall, MemoryHistory, initial, Writes, Reads}
-use Rattle.memory_order.specs.Relations.{ReadsFrom}
+use Rattle.memory_order.specs.Memory.{MemoryCall, MemoryHistory, initial, Reads}
 use Rattle.memory_order.specs.Steps.Written.{IsLeastWrite, LacksWrite}
 use Rattle.memory_order.proofs.FirstWrites.{source-written}
-use Rattle.memory_order.proofs.MemoryLaws.{same_read, write-of_history, write-or_read}
+use Rattle.memory_order.proofs.MemoryLaws.{write-of_history}
 use Rattle.long_history.specs.Steps.{many}
 use Rattle.long_history.proofs.Numbers.{number-all, number-below}
 use Rattle.long_index.specs.declared.part.Part.TheVariants as parts
 use Rattle.long_index.specs.Lists.{ListsStarts}
-use Rattle.long_index.specs.Parts.{IsNumberOf, IsPart}
+use Rattle.long_index.specs.Parts.{IsPart}
 use Rattle.long_index.specs.Writes.{ListsSortedWrites}
 
 module _ (h : MemoryHistory) (o : OpId) where
-  module _ (c : MemoryCall) (r : Option RegisterRet) (at : entry h o ≡ Some (c, r)) where
-    pub part-write : (v : ℕ) → c.call ≡ Write v → IsPart h o parts.Write
-    part-write v is = (
-      c.key,
-      v,
-      ap (option_map (λ (e : MemoryCall × Option RegisterRet). e.0)) at ∙ (λ j. Some (record { key = c.key; call = is j })),
-    )
+  pub part-write : (c : MemoryCall) (r : Option RegisterRet) → entry h o ≡ Some (c, r) → (v : ℕ) → c.call ≡ Write v → IsPart h o parts.Write
+  part-write c r at v is = (
+    c.key,
+    v,
+    ap (option_map (λ (e : MemoryCall × Option RegisterRet). e.0)) at ∙ (λ j. Some (record { key = c.key; call = is j })),
+  )
 
-    pub known_read-at : (v : ℕ) → c.call ≡ Read → r ≡ Some (Value v) → Reads h o c.key v
-    known_read-at v is value = at ∙ (λ j. Some (record { key = c.key; call = is j }, value j))
+  module _ (x v : ℕ) (reads : Reads h o x v) (writes : List WriteEntry) (lists : ListsSortedWrites h writes) (apart : v ≡ initial h x → ⊥) where
+    pub part-thin_air : LacksWrite writes x v → IsPart h o parts.ThinAirRead
+    part-thin_air none = (x, v, reads, apart, λ w wrote. none (record { op = w; key = x; value = v }) (lists.lists.each w x v wrote) refl refl)
 
-    pub part-unknown : c.call ≡ Read → ((v : ℕ) → r ≡ Some (Value v) → ⊥) → IsPart h o parts.UnknownRead
-    part-unknown is unknown = (
-      (λ x v wrote.
-          let same = same_Some _ _ (sym (ap (option_map (λ (e : MemoryCall × Option RegisterRet). e.0)) at) ∙ wrote) in
-          let call : Read ≡ Write v = sym is ∙ ap (λ (d : MemoryCall). d.call) same in
-          absurd cc),
-      λ x v reads. unknown v (ap (λ (e : MemoryCall × Option RegisterRet). e.1) (same_Some _ _ (sym at ∙ reads))),
-    )
+    pub part-sourced : (w : OpId) (n : ℕ) → IsLeastWrite writes x v w → number h w ≡ n → IsPart h o (parts.SourcedRead n)
+    part-sourced w n least at = (w, (source-written h writes lists.lists o x v reads apart w least).0, at)
 
-  module _ (x v : ℕ) (reads : Reads h o x v) where
-    pub part-initial : v ≡ initial h x → IsPart h o parts.InitialRead
-    part-initial same = (x, subst (λ (u : ℕ). Reads h o x u) same reads)
-
-    module _ (writes : List WriteEntry) (lists : ListsSortedWrites h writes) (apart : v ≡ initial h x → ⊥) where
-      pub part-thin_air : LacksWrite writes x v → IsPart h o parts.ThinAirRead
-      part-thin_air none =
-          (x, v, reads, apart, λ w wrote. none (record { op = w; key = x; value = v }) (lists.lists.each w x v wrote) refl refl)
-
-      pub part-sourced : (w : OpId) (n : ℕ) → IsLeastWrite writes x v w → number h w ≡ n → IsPart h o (parts.SourcedRead n)
-      part-sourced w n least at = (w, (source-written h writes lists.lists o x v reads apart w least).0, at)
-
-  -- the number of the source of an operation
-  pub source-number : (n : ℕ) → IsPart h o (parts.SourcedRead n) → IsNumberOf h (ReadsFrom h) o (Some n)
-  source-number n (w, from, at) = (w, write-of_history h w from.0 from.1 from.2, from, at)
-
+  -- a source has the number of an operation
   pub source-below : (n : ℕ) → IsPart h o (parts.SourcedRead n) → n < many h
   source-below n (w, from, at) =
       let below = number-all h w (write-of_history h w from.0 from.1 from.2) in
       omega arith
-
-  -- other parts have no source
-  pub write-no_source : IsPart h o parts.Write → (w : OpId) → ¬ ReadsFrom h w o
-  write-no_source (x, v, wrote) w from = write-or_read h o o x v from.0 from.1 wrote from.3 refl
-
-  pub initial-no_source : IsPart h o parts.InitialRead → (w : OpId) → ¬ ReadsFrom h w o
-  initial-no_source (x, reads) w from =
-      let same = same_read h o x (initial h x) from.0 from.1 reads from.3 in
-      from.4 (sym same.1 ∙ ap (initial h) same.0)
-
-  pub thin_air-no_source : IsPart h o parts.ThinAirRead → (w : OpId) → ¬ ReadsFrom h w o
-  thin_air-no_source (x, v, reads, apart, none) w from =
-      let same = same_read h o from.0 from.1 x v from.3 reads in
-      none w (subst (λ (u : ℕ). Writes h w x u) same.1 (subst (λ (y : ℕ). Writes h w y from.1) same.0 from.2))
-
-  pub unknown-no_source : IsPart h o parts.UnknownRead → (w : OpId) → ¬ ReadsFrom h w o
-  unknown-no_source (no_write, no_read) w from = no_read from.0 from.1 from.3
 
 module _ (h : MemoryHistory) (writes : List WriteEntry) (lists : ListsSortedWrites h writes) (x v : ℕ) (w : OpId)
     (least : IsLeastWrite writes x v w) where
