@@ -1,0 +1,2 @@
+pub mod LongRefusals
+pub mod Steps
