@@ -1,4 +1,4 @@
--- Where a schedule of a session's last operation explains the session's known returns, it does so cut to the past of each
+-- Where a list of the past of a session's last operation explains the session's known returns, it does so cut to the past of each
 -- operation of the session.
 use Rattle.std.proofs.Common.{◌≡◌, ℕ, ◌-◌, ◌<◌, ◌≤◌, List, take, length, inr, ⊎_elim, sym, ap, refl, subst, ◌∙◌, arith, eq-or-lt_of_le, lt_of_not-le}
 use Rattle.std.specs.Prelude.{IsTrue, filter, slice_get}
@@ -28,11 +28,10 @@ use Rattle.cert_check.specs.Schedules.{named}
 use Rattle.cert_check.specs.Witnesses.{counted_before}
 use Rattle.cert_check.proofs.ConvergentLaws.{cut_to_past}
 use Rattle.cert_check.proofs.FilteredLaws.{filter_from, filter_keeps, filter_in_order}
-use Rattle.cert_check.proofs.Named.{named_once}
 use Rattle.cert_check.proofs.Pasts.{counted_before-causal, counted-from_past, past-from_counted}
 use Rattle.cert_check.proofs.Sound.{scheduled_past}
 use Rattle.certify.proofs.ReadPieces.{explains-reads}
-use Rattle.decision.specs.SessionOrders.{IsExplainedSession}
+use Rattle.decision.specs.SessionOrders.{IsExplainedSession, IsExplainingList, IsListedSession}
 
 module _ (h : MemoryHistory) (fits : Fits h) (distinct : IsDifferentiated h) (v : Counts) (order : CountsSourceOrder h v) where
   good : (o : OpId) → IsOp h o → IsVectorOk h v o
@@ -41,12 +40,8 @@ module _ (h : MemoryHistory) (fits : Fits h) (distinct : IsDifferentiated h) (v 
   abbrev co : Order
   co = counted_before h v
 
-  module _ (o a : OpId) (is_op : IsOp h o) (earlier : IsTrue (program_past o a)) (schedule : List ℕ)
-      (piece : IsScheduledPiece memory_answer h v schedule o (program_past o)) where
-    -- the schedule's operations, and those of them that are in the past of a
-    abbrev ops : List OpId
-    ops = named schedule
-
+  module _ (o a : OpId) (is_op : IsOp h o) (earlier : IsTrue (program_past o a)) (ops : List OpId) (list : IsExplainingList h v o ops) where
+    -- those of the list's operations that are in the past of a
     abbrev cut : List OpId
     cut = filter (past co a) ops
 
@@ -68,18 +63,17 @@ module _ (h : MemoryHistory) (fits : Fits h) (distinct : IsDifferentiated h) (v 
         past-from_counted h v good o b is_op (omega arith)
 
     cut-linear : IsLinearization (past co a) co cut
-    cut-linear = cut_to_past h co (counted_before-causal h v good) (past co o) ops
-        (scheduled_past h v good o schedule is_op piece.schedules) a past-within
+    cut-linear = cut_to_past h co (counted_before-causal h v good) (past co o) ops list.linear a past-within
 
     module _ (k : ℕ) (r : OpId) (x u : ℕ) (stands : StandsAt cut k r) (inside : IsTrue (program_past a r)) (reads : Reads h r x u) where
-      -- where the read stands in the schedule, and what stands before it
+      -- where the read stands in the whole list, and what stands before it
       there : (j : ℕ) × StandsAt ops j r × IsTrue (past co a r)
       there = filter_from (past co a) ops k r stands
 
       before : (i : ℕ) (b : OpId) → i < k → StandsAt cut i b → (j : ℕ) × (j < there.0) × StandsAt ops j b
       before i b below at =
           let both = filter_in_order (past co a) ops i k b r below at stands in
-          let same : both.1 ≡ there.0 = named_once schedule both.1 there.0 r both.4 there.1 in
+          let same : both.1 ≡ there.0 = list.linear.once both.1 there.0 r both.4 there.1 in
           let less = both.2 in
           (both.0, omega arith, both.3)
 
@@ -114,8 +108,8 @@ module _ (h : MemoryHistory) (fits : Fits h) (distinct : IsDifferentiated h) (v 
             write-or_read h w r x u x u last.writes reads (same_Some w r (sym kept.1 ∙ ap (slice_get cut) (sym same) ∙ stands)))
             (λ (behind : k < kept.0).
             let both = filter_in_order (past co a) ops k kept.0 r w behind stands kept.1 in
-            let first : both.0 ≡ there.0 = named_once schedule both.0 there.0 r both.3 there.1 in
-            let second : both.1 ≡ last.place = named_once schedule both.1 last.place w both.4 place.1 in
+            let first : both.0 ≡ there.0 = list.linear.once both.0 there.0 r both.3 there.1 in
+            let second : both.1 ≡ last.place = list.linear.once both.1 last.place w both.4 place.1 in
             let less = both.2 in
             let before_read = place.0 in
             omega arith)
@@ -126,8 +120,8 @@ module _ (h : MemoryHistory) (fits : Fits h) (distinct : IsDifferentiated h) (v 
             (λ (behind : kept.0 < i).
             let both = filter_in_order (past co a) ops kept.0 i w b behind kept.1 at in
             let p = before i b below at in
-            let first : both.0 ≡ last.place = named_once schedule both.0 last.place w both.3 place.1 in
-            let second : both.1 ≡ p.0 = named_once schedule both.1 p.0 b both.4 p.2 in
+            let first : both.0 ≡ last.place = list.linear.once both.0 last.place w both.3 place.1 in
+            let second : both.1 ≡ p.0 = list.linear.once both.1 p.0 b both.4 p.2 in
             let up_to = last.last p.0 b t (take-stands there.0 ops p.0 b p.1 p.2) writes in
             let less = both.2 in
             absurd (omega arith))
@@ -140,7 +134,7 @@ module _ (h : MemoryHistory) (fits : Fits h) (distinct : IsDifferentiated h) (v 
       read-answers : AnswersBehind h cut k x u
       read-answers =
           let call : MemoryCall = record { key = x; call = Read } in
-          let answer = piece.explains there.0 r call (Value u) there.1 (program_past-earlier o a r earlier inside) reads in
+          let answer = list.explains there.0 r call (Value u) there.1 (program_past-earlier o a r earlier inside) reads in
           ⊎_elim
           (λ (none : IsUnwritten h x (take there.0 ops) × (u ≡ initial h x)).
           subst (λ (n : ℕ). AnswersBehind h cut k x n) (sym none.1) (start-answers none.0))
@@ -150,21 +144,35 @@ module _ (h : MemoryHistory) (fits : Fits h) (distinct : IsDifferentiated h) (v 
     cut-explains : Explains memory_answer h cut (program_past a)
     cut-explains = explains-reads h cut fits (program_past a) read-answers
 
-  -- so where each session has such a schedule, the history meets causal memory
-  pub sessions-meet : ((s : ℕ) → s < length h.1 → IsExplainedSession h v s) → IsCausalMemory memory_answer h
-  sessions-meet explained = (
+  -- so where each session has such a list, the history meets causal memory
+  pub lists-meet : ((s : ℕ) → s < length h.1 → IsListedSession h v s) → IsCausalMemory memory_answer h
+  lists-meet listed = (
     co,
     counted_before-causal h v good,
     λ a is_op.
         let i : ℕ = length (session h a.session) - 1 in
-        let piece = explained a.session (session-of_history h a is_op) i (omega arith) in
+        let found = listed a.session (session-of_history h a is_op) i (omega arith) in
         let last : IsOp h (op a.session i) = omega arith in
         let earlier = program_past-from (op a.session i) a refl (omega arith) in (
-          filter (past co a) (named piece.0),
-          cut-linear (op a.session i) a last earlier piece.0 piece.1,
-          cut-explains (op a.session i) a last earlier piece.0 piece.1,
+          filter (past co a) found.0,
+          cut-linear (op a.session i) a last earlier found.0 found.1,
+          cut-explains (op a.session i) a last earlier found.0 found.1,
         ),
   )
+
+  -- a schedule that is a good piece names such a list
+  schedule-explains : (o : OpId) → IsOp h o → (schedule : List ℕ) → IsScheduledPiece memory_answer h v schedule o (program_past o)
+      → IsExplainingList h v o (named schedule)
+  schedule-explains o is_op schedule piece = record {
+    linear = scheduled_past h v good o schedule is_op piece.schedules;
+    explains = piece.explains;
+  }
+
+  -- so where each session has such a schedule, it does too
+  pub sessions-meet : ((s : ℕ) → s < length h.1 → IsExplainedSession h v s) → IsCausalMemory memory_answer h
+  sessions-meet explained = lists-meet (λ s exists i ends.
+      let piece = explained s exists i ends in
+      (named piece.0, schedule-explains (op s i) (omega arith) piece.0 piece.1))
 
 -- the last operation of a session, where its schedule is good
 pub session-explained : (h : MemoryHistory) (v : Counts) (s n : ℕ) (last : OpId) (schedule : List ℕ) → length (session h s) ≡ n

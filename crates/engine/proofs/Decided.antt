@@ -1,5 +1,5 @@
 -- On distinct values an answer that is true and known says whether a memory history meets the criterion.
-use Rattle.std.specs.Prelude.{◌≡◌, ◌↔◌}
+use Rattle.std.specs.Prelude.{◌≡◌, ◌↔◌, ⊤}
 use Rattle.std.proofs.Common.{refl}
 use Rattle.bad_patterns.specs.declared.kind.Kind.{Kind}
 use Rattle.memory_order.specs.Memory.{MemoryHistory, IsDifferentiated, memory_answer}
@@ -8,19 +8,39 @@ use Rattle.cert_check.specs.Criteria.{Meets}
 use Rattle.operations.specs.declared.any_history.AnyHistory.TheVariants as histories
 use Rattle.board.specs.declared.answer.Answer.{Answer}
 use Rattle.board.specs.declared.answer.Answer.TheVariants.{Yes, No, Unknown, Open}
-use Rattle.engine.specs.Report.{IsKnownOnDistinctValues, IsTrueOf}
+use Rattle.engine.specs.Report.{IsKnownOnDistinctValues, IsLongTrueOf, IsTrueOf}
 
-module _ (h : MemoryHistory) (criterion : Criterion) (distinct : IsDifferentiated h) where
-  pub decided-met : (answer : Answer) → IsTrueOf (histories.Memory h) criterion answer → IsKnownOnDistinctValues (histories.Memory h) answer
-      → answer ≡ Yes ↔ Meets memory_answer h criterion
-  decided-met Yes met known = (λ _. met, λ _. refl)
-  decided-met (No kind) excluded known = (λ same. absurd cc, λ met. absurd (excluded.0.not_met met))
-  decided-met (Unknown place) said known = absurd (known distinct)
-  decided-met (Open n) said known = absurd said
+module _ (h : MemoryHistory) (criterion : Criterion) where
+  -- an answer says whether the history meets the criterion, or nothing
+  abbrev pub Says : Answer → Type 0
+  Says Yes = Meets memory_answer h criterion
+  Says (No kind) = ¬ Meets memory_answer h criterion
+  Says (Unknown place) = ⊤
+  Says (Open n) = ⊥
 
-  pub decided-excluded : (answer : Answer) → IsTrueOf (histories.Memory h) criterion answer → IsKnownOnDistinctValues (histories.Memory h) answer
-      → ((kind : Kind) × (answer ≡ No kind)) ↔ ¬ Meets memory_answer h criterion
-  decided-excluded Yes met known = (λ no. absurd cc, λ unmet. absurd (unmet met))
-  decided-excluded (No kind) excluded known = (λ _. excluded.0.not_met, λ _. (kind, refl))
-  decided-excluded (Unknown place) said known = absurd (known distinct)
-  decided-excluded (Open n) said known = absurd said
+  pub says-true : (answer : Answer) → IsTrueOf (histories.Memory h) criterion answer → Says answer
+  says-true Yes met = met
+  says-true (No kind) excluded = excluded.0.not_met
+  says-true (Unknown place) said = said
+  says-true (Open n) said = said
+
+  pub says-long_true : (answer : Answer) → IsLongTrueOf (histories.Memory h) criterion answer → Says answer
+  says-long_true Yes met = met
+  says-long_true (No kind) excluded = excluded.excluded.not_met
+  says-long_true (Unknown place) said = said
+  says-long_true (Open n) said = said
+
+  module _ (distinct : IsDifferentiated h) where
+    pub decided-met : (answer : Answer) → Says answer → IsKnownOnDistinctValues (histories.Memory h) answer
+        → answer ≡ Yes ↔ Meets memory_answer h criterion
+    decided-met Yes met known = (λ _. met, λ _. refl)
+    decided-met (No kind) excluded known = (λ same. absurd cc, λ met. absurd (excluded met))
+    decided-met (Unknown place) said known = absurd (known distinct)
+    decided-met (Open n) said known = absurd said
+
+    pub decided-excluded : (answer : Answer) → Says answer → IsKnownOnDistinctValues (histories.Memory h) answer
+        → ((kind : Kind) × (answer ≡ No kind)) ↔ ¬ Meets memory_answer h criterion
+    decided-excluded Yes met known = (λ no. absurd cc, λ unmet. absurd (unmet met))
+    decided-excluded (No kind) excluded known = (λ _. excluded, λ _. (kind, refl))
+    decided-excluded (Unknown place) said known = absurd (known distinct)
+    decided-excluded (Open n) said known = absurd said

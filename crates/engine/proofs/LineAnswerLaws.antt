@@ -2,6 +2,7 @@
 use Rattle.std.proofs.Common.{◌≡◌, ◌++◌, ℕ, List, Result, Ok, Err, IfOk, ◌∙◌, ap, sym, subst, inr}
 use Rattle.std.specs.Prelude.{◌≢◌}
 use Rattle.command_line.specs.declared.expected.Expected.{Expected}
+use Rattle.command_line.specs.declared.length.Length.{Length}
 use Rattle.lines.specs.declared.fault.Fault.{Fault}
 use Rattle.lines.specs.declared.fault.Fault.TheVariants as faults
 use Rattle.lines.specs.declared.outcome.Outcome.{Outcome}
@@ -14,19 +15,19 @@ use Rattle.engine.specs.LineAnswers.{IsLineAnswer, IsLineError}
 use Rattle.engine.specs.Steps.LineRefusals.{IsRefusalBy}
 
 -- a line that is refused is answered by the line of its refusal
-pub refusal_answers : (expected : Expected) (line before after : List ℕ) (error : RunError) (r : Result Outcome Fault) → IsLineError line error
-    → IfOk r (AppendsAnswer (IsRefusalBy error) before after) → IfOk r (AppendsAnswer (IsLineAnswer expected line) before after)
-refusal_answers expected line before after error (Ok outcome) is told = (told.0, inr (told.1 line is), told.2)
-refusal_answers expected line before after error (Err fault) is told = tt
+pub refusal_answers : (long : Length) (expected : Expected) (line before after : List ℕ) (error : RunError) (r : Result Outcome Fault) → IsLineError long line error
+    → IfOk r (AppendsAnswer (IsRefusalBy error) before after) → IfOk r (AppendsAnswer (IsLineAnswer long expected line) before after)
+refusal_answers long expected line before after error (Ok outcome) is told = (told.0, inr (told.1 long line is), told.2)
+refusal_answers long expected line before after error (Err fault) is told = tt
 
 -- what is made of all lines without a fault answers them
-pub lines_answered : (expected : Expected) (input text said : List ℕ) (outcome : Result Outcome Fault) (one : Outcome) → outcome ≡ Ok one → said ≡ text
-    → AnswersAs (IsLineAnswer expected) (lines_of input) outcome text
-    → (all : Outcome) × AreAnswered (IsLineAnswer expected) (lines_of input) said all
-lines_answered expected input text said outcome one is same answers = (
+pub lines_answered : (long : Length) (expected : Expected) (input text said : List ℕ) (outcome : Result Outcome Fault) (one : Outcome) → outcome ≡ Ok one → said ≡ text
+    → AnswersAs (IsLineAnswer long expected) (lines_of input) outcome text
+    → (all : Outcome) × AreAnswered (IsLineAnswer long expected) (lines_of input) said all
+lines_answered long expected input text said outcome one is same answers = (
   one,
-  subst (λ (t : List ℕ). AreAnswered (IsLineAnswer expected) (lines_of input) t one) (sym same)
-      (subst (λ (r : Result Outcome Fault). AnswersAs (IsLineAnswer expected) (lines_of input) r text) is answers),
+  subst (λ (t : List ℕ). AreAnswered (IsLineAnswer long expected) (lines_of input) t one) (sym same)
+      (subst (λ (r : Result Outcome Fault). AnswersAs (IsLineAnswer long expected) (lines_of input) r text) is answers),
 )
 
 -- a run that did not fail for its writer failed for no fault of it

@@ -3,6 +3,7 @@ use Rattle.std.proofs.Common.{◌≡◌, ◌<◌, ◌≤◌, ◌⊎◌, ℕ, Lis
 use Rattle.std.proofs.lemmas.Option.{same_Some}
 use Rattle.serde_json.specs.Data.{Data, string}
 use Rattle.operations.specs.declared.any_history.AnyHistory.{AnyHistory}
+use Rattle.operations.specs.declared.any_history.AnyHistory.TheVariants as histories
 use Rattle.operations.specs.declared.read_error.ReadError.{ReadError}
 use Rattle.operations.specs.declared.read_error.ReadError.TheVariants as errors
 use Rattle.operations.specs.AnyForm.{IsAnyHistory, IsJson, IsRefusedFor, first_refusal, form_of}
@@ -10,6 +11,10 @@ use Rattle.operations.specs.Json.{elements, list}
 use Rattle.operations.specs.Laws.Json.{elements-list}
 use Rattle.operations.specs.Refusals.{IsFirst}
 use Rattle.operations.proofs.AnyForms.{any_forms_are_distinct}
+use Rattle.memory_order.specs.Memory.{MemoryHistory}
+use Rattle.long_history.specs.LongHistories.{IsLongHistory}
+use Rattle.long_reader.specs.LongRefusals.{IsRefusedLong, first_long_refusal}
+use Rattle.long_reader.proofs.LongForms.{long_form_is_fine, long_forms_are_distinct}
 use Rattle.cert_check.specs.declared.certificate.Certificate.{Certificate}
 use Rattle.cert_check.specs.CertificateForm.{IsCertificate, form_of as certificate_form}
 use Rattle.cert_check.proofs.CertificateForms.{one_certificate}
@@ -21,6 +26,8 @@ use Rattle.command_line.specs.declared.drive.Drive.{Drive as Drives}
 use Rattle.command_line.specs.declared.form.Form.{Form}
 use Rattle.command_line.specs.declared.form.Form.TheVariants.{Words, Json, Certificates, Picture}
 use Rattle.command_line.specs.declared.judging.Judging.{Judging}
+use Rattle.command_line.specs.declared.length.Length.{Length}
+use Rattle.command_line.specs.declared.length.Length.TheVariants.{Limited, Any}
 use Rattle.command_line.specs.Expected.{expecting_nothing}
 use Rattle.engine.specs.Driving.{IsDriveError, IsDriveReport, IsUndriven, sessions_in}
 use Rattle.engine.specs.declared.failure.RunError.{RunError}
@@ -29,7 +36,8 @@ use Rattle.engine.specs.declared.input.TheConstants.{MAX_INPUT_BYTES}
 use Rattle.engine.specs.Checking.{HasOtherShape, HasShape, IsCheckReport, IsPair, IsPairError, pair_form, pair_refusal}
 use Rattle.engine.specs.Refuting.{claim_form, claim_refusal, IsClaimError, IsPatternOf, IsRefutation}
 use Rattle.engine.specs.Failure.{failure_status, refusal_status, script_status}
-use Rattle.engine.specs.Report.{IsReport}
+use Rattle.engine.specs.Lengths.{IsHistoryOf, IsRefusedAs, first_refusal_of}
+use Rattle.engine.specs.Report.{IsReport, IsReportAt}
 use Rattle.engine.specs.Running.{Completes, Fails, IsOutput, IsOutputError, IsReplayReport}
 use Rattle.engine.proofs.NotRefused.{form_is_fine}
 use Rattle.engine.proofs.Claims.{refusal-claim}
@@ -42,6 +50,18 @@ one_value text d e first second = same_Some d e (sym first.1 ∙ second.1)
 
 one_history : (text : List ℕ) (g h : AnyHistory) → IsAnyHistory g → IsAnyHistory h → IsJson text (form_of g) → IsJson text (form_of h) → g ≡ h
 one_history text g h is_g is_h first second = any_forms_are_distinct g h is_g is_h (one_value text (form_of g) (form_of h) first second)
+
+one_long : (text : List ℕ) (g : AnyHistory) (h : MemoryHistory) → IsHistoryOf Any g → IsLongHistory h → IsJson text (form_of g)
+    → IsJson text (form_of (histories.Memory h)) → g ≡ histories.Memory h
+one_long text (histories.Memory g) h is_g is_h first second =
+    ap histories.Memory (long_forms_are_distinct g h is_g is_h (one_value text (form_of (histories.Memory g)) (form_of (histories.Memory h)) first second))
+one_long text (histories.Register g) h is_g is_h first second = absurd is_g
+one_long text (histories.Counter g) h is_g is_h first second = absurd is_g
+one_long text (histories.Set g) h is_g is_h first second = absurd is_g
+one_long text (histories.Queue g) h is_g is_h first second = absurd is_g
+one_long text (histories.Counters g) h is_g is_h first second = absurd is_g
+one_long text (histories.Sets g) h is_g is_h first second = absurd is_g
+one_long text (histories.Queues g) h is_g is_h first second = absurd is_g
 
 two_elements : (a b x y : Data) → a ∷ x ∷ [] ≡ b ∷ y ∷ [] → (a ≡ b) × (x ≡ y)
 two_elements a b x y same = let first : a ≡ b = cc in let second : x ≡ y = cc in (first, second)
@@ -99,6 +119,34 @@ judge_refused text errors.TooManyOps is one = inr is
 judge_refused text errors.Memory is one = absurd (omega arith)
 judge_refused text errors.BadInitial is one = inr is
 
+long_refused : (text : List ℕ) (e : ReadError) → IsRefusedLong text e → refusal_status e ≡ 1 → Refused first_long_refusal text e
+long_refused text errors.NotJson is one = inl (refl, is)
+long_refused text errors.BadShape is one = inr is
+long_refused text errors.UnknownObject is one = inr is
+long_refused text (errors.BadOp op) is one = inr is
+long_refused text (errors.ReturnAfterUnknown op) is one = inr is
+long_refused text errors.TooManySessions is one = inr is
+long_refused text errors.TooManyOps is one = inr is
+long_refused text errors.Memory is one = absurd (omega arith)
+long_refused text errors.BadInitial is one = inr is
+
+-- the same of either length; and the form of a history is not refused
+refused_as : (long : Length) (text : List ℕ) (e : ReadError) → IsRefusedAs long text e → refusal_status e ≡ 1
+    → Refused (first_refusal_of long) text e
+refused_as Limited text e is one = judge_refused text e is one
+refused_as Any text e is one = long_refused text e is one
+
+fine_as : (long : Length) (h : AnyHistory) → IsHistoryOf long h → first_refusal_of long (form_of h) ≡ None
+fine_as Limited h is = form_is_fine h is
+fine_as Any (histories.Memory h) is = long_form_is_fine h is
+fine_as Any (histories.Register h) is = absurd is
+fine_as Any (histories.Counter h) is = absurd is
+fine_as Any (histories.Set h) is = absurd is
+fine_as Any (histories.Queue h) is = absurd is
+fine_as Any (histories.Counters h) is = absurd is
+fine_as Any (histories.Sets h) is = absurd is
+fine_as Any (histories.Queues h) is = absurd is
+
 check_refused : (text : List ℕ) (e : ReadError) → IsPairError text (History e) → refusal_status e ≡ 1 → Refused (λ d. pair_refusal (elements d)) text e
 check_refused text e (inl is) one = inl is
 check_refused text e (inr is) one = inr (is.0, is.1, first_is (pair_refusal (elements is.0)) e is.2 one)
@@ -134,7 +182,8 @@ has_a_form text h c is_c pair bad =
 -- an input is refused in one way
 judge_once : (judging : Judging) (text : List ℕ) (e f : RunError) → IsOutputError (Judge judging) text e → IsOutputError (Judge judging) text f → failure_status e ≡ 1 → failure_status f ≡ 1 → e ≡ f
 judge_once judging text (History p) (History q) is_e is_f one two =
-    ap History (one_refusal first_refusal text p q (judge_refused text p is_e one) (judge_refused text q is_f two))
+    ap History (one_refusal (first_refusal_of judging.length) text p q (refused_as judging.length text p is_e one)
+    (refused_as judging.length text q is_f two))
 judge_once judging text BadCertificate f is_e is_f one two = absurd is_e
 judge_once judging text ShapeMismatch f is_e is_f one two = absurd is_e
 judge_once judging text (Script p) f is_e is_f one two = absurd is_e
@@ -158,7 +207,7 @@ judge_once judging text e WriteFault is_e is_f one two = absurd is_f
 
 -- how `judge` judges where nothing is asked for
 plain : Judging
-plain = record { workers = 1; expected = expecting_nothing }
+plain = record { workers = 1; expected = expecting_nothing; length = Limited }
 
 -- a history is refused as `judge` refuses it
 explained_as_judged : (form : Form) (text : List ℕ) (e : RunError) → IsOutputError (Explain form) text e → IsOutputError (Judge plain) text e
@@ -328,11 +377,12 @@ refused_in_one_way Replay text e f is_e is_f one two = replay_once text e f is_e
 refused_in_one_way (Drive drive) text e f is_e is_f one two = drive_once drive text e f is_e is_f one two
 
 -- what is answered is not refused
-judge_not_refused : (judging : Judging) (text : List ℕ) (e : RunError) (h : AnyHistory) → IsAnyHistory h → IsJson text (form_of h) → IsOutputError (Judge judging) text e
+judge_not_refused : (judging : Judging) (text : List ℕ) (e : RunError) (h : AnyHistory) → IsHistoryOf judging.length h → IsJson text (form_of h) → IsOutputError (Judge judging) text e
     → failure_status e ≡ 4
 judge_not_refused judging text (History p) h is read is_e =
     ⊎_elim (λ (four : refusal_status p ≡ 4). four)
-    (λ (one : refusal_status p ≡ 1). absurd (not_refused first_refusal text p (form_of h) (judge_refused text p is_e one) read (form_is_fine h is)))
+    (λ (one : refusal_status p ≡ 1). absurd (not_refused (first_refusal_of judging.length) text p (form_of h)
+    (refused_as judging.length text p is_e one) read (fine_as judging.length h is)))
     (statuses p)
 judge_not_refused judging text BadCertificate h is read is_e = absurd is_e
 judge_not_refused judging text ShapeMismatch h is read is_e = absurd is_e
@@ -453,6 +503,10 @@ answered_is_not_refused (Drive drive) text answer e report is_e = drive_not_refu
 -- a report is on the history of its input
 pub reported_history : (text answer : List ℕ) (h : AnyHistory) → IsAnyHistory h → IsJson text (form_of h) → (report : IsReport text answer) → report.history ≡ h
 reported_history text answer h is json report = one_history text report.history h report.is_history is report.read json
+
+pub reported_long : (text answer : List ℕ) (h : MemoryHistory) → IsLongHistory h → IsJson text (form_of (histories.Memory h))
+    → (report : IsReportAt Any text answer) → report.history ≡ histories.Memory h
+reported_long text answer h is json report = one_long text report.history h report.is_history is report.read json
 
 -- what is too long is not answered, and refused for that alone
 pub too_long-not_answered : (order : Order) (bytes : List ℕ) (before after : Option (List ℕ)) → MAX_INPUT_BYTES < length bytes → Completes order (Some bytes) before after → ⊥

@@ -9,7 +9,8 @@ use Rattle.lines.specs.declared.outcome.Outcome.TheVariants as outcomes
 use Rattle.lines.specs.Outcomes.{worse}
 use Rattle.engine.specs.declared.input.TheConstants.{MAX_INPUT_BYTES}
 use Rattle.engine.specs.declared.report.Report.{Report}
-use Rattle.engine.specs.Report.{IsReportOn, text_for}
+use Rattle.command_line.specs.declared.length.Length.{Length}
+use Rattle.engine.specs.Report.{IsReportOnAt, text_for}
 
 -- what comes of the answer for a criterion that is expected to be met, or isn't
 abbrev pub outcome_in : Bool → Answer → Outcome
@@ -26,11 +27,11 @@ outcome_for expected report =
 
 -- an input was read whole, a report on the history in it was written whole, and this comes of that report: where the reader and
 -- the writer tell their bytes
-pub record Judges (expected : Expected) (reader writer_before writer_after : Option (List ℕ)) (outcome : Outcome) : Type 0 where
+pub record Judges (long : Length) (expected : Expected) (reader writer_before writer_after : Option (List ℕ)) (outcome : Outcome) : Type 0 where
   pub input : List ℕ
   pub report : Report
   pub whole : IfSome reader (λ bytes. input ≡ bytes)
   pub within : length input ≤ MAX_INPUT_BYTES
-  pub reported : IsReportOn input report
+  pub reported : IsReportOnAt long input report
   pub written : Appends writer_before writer_after (text_for report)
   pub comes : outcome ≡ outcome_for expected report

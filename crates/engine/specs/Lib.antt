@@ -12,6 +12,7 @@ pub mod ExplainingInWords
 pub mod Driving
 pub mod Alone
 pub mod Expecting
+pub mod Lengths
 pub mod LineAnswers
 pub mod Running
 pub mod ReadCalls

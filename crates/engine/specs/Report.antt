@@ -22,6 +22,10 @@ use Rattle.pattern_search.specs.FirstKinds.{ComesFirst}
 use Rattle.board.specs.declared.answer.Answer.{Answer}
 use Rattle.board.specs.declared.answer.Answer.TheVariants.{Yes, No, Unknown, Open}
 use Rattle.collector.specs.Judgements.{IsUnexplainedOf}
+use Rattle.command_line.specs.declared.length.Length.{Length}
+use Rattle.command_line.specs.declared.length.Length.TheVariants.{Limited, Any}
+use Rattle.long_decision.specs.LongDecisions.{IsLongNo}
+use Rattle.engine.specs.Lengths.{IsHistoryOf}
 use Rattle.engine.specs.declared.report.Report.{Report}
 
 -- a fact about what an object answers and a history of it
@@ -98,6 +102,20 @@ answer_for report Ccv = report.ccv
 abbrev pub EachIsTrueOf : AnyHistory → Report → Type 0
 EachIsTrueOf history report = (criterion : Criterion) → IsTrueOf history criterion (answer_for report criterion)
 
+-- the same of a history of any length, of which a no may name a cycle of happened-before where it is not the first
+abbrev pub IsLongTrueOf : AnyHistory → Criterion → Answer → Type 0
+IsLongTrueOf (histories.Memory h) criterion (No kind) = IsLongNo h criterion kind
+IsLongTrueOf history criterion answer = IsTrueOf history criterion answer
+
+-- each answer is: within the limits of a history, and at any length, where a report on a history within the limits is as one on it there
+pub record EachIsLongTrueOf (history : AnyHistory) (report : Report) : Type 0 where
+  pub each : (criterion : Criterion) → IsLongTrueOf history criterion (answer_for report criterion)
+  pub within : IsAnyHistory history → EachIsTrueOf history report
+
+abbrev pub EachIsTrueAt : Length → AnyHistory → Report → Type 0
+EachIsTrueAt Limited history report = EachIsTrueOf history report
+EachIsTrueAt Any history report = EachIsLongTrueOf history report
+
 -- each names an operation only where it is the first that a certificate doesn't explain
 abbrev pub EachNamesUnexplained : AnyHistory → Report → Type 0
 EachNamesUnexplained history report = (criterion : Criterion) → NamesUnexplained history criterion (answer_for report criterion)
@@ -119,17 +137,21 @@ line_for criterion (Open n) = name_of criterion ++ (codes " open " ++ (decimal n
 abbrev pub text_for : Report → List ℕ
 text_for report = line_for Cc report.cc ++ (line_for Cm report.cm ++ line_for Ccv report.ccv)
 
--- the text is a report on the history in the input: its three lines, each of which is true of that history
-pub record IsReport (input text : List ℕ) : Type 0 where
+-- the text is a report on the history in the input, which may be that long: its three lines, each of which is true of that history
+pub record IsReportAt (long : Length) (input text : List ℕ) : Type 0 where
   pub history : AnyHistory
   pub report : Report
-  pub is_history : IsAnyHistory history
+  pub is_history : IsHistoryOf long history
   pub read : IsJson input (form_of history)
-  pub true_of : EachIsTrueOf history report
+  pub true_of : EachIsTrueAt long history report
   pub unknown : EachIsKnownOnDistinctValues history report
   pub unexplained : EachNamesUnexplained history report
   pub lines : text ≡ text_for report
 
 -- the report is one on the history in the input
-abbrev pub IsReportOn : List ℕ → Report → Type 0
-IsReportOn input report = (shown : IsReport input (text_for report)) × (shown.report ≡ report)
+abbrev pub IsReportOnAt : Length → List ℕ → Report → Type 0
+IsReportOnAt long input report = (shown : IsReportAt long input (text_for report)) × (shown.report ≡ report)
+
+-- a report on a history within the limits
+abbrev pub IsReport : List ℕ → List ℕ → Type 0
+IsReport input text = IsReportAt Limited input text

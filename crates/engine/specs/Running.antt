@@ -7,7 +7,8 @@ use Rattle.engine.specs.declared.failure.RunError.TheVariants.{History, Script, 
 use Rattle.operations.specs.AnyForm.{IsJson, IsRefusedFor}
 use Rattle.command_line.specs.declared.form.Form.TheVariants.{Words, Json, Certificates, Picture}
 use Rattle.command_line.specs.declared.order.Order.TheVariants.{Judge, JudgeLines, Check, Explain, Refute, Replay, Drive}
-use Rattle.engine.specs.Report.{IsReport}
+use Rattle.engine.specs.Lengths.{IsRefusedAs}
+use Rattle.engine.specs.Report.{IsReportAt}
 use Rattle.engine.specs.LineAnswers.{IsLinesAnswer}
 use Rattle.engine.specs.Checking.{IsCheckReport, IsPairError, HasOtherShape}
 use Rattle.engine.specs.Refuting.{IsClaimError, IsRefutation}
@@ -30,8 +31,8 @@ pub record IsReplayReport (input text : List ℕ) : Type 0 where
 
 -- the text is what the order asks for of the input, whatever the number of its workers
 abbrev pub IsOutput : Order → List ℕ → List ℕ → Type 0
-IsOutput (Judge judging) input text = IsReport input text
-IsOutput (JudgeLines judging) input text = IsLinesAnswer judging.expected input text
+IsOutput (Judge judging) input text = IsReportAt judging.length input text
+IsOutput (JudgeLines judging) input text = IsLinesAnswer judging.length judging.expected input text
 IsOutput (Check workers) input text = IsCheckReport input text
 IsOutput (Explain Words) input text = IsWorded input text
 IsOutput (Explain Json) input text = IsExplanation input text
@@ -44,7 +45,7 @@ IsOutput (Drive drive) input text = IsDriveReport drive input text
 -- what can come in place of an output: the input is refused, or memory ran out
 abbrev pub IsOutputError : Order → List ℕ → RunError → Type 0
 IsOutputError order input Memory = Unit {0}
-IsOutputError (Judge judging) input (History refusal) = IsRefusedFor input refusal
+IsOutputError (Judge judging) input (History refusal) = IsRefusedAs judging.length input refusal
 IsOutputError (Check workers) input (History refusal) = IsPairError input (History refusal)
 IsOutputError (Check workers) input BadCertificate = IsPairError input BadCertificate
 IsOutputError (Check workers) input ShapeMismatch = HasOtherShape input
@@ -58,7 +59,7 @@ IsOutputError (Drive drive) input NoSuch = IsUndriven drive input NoSuch
 IsOutputError order input _ = ⊥
 
 -- an input was read whole, and the output for it was written whole: what the reader had, where it tells its bytes, and
--- what the writer holds behind what it held, where it tells its bytes
+-- what the writer holds after what it held, where it tells its bytes
 pub record Completes (order : Order) (reader writer_before writer_after : Option (List ℕ)) : Type 0 where
   pub input : List ℕ
   pub text : List ℕ

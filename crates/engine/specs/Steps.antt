@@ -6,3 +6,4 @@ pub mod SealedTexts
 pub mod Unshown
 pub mod FoundedEvidence
 pub mod LineRefusals
+pub mod ReportErrors

@@ -14,7 +14,7 @@ use crate::failure::RunError;
 use crate::input::MAX_INPUT_BYTES;
 use crate::refuting::refute;
 use crate::report::{report_line, report_text};
-use command_line::Order;
+use command_line::{Length, Order};
 use operations::read_history;
 use std::alloc::Global;
 
@@ -82,11 +82,12 @@ fn stay_within(input: &[u8]) -> Result<(), RunError>
 }
 
 // The report on the history in the input.
+#[tactic(auto, using(crate::proofs::Reported::error_judged))]
 fn report_of(alloc: Global, input: &[u8]) -> Result<String, RunError>
     ensures output { IfOk result (λ text. IsOutput (Order.Judge judging_alone) input.now (string_bytes text)) }
     ensures error { IfErr result (IsOutputError (Order.Judge judging_alone) input.now) }
 {
-    let report = report_on_input_alone(alloc, input)?;
+    let report = report_on_input_alone(alloc, input, Length::Limited)?;
     Ok(report_text(alloc, &report)?)
 }
 

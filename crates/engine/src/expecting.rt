@@ -1,21 +1,22 @@
 //! Judging a history of which criteria are expected to be met.
 ghost use Rattle.std.specs.Prelude.{◌≡◌, ◌≢◌, ◌⊎◌, IfErr, IfOk, OnOk};
 ghost use Rattle.std.specs.Io.KnownBytes.{Appends, IsAtEnd};
-ghost use Rattle.engine.specs.Alone.{judging_alone};
 ghost use Rattle.engine.specs.Expecting.{Judges, outcome_for, outcome_in};
 ghost use Rattle.lines.specs.ReadCalls.{CallsAtMost};
 ghost use Rattle.engine.specs.ReadCalls.{FindsNoEnd};
-ghost use Rattle.engine.specs.Report.{IsReportOn, text_for};
+ghost use Rattle.engine.specs.Steps.ReportErrors.{IsReportError};
+ghost use Rattle.engine.specs.Report.{IsReportOnAt, text_for};
 ghost use Rattle.engine.specs.Running.{Fails, IsOutputError};
 
 use crate::failure::RunError;
 use crate::input::read_input;
 use crate::judging::report_on;
 use crate::judging_alone::report_alone;
+use crate::long_judging::report_on_long_input;
 use crate::output::write_output;
 use crate::report::{Report, report_text};
 use collector::Answer;
-use command_line::{Expected, Judging, Order};
+use command_line::{Expected, Judging, Length, Order};
 use lines::{MAX_READ_CALLS, Outcome, Source};
 use operations::read_history;
 use std::alloc::Global;
@@ -32,7 +33,7 @@ pub fn judge_expecting<P: Threads + Wait + Sync + AllocGlobal, R: Source, W: Wri
     writer: &mut W,
     judging: Judging,
 ) -> Result<Outcome, RunError>
-    ensures judged { IfOk result (Judges judging.expected (R.remaining reader.old) (W.contents writer.old) (W.contents writer.new)) }
+    ensures judged { IfOk result (Judges judging.length judging.expected (R.remaining reader.old) (W.contents writer.old) (W.contents writer.new)) }
     ensures end { OnOk result (IsAtEnd (R.remaining reader.new)) }
 
     ensures failed { IfErr result (Fails (Order.Judge judging) (R.remaining reader.old)) }
@@ -49,14 +50,31 @@ pub fn judge_expecting<P: Threads + Wait + Sync + AllocGlobal, R: Source, W: Wri
 }
 
 /// The report on the history in an input.
+#[tactic(auto, using(crate::proofs::Reported::error_judged))]
 pub(crate) fn report_on_input<T: Threads + Wait + Sync>(
     rt: &T,
     alloc: Global,
     input: &[u8],
     judging: Judging,
 ) -> Result<Report, RunError>
-    ensures report { IfOk result (IsReportOn input.now) }
+    ensures report { IfOk result (IsReportOnAt judging.length input.now) }
     ensures error { IfErr result (IsOutputError (Order.Judge judging) input.now) }
+{
+    match judging.length {
+        Length::Limited => report_on_limited_input(rt, alloc, input, judging),
+        Length::Any => report_on_long_input(alloc, input),
+    }
+}
+
+// The report on a history within the limits.
+fn report_on_limited_input<T: Threads + Wait + Sync>(
+    rt: &T,
+    alloc: Global,
+    input: &[u8],
+    judging: Judging,
+) -> Result<Report, RunError>
+    ensures report { IfOk result (IsReportOnAt Length.Limited input.now) }
+    ensures error { IfErr result (IsReportError Length.Limited input.now) }
 {
     let history = read_history(alloc, input)?;
     report_on(rt, alloc, history, &[], judging.workers)
@@ -64,10 +82,26 @@ pub(crate) fn report_on_input<T: Threads + Wait + Sync>(
 
 /// The report on the history in an input, made by the calling thread alone.
 ///
-/// Refuses what is no history, and fails for want of memory. The cost is that of [`report_alone`].
-pub(crate) fn report_on_input_alone(alloc: Global, input: &[u8]) -> Result<Report, RunError>
-    ensures report { IfOk result (IsReportOn input.now) }
-    ensures error { IfErr result (IsOutputError (Order.Judge judging_alone) input.now) }
+/// Refuses what is no history, and fails for want of memory. The cost is that of [`report_alone`], or of
+/// [`report_on_long`](crate::report_on_long).
+pub(crate) fn report_on_input_alone(
+    alloc: Global,
+    input: &[u8],
+    length: Length,
+) -> Result<Report, RunError>
+    ensures report { IfOk result (IsReportOnAt length input.now) }
+    ensures error { IfErr result (IsReportError length input.now) }
+{
+    match length {
+        Length::Limited => report_on_limited_input_alone(alloc, input),
+        Length::Any => report_on_long_input(alloc, input),
+    }
+}
+
+// The report on a history within the limits.
+fn report_on_limited_input_alone(alloc: Global, input: &[u8]) -> Result<Report, RunError>
+    ensures report { IfOk result (IsReportOnAt Length.Limited input.now) }
+    ensures error { IfErr result (IsReportError Length.Limited input.now) }
 {
     let history = read_history(alloc, input)?;
     report_alone(alloc, history)

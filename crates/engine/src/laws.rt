@@ -8,7 +8,9 @@ ghost use Rattle.engine.specs.Failure.{failure_status};
 ghost use Rattle.lines.specs.ReadCalls.{CallOutcome, CallsAtMost};
 ghost use Rattle.engine.specs.Report.{answer_for};
 ghost use Rattle.engine.specs.Running.{Completes, Fails, IsOutput, IsOutputError};
-ghost use Rattle.engine.specs.Report.{IsReport};
+ghost use Rattle.command_line.specs.declared.length.Length.TheVariants.{Any};
+ghost use Rattle.long_history.specs.LongHistories.{IsLongHistory};
+ghost use Rattle.engine.specs.Report.{IsReport, IsReportAt};
 
 use crate::failure::RunError;
 use crate::input::MAX_INPUT_BYTES;
@@ -32,6 +34,23 @@ pub fn distinct_values_are_decided()
         → report.history ≡ AnyHistory.Memory h → IsDifferentiated h
         → answer_for report.report criterion ≡ Answer.Yes ↔ Meets memory_answer h criterion }
     ensures excluded { (input text : List ℕ) (report : IsReport input text) (h : MemoryHistory) (criterion : Criterion)
+        → report.history ≡ AnyHistory.Memory h → IsDifferentiated h
+        → ((kind : Kind) × (answer_for report.report criterion ≡ Answer.No kind)) ↔ ¬ Meets memory_answer h criterion }
+{}
+
+/// A report on the form of a memory history of any length is a report on that history.
+pub fn long_report_is_on_the_history_of_its_input()
+    ensures { (input text : List ℕ) (h : MemoryHistory) → IsLongHistory h → IsJson input (form_of (AnyHistory.Memory h))
+        → (report : IsReportAt Any input text) → report.history ≡ AnyHistory.Memory h }
+{}
+
+/// A report on a memory history of any length and of distinct values leaves nothing unknown: a line is a yes exactly where the history
+/// meets the criterion, and a no exactly where it does not.
+pub fn long_distinct_values_are_decided()
+    ensures met { (input text : List ℕ) (report : IsReportAt Any input text) (h : MemoryHistory) (criterion : Criterion)
+        → report.history ≡ AnyHistory.Memory h → IsDifferentiated h
+        → answer_for report.report criterion ≡ Answer.Yes ↔ Meets memory_answer h criterion }
+    ensures excluded { (input text : List ℕ) (report : IsReportAt Any input text) (h : MemoryHistory) (criterion : Criterion)
         → report.history ≡ AnyHistory.Memory h → IsDifferentiated h
         → ((kind : Kind) × (answer_for report.report criterion ≡ Answer.No kind)) ↔ ¬ Meets memory_answer h criterion }
 {}

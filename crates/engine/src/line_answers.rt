@@ -4,14 +4,14 @@ ghost use Rattle.lines.specs.Clerks.{AppendsAnswer};
 ghost use Rattle.lines.specs.Lines.{ended};
 ghost use Rattle.engine.specs.LineAnswers.{IsLineAnswer, IsLineError, joined_for, unended};
 ghost use Rattle.engine.specs.Steps.LineRefusals.{IsRefusalBy};
-ghost use Rattle.engine.specs.Report.{IsReportOn};
+ghost use Rattle.engine.specs.Report.{IsReportOnAt};
 
 use crate::expecting::{outcome_of, report_on_input_alone};
 use crate::failure::{RunError, fault_line, status_of};
 use crate::input::MAX_INPUT_BYTES;
 use crate::report::{Report, report_line};
 use cert_check::Criterion;
-use command_line::Expected;
+use command_line::{Judging, Length};
 use lines::{Fault, Outcome};
 use std::alloc::{AllocError, Global};
 
@@ -22,31 +22,32 @@ use std::alloc::{AllocError, Global};
 pub(crate) fn append_answer(
     alloc: Global,
     line: &[u8],
-    expected: Expected,
+    judging: Judging,
     text: &mut Vec<u8>,
 ) -> Result<Outcome, Fault>
-    ensures answered { IfOk result (AppendsAnswer (IsLineAnswer expected line.now) text.old.items text.new.items) }
+    ensures answered { IfOk result (AppendsAnswer (IsLineAnswer judging.length judging.expected line.now) text.old.items text.new.items) }
     ensures unchanged { OnErr result (text.new.items ≡ text.old.items) }
 {
-    match report_on_line(alloc, line) {
+    match report_on_line(alloc, line, judging.length) {
         Ok(report) => {
             append_report(alloc, &report, text)?;
-            Ok(outcome_of(&report, expected))
+            Ok(outcome_of(&report, judging.expected))
         }
         Err(error) => append_refusal(alloc, &error, text),
     }
 }
 
 // The report on the history in a line.
-fn report_on_line(alloc: Global, line: &[u8]) -> Result<Report, RunError>
+#[tactic(auto, using(crate::proofs::Reported::error_of_line))]
+fn report_on_line(alloc: Global, line: &[u8], length: Length) -> Result<Report, RunError>
     ensures within { OnOk result (length line.now ≤ MAX_INPUT_BYTES) }
-    ensures report { IfOk result (IsReportOn line.now) }
-    ensures error { IfErr result (IsLineError line.now) }
+    ensures report { IfOk result (IsReportOnAt length line.now) }
+    ensures error { IfErr result (IsLineError length line.now) }
 {
     if line.len() > MAX_INPUT_BYTES {
         return Err(RunError::TooLong);
     }
-    report_on_input_alone(alloc, line)
+    report_on_input_alone(alloc, line, length)
 }
 
 // Appends the lines of a report, joined to one, and a line feed.

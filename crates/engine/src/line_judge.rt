@@ -8,7 +8,7 @@ ghost use Rattle.engine.specs.Running.{IsOutput, IsOutputError};
 use crate::failure::RunError;
 use crate::input::MAX_INPUT_BYTES;
 use crate::line_answers::{append_answer, append_refusal};
-use command_line::{Expected, Judging, Order};
+use command_line::{Judging, Order};
 use lines::{Clerk, Fault, Outcome, Source, answer_by, answer_lines};
 use std::alloc::Global;
 use std::io::Write;
@@ -31,16 +31,16 @@ pub fn judge_lines<P: Threads + Wait + Sync + AllocGlobal, R: Source, W: Write>(
     writer: &mut W,
     judging: Judging,
 ) -> Result<Outcome, RunError>
-    ensures answered { IfOk result (AllAreAnswered (IsLineAnswer judging.expected)
+    ensures answered { IfOk result (AllAreAnswered (IsLineAnswer judging.length judging.expected)
         (R.remaining reader.old) (W.contents writer.old) (W.contents writer.new)) }
     ensures end { OnOk result (IsAtEnd (R.remaining reader.new)) }
-    ensures faulted { IfErr result (λ e. e ≢ RunError.WriteFault → FirstAreAnswered (IsLineAnswer judging.expected)
+    ensures faulted { IfErr result (λ e. e ≢ RunError.WriteFault → FirstAreAnswered (IsLineAnswer judging.length judging.expected)
         (R.remaining reader.old) (W.contents writer.old) (W.contents writer.new)) }
     ensures error { IfErr result (λ e. (e ≡ RunError.Memory) ⊎ ((e ≡ RunError.ReadFault) ⊎ (e ≡ RunError.WriteFault))) }
 {
     let judge = LineJudge {
         alloc: rt.alloc(),
-        expected: judging.expected,
+        judging,
     };
     let outcome = answer_lines(
         rt,
@@ -67,7 +67,7 @@ pub(crate) fn judge_each<T: Threads + Wait + Sync>(
 {
     let judge = LineJudge {
         alloc,
-        expected: judging.expected,
+        judging,
     };
     let part = answer_by(rt, alloc, &judge, input, judging.workers.count());
     match (part.outcome, String::from_utf8(part.text)) {
@@ -80,14 +80,14 @@ pub(crate) fn judge_each<T: Threads + Wait + Sync>(
 #[derive(Drop)]
 struct LineJudge {
     alloc: Global,
-    expected: Expected,
+    judging: Judging,
 }
 
 impl Clerk for LineJudge {
     ghost use Rattle.engine.specs.LineAnswers.{IsLineAnswer};
     ghost use Rattle.engine.specs.declared.input.TheConstants.{MAX_INPUT_BYTES as LIMIT};
 
-    ghost says = { λ judge line text outcome. IsLineAnswer judge.expected line text outcome };
+    ghost says = { λ judge line text outcome. IsLineAnswer judge.judging.length judge.judging.expected line text outcome };
 
     ghost most = { λ _. LIMIT };
 
@@ -96,7 +96,7 @@ impl Clerk for LineJudge {
     }
 
     fn answer(&self, line: &[u8], text: &mut Vec<u8>) -> Result<Outcome, Fault> {
-        append_answer(self.alloc, line, self.expected, text)
+        append_answer(self.alloc, line, self.judging, text)
     }
 
     fn answer_long(&self, text: &mut Vec<u8>) -> Result<Outcome, Fault> {

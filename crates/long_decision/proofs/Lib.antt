@@ -1,0 +1,4 @@
+mod Consistent
+mod Firsts
+mod Orders
+pub mod ThinAir

@@ -1,0 +1,2 @@
+pub mod LongDecisions
+pub mod Steps

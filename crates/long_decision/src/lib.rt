@@ -1,2 +1,12 @@
-//! Whether a long history meets the three criteria.
+//! Whether a memory history of any length meets the three criteria.
+//!
+//! It gives [`decide_long`], and stands on the orders, columns and session orders of long histories, and on the laws of bad patterns. The
+//! definitions are those of `decision`: only the way to the answer differs, so its clauses may change with theirs alone.
 #![tactic(auto)]
+
+mod deciding;
+mod decisions;
+mod thin_air;
+
+pub use deciding::decide_long;
+pub use decisions::{LongDecision, LongDecisions};

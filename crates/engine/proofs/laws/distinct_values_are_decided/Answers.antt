@@ -1,19 +1,19 @@
 use Rattle.std.proofs.Common.{subst}
 use Rattle.operations.specs.declared.any_history.AnyHistory.{AnyHistory}
 use Rattle.engine.specs.Report.{IsKnownOnDistinctValues, IsTrueOf, answer_for}
-use Rattle.engine.proofs.Decided.{decided-excluded, decided-met}
+use Rattle.engine.proofs.Decided.{decided-excluded, decided-met, says-true}
 use Rattle.engine.proofs.laws.distinct_values_are_decided.Goals as goal
 
 pub returns-clause-met : goal.returns-clause-met
 returns-clause-met c = λ input text report h criterion same distinct.
     let answer = answer_for report.report criterion in
     decided-met h criterion distinct answer
-    (subst (λ (history : AnyHistory). IsTrueOf history criterion answer) same (report.true_of criterion))
+    (says-true h criterion answer (subst (λ (history : AnyHistory). IsTrueOf history criterion answer) same (report.true_of criterion)))
     (subst (λ (history : AnyHistory). IsKnownOnDistinctValues history answer) same (report.unknown criterion))
 
 pub returns-clause-excluded : goal.returns-clause-excluded
 returns-clause-excluded c = λ input text report h criterion same distinct.
     let answer = answer_for report.report criterion in
     decided-excluded h criterion distinct answer
-    (subst (λ (history : AnyHistory). IsTrueOf history criterion answer) same (report.true_of criterion))
+    (says-true h criterion answer (subst (λ (history : AnyHistory). IsTrueOf history criterion answer) same (report.true_of criterion)))
     (subst (λ (history : AnyHistory). IsKnownOnDistinctValues history answer) same (report.unknown criterion))

@@ -1,5 +1,5 @@
 use Rattle.engine.proofs.Reported.{reported}
-use Rattle.engine.proofs.expecting.report_on_input.Goals as goal
+use Rattle.engine.proofs.expecting.report_on_limited_input.Goals as goal
 
 pub returns-clause-report : goal.returns-clause-report
 returns-clause-report g c =

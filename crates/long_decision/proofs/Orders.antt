@@ -1,0 +1,57 @@
+-- Where each session has an order of the past of its last operation that answers its known reads, causal memory is met.
+use Rattle.std.proofs.Common.{◌≡◌, ℕ, ◌<◌, List, length, ⊎_elim, arith}
+use Rattle.std.specs.Prelude.{IsTrue}
+use Rattle.history.specs.declared.op_id.OpId.{OpId}
+use Rattle.history.specs.History.{IsOp}
+use Rattle.causal_order.specs.Orders.{Order, op, program_past}
+use Rattle.causal_order.specs.Vectors.{Counts, IsVectorOk}
+use Rattle.memory_order.specs.Memory.{MemoryHistory, memory_answer, IsDifferentiated}
+use Rattle.memory_order.specs.Relations.{CO}
+use Rattle.memory_order.specs.SourceOrder.{CountsSourceOrder, IsCyclic, LacksSource}
+use Rattle.memory_order.proofs.FirstWrites.{counts-past}
+use Rattle.memory_order.proofs.ReadAnswers.{Fits}
+use Rattle.memory_order.proofs.SourceVectors.{order-vector_ok}
+use Rattle.memory_order.proofs.VectorsExist.{vectors-exist}
+use Rattle.cert_check.specs.Criteria.{IsCausalMemory}
+use Rattle.cert_check.specs.Witnesses.{counted_before}
+use Rattle.cert_check.proofs.Pasts.{counted_before-parts, counted-from_past, past-from_counted}
+use Rattle.certify.proofs.ReadPieces.{explains-reads}
+use Rattle.decision.specs.SessionOrders.{IsExplainingList}
+use Rattle.decision.proofs.SessionOrders.{lists-meet}
+use Rattle.session_orders.specs.SessionOrders.{IsOrderOfPast, IsOrderedSession}
+
+module _ (h : MemoryHistory) (fits : Fits h) (distinct : IsDifferentiated h) where
+  module _ (v : Counts) (order : CountsSourceOrder h v) where
+    good : (o : OpId) → IsOp h o → IsVectorOk h v o
+    good = order-vector_ok h v order
+
+    abbrev co : Order
+    co = counted_before h v
+
+    -- the order that vectors count is the causal order
+    causal-from_counted : (a b : OpId) → IsTrue (co a b) → CO h a b
+    causal-from_counted a b related =
+        let parts = counted_before-parts h v a b related in
+        ⊎_elim
+        (λ (same : a ≡ b). absurd (parts.apart same))
+        (λ (before : CO h a b). before)
+        ((counts-past h distinct v order b a parts.second).0 parts.counts)
+
+    -- an order of the past that answers the known reads of the session explains them
+    order-explains : (o : OpId) → IsOp h o → (ops : List OpId) → IsOrderOfPast h o ops → IsExplainingList h v o ops
+    order-explains o is_op ops is = record {
+      linear = record {
+        each = λ a inside. is.each a ((counts-past h distinct v order o a is_op).0 (counted-from_past h v good o a is_op inside));
+        no_other = λ k a at. past-from_counted h v good o a is_op ((counts-past h distinct v order o a is_op).1 (is.no_other k a at));
+        once = is.once;
+        ordered = λ j k a b at_j at_k related. is.ordered j k a b at_j at_k (causal-from_counted a b related);
+      };
+      explains = explains-reads h ops fits (program_past o) is.answers;
+    }
+
+    counted-orders-meet : ((s : ℕ) → s < length h.1 → IsOrderedSession h s) → IsCausalMemory memory_answer h
+    counted-orders-meet ordered = lists-meet h fits distinct v order (λ s exists i ends.
+        let is = ordered s exists i ends in (is.0, order-explains (op s i) (omega arith) is.0 is.1))
+
+  pub orders-meet : ¬ IsCyclic h → ¬ LacksSource h → ((s : ℕ) → s < length h.1 → IsOrderedSession h s) → IsCausalMemory memory_answer h
+  orders-meet acyclic sourced = let vectors = vectors-exist h acyclic sourced in counted-orders-meet vectors.0 vectors.1

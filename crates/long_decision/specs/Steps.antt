@@ -1,0 +1,2 @@
+-- What the functions say to one another: no statement of what is decided names these.
+pub mod Consistency

@@ -1,0 +1,144 @@
+//! The decision whether a long history meets the three criteria.
+
+ghost use Rattle.std.specs.Prelude.{◌⊎◌, IfOk, IsTrue};
+ghost use Rattle.cert_check.specs.declared.criterion.Criterion.{Criterion as AnyCriterion};
+ghost use Rattle.cert_check.specs.declared.criterion.Criterion.TheVariants.{Cc, Cm, Ccv};
+ghost use Rattle.history.specs.declared.op_id.OpId.{OpId as Operation};
+ghost use Rattle.causal_order.specs.Orders.{Leads};
+ghost use Rattle.bad_patterns.specs.Kinds.{is_against, IsFreeOf, Shows};
+ghost use Rattle.long_history.specs.Steps.{IsListedEdge, IsOrderBy};
+ghost use Rattle.long_columns.specs.LastTables.{IsReducedIn};
+ghost use Rattle.long_decision.specs.LongDecisions.{AreDecided, IsLongDecided};
+ghost use Rattle.memory_order.specs.SourceOrder.{LacksSource};
+
+use crate::decisions::{LongDecision, LongDecisions};
+use crate::thin_air::lacks_source;
+use bad_patterns::Kind;
+use bad_patterns::laws::present_kinds_exclude_criteria;
+use long_columns::{is_convergent, sweep};
+use long_history::LongHistory;
+use long_index::LongIndex;
+use long_order::causal_order;
+use session_orders::{SessionOrder, order_sessions};
+use std::alloc::{AllocError, Global};
+
+/// Whether a long history meets each of the three criteria.
+///
+/// On distinct values it meets one exactly where no kind of bad pattern against it is present (Bouajjani, Enea, Guerraoui and Hamza, "On
+/// Verifying Causal Consistency", POPL 2017). Kinds against causal consistency are looked for first: in an order of all operations, and
+/// in a column for each session, which says of each operation which of that session's are before it. For causal convergence the
+/// conflicts that columns leave are ordered too, and for causal memory the past of each session's last operation. `Open` exactly where
+/// values are not distinct.
+///
+/// Fails for want of memory alone. O(n (k + log n)) for n operations of k sessions.
+pub fn decide_long(alloc: Global, h: &LongHistory) -> Result<LongDecisions, AllocError>
+    ensures { IfOk result (AreDecided h.now) }
+{
+    match LongIndex::of(alloc, h)? {
+        Some(index) => decide_indexed(alloc, &index),
+        None => Ok(LongDecisions {
+            cc: LongDecision::Open,
+            cm: LongDecision::Open,
+            ccv: LongDecision::Open,
+        }),
+    }
+}
+
+/// What is decided where a kind against causal consistency is present, and none before it: it excludes all three criteria.
+fn excluded_by(index: &LongIndex, kind: Kind) -> LongDecisions
+    requires shown { Shows index.now.history kind }
+    requires against { IsAgainstAll kind }
+    requires first { IsFirstShown index.now.history kind }
+    ensures { AreDecided index.now.history result }
+{
+    index.value_is_indexed();
+    present_kinds_exclude_criteria();
+    LongDecisions {
+        cc: LongDecision::ExcludedBy(kind),
+        cm: LongDecision::ExcludedBy(kind),
+        ccv: LongDecision::ExcludedBy(kind),
+    }
+}
+
+/// What is decided of an indexed history.
+#[tactic(auto, using(crate::proofs::Firsts::none_before_start, crate::proofs::Firsts::none_before_thin_air))]
+fn decide_indexed(alloc: Global, index: &LongIndex) -> Result<LongDecisions, AllocError>
+    ensures { IfOk result (AreDecided index.now.history) }
+{
+    let Some(order) = causal_order(alloc, index)? else {
+        return Ok(excluded_by(index, Kind::CyclicCO));
+    };
+    if lacks_source(index) {
+        return Ok(excluded_by(index, Kind::ThinAirRead));
+    }
+    let swept = sweep(alloc, index, &order)?;
+    if swept.has_overwritten_start {
+        return Ok(excluded_by(index, Kind::WriteCOInitRead));
+    }
+    if swept.has_overwritten_read {
+        return Ok(excluded_by(index, Kind::WriteCORead));
+    }
+    decide_consistent(alloc, index, &order, swept.edges)
+}
+
+/// What is decided of a history in which no kind against causal consistency is present: it meets that.
+fn decide_consistent(
+    alloc: Global,
+    index: &LongIndex,
+    order: &[u32],
+    edges: Vec<(u32, u32)>,
+) -> Result<LongDecisions, AllocError>
+    requires order { IsOrderBy index.now.history [] order.now }
+    requires consistent { IsConsistent index.now.history }
+    requires below { AreBelow edges.items (many index.now.history) }
+    requires reduced { (t : ℕ) → IsReducedIn index.now.history t (IsListedEdge index.now.history edges.items) }
+    ensures { IfOk result (AreDecided index.now.history) }
+{
+    let ccv = decide_convergence(alloc, index, edges)?;
+    let cm = decide_memory(alloc, index, order)?;
+    index.value_is_indexed();
+    Ok(LongDecisions {
+        cc: LongDecision::Meets,
+        cm,
+        ccv,
+    })
+}
+
+/// Whether such a history meets causal convergence.
+fn decide_convergence(
+    alloc: Global,
+    index: &LongIndex,
+    edges: Vec<(u32, u32)>,
+) -> Result<LongDecision, AllocError>
+    requires consistent { IsConsistent index.now.history }
+    requires below { AreBelow edges.items (many index.now.history) }
+    requires reduced { (t : ℕ) → IsReducedIn index.now.history t (IsListedEdge index.now.history edges.items) }
+    ensures { IfOk result (IsLongDecided index.now.history Ccv) }
+{
+    index.value_is_indexed();
+    present_kinds_exclude_criteria();
+    if is_convergent(alloc, index, edges)? {
+        Ok(LongDecision::Meets)
+    } else {
+        Ok(LongDecision::ExcludedBy(Kind::CyclicCF))
+    }
+}
+
+/// Whether such a history meets causal memory.
+fn decide_memory(
+    alloc: Global,
+    index: &LongIndex,
+    order: &[u32],
+) -> Result<LongDecision, AllocError>
+    requires order { IsOrderBy index.now.history [] order.now }
+    requires consistent { IsConsistent index.now.history }
+    ensures { IfOk result (IsLongDecided index.now.history Cm) }
+{
+    index.value_is_indexed();
+    present_kinds_exclude_criteria();
+    match order_sessions(alloc, index, order)? {
+        SessionOrder::Explained => Ok(LongDecision::Meets),
+        SessionOrder::StartOverwritten => Ok(LongDecision::ExcludedBy(Kind::WriteHBInitRead)),
+        SessionOrder::Cyclic => Ok(LongDecision::ExcludedBy(Kind::CyclicHB)),
+    }
+}
