@@ -122,5 +122,11 @@ module _ (depth : ℕ) where
     pub rest_refused : (e : TextError) → AreRefused depth now e → AreRefused depth old e
     rest_refused = stops_too _ _ (λ none. so_far.read ∙ ap (parse_map (before elements)) (the_rest ∙ none))
 
-    pub passing_refused : behind_items depth now ≡ None → converted of_items (items (value depth) (length old) old) ≡ None
-    passing_refused e = so_far.read ∙ ap (parse_map (before elements)) (the_rest ∙ left_none _ e)
+    pub no_rest : behind_items depth now ≡ None → converted of_items (items (value depth) (length old) old) ≡ None
+    no_rest e = so_far.read ∙ ap (parse_map (before elements)) (the_rest ∙ left_none _ e)
+
+  -- one element more is read, and no rest comes after it
+  module _ (old now : List Token) (elements : List Data) (so_far : HasRead old now elements) where
+    pub no_rest_after : (r : List Token) (d : Data) → after_end_array now ≡ None → converted of_json (value depth now) ≡ Some (d, r) → length r < length now → behind_items depth r ≡ None
+        → converted of_items (items (value depth) (length old) old) ≡ None
+    no_rest_after r d going one less e = no_rest old r (elements ++ d ∷ []) (read_one_more old now elements so_far r d going one less) e

@@ -1,10 +1,13 @@
 -- What reads as a long history is its form, and the form of a long history reads as that history and no other.
-use Rattle.std.proofs.Common.{◌≡◌, ◌⊎◌, ℕ, zero, suc, ◌<◌, ◌≤◌, ◌^◌, Bool, true, false, ◌||◌, List, [], ◌∷◌, length, map, take, Option, Some, None, Result, Ok, Err, refl, sym, ap, ◌∙◌, arith, inl, inr}
-use Rattle.std.specs.Prelude.{slice_get, slice_index_or, option_map, option_and_then}
+use Rattle.std.proofs.Common.{◌≡◌, ◌≢◌, ◌⊎◌, ℕ, zero, suc, ◌<◌, ◌≤◌, ◌^◌, Bool, true, false, ◌||◌, List, [], ◌∷◌, length, map, take, Option, Some, None, Result, Ok, Err, refl, sym, ap, subst, ◌∙◌, arith, inl, inr}
+use Rattle.std.specs.Prelude.{IfOk, IfErr, if◌then◌else◌, slice_get, slice_index_or, option_map, option_and_then}
+use Rattle.std.specs.Option.{option_or}
+use Rattle.std.specs.Str.{IsUtf8}
 use Rattle.std.proofs.lemmas.Bool.{cases_Bool}
 use Rattle.std.proofs.lemmas.List.{length-map}
 use Rattle.std.proofs.lemmas.Option.{same_Some}
 use Rattle.serde_json.specs.Data.{Data}
+use Rattle.bounded_json.specs.Text.{IsJson}
 use Rattle.history.specs.declared.op_id.OpId.{OpId}
 use Rattle.long_history.specs.LongHistories.{IsLongHistory}
 use Rattle.memory_order.specs.Memory.{MemoryCall, MemoryHistory}
@@ -17,18 +20,19 @@ use Rattle.operations.specs.Laws.Json.{elements-list, map_from}
 use Rattle.operations.specs.Laws.KeyedForm.{keyed_again, keyed_is_call, keyed_read}
 use Rattle.operations.specs.Laws.RegisterForm as register_laws
 use Rattle.operations.specs.ObjectNames.{text_of}
-use Rattle.operations.specs.Reading.{entry_refusal, is_unknown_return, operation_refusal, parts_of}
+use Rattle.operations.specs.Reading.{entry_refusal, first_among, is_unknown_return, operation_refusal, parts_of, start_refusal}
 use Rattle.operations.specs.RegisterForm as register
 use Rattle.operations.specs.Spelling.{entry_form, keyed_form, table_form}
 use Rattle.operations.specs.declared.any_history.AnyHistory.TheVariants as histories
 use Rattle.operations.specs.declared.object_name.ObjectName.TheVariants.{Memory as MemoryName}
 use Rattle.operations.specs.declared.read_error.ReadError.{ReadError}
+use Rattle.operations.specs.declared.read_error.ReadError.TheVariants as errors
 use Rattle.operations.proofs.FirstRefusal.{all_none}
 use Rattle.operations.proofs.HistoryForm.{calls_read, same_sessions, sessions_formed}
 use Rattle.operations.proofs.PartsForm.{formed, parts_again, parts_again_with_start, parts_formed}
 use Rattle.operations.proofs.SessionReading.{form_at, unknown_among}
-use Rattle.long_reader.specs.LongRefusals.{first_long_refusal, operation_at, operations_refusal, parts_refusal, session_refusal, sessions_refusal, start_of}
-use Rattle.long_reader.specs.Steps.{AreParts, ArePartsOf, Entry, IsSessionOfMemory}
+use Rattle.long_reader.specs.LongRefusals.{IsRefusedLong, first_long_refusal, name_refusal, operation_at, operations_refusal, parts_refusal, session_refusal, sessions_refusal, start_of}
+use Rattle.long_reader.specs.Steps.{ArePartsOf, Entry, IsJsonOf, IsSessionOfMemory, IsWhole}
 use Rattle.long_reader.proofs.LongTables.{start_again, start_formed}
 
 abbrev operation_form : MemoryCall → Option RegisterRet → Data
@@ -158,7 +162,91 @@ module _ (h : MemoryHistory) (is : IsLongHistory h) where
       let start : p.0 ≡ h.0 = same_Some p.0 h.0 (sym are.is_start ∙ ap start_of rest ∙ start_again h.0 is.start) in
       rw (start, same_sessions operation_at p.1 h.1 are.sessions are.are_sessions.read (rw sessions read_again)) refl
 
-  -- so the form of a history is read as that history, and is not refused
-  pub form_is_read : (r : Result (List (ℕ × ℕ) × List (List Entry)) ReadError) → AreParts (parts_of (form_of (histories.Memory h))) r → r ≡ Ok h
-  form_is_read (Ok p) are = ap (λ (x : MemoryHistory). Ok x) (same_history p are)
-  form_is_read (Err error) refused = let bad = sym form_is_fine ∙ refused in absurd cc
+-- ---- the refusal of a text
+
+or_not : (a b : Option ReadError) → a ≢ Some errors.NotJson → b ≢ Some errors.NotJson → option_or a b ≢ Some errors.NotJson
+or_not None b first second = second
+or_not (Some e) b first second = first
+
+among_not : (n : ℕ) (f : ℕ → Option ReadError) → ((i : ℕ) → f i ≢ Some errors.NotJson) → first_among n f ≢ Some errors.NotJson
+among_not zero f none is = absurd cc
+among_not (suc n) f none is = or_not (first_among n f) (f n) (among_not n f none) (none n) is
+
+entry_not : (e : Option Entry) (seen : Bool) (op : OpId) → entry_refusal e seen op ≢ Some errors.NotJson
+entry_not None seen op is = absurd cc
+entry_not (Some (c, None)) seen op is = absurd cc
+entry_not (Some (c, Some r)) true op is = absurd cc
+entry_not (Some (c, Some r)) false op is = absurd cc
+
+session_not : (s : ℕ) (ds : Option (List Data)) → operations_refusal s ds ≢ Some errors.NotJson
+session_not s None is = absurd cc
+session_not s (Some ds) is = among_not (length ds) (operation_refusal operation_at s ds) (λ i. entry_not _ _ _) is
+
+name_not : (b : Bool) → (if b then None else Some errors.UnknownObject) ≢ Some errors.NotJson
+name_not true is = absurd cc
+name_not false is = absurd cc
+
+start_not : (o : Option (List (ℕ × ℕ))) → start_refusal o ≢ Some errors.NotJson
+start_not None is = absurd cc
+start_not (Some start) is = absurd cc
+
+-- a value is JSON
+value_not : (found : Option (List ℕ × List Data × List Data)) → parts_refusal found ≢ Some errors.NotJson
+value_not None is = absurd cc
+value_not (Some p) is =
+    or_not (name_refusal p.0) (option_or (sessions_refusal p.1) (start_refusal (start_of p.2))) (name_not _)
+    (or_not (sessions_refusal p.1) (start_refusal (start_of p.2)) (among_not (length p.1) (session_refusal p.1) (λ s. session_not s (option_and_then elements (slice_get p.1 s)))) (start_not _)) is
+
+module _ (text : List ℕ) where
+  refused_for : (d : Data) (e : ReadError) → IsJson text d → first_long_refusal d ≡ Some e → IsRefusedLong text e
+  refused_for d errors.NotJson json is = absurd (value_not (parts_of d) is)
+  refused_for d errors.BadShape json is = (d, json, is)
+  refused_for d errors.UnknownObject json is = (d, json, is)
+  refused_for d (errors.BadOp op) json is = (d, json, is)
+  refused_for d (errors.ReturnAfterUnknown op) json is = (d, json, is)
+  refused_for d errors.TooManySessions json is = (d, json, is)
+  refused_for d errors.TooManyOps json is = (d, json, is)
+  refused_for d errors.Memory json is = tt
+  refused_for d errors.BadInitial json is = (d, json, is)
+
+  module _ (r : Result (List (ℕ × ℕ) × List (List Entry)) ReadError) (utf8 : IsUtf8 text) (whole : IsWhole text r) where
+    pub json_if_read : IfOk r (IsJsonOf text)
+    json_if_read = of_result r whole
+      where
+        of_result : (x : Result (List (ℕ × ℕ) × List (List Entry)) ReadError) → IsWhole text x → IfOk x (IsJsonOf text)
+        of_result (Ok p) is = (is.0, (utf8, is.1), is.2)
+        of_result (Err e) is = tt
+
+    pub refused_if_not : IfErr r (IsRefusedLong text)
+    refused_if_not = of_result r whole
+      where
+        of_result : (x : Result (List (ℕ × ℕ) × List (List Entry)) ReadError) → IsWhole text x → IfErr x (IsRefusedLong text)
+        of_result (Ok p) is = tt
+        of_result (Err e) is = refused_for is.0 e (utf8, is.1) is.2
+
+  pub json_form : (p h : MemoryHistory) → IsJsonOf text p → h ≡ p → IsJson text (form_of (histories.Memory h))
+  json_form p h of same = rw same (subst (IsJson text) (parts_are_form of.0 p of.2) of.1)
+
+  module _ (h : MemoryHistory) (is : IsLongHistory h) (json : IsJson text (form_of (histories.Memory h))) where
+    same_value : (d : Data) → IsJson text d → d ≡ form_of (histories.Memory h)
+    same_value d other = same_Some d (form_of (histories.Memory h)) (sym other.1 ∙ json.1)
+
+    pub only_history : (p : MemoryHistory) → IsJsonOf text p → p ≡ h
+    only_history p of =
+        same_history h is p (subst (λ (d : Data). ArePartsOf (parts_of d) p) (same_value of.0 of.1) of.2)
+
+    never : {A : Type 0} (e : ReadError) → (d : Data) × IsJson text d × (first_long_refusal d ≡ Some e) → A
+    never e refused =
+        let bad : None ≡ Some e = sym (form_is_fine h is) ∙ ap first_long_refusal (sym (same_value refused.0 refused.1)) ∙ refused.2 in
+        absurd cc
+
+    pub only_memory : (e : ReadError) → IsRefusedLong text e → e ≡ errors.Memory
+    only_memory errors.NotJson refused = absurd (refused (form_of (histories.Memory h)) json)
+    only_memory errors.BadShape refused = never errors.BadShape refused
+    only_memory errors.UnknownObject refused = never errors.UnknownObject refused
+    only_memory (errors.BadOp op) refused = never (errors.BadOp op) refused
+    only_memory (errors.ReturnAfterUnknown op) refused = never (errors.ReturnAfterUnknown op) refused
+    only_memory errors.TooManySessions refused = never errors.TooManySessions refused
+    only_memory errors.TooManyOps refused = never errors.TooManyOps refused
+    only_memory errors.Memory refused = refl
+    only_memory errors.BadInitial refused = never errors.BadInitial refused

@@ -1,6 +1,6 @@
 -- Reading the operations of one session, one after the other.
-use Rattle.std.proofs.Common.{◌≡◌, ℕ, zero, suc, ◌+◌, ◌<◌, Bool, true, false, ◌||◌, List, [], ◌∷◌, ◌++◌, length, map, take, Option, Some, None, refl, sym, ap, subst, ◌∙◌, arith, append_assoc, length-append}
-use Rattle.std.specs.Prelude.{Ok, Err, slice_get}
+use Rattle.std.proofs.Common.{◌≡◌, ◌⊎◌, inl, inr, ℕ, zero, suc, ◌+◌, ◌<◌, Bool, true, false, ◌||◌, List, [], ◌∷◌, ◌++◌, length, map, take, Option, Some, None, refl, sym, ap, subst, ◌∙◌, arith, append_assoc, length-append}
+use Rattle.std.specs.Prelude.{Result, Ok, Err, not, slice_get, is_some}
 use Rattle.std.proofs.lemmas.List.{length-map, append-nil, length_push, take_all}
 use Rattle.std.proofs.lemmas.Option.{slice_get_within}
 use Rattle.json.specs.Json.{after_end_array}
@@ -89,12 +89,28 @@ all_operations s ds es seen read =
 pub refused_operations : (s : ℕ) (ds : Option (List Data)) (es : List Entry) (error : ReadError) → operations_refusal s ds ≡ Some error → AreOperations s ds es (Some error)
 refused_operations s ds es error refused = record { refused = refused; read = λ none. absurd cc; is_session = λ none. absurd cc }
 
+-- a known return may not stand after an unknown one, and all else may
+pub return_refused : (e : Entry) (op : OpId) → is_some e.1 ≡ true → entry_refusal (Some e) true op ≡ Some (ReturnAfterUnknown op)
+return_refused (c, None) op known = absurd cc
+return_refused (c, Some r) op known = refl
+
+pub may_follow : (e : Entry) (seen : Bool) (op : OpId) → (seen ≡ false) ⊎ (is_some e.1 ≡ false) → entry_refusal (Some e) seen op ≡ None
+may_follow (c, None) seen op either = refl
+may_follow (c, Some r) seen op (inl none_seen) = rw none_seen refl
+may_follow (c, Some r) seen op (inr unknown) = absurd cc
+
 -- whether the return of an operation that may stand there is not known is whether one so far is not
 unknown_after : (e : Entry) (seen : Bool) (op : OpId) → entry_refusal (Some e) seen op ≡ None → is_unknown_return (Some e) ≡ (seen || is_unknown_return (Some e))
 unknown_after (c, None) true op fine = refl
 unknown_after (c, None) false op fine = refl
 unknown_after (c, Some r) true op fine = absurd cc
 unknown_after (c, Some r) false op fine = refl
+
+pub unknown_is : (e : Entry) (b : Bool) → is_some e.1 ≡ not b → b ≡ is_unknown_return (Some e)
+unknown_is (c, None) true is = refl
+unknown_is (c, None) false is = absurd cc
+unknown_is (c, Some r) true is = absurd cc
+unknown_is (c, Some r) false is = refl
 
 -- ---- the loop over them
 
@@ -109,9 +125,15 @@ module _ (depth s : ℕ) where
   session_begun ts = record { elements = []; so_far = read_none depth ts; are_read = reads_nothing operation_at s; count = refl }
 
   module _ (old now : List Token) (es : List Entry) (seen : Bool) (inv : IsReadingSession old now es seen) where
-    pub session_more : (r : List Token) (e : Entry) → after_end_array now ≡ None → IsValue (λ d. IsOperation seen (at_place s (length es)) d (Ok e)) depth now r → length r < length now
-        → IsReadingSession old r (es ++ e ∷ []) (is_unknown_return (Some e))
-    session_more r e going one less =
+    here : (op : OpId) (result expected : Result Entry ReadError) (r : List Token) → op ≡ at_place s (length es) → result ≡ expected → IsValue (λ d. IsOperation seen op d result) depth now r
+        → IsValue (λ d. IsOperation seen (at_place s (length es)) d expected) depth now r
+    here op result expected r at is one =
+        subst (λ (x : OpId). IsValue (λ d. IsOperation seen x d expected) depth now r) at (subst (λ (x : Result Entry ReadError). IsValue (λ d. IsOperation seen op d x) depth now r) is one)
+
+    pub session_more : (r : List Token) (e : Entry) (op : OpId) (result : Result Entry ReadError) → op ≡ at_place s (length es) → result ≡ Ok e → after_end_array now ≡ None
+        → IsValue (λ d. IsOperation seen op d result) depth now r → length r < length now → IsReadingSession old r (es ++ e ∷ []) (is_unknown_return (Some e))
+    session_more r e op result at is going found less =
+        let one = here op result (Ok e) r at is found in
         let d = one.0 in
         let fine : entry_refusal (Some e) seen (at_place s (length inv.elements)) ≡ None = rw (← inv.count) one.2.1 in
         record {
@@ -121,10 +143,11 @@ module _ (depth s : ℕ) where
           count = length_push es e ∙ ap (λ n. n + 1) inv.count ∙ sym (length_push inv.elements d);
         }
 
-    pub session_refused : (r q : List Token) (left : List Entry) (error : ReadError) → after_end_array now ≡ None
-        → IsValue (λ d. IsOperation seen (at_place s (length es)) d (Err error)) depth now r → length r < length now
+    pub session_refused : (r q : List Token) (left : List Entry) (error : ReadError) (op : OpId) (result : Result Entry ReadError) → op ≡ at_place s (length es) → result ≡ Err error
+        → after_end_array now ≡ None → IsValue (λ d. IsOperation seen op d result) depth now r → length r < length now
         → behind_items depth r ≡ Some q → IsRest (λ ds. AreOperations s (Some ds) left (Some error)) depth old q
-    session_refused r q left error going one less passed =
+    session_refused r q left error op result at is going found less passed =
+        let one = here op result (Err error) r at is found in
         let d = one.0 in
         let bad : entry_refusal (operation_at d) seen (at_place s (length inv.elements)) ≡ Some error = rw (← inv.count) one.2 in
         rest_passed depth old r (inv.elements ++ d ∷ []) (read_one_more depth old now inv.elements inv.so_far r d going one.1 less)

@@ -1,5 +1,5 @@
 -- Reading the sessions, one after the other.
-use Rattle.std.proofs.Common.{◌≡◌, ℕ, zero, suc, ◌+◌, ◌<◌, ◌≤◌, List, [], ◌∷◌, ◌++◌, length, map, take, Option, Some, None, refl, sym, ap, ◌∙◌, arith, append_assoc}
+use Rattle.std.proofs.Common.{◌≡◌, ℕ, zero, suc, ◌+◌, ◌<◌, ◌≤◌, List, [], ◌∷◌, ◌++◌, length, map, take, Option, Some, None, refl, sym, ap, subst, ◌∙◌, arith, append_assoc}
 use Rattle.std.specs.Prelude.{Ok, Err, slice_get, slice_index_or, option_map, option_and_then}
 use Rattle.std.specs.Option.{option_or}
 use Rattle.std.proofs.lemmas.List.{append-nil, length_push, map_push}
@@ -83,18 +83,24 @@ module _ (depth : ℕ) where
   sessions_begun ts = record { elements = []; so_far = read_none depth ts; are_read = none_read }
 
   module _ (old now : List Token) (ss : List (List Entry)) (inv : IsReadingSessions old now ss) where
-    pub sessions_more : (r : List Token) (es : List Entry) → after_end_array now ≡ None → IsList (λ ds. AreOperations (length ss) ds es None) depth now r → length r < length now
-        → IsReadingSessions old r (ss ++ es ∷ [])
-    sessions_more r es going one less = record {
+    here : (n : ℕ) (es : List Entry) (refusal expected : Option ReadError) (r : List Token) → n ≡ length ss → refusal ≡ expected → IsList (λ ds. AreOperations n ds es refusal) depth now r
+        → IsList (λ ds. AreOperations (length ss) ds es expected) depth now r
+    here n es refusal expected r count is one =
+        subst (λ (m : ℕ). IsList (λ ds. AreOperations m ds es expected) depth now r) count (subst (λ (x : Option ReadError). IsList (λ ds. AreOperations n ds es x) depth now r) is one)
+
+    pub sessions_more : (r : List Token) (es : List Entry) (n : ℕ) (refusal : Option ReadError) → n ≡ length ss → refusal ≡ None → after_end_array now ≡ None
+        → IsList (λ ds. AreOperations n ds es refusal) depth now r → length r < length now → IsReadingSessions old r (ss ++ es ∷ [])
+    sessions_more r es n refusal count is going found less = let one = here n es refusal None r count is found in record {
       elements = inv.elements ++ one.0 ∷ [];
       so_far = read_one_more depth old now inv.elements inv.so_far r one.0 going one.1 less;
       are_read = are_read-more inv.elements ss inv.are_read one.0 es one.2;
     }
 
-    pub sessions_refused : (r q : List Token) (es : List Entry) (error : ReadError) → after_end_array now ≡ None
-        → IsList (λ ds. AreOperations (length ss) ds es (Some error)) depth now r → length r < length now
+    pub sessions_refused : (r q : List Token) (es : List Entry) (error : ReadError) (n : ℕ) (refusal : Option ReadError) → n ≡ length ss → refusal ≡ Some error
+        → after_end_array now ≡ None → IsList (λ ds. AreOperations n ds es refusal) depth now r → length r < length now
         → behind_items depth r ≡ Some q → IsRest (λ ds. AreSessions ds (Err error)) depth old q
-    sessions_refused r q es error going one less passed =
+    sessions_refused r q es error n refusal count is going found less passed =
+        let one = here n es refusal (Some error) r count is found in
         rest_passed depth old r (inv.elements ++ one.0 ∷ []) (read_one_more depth old now inv.elements inv.so_far r one.0 going one.1 less)
         (λ ds. AreSessions ds (Err error)) q passed (are_read-refused inv.elements ss inv.are_read one.0 es error one.2)
 

@@ -1,5 +1,7 @@
 -- Whether the value that comes next is a list.
 use Rattle.std.proofs.Common.{◌≡◌, ◌≢◌, ℕ, zero, suc, ◌-◌, ◌<◌, List, ◌∷◌, Bool, Option, Some, None, option_map, refl, sym, ap, subst, ◌∙◌, arith}
+use Rattle.std.specs.Prelude.{Result, IfOk, IfErr}
+use Rattle.std.proofs.lemmas.Result.{IfOk-weaker, IfErr-weaker}
 use Rattle.json.specs.Json.{items, parse_map, value}
 use Rattle.json.specs.Reads.{token_of}
 use Rattle.json.specs.Token.{Token}
@@ -8,6 +10,9 @@ use Rattle.json.specs.declared.token.Token.TheVariants.{BeginObject, EndObject, 
 use Rattle.json.proofs.Grammar.{value_is}
 use Rattle.serde_json.specs.Data.{Data, Num, Members, null, boolean, number, string, array, object}
 use Rattle.serde_json.specs.Read.{number_of, of_json, converted}
+use Rattle.bounded_json.specs.Steps.Reading.{AreRefused, IsRefused}
+use Rattle.bounded_json.specs.declared.text_error.TextError.{TextError}
+use Rattle.bounded_json.proofs.Stopping.{list_refused}
 use Rattle.bounded_json.proofs.Tokens.{Read, next, at_null, at_boolean, at_string, at_number, at_begin_array, at_begin_object, no_object}
 use Rattle.operations.specs.Json.{elements}
 use Rattle.long_reader.specs.Steps.{IsList, IsRest}
@@ -56,3 +61,10 @@ module _ (d : Data) (r : List Token) where
 pub list_there : (P : Option (List Data) → Type 0) (depth : ℕ) (ts r : List Token) → 0 < depth → IsRest (λ ds. P (Some ds)) (depth - 1) ts r → IsList P depth (Token.begin_array ∷ ts) r
 list_there P depth ts r some rest =
     (array rest.0, at_begin_array depth ts some ∙ ap (parse_map array) rest.1, rest.2)
+
+module _ {T : Type 0} (result : Result T TextError) (depth : ℕ) (ts rest r : List Token) (first : ts ≡ Token.begin_array ∷ rest) (some : 0 < depth) where
+  pub list_if_read : (P : T → Option (List Data) → Type 0) → IfOk result (λ x. IsRest (λ ds. P x (Some ds)) (depth - 1) rest r) → IfOk result (λ x. IsList (P x) depth ts r)
+  list_if_read P read = IfOk-weaker result _ _ (λ x is. rw first (list_there (P x) depth rest r some is)) read
+
+  pub list_if_refused : IfErr result (AreRefused (depth - 1) rest) → IfErr result (IsRefused depth ts)
+  list_if_refused refused = IfErr-weaker result _ _ (λ e is. rw first (list_refused depth rest some e is)) refused

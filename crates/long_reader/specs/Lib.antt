@@ -1,2 +1,3 @@
 pub mod LongRefusals
+pub mod Small
 pub mod Steps

@@ -1,11 +1,13 @@
 -- What the functions say to one another: no statement of what is read names these.
 use Rattle.std.specs.Prelude.{◌≡◌, ℕ, List, [], ◌∷◌, length, map, Bool, Option, Some, None, Result, Ok, Err, MatchOption, MatchResult, nat_eq, option_map, option_and_then, slice_index_or, if◌then◌else◌}
 use Rattle.std.specs.Cmp.Lexicographic.{pointwise}
+use Rattle.std.specs.Option.{ok_or}
 use Rattle.json.specs.Json.{items, value}
 use Rattle.json.specs.Token.{Token}
 use Rattle.serde_json.specs.Data.{Data, Items}
 use Rattle.serde_json.specs.Find.{as_str}
 use Rattle.serde_json.specs.Read.{of_json, of_items, converted, read}
+use Rattle.bounded_json.specs.Text.{IsJson}
 use Rattle.history.specs.declared.op_id.OpId.{OpId}
 use Rattle.long_history.specs.LongHistories.{IsLongSession}
 use Rattle.memory_order.specs.Memory.{MemoryCall}
@@ -75,8 +77,7 @@ abbrev pub entry_above : Option ℕ → Data → Option (ℕ × ℕ)
 entry_above before d = option_and_then (λ (e : ℕ × ℕ). if is_above before e.0 then Some e else None) (entry_at register.start_at d)
 
 abbrev pub table_or : Option (List (ℕ × ℕ)) → Result (List (ℕ × ℕ)) ReadError
-table_or None = Err BadInitial
-table_or (Some table) = Ok table
+table_or table = ok_or table BadInitial
 
 -- what stands behind the sessions, where it has the shape of a start
 abbrev pub start_read : List Data → Option (Result (List (ℕ × ℕ)) ReadError)
@@ -119,3 +120,7 @@ parts_in ds = option_and_then parts_among ds
 -- a text is a value with these parts
 abbrev pub IsWhole : List ℕ → Result (List (ℕ × ℕ) × List (List Entry)) ReadError → Type 0
 IsWhole text result = (d : Data) × (read text ≡ Some d) × AreParts (parts_of d) result
+
+-- it is JSON with these parts
+abbrev pub IsJsonOf : List ℕ → List (ℕ × ℕ) × List (List Entry) → Type 0
+IsJsonOf text p = (d : Data) × IsJson text d × ArePartsOf (parts_of d) p

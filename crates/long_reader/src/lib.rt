@@ -4,6 +4,7 @@
 //! text it keeps the operations alone. [`small`] is the history as those of a few sessions are kept, where it fits.
 #![tactic(auto)]
 
+mod limits;
 mod operations;
 mod parts;
 mod passing;
@@ -11,4 +12,5 @@ mod reader;
 mod sessions;
 mod start;
 
+pub use limits::small;
 pub use reader::read_long;

@@ -4,7 +4,8 @@ ghost use Rattle.std.specs.Prelude.{◌≡◌, ◌<◌, ◌≤◌, length, IfOk,
 ghost use Rattle.bounded_json.specs.Steps.Reading.{AreRefused, IsRefused};
 ghost use Rattle.long_reader.specs.Steps.{AreOperations, IsOperation, IsRest, IsValue};
 
-use bounded_json::{TextError, read_value, walk_items};
+use crate::passing::next_value;
+use bounded_json::{TextError, walk_items};
 use json::Reader;
 use long_history::LongEntry;
 use objects::Memory;
@@ -23,8 +24,7 @@ fn read_operation(
     ensures shorter { OnOk result (length reader.new < length reader.old) }
     ensures refused { IfErr result (IsRefused depth reader.old) }
 {
-    let token = reader.next().ok_or(TextError::NotJson)?;
-    let value = read_value(alloc, token, reader, HistoryPlace::Operation, depth)?;
+    let value = next_value(alloc, reader, HistoryPlace::Operation, depth)?;
     let Some(entry) = Memory::read_operation(&value) else {
         return Ok(Err(ReadError::BadOp(op)));
     };

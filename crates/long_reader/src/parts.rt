@@ -6,10 +6,10 @@ ghost use Rattle.serde_json.specs.View.{view};
 ghost use Rattle.bounded_json.specs.Steps.Reading.{AreRefused, IsRefused};
 ghost use Rattle.long_reader.specs.Steps.{AreParts, IsList, IsRest, IsValue, joined_of, name_read, parts_in};
 
-use crate::passing::pass_no_list;
+use crate::passing::{next_value, pass_no_list};
 use crate::sessions::read_session_list;
 use crate::start::read_start;
-use bounded_json::{TextError, read_value};
+use bounded_json::TextError;
 use causal_order::Rows;
 use json::{Reader, Token};
 use long_history::LongEntry;
@@ -46,8 +46,7 @@ fn read_name(
     ensures shorter { OnOk result (length reader.new < length reader.old) }
     ensures refused { IfErr result (IsRefused depth reader.old) }
 {
-    let token = reader.next().ok_or(TextError::NotJson)?;
-    let value = read_value(alloc, token, reader, HistoryPlace::Scalar, depth)?;
+    let value = next_value(alloc, reader, HistoryPlace::Scalar, depth)?;
     Ok(name_of(&value))
 }
 

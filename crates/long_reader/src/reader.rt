@@ -6,9 +6,10 @@ ghost use Rattle.long_history.specs.LongHistories.{IsLongHistory};
 ghost use Rattle.memory_order.specs.Memory.{MemoryHistory};
 ghost use Rattle.operations.specs.AnyForm.{IsJson, form_of};
 ghost use Rattle.long_reader.specs.LongRefusals.{IsRefusedLong};
-ghost use Rattle.long_reader.specs.Steps.{IsWhole};
+ghost use Rattle.long_reader.specs.Steps.{IsJsonOf, IsWhole};
 
 use crate::parts::{Parts, read_history};
+use crate::passing::next_token;
 use bounded_json::{MAX_DEPTH, TextError};
 use json::{Reader, Scratch};
 use long_history::LongHistory;
@@ -22,7 +23,7 @@ fn read_text(alloc: Global, text: &str) -> Result<Result<Parts, ReadError>, Text
 {
     let mut scratch = Scratch::new(alloc);
     let mut reader = Reader::new(text, &mut scratch)?;
-    let token = reader.next().ok_or(TextError::NotJson)?;
+    let token = next_token(&mut reader)?;
     let parts = read_history(alloc, token, &mut reader, MAX_DEPTH)?;
     if reader.next().is_some() {
         return Err(TextError::NotJson);
@@ -31,7 +32,10 @@ fn read_text(alloc: Global, text: &str) -> Result<Result<Parts, ReadError>, Text
 }
 
 /// The parts of the history that the bytes are, or why they are none.
-fn read_bytes(alloc: Global, text: &[u8]) -> Result<Parts, ReadError> {
+fn read_bytes(alloc: Global, text: &[u8]) -> Result<Parts, ReadError>
+    ensures read { IfOk result (IsJsonOf text.now) }
+    ensures refused { IfErr result (IsRefusedLong text.now) }
+{
     let Ok(text) = simdutf8::compat::from_utf8(text) else {
         return Err(ReadError::NotJson);
     };

@@ -5,7 +5,7 @@ ghost use Rattle.bounded_json.specs.Steps.Reading.{AreRefused, IsRefused};
 ghost use Rattle.long_reader.specs.Steps.{AreOperations, AreSessions, IsList, IsRest, IsSessionList};
 
 use crate::operations::read_operations;
-use crate::passing::pass_no_list;
+use crate::passing::{next_token, pass_no_list};
 use bounded_json::{TextError, walk_items};
 use causal_order::Rows;
 use json::{Reader, Token};
@@ -27,7 +27,7 @@ fn read_session(
     ensures shorter { OnOk result (length reader.new < length reader.old) }
     ensures refused { IfErr result (IsRefused depth reader.old) }
 {
-    let token = reader.next().ok_or(TextError::NotJson)?;
+    let token = next_token(reader)?;
     if let Token::BeginArray = token {
         return read_operations(alloc, reader, depth - 1, s, entries);
     }
@@ -71,7 +71,7 @@ pub(crate) fn read_session_list(
     ensures shorter { OnOk result (length reader.new < length reader.old) }
     ensures refused { IfErr result (IsRefused depth reader.old) }
 {
-    let token = reader.next().ok_or(TextError::NotJson)?;
+    let token = next_token(reader)?;
     if let Token::BeginArray = token {
         return Ok(Some(read_sessions(alloc, reader, depth - 1)?));
     }

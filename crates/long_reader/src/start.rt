@@ -6,8 +6,8 @@ ghost use Rattle.operations.specs.Spelling.{is_above as is_above_before};
 ghost use Rattle.long_reader.specs.LongRefusals.{table_of};
 ghost use Rattle.long_reader.specs.Steps.{IsList, IsRest, IsValue, entry_above, start_read, table_or};
 
-use crate::passing::{pass_no_list, pass_value};
-use bounded_json::{TextError, read_value, walk_items};
+use crate::passing::{next_token, next_value, pass_no_list, pass_value};
+use bounded_json::{TextError, walk_items};
 use json::{Reader, Token};
 use objects::Table;
 use operations::{HistoryPlace, ReadError, SpelledStart};
@@ -34,8 +34,7 @@ fn read_entry(
     ensures shorter { OnOk result (length reader.new < length reader.old) }
     ensures refused { IfErr result (IsRefused depth reader.old) }
 {
-    let token = reader.next().ok_or(TextError::NotJson)?;
-    let value = read_value(alloc, token, reader, HistoryPlace::Entry, depth)?;
+    let value = next_value(alloc, reader, HistoryPlace::Entry, depth)?;
     let Some(entry) = <u64 as SpelledStart>::read_entry(&value) else {
         return Ok(None);
     };
@@ -85,7 +84,7 @@ fn read_table_list(
     ensures shorter { OnOk result (length reader.new < length reader.old) }
     ensures refused { IfErr result (IsRefused depth reader.old) }
 {
-    let token = reader.next().ok_or(TextError::NotJson)?;
+    let token = next_token(reader)?;
     if let Token::BeginArray = token {
         let table = read_table(alloc, reader, depth - 1)?;
         return Ok(Some(table.ok_or(ReadError::BadInitial)));
