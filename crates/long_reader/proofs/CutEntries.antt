@@ -1,5 +1,5 @@
 -- What is read of an operation, or of an entry of the start, whose value is cut at its place, is what is read of the whole of it.
-use Rattle.std.proofs.Common.{◌≡◌, ◌≢◌, ℕ, ◌<◌, ◌^◌, List, [], ◌∷◌, Option, Some, refl, sym, subst}
+use Rattle.std.proofs.Common.{◌≡◌, ◌≢◌, ℕ, ◌<◌, ◌^◌, [], ◌∷◌, Some, refl, sym, subst}
 use Rattle.std.proofs.lemmas.List.Elements.{All-head}
 use Rattle.serde_json.specs.Data.{Data}
 use Rattle.bounded_json.specs.Cut.{cut}

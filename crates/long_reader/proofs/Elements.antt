@@ -6,7 +6,6 @@ use Rattle.json.specs.Token.{Token}
 use Rattle.json.proofs.Grammar.{Takes, left, left_none, left_some, skip_value-shorter}
 use Rattle.serde_json.specs.Data.{Data, Items, no_items, item}
 use Rattle.serde_json.specs.Read.{of_json, of_items, converted}
-
 use Rattle.bounded_json.specs.Steps.Behind.{behind_items}
 use Rattle.bounded_json.specs.Steps.Reading.{AreRefused, IsRefused}
 use Rattle.bounded_json.specs.declared.text_error.TextError.{TextError}

@@ -1,5 +1,5 @@
 -- What reads as a long history is its form, and the form of a long history reads as that history and no other.
-use Rattle.std.proofs.Common.{◌≡◌, ◌≢◌, ◌⊎◌, ℕ, zero, suc, ◌<◌, ◌≤◌, ◌^◌, Bool, true, false, ◌||◌, List, [], ◌∷◌, length, map, take, Option, Some, None, Result, Ok, Err, refl, sym, ap, subst, ◌∙◌, arith, inl, inr}
+use Rattle.std.proofs.Common.{◌≡◌, ◌≢◌, ◌⊎◌, ℕ, zero, suc, ◌<◌, ◌^◌, Bool, true, false, ◌||◌, List, [], ◌∷◌, length, map, take, Option, Some, None, Result, Ok, Err, refl, sym, ap, subst, ◌∙◌, arith, inl, inr}
 use Rattle.std.specs.Prelude.{IfOk, IfErr, if◌then◌else◌, slice_get, slice_index_or, option_map, option_and_then}
 use Rattle.std.specs.Option.{option_or}
 use Rattle.std.specs.Str.{IsUtf8}
@@ -29,7 +29,7 @@ use Rattle.operations.specs.declared.read_error.ReadError.{ReadError}
 use Rattle.operations.specs.declared.read_error.ReadError.TheVariants as errors
 use Rattle.operations.proofs.FirstRefusal.{all_none}
 use Rattle.operations.proofs.HistoryForm.{calls_read, same_sessions, sessions_formed}
-use Rattle.operations.proofs.PartsForm.{formed, parts_again, parts_again_with_start, parts_formed}
+use Rattle.operations.proofs.PartsForm.{parts_again, parts_again_with_start, parts_formed}
 use Rattle.operations.proofs.SessionReading.{form_at, unknown_among}
 use Rattle.long_reader.specs.LongRefusals.{IsRefusedLong, first_long_refusal, name_refusal, operation_at, operations_refusal, parts_refusal, session_refusal, sessions_refusal, start_of}
 use Rattle.long_reader.specs.Steps.{ArePartsOf, Entry, IsJsonOf, IsSessionOfMemory, IsWhole}

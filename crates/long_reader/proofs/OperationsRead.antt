@@ -1,7 +1,7 @@
 -- Reading the operations of one session, one after the other.
-use Rattle.std.proofs.Common.{◌≡◌, ◌⊎◌, inl, inr, ℕ, zero, suc, ◌+◌, ◌<◌, Bool, true, false, ◌||◌, List, [], ◌∷◌, ◌++◌, length, map, take, Option, Some, None, refl, sym, ap, subst, ◌∙◌, arith, append_assoc, length-append}
+use Rattle.std.proofs.Common.{◌≡◌, ◌⊎◌, inl, inr, ℕ, zero, suc, ◌+◌, ◌<◌, Bool, true, false, ◌||◌, List, [], ◌∷◌, ◌++◌, length, map, take, Option, Some, None, refl, sym, ap, subst, ◌∙◌, arith, append_assoc}
 use Rattle.std.specs.Prelude.{Result, Ok, Err, not, slice_get, is_some}
-use Rattle.std.proofs.lemmas.List.{length-map, append-nil, length_push, take_all}
+use Rattle.std.proofs.lemmas.List.{append-nil, length_push, take_all}
 use Rattle.std.proofs.lemmas.Option.{slice_get_within}
 use Rattle.json.specs.Json.{after_end_array}
 use Rattle.json.specs.Token.{Token}
@@ -11,12 +11,11 @@ use Rattle.history.specs.declared.op_id.OpId.{OpId}
 use Rattle.memory_order.specs.Memory.{MemoryCall}
 use Rattle.operations.specs.Laws.KeyedForm.{keyed_read}
 use Rattle.operations.specs.Laws.RegisterForm as register_laws
-use Rattle.operations.specs.Reading.{first_among, is_unknown_return, entry_refusal, operation_refusal}
+use Rattle.operations.specs.Reading.{is_unknown_return, entry_refusal, operation_refusal}
 use Rattle.operations.specs.declared.read_error.ReadError.{ReadError}
 use Rattle.operations.specs.declared.read_error.ReadError.TheVariants.{ReturnAfterUnknown}
 use Rattle.operations.proofs.FirstRefusal.{first_among_none}
 use Rattle.operations.proofs.SessionReading.{IsReadUpTo, form_at, or_true, reads_nothing, reads_on, refused_here, unknown_among}
-use Rattle.objects.specs.Register.{matches}
 use Rattle.long_reader.specs.LongRefusals.{operation_at, operations_refusal}
 use Rattle.long_reader.specs.Steps.{AreOperations, Entry, IsOperation, IsRest, IsSessionOfMemory, IsValue}
 use Rattle.long_reader.proofs.Elements.{HasRead, read_none, read_one_more, read_all, rest_passed}

@@ -1,18 +1,16 @@
 -- The parts of a history together.
-use Rattle.std.proofs.Common.{◌≡◌, ◌⊎◌, ℕ, Bool, true, false, List, [], ◌∷◌, Option, Some, None, Result, Ok, Err, cond, refl, sym, ap, ◌∙◌, inl, inr}
-use Rattle.std.specs.Prelude.{nat_eq, option_map, option_and_then, is_some, if◌then◌else◌}
+use Rattle.std.proofs.Common.{◌≡◌, ℕ, Bool, true, false, List, [], ◌∷◌, Option, Some, None, Result, Ok, Err, refl, sym, ap}
+use Rattle.std.specs.Prelude.{nat_eq, option_map}
 use Rattle.std.specs.Cmp.Lexicographic.{pointwise, same_text}
-use Rattle.std.specs.Option.{option_or}
 use Rattle.serde_json.specs.Data.{Data}
 use Rattle.serde_json.specs.Find.{as_str}
 use Rattle.operations.specs.Json.{elements}
 use Rattle.operations.specs.ObjectNames.{text_of}
-use Rattle.operations.specs.Reading.{named_parts, parts_among, start_refusal}
+use Rattle.operations.specs.Reading.{named_parts, parts_among}
 use Rattle.operations.specs.declared.object_name.ObjectName.TheVariants.{Memory as MemoryName}
 use Rattle.operations.specs.declared.read_error.ReadError.{ReadError}
-use Rattle.operations.specs.declared.read_error.ReadError.TheVariants.{BadShape, UnknownObject, BadInitial}
-use Rattle.long_reader.specs.LongRefusals.{name_refusal, parts_refusal, sessions_refusal, start_of, table_of}
-use Rattle.long_reader.specs.Steps.{AreParts, ArePartsOf, AreSessions, AreSessionsOf, Entry, IsSessionList, joined_of, name_or, name_read, start_read, table_or}
+use Rattle.long_reader.specs.LongRefusals.{start_of}
+use Rattle.long_reader.specs.Steps.{AreParts, AreSessions, AreSessionsOf, Entry, IsSessionList, joined_of, name_or, name_read, start_read, table_or}
 
 abbrev Found : Type 0
 Found = Option (List ℕ × List Data × List Data)

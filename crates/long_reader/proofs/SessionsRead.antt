@@ -1,7 +1,6 @@
 -- Reading the sessions, one after the other.
-use Rattle.std.proofs.Common.{◌≡◌, ℕ, zero, suc, ◌+◌, ◌<◌, ◌≤◌, List, [], ◌∷◌, ◌++◌, length, map, take, Option, Some, None, refl, sym, ap, subst, ◌∙◌, arith, append_assoc}
-use Rattle.std.specs.Prelude.{Ok, Err, slice_get, slice_index_or, option_map, option_and_then}
-use Rattle.std.specs.Option.{option_or}
+use Rattle.std.proofs.Common.{◌≡◌, ℕ, zero, suc, ◌+◌, ◌<◌, List, [], ◌∷◌, ◌++◌, length, map, Option, Some, None, refl, sym, ap, subst, ◌∙◌, arith}
+use Rattle.std.specs.Prelude.{Ok, Err, slice_index_or}
 use Rattle.std.proofs.lemmas.List.{append-nil, length_push, map_push}
 use Rattle.json.specs.Json.{after_end_array}
 use Rattle.json.specs.Token.{Token}
@@ -12,7 +11,7 @@ use Rattle.operations.specs.Json.{elements as elements_in}
 use Rattle.operations.specs.Reading.{first_among}
 use Rattle.operations.specs.declared.read_error.ReadError.{ReadError}
 use Rattle.operations.proofs.FirstRefusal.{first_among_more, first_among_some}
-use Rattle.long_reader.specs.LongRefusals.{operation_at, operations_refusal, session_refusal, sessions_refusal}
+use Rattle.long_reader.specs.LongRefusals.{operation_at, session_refusal, sessions_refusal}
 use Rattle.long_reader.specs.Steps.{AreOperations, AreSessions, AreSessionsOf, Entry, IsList, IsRest, IsSessionOfMemory}
 use Rattle.long_reader.proofs.Elements.{HasRead, read_none, read_one_more, read_all, rest_passed}
 use Rattle.long_reader.proofs.OperationsRead.{next_element, one_then_more}
@@ -58,7 +57,7 @@ module _ (elements : List Data) (ss : List (List Entry)) (so_far : AreReadTo ele
         read = map_push (session_at operation_at) elements d ∙ rw (here, so_far.read) (sym (map_push (λ (x : List Entry). Some (map (λ e. Some e) x)) ss es));
         each = one_session_more ss es so_far.each (is.is_session refl);
         none = λ more. rw (one_then_more elements d more, length_push elements d)
-        (first_among_more (length elements) (session_refusal (elements ++ d ∷ more)) (so_far.none (d ∷ more)) (refusal_there None is more));
+            (first_among_more (length elements) (session_refusal (elements ++ d ∷ more)) (so_far.none (d ∷ more)) (refusal_there None is more));
         count = length_push ss es ∙ ap (λ n. n + 1) so_far.count ∙ sym (length_push elements d);
       }
 

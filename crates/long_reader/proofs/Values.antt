@@ -1,8 +1,8 @@
 -- Whether the value that comes next is a list.
-use Rattle.std.proofs.Common.{◌≡◌, ◌≢◌, ℕ, zero, suc, ◌-◌, ◌<◌, List, ◌∷◌, Bool, Option, Some, None, option_map, refl, sym, ap, subst, ◌∙◌, arith}
+use Rattle.std.proofs.Common.{◌≡◌, ◌≢◌, ℕ, zero, suc, ◌-◌, ◌<◌, List, ◌∷◌, Option, Some, None, option_map, refl, sym, ap, ◌∙◌, arith}
 use Rattle.std.specs.Prelude.{Result, IfOk, IfErr}
 use Rattle.std.proofs.lemmas.Result.{IfOk-weaker, IfErr-weaker}
-use Rattle.json.specs.Json.{items, parse_map, value}
+use Rattle.json.specs.Json.{parse_map}
 use Rattle.json.specs.Reads.{token_of}
 use Rattle.json.specs.Token.{Token}
 use Rattle.json.specs.declared.token.Token as tokens

@@ -1,4 +1,4 @@
--- The long histories that fit the limits of histories of a few sessions.
+-- The long histories that fit the limits of `History`.
 use Rattle.std.specs.Prelude.{ℕ, ◌≤◌, length}
 use Rattle.history.specs.History.{session}
 use Rattle.history.specs.declared.limits.TheConstants.{MAX_OPERATIONS, MAX_SESSIONS}

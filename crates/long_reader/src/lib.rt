@@ -1,14 +1,14 @@
 //! Reading a long history from its JSON text.
 //!
-//! [`read_long`] reads the text of a memory history with any number of sessions and operations, once and token by token: beside the
-//! text it keeps the operations alone. [`small`] is the history as those of a few sessions are kept, where it fits.
+//! [`read_long`] reads the text of a memory history with any number of sessions and operations, once and token by token, and keeps the
+//! operations alone. [`small`] copies a long history into a `History`, where it fits the limits of that type.
 #![tactic(auto)]
 
 mod limits;
-mod operations;
 mod parts;
 mod passing;
 mod reader;
+mod session;
 mod sessions;
 mod start;
 

@@ -1,4 +1,4 @@
-//! Long histories that fit the limits of histories of a few sessions.
+//! Long histories that fit the limits of `History`.
 
 ghost use Rattle.std.specs.Prelude.{◌≡◌, ◌<◌, ◌≤◌, ℕ, length, map, IfOk, IfSome, MatchOption};
 ghost use Rattle.history.specs.History.{session as operations_of};
@@ -42,10 +42,10 @@ fn copy_of_sessions(
     Ok(Some(copy))
 }
 
-/// The history as histories of a few sessions are kept, or none where it is over one of their limits: 16 sessions, 256 operations in
-/// each, and 4,096 initial values.
+/// The same history as a `History`, or none where it is over one of the limits of that type: 16 sessions, 256 operations in each, and
+/// 4,096 initial values.
 ///
-/// Fails for want of memory alone. O(n) for n operations of a history that fits.
+/// Fails for want of memory alone. It takes O(n) for n operations of a history that fits, and never more than these limits.
 pub fn small(alloc: Global, history: &LongHistory) -> Result<Option<History<Memory>>, AllocError>
     ensures same { IfOk result (λ o. MatchOption o (¬ IsSmall history.now) (λ h. h ≡ history.now)) }
     ensures is_history { IfOk result (λ o. IfSome o (λ h. IsAnyHistory (AnyHistory.Memory h))) }

@@ -37,11 +37,7 @@ fn name_of(value: &Value) -> Part<()>
 }
 
 /// The name that comes next.
-fn read_name(
-    alloc: Global,
-    reader: &mut Reader<'_>,
-    depth: usize,
-) -> Result<Part<()>, TextError>
+fn read_name(alloc: Global, reader: &mut Reader<'_>, depth: usize) -> Result<Part<()>, TextError>
     ensures read { IfOk result (λ o. IsValue (λ d. name_read d ≡ o) depth reader.old reader.new) }
     ensures shorter { OnOk result (length reader.new < length reader.old) }
     ensures refused { IfErr result (IsRefused depth reader.old) }

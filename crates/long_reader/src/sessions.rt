@@ -4,8 +4,8 @@ ghost use Rattle.std.specs.Prelude.{◌≡◌, ◌<◌, ◌≤◌, length, IfOk,
 ghost use Rattle.bounded_json.specs.Steps.Reading.{AreRefused, IsRefused};
 ghost use Rattle.long_reader.specs.Steps.{AreOperations, AreSessions, IsList, IsRest, IsSessionList};
 
-use crate::operations::read_operations;
 use crate::passing::{next_token, pass_no_list};
+use crate::session::read_operations;
 use bounded_json::{TextError, walk_items};
 use causal_order::Rows;
 use json::{Reader, Token};

@@ -69,7 +69,11 @@ fn read_table(
             }
         }
     }
-    if table.is_empty() { Ok(None) } else { Ok(Some(table)) }
+    if table.is_empty() {
+        Ok(None)
+    } else {
+        Ok(Some(table))
+    }
 }
 
 /// The table that the value that comes next lists, or its refusal, or none where it is no list.

@@ -1,5 +1,3 @@
-use Rattle.std.proofs.Common.{sym, subst}
-use Rattle.std.specs.Str.{IsUtf8}
 use Rattle.long_reader.specs.Steps.{IsWhole}
 use Rattle.long_reader.proofs.LongForms.{refused_if_not}
 use Rattle.long_reader.proofs.reader.read_bytes.Goals as goal

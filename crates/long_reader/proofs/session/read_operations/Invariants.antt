@@ -1,6 +1,6 @@
 use Rattle.std.proofs.Common.{length}
 use Rattle.long_reader.proofs.OperationsRead.{IsReadingSession}
-use Rattle.long_reader.proofs.operations.read_operations.Given as goal
+use Rattle.long_reader.proofs.session.read_operations.Given as goal
 
 abbrev pub invariant-operations : goal.invariant-operations
 invariant-operations l = IsReadingSession l.depth l.s l.initial.reader l.reader l.entries.items l.unknown_seen

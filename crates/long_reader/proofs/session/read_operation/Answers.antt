@@ -3,8 +3,8 @@ use Rattle.operations.specs.Reading.{entry_refusal}
 use Rattle.long_reader.specs.LongRefusals.{operation_at}
 use Rattle.long_reader.proofs.CutEntries.{operation_same}
 use Rattle.long_reader.proofs.OperationsRead.{may_follow, return_refused}
-use Rattle.long_reader.proofs.operations.read_operation.Goals as goal
-use Rattle.long_reader.proofs.operations.read_operation.Goals.{else-unknown_seen-via-then-unknown_seen+else-is_some, else-unknown_seen-via-else-unknown_seen}
+use Rattle.long_reader.proofs.session.read_operation.Goals as goal
+use Rattle.long_reader.proofs.session.read_operation.Goals.{else-unknown_seen-via-then-unknown_seen+else-is_some, else-unknown_seen-via-else-unknown_seen}
 
 pub returns-in_default-clause-read : goal.returns-in_default-clause-read
 returns-in_default-clause-read c =
