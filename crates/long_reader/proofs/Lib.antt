@@ -1,6 +1,6 @@
 mod CutEntries
 mod Elements
-mod LongForms
+pub mod LongForms
 mod LongTables
 mod OperationsRead
 mod PartsRead

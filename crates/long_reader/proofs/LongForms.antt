@@ -150,7 +150,7 @@ module _ (h : MemoryHistory) (is : IsLongHistory h) where
   read_again : ReadAs operation_at (map session h.1) h.1
   read_again = sessions_again h.1 is.each is.calls
 
-  form_is_fine : first_long_refusal (form_of (histories.Memory h)) ≡ None
+  pub form_is_fine : first_long_refusal (form_of (histories.Memory h)) ≡ None
   form_is_fine = rw (parts_of_form h) (rw (sessions_fine (map session h.1) h.1 read_again is.each, start_again h.0 is.start) refl)
 
   same_history : (p : List (ℕ × ℕ) × List (List Entry)) → ArePartsOf (parts_of (form_of (histories.Memory h))) p → p ≡ h
@@ -161,6 +161,25 @@ module _ (h : MemoryHistory) (is : IsLongHistory h) where
       let rest : are.rest ≡ table_form register.start_form h.0 = ap (λ x. x.2) parts in
       let start : p.0 ≡ h.0 = same_Some p.0 h.0 (sym are.is_start ∙ ap start_of rest ∙ start_again h.0 is.start) in
       rw (start, same_sessions operation_at p.1 h.1 are.sessions are.are_sessions.read (rw sessions read_again)) refl
+
+  own_parts : ArePartsOf (parts_of (form_of (histories.Memory h))) h
+  own_parts = record {
+    sessions = map session h.1;
+    rest = table_form register.start_form h.0;
+    parts = parts_of_form h;
+    are_sessions = record {
+      none_refused = sessions_fine (map session h.1) h.1 read_again is.each;
+      read = read_again;
+      each = is.each;
+    };
+    is_start = start_again h.0 is.start;
+  }
+
+-- a form is that of one long history
+pub forms_are_distinct : (g h : MemoryHistory) → IsLongHistory g → IsLongHistory h
+    → form_of (histories.Memory g) ≡ form_of (histories.Memory h) → g ≡ h
+forms_are_distinct g h is_g is_h same =
+    same_history h is_h g (subst (λ (d : Data). ArePartsOf (parts_of d) g) same (own_parts g is_g))
 
 -- ---- the refusal of a text
 
