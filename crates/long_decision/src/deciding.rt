@@ -59,24 +59,36 @@ fn excluded_by(index: &LongIndex, kind: Kind) -> LongDecisions
 }
 
 /// What is decided of an indexed history.
-#[tactic(auto, using(crate::proofs::Firsts::first_cyclic, crate::proofs::Firsts::first_thin_air, crate::proofs::Firsts::first_start, crate::proofs::Firsts::first_read))]
+#[tactic(auto, using(crate::proofs::Firsts::first_cyclic))]
 fn decide_indexed(alloc: Global, index: &LongIndex) -> Result<LongDecisions, AllocError>
     ensures { IfOk result (AreDecided index.now.history) }
 {
-    let Some(order) = causal_order(alloc, index)? else {
-        return Ok(excluded_by(index, Kind::CyclicCO));
-    };
+    match causal_order(alloc, index)? {
+        Some(order) => decide_ordered(alloc, index, &order),
+        None => Ok(excluded_by(index, Kind::CyclicCO)),
+    }
+}
+
+/// What is decided of a history whose causal order has no cycle: here it is.
+fn decide_ordered(
+    alloc: Global,
+    index: &LongIndex,
+    order: &[u32],
+) -> Result<LongDecisions, AllocError>
+    requires { IsOrderBy index.now.history [] order.now }
+    ensures { IfOk result (AreDecided index.now.history) }
+{
     if lacks_source(index) {
         return Ok(excluded_by(index, Kind::ThinAirRead));
     }
-    let swept = sweep(alloc, index, &order)?;
+    let swept = sweep(alloc, index, order)?;
     if swept.has_overwritten_start {
         return Ok(excluded_by(index, Kind::WriteCOInitRead));
     }
     if swept.has_overwritten_read {
         return Ok(excluded_by(index, Kind::WriteCORead));
     }
-    decide_consistent(alloc, index, &order, swept.edges)
+    decide_consistent(alloc, index, order, swept.edges)
 }
 
 /// What is decided of a history in which no kind against causal consistency is present: it meets that.
@@ -112,7 +124,6 @@ fn decide_consistency(index: &LongIndex) -> LongDecision
 }
 
 /// Whether such a history meets causal convergence.
-#[tactic(auto, using(crate::proofs::Consistent::convergent_meets, crate::proofs::Firsts::first_conflict))]
 fn decide_convergence(
     alloc: Global,
     index: &LongIndex,
@@ -133,7 +144,7 @@ fn decide_convergence(
 }
 
 /// Whether such a history meets causal memory.
-#[tactic(auto, using(crate::proofs::Orders::orders_meet, crate::proofs::Firsts::first_overwritten))]
+#[tactic(auto, using(crate::proofs::Orders::orders_meet))]
 fn decide_memory(
     alloc: Global,
     index: &LongIndex,
