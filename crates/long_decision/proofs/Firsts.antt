@@ -1,15 +1,14 @@
 -- Which kinds come first.
-use Rattle.std.proofs.Common.{arith, refl}
-use Rattle.std.specs.Prelude.{◌≡◌, ℕ, ◌<◌, IsTrue}
+use Rattle.std.proofs.Common.{arith}
 use Rattle.cert_check.specs.declared.criterion.Criterion.{Criterion}
-use Rattle.cert_check.specs.declared.criterion.Criterion.TheVariants.{Cc, Cm, Ccv}
+use Rattle.cert_check.specs.declared.criterion.Criterion.TheVariants.{Cm, Ccv}
 use Rattle.bad_patterns.specs.declared.kind.Kind.{Kind}
 use Rattle.bad_patterns.specs.declared.kind.Kind.TheVariants.{CyclicCO, ThinAirRead, WriteCOInitRead, WriteCORead, WriteHBInitRead, CyclicHB, CyclicCF}
-use Rattle.bad_patterns.specs.Kinds.{is_against, Shows}
+use Rattle.bad_patterns.specs.Kinds.{Shows}
 use Rattle.memory_order.specs.Memory.{MemoryHistory}
 use Rattle.memory_order.specs.OverwrittenReads.{HasOverwrittenStart}
 use Rattle.memory_order.specs.SourceOrder.{IsCyclic, LacksSource}
-use Rattle.pattern_search.specs.FirstKinds.{ComesFirst, place_of}
+use Rattle.pattern_search.specs.FirstKinds.{ComesFirst}
 use Rattle.long_decision.specs.Steps.Consistency.{IsConsistent, IsFirstShown}
 
 -- a read of a value that nobody wrote lacks its source

@@ -1,5 +1,5 @@
 -- What is known of kinds while the decision goes on.
-use Rattle.std.specs.Prelude.{ℕ, ◌<◌, IsTrue}
+use Rattle.std.specs.Prelude.{◌<◌, IsTrue}
 use Rattle.cert_check.specs.declared.criterion.Criterion.{Criterion}
 use Rattle.bad_patterns.specs.declared.kind.Kind.{Kind}
 use Rattle.bad_patterns.specs.Kinds.{is_against, Shows}

@@ -1,4 +1,4 @@
-use Rattle.std.specs.Prelude.{◌≡◌, ◌<◌, ℕ, IsTrue}
+use Rattle.std.specs.Prelude.{◌≡◌, ◌<◌, ℕ}
 use Rattle.std.proofs.Common.{arith, refl, subst}
 use Rattle.long_history.specs.Steps.{many}
 use Rattle.long_decision.specs.Steps.ThinAir.{AreSourcedBelow}
