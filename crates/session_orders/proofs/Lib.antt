@@ -1,0 +1,13 @@
+pub mod Counts
+pub mod Ended
+pub mod Explained
+pub mod HappenedBeforeDecided
+pub mod LeftSums
+pub mod Locks
+pub mod PastLaws
+pub mod PlacedOrder
+pub mod Placing
+pub mod SessionSteps
+pub mod Starts
+pub mod Stuck
+pub mod Tests

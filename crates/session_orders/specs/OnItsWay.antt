@@ -1,0 +1,74 @@
+-- The order of a session, on its way.
+use Rattle.std.specs.Prelude.{◌≡◌, ◌↔◌, ℕ, ◌<◌, ◌≤◌, ◌⊎◌, List, Option, Some, None, length, slice_get, slice_index_or}
+use Rattle.history.specs.declared.op_id.OpId.{OpId}
+use Rattle.history.specs.History.{IsOp, number, session}
+use Rattle.memory_order.specs.Memory.{MemoryHistory, IsDifferentiated}
+use Rattle.memory_order.specs.SourceOrder.{IsCyclic}
+use Rattle.long_history.specs.Steps.{many}
+use Rattle.long_history.specs.declared.limits.TheConstants.{MAX_NUMBERS}
+use Rattle.long_index.specs.Indexed.{Indexed}
+use Rattle.long_index.specs.Parts.{AreVariables}
+use Rattle.session_orders.specs.declared.backward.Backward.{Backward}
+use Rattle.session_orders.specs.Backward.{IsOpen, IsBlocked, IsLockedOut, ReadsLockedOut}
+use Rattle.session_orders.specs.SessionOrders.{last_op}
+use Rattle.session_orders.specs.SessionStates.{IsSessionState}
+use Rattle.session_orders.specs.Tables.{AreCounts, AreLocks, left_counts}
+
+-- how many operations of each session are left
+abbrev pub left_of : MemoryHistory → Backward → ℕ → ℕ
+left_of h b = left_counts h b.ends.items
+
+-- what holds of the history and of the last operation of a session while its order is made
+pub record IsKnown (index : Indexed) (own : ℕ) : Type 0 where
+  pub straight : ¬ IsCyclic index.history
+  pub distinct : IsDifferentiated index.history
+  pub variables : AreVariables index.history index.variables
+  pub few : many index.history ≤ MAX_NUMBERS
+  pub exists : own < length index.history.1
+  pub operation : IsOp index.history (last_op index.history own)
+
+-- an entry for each session, operation and variable
+pub record HasSizes (index : Indexed) (b : Backward) : Type 0 where
+  pub ends : length b.ends.items ≡ length index.history.1
+  pub readers : length b.readers.items ≡ many index.history
+  pub writes : length b.writes.items ≡ index.bound
+  pub locks : length b.locks.items ≡ index.bound
+
+-- what is left by left is counted
+abbrev pub HasCounts : Indexed → (ℕ → ℕ) → Backward → Type 0
+HasCounts index left b = AreCounts index.history index.variables left (λ n. slice_index_or b.readers.items n 0) (λ x. slice_index_or b.writes.items x 0)
+
+-- nothing is left, counted or locked
+pub record IsClear (index : Indexed) (b : Backward) : Type 0 where
+  pub sizes : HasSizes index b
+  pub none : (t : ℕ) → ¬ IsOpen (left_of index.history b) t
+  pub counts : HasCounts index (left_of index.history b) b
+  pub unlocked : (x : ℕ) → slice_index_or b.locks.items x None ≡ None
+
+-- the operations that are not left any more are in a list, and what is left is counted and locked
+pub record IsOnItsWay (index : Indexed) (own : ℕ) (b : Backward) : Type 0 where
+  pub known : IsKnown index own
+  pub sizes : HasSizes index b
+  pub ops : List OpId
+  pub state : IsSessionState index.history (last_op index.history own) (left_of index.history b) ops b.start
+  pub counts : HasCounts index (left_of index.history b) b
+  pub locks : AreLocks index.history index.variables (last_op index.history own) (left_of index.history b) (λ x. slice_index_or b.locks.items x None)
+
+-- the session t cannot go on
+abbrev pub IsStopped : Indexed → ℕ → Backward → ℕ → Type 0
+IsStopped index own b t = IsBlocked index.history (last_op index.history own) (left_of index.history b) t
+
+-- it can
+abbrev pub IsFree : Indexed → ℕ → Backward → ℕ → Type 0
+IsFree index own b t = IsOpen (left_of index.history b) t × ¬ IsStopped index own b t
+
+-- a write that is locked stands in the way of the operation a, which is of the session own or not
+abbrev pub IsShutOut : Indexed → ℕ → Backward → Type 0 → OpId → Type 0
+IsShutOut index own b is_own a =
+    IsLockedOut index.history (last_op index.history own) (left_of index.history b) a
+    ⊎ (is_own × ReadsLockedOut index.history (last_op index.history own) (left_of index.history b) a)
+
+-- the list has the sessions that have operations
+pub record ListsSessions (h : MemoryHistory) (sessions : List ℕ) : Type 0 where
+  pub below : (i t : ℕ) → slice_get sessions i ≡ Some t → (t < length h.1) × (0 < length (session h t))
+  pub each : (t : ℕ) → 0 < length (session h t) → (i : ℕ) × (slice_get sessions i ≡ Some t)
