@@ -10,7 +10,7 @@ use Rattle.memory_order.proofs.MemoryLaws.{same_read, write-of_history, write-or
 use Rattle.long_history.proofs.Numbers.{number-once}
 use Rattle.session_orders.specs.Backward.{IsLeft, IsOpen, last_left, HasReadLeft, IsPlacing}
 use Rattle.session_orders.specs.Tables.{IsTest, CountsLeft, variable, WritesNumber, AreCounts}
-use Rattle.session_orders.proofs.LeftSums.{left-some, left-item, left-none, left-placed}
+use Rattle.session_orders.proofs.LeftSums.{left-some, left-item, left-none, left-placed, left-same}
 use Rattle.session_orders.proofs.Tests.{test-of, writes_number-decided, reads_from-decided}
 
 -- a known read has one source
@@ -132,6 +132,19 @@ module _ (h : MemoryHistory) (variables : List ℕ) (left : ℕ → ℕ) (reader
         let old = counts.writes_left x item test in
         let first = left-none (length h.1) item left none in
         let second = left-none (length h.1) item after still in
+        omega arith;
+  }
+
+  -- counts are those of equal numbers
+  pub counts-same : (after : ℕ → ℕ) → ((t : ℕ) → left t ≡ after t) → AreCounts h variables left readers writes → AreCounts h variables after readers writes
+  counts-same after same counts = record {
+    reads_left = λ w is_w item test.
+        let old = counts.reads_left w is_w item test in
+        let sums = left-same (length h.1) item left after same in
+        omega arith;
+    writes_left = λ x item test.
+        let old = counts.writes_left x item test in
+        let sums = left-same (length h.1) item left after same in
         omega arith;
   }
 

@@ -5,7 +5,7 @@ use Rattle.std.proofs.lemmas.Bool.{cases_eq}
 use Rattle.history.specs.declared.op_id.OpId.{OpId}
 use Rattle.causal_order.specs.Orders.{op}
 use Rattle.memory_order.specs.CountSums.{sum_below}
-use Rattle.memory_order.proofs.CountSumsLaws.{sum-changed}
+use Rattle.memory_order.proofs.CountSumsLaws.{sum-changed, sum-same}
 use Rattle.session_orders.specs.Backward.{IsLeft, IsOpen, last_left, IsPlacing}
 use Rattle.session_orders.specs.Tables.{left_sum}
 
@@ -45,6 +45,11 @@ module _ (k : ℕ) (item : OpId → ℕ) (left : ℕ → ℕ) where
   pub left-none : ((t : ℕ) → ¬ IsOpen left t) → left_sum k item left ≡ 0
   left-none none = sum-none (λ t. sum_below (λ i. item (op t i)) (left t)) k
       (λ t. let closed : left t ≡ 0 = (let shut = none t in omega arith) in ap (sum_below (λ i. item (op t i))) closed)
+
+pub left-same : (k : ℕ) (item : OpId → ℕ) (left after : ℕ → ℕ) → ((t : ℕ) → left t ≡ after t) → left_sum k item left ≡ left_sum k item after
+left-same k item left after same =
+    sum-same (λ t. sum_below (λ i. item (op t i)) (left t)) (λ t. sum_below (λ i. item (op t i)) (after t)) k
+    (λ t below. ap (sum_below (λ i. item (op t i))) (same t))
 
 -- what is placed is summed no more
 pub left-placed : (k : ℕ) (item : OpId → ℕ) (t : ℕ) (left after : ℕ → ℕ) → IsPlacing t left after → t < k

@@ -1,3 +1,4 @@
+pub mod CountSteps
 pub mod Counts
 pub mod Ended
 pub mod Explained

@@ -20,8 +20,8 @@ use Rattle.session_orders.proofs.Placing.{still-left, just-placed, left-still}
 
 -- what is no value is none
 none-if : {A : Type 0} (e : Option A) → ((a : A) → ¬ (e ≡ Some a)) → e ≡ None
-none-if None no = refl
-none-if (Some a) no = absurd (no a refl)
+none-if None fails = refl
+none-if (Some a) fails = absurd (fails a refl)
 
 module _ (h : MemoryHistory) (variables : List ℕ) (are : AreVariables h variables) where
   -- writes of one key have one number of their variable, and the other way round; so has a read that of its source

@@ -1,5 +1,5 @@
 -- One pass back along an order gives the past of an operation.
-use Rattle.std.specs.Prelude.{◌≡◌, ◌≢◌, ◌⊎◌, ◌↔◌, ℕ, ◌+◌, ◌<◌, ◌≤◌, List, length}
+use Rattle.std.specs.Prelude.{◌≡◌, ◌≢◌, ◌⊎◌, ◌↔◌, ℕ, ◌+◌, ◌<◌, ◌≤◌, List, length, max, slice_index_or}
 use Rattle.std.proofs.Common.{arith, sym, subst, inl, inr, ⊎_elim, ◌∙◌}
 use Rattle.std.proofs.lemmas.Bool.{cases_eq, cases_lt}
 use Rattle.std.proofs.lemmas.Option.{same_Some, slice_get_within}
@@ -14,6 +14,7 @@ use Rattle.history.specs.History.{IsOp, Precedes, number}
 use Rattle.long_history.specs.Steps.{IsNext, IsStep, StandsAs, IsAfter, IsOrderWith}
 use Rattle.session_orders.specs.Backward.{IsLeft}
 use Rattle.session_orders.specs.Pasts.{IsPastAfter, IsRaised}
+use Rattle.session_orders.specs.Tables.{left_counts}
 use Rattle.long_history.proofs.Steps.{step-of_history, first-step, program-causal}
 use Rattle.long_history.proofs.Numbers.{number-once}
 
@@ -60,6 +61,20 @@ raised-source h distinct b w left after is_left from up_to raised one others = r
       (λ (apart : a.session ≢ w.session). let as_before = others a.session apart in inl (omega arith))
       (cases_eq a.session w.session);
 }
+
+-- the same of the numbers after the last operations that are left
+pub ends-raised : (h : MemoryHistory) → IsDifferentiated h → (b w : OpId) (ends after : List ℕ) → IsLeft (left_counts h ends) b → ReadsFrom h w b
+    → slice_index_or after w.session 0 ≡ max (slice_index_or ends w.session 0) (number h w + 1)
+    → ((t : ℕ) → t ≢ w.session → slice_index_or after t 0 ≡ slice_index_or ends t 0) → IsRaised h b (left_counts h ends) (left_counts h after)
+ends-raised h distinct b w ends after is_left from raised others =
+    raised-source h distinct b w (left_counts h ends) (left_counts h after) is_left from
+    (omega arith)
+    (omega arith)
+    (⊎_elim
+    (λ (lower : slice_index_or ends w.session 0 < number h w + 1). inr (omega arith))
+    (λ (higher : number h w + 1 ≤ slice_index_or ends w.session 0). inl (omega arith))
+    (cases_lt (slice_index_or ends w.session 0) (number h w + 1)))
+    (λ t apart. let same = others t apart in omega arith)
 
 module _ (h : MemoryHistory) (also : OpId → OpId → Type 0) (order : List ℕ) (ordered : IsOrderWith h also order) where
   -- of the operations from the place i on one stands at i, the others after it

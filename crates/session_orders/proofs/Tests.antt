@@ -1,5 +1,5 @@
 -- It can be decided what is written to a variable and what is read from a write, so both can be counted.
-use Rattle.std.specs.Prelude.{◌≡◌, ◌≢◌, ℕ, List, Option, Some, None, option_map}
+use Rattle.std.specs.Prelude.{◌≡◌, ◌≢◌, ◌⊎◌, ℕ, List, Option, Some, None, option_map}
 use Rattle.std.proofs.Common.{sym, ap, ◌∙◌, inl, inr, ⊎_elim, refl}
 use Rattle.std.proofs.lemmas.Bool.{cases_eq}
 use Rattle.std.proofs.lemmas.Option.{same_Some}
@@ -19,27 +19,33 @@ use Rattle.session_orders.specs.Tables.{IsTest, WritesNumber, variable}
 abbrev Entry : Type 0
 Entry = MemoryCall × Option RegisterRet
 
+abbrev IsWriteCall : Option MemoryCall → Type 0
+IsWriteCall c = (x v : ℕ) × (c ≡ Some (record { key = x; call = Write v }))
+
+abbrev IsReadEntry : Option Entry → ℕ → ℕ → Type 0
+IsReadEntry e x v = e ≡ Some (record { key = x; call = Read }, Some (Value v))
+
 write_called : (c : MemoryCall) (call : RegisterCall) → c.call ≡ call
-    → IsDecided ((x v : ℕ) × (Some c ≡ Some (record { key = x; call = Write v })))
+    → IsDecided (IsWriteCall (Some c))
 write_called c (Write v) is = inl (c.key, v, λ i. Some (record { key = c.key; call = is i }))
 write_called c Read is = inr (λ found.
     let calls = ap (λ (d : MemoryCall). d.call) (same_Some _ _ found.2) in
     let both : Read ≡ Write found.1 = sym is ∙ calls in
     absurd cc)
 
-write_at : (c : Option MemoryCall) → IsDecided ((x v : ℕ) × (c ≡ Some (record { key = x; call = Write v })))
+write_at : (c : Option MemoryCall) → IsDecided (IsWriteCall c)
 write_at None = inr (λ found. let is = found.2 in absurd cc)
 write_at (Some c) = write_called c c.call refl
 
 read_called : (c : MemoryCall) (call : RegisterCall) (v : ℕ) → c.call ≡ call
-    → IsDecided ((x u : ℕ) × (Some (c, Some (Value v)) ≡ Some (record { key = x; call = Read }, Some (Value u))))
+    → IsDecided ((x u : ℕ) × IsReadEntry (Some (c, Some (Value v))) x u)
 read_called c Read v is = inl (c.key, v, λ i. Some (record { key = c.key; call = is i }, Some (Value v)))
 read_called c (Write u) v is = inr (λ found.
     let calls : c.call ≡ Read = ap (λ (e : Entry). e.0.call) (same_Some _ _ found.2) in
     let both : Write u ≡ Read = sym is ∙ calls in
     absurd cc)
 
-read_at : (e : Option Entry) → IsDecided ((x v : ℕ) × (e ≡ Some (record { key = x; call = Read }, Some (Value v))))
+read_at : (e : Option Entry) → IsDecided ((x v : ℕ) × IsReadEntry e x v)
 read_at None = inr (λ found. let is = found.2 in absurd cc)
 read_at (Some (c, None)) = inr (λ found.
     let returns : ◌≡◌ {A = Option RegisterRet} None (Some (Value found.1)) = ap (λ (e : Entry). e.1) (same_Some _ _ found.2) in
@@ -50,19 +56,19 @@ read_at (Some (c, Some Done)) = inr (λ found.
 read_at (Some (c, Some (Value v))) = read_called c c.call v refl
 
 -- 1 for what is so, 0 for what is not
-one_if : {A : Type 0} → IsDecided A → ℕ
-one_if (inl yes) = 1
-one_if (inr no) = 0
+one_if : {A : Type 0} → A ⊎ ¬ A → ℕ
+one_if (inl holds) = 1
+one_if (inr fails) = 0
 
-one_if-one : {A : Type 0} (decided : IsDecided A) → A → one_if decided ≡ 1
+one_if-one : {A : Type 0} (decided : A ⊎ ¬ A) → A → one_if decided ≡ 1
 unfolding one_if
-one_if-one (inl yes) is = refl
-one_if-one (inr no) is = absurd (no is)
+one_if-one (inl holds) is = refl
+one_if-one (inr fails) is = absurd (fails is)
 
-one_if-only : {A : Type 0} (decided : IsDecided A) → one_if decided ≢ 0 → A
+one_if-only : {A : Type 0} (decided : A ⊎ ¬ A) → one_if decided ≢ 0 → A
 unfolding one_if
-one_if-only (inl yes) some = yes
-one_if-only (inr no) some = absurd (some refl)
+one_if-only (inl holds) some = holds
+one_if-only (inr fails) some = absurd (some refl)
 
 -- what is decided of each operation has a test
 pub test-of : (has : OpId → Type 0) → ((a : OpId) → IsDecided (has a)) → (item : OpId → ℕ) × IsTest has item

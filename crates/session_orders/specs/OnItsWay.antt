@@ -38,6 +38,11 @@ pub record HasSizes (index : Indexed) (b : Backward) : Type 0 where
 abbrev pub HasCounts : Indexed → (ℕ → ℕ) → Backward → Type 0
 HasCounts index left b = AreCounts index.history index.variables left (λ n. slice_index_or b.readers.items n 0) (λ x. slice_index_or b.writes.items x 0)
 
+-- no count is above m
+pub record CountsUpTo (m : ℕ) (b : Backward) : Type 0 where
+  pub readers : (n : ℕ) → slice_index_or b.readers.items n 0 ≤ m
+  pub writes : (x : ℕ) → slice_index_or b.writes.items x 0 ≤ m
+
 -- nothing is left, counted or locked
 pub record IsClear (index : Indexed) (b : Backward) : Type 0 where
   pub sizes : HasSizes index b

@@ -3,12 +3,14 @@
 ghost use Rattle.std.specs.Prelude.{◌≡◌, ◌≢◌, ◌<◌, ◌≤◌, ◌+◌, ℕ, [], length, None, slice_index_or};
 ghost use Rattle.std.specs.Prelude.{IfOk};
 ghost use Rattle.history.specs.declared.op_id.OpId.{OpId as Operation};
-ghost use Rattle.history.specs.History.{IsOp, number};
+ghost use Rattle.history.specs.History.{IsOp, many_before, number};
+ghost use Rattle.memory_order.specs.Memory.{IsDifferentiated};
 ghost use Rattle.long_history.specs.Steps.{IsOrderBy, many};
 ghost use Rattle.session_orders.specs.Backward.{IsOpen, IsPlacing, last_left};
-ghost use Rattle.session_orders.specs.OnItsWay.{HasCounts, HasSizes, IsClear, IsKnown, IsOnItsWay, left_of};
+ghost use Rattle.session_orders.specs.OnItsWay.{CountsUpTo, HasCounts, HasSizes, IsClear, IsKnown, IsOnItsWay, left_of};
 ghost use Rattle.session_orders.specs.Tables.{AreCounts, left_under};
 
+use crate::numbers::add_one;
 use crate::pasts::leave_past;
 use long_history::MAX_NUMBERS;
 use long_index::{LongIndex, Part};
@@ -58,7 +60,11 @@ impl Backward {
 
     /// Counts the reads and writes that are left, where none is counted yet.
     fn count(&mut self, index: &LongIndex)
+        requires distinct { IsDifferentiated index.now.history }
+        requires few { many index.now.history ≤ MAX_NUMBERS }
         requires sizes { HasSizes index.now self.old }
+        requires within { (t : ℕ) → slice_index_or self.old.ends.items t 0 ≤ many_before index.now.history (t + 1) }
+        requires zero { CountsUpTo 0 self.old }
         requires none { HasCounts index.now (λ t. 0) self.old }
         ensures sizes { HasSizes index.now self.new }
         ensures ends { self.new.ends.items ≡ self.old.ends.items }
@@ -72,14 +78,24 @@ impl Backward {
         }
     }
 
-    /// Counts one operation.
+    /// Counts one operation more, after some of those with lower numbers.
     fn count_operation(&mut self, index: &LongIndex, operation: u32)
+        requires distinct { IsDifferentiated index.now.history }
+        requires few { many index.now.history ≤ MAX_NUMBERS }
         requires below { operation < many index.now.history }
         requires sizes { HasSizes index.now self.old }
+        requires most { CountsUpTo operation self.old }
+        ensures sizes { HasSizes index.now self.new }
+        ensures ends { self.new.ends.items ≡ self.old.ends.items }
+        ensures locks { self.new.locks.items ≡ self.old.locks.items }
+        ensures most { CountsUpTo (operation + 1) self.new }
+        ensures counted { (a : Operation) (left after : ℕ → ℕ) → IsOp index.now.history a → number index.now.history a ≡ operation
+            → IsPlacing a.session left after → last_left left a.session ≡ a → HasCounts index.now after self.old
+            → HasCounts index.now left self.new }
     {
         match index.part(operation) {
-            Part::Write => self.writes[index.variable(operation) as usize] += 1,
-            Part::SourcedRead(source) => self.readers[source as usize] += 1,
+            Part::Write => add_one(&mut self.writes, index.variable(operation)),
+            Part::SourcedRead(source) => add_one(&mut self.readers, source),
             Part::InitialRead | Part::ThinAirRead | Part::UnknownRead => {}
         }
     }

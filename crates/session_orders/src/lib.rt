@@ -6,4 +6,5 @@
 #![tactic(auto)]
 
 mod backward;
+mod numbers;
 mod pasts;

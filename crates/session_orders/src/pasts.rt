@@ -1,6 +1,6 @@
 //! The past of the last operation of a session.
 
-ghost use Rattle.std.specs.Prelude.{◌≡◌, ◌≢◌, ◌↔◌, ◌<◌, ◌≤◌, ◌+◌, ℕ, [], length, max, slice_index_or};
+ghost use Rattle.std.specs.Prelude.{◌≡◌, ◌↔◌, ◌<◌, ◌≤◌, ℕ, [], length};
 ghost use Rattle.history.specs.declared.op_id.OpId.{OpId as Operation};
 ghost use Rattle.history.specs.History.{IsOp, number};
 ghost use Rattle.memory_order.specs.Memory.{IsDifferentiated};
@@ -11,6 +11,7 @@ ghost use Rattle.session_orders.specs.Pasts.{IsRaised};
 ghost use Rattle.session_orders.specs.SessionOrders.{last_op};
 ghost use Rattle.session_orders.specs.Tables.{left_counts};
 
+use crate::numbers::raise;
 use long_history::MAX_NUMBERS;
 use long_index::LongIndex;
 
@@ -29,7 +30,7 @@ pub(crate) fn leave_past(index: &LongIndex, order: &[u32], own: u32, ends: &mut 
     ensures left { (a : Operation) → IsLeft (left_counts index.now.history ends.new.items) a
         ↔ IsPast index.now.history (last_op index.now.history own) a }
 {
-    ends[own as usize] = index.end(own);
+    raise(ends, own, index.end(own));
     for i in 0..order.len() {
         leave_source(index, order[order.len() - 1 - i], ends);
     }
@@ -50,18 +51,5 @@ fn leave_source(index: &LongIndex, operation: u32, ends: &mut Vec<u32>)
     }
     if let Some(source) = index.source(operation) {
         raise(ends, index.session_of(source), source + 1);
-    }
-}
-
-/// Raises the end of a session to a number, where it is lower.
-fn raise(ends: &mut Vec<u32>, session: u32, end: u32)
-    requires { session < length ends.old.items }
-    ensures sessions { length ends.new.items ≡ length ends.old.items }
-    ensures raised { slice_index_or ends.new.items session 0 ≡ max (slice_index_or ends.old.items session 0) end }
-    ensures others { (t : ℕ) → t ≢ session → slice_index_or ends.new.items t 0 ≡ slice_index_or ends.old.items t 0 }
-{
-    let session = session as usize;
-    if ends[session] < end {
-        ends[session] = end;
     }
 }
