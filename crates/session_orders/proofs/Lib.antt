@@ -5,6 +5,7 @@ pub mod Explained
 pub mod HappenedBeforeDecided
 pub mod LeftSums
 pub mod Locks
+pub mod PartLaws
 pub mod PastLaws
 pub mod PlacedOrder
 pub mod Placing

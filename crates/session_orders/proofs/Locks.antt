@@ -1,6 +1,6 @@
 -- The locks where an operation is placed: a write opens its variable, and a read of the session of o locks it for its source.
-use Rattle.std.specs.Prelude.{◌≡◌, ◌≢◌, ◌⊎◌, ℕ, ◌<◌, ◌≤◌, IsTrue, List, Option, Some, None}
-use Rattle.std.proofs.Common.{arith, refl, sym, ap, subst, inl, inr, ⊎_elim, ◌∙◌}
+use Rattle.std.specs.Prelude.{◌≡◌, ◌≢◌, ◌⊎◌, ℕ, ◌<◌, ◌≤◌, IsTrue, List, [], ◌∷◌, ◌++◌, Option, Some, None, slice_index_or}
+use Rattle.std.proofs.Common.{zero, suc, arith, refl, sym, ap, subst, inl, inr, ⊎_elim, ◌∙◌}
 use Rattle.std.proofs.lemmas.Bool.{cases_eq, cases_lt}
 use Rattle.std.proofs.lemmas.Option.{same_Some}
 use Rattle.history.specs.declared.op_id.OpId.{OpId}
@@ -22,6 +22,14 @@ use Rattle.session_orders.proofs.Placing.{still-left, just-placed, left-still}
 none-if : {A : Type 0} (e : Option A) → ((a : A) → ¬ (e ≡ Some a)) → e ≡ None
 none-if None fails = refl
 none-if (Some a) fails = absurd (fails a refl)
+
+-- a list that has none at each place has none at each place with one more
+pub none-push : {A : Type 0} (es : List (Option A)) → ((x : ℕ) → slice_index_or es x None ≡ None)
+    → (x : ℕ) → slice_index_or (es ++ None ∷ []) x None ≡ None
+none-push [] none zero = refl
+none-push [] none (suc x) = refl
+none-push (e ∷ es) none zero = none 0
+none-push (e ∷ es) none (suc x) = none-push es (λ n. none (suc n)) x
 
 module _ (h : MemoryHistory) (variables : List ℕ) (are : AreVariables h variables) where
   -- writes of one key have one number of their variable, and the other way round; so has a read that of its source

@@ -47,7 +47,7 @@ pub record CountsUpTo (m : ℕ) (b : Backward) : Type 0 where
 pub record IsClear (index : Indexed) (b : Backward) : Type 0 where
   pub sizes : HasSizes index b
   pub none : (t : ℕ) → ¬ IsOpen (left_of index.history b) t
-  pub counts : HasCounts index (left_of index.history b) b
+  pub zero : CountsUpTo 0 b
   pub unlocked : (x : ℕ) → slice_index_or b.locks.items x None ≡ None
 
 -- the operations that are not left any more are in a list, and what is left is counted and locked

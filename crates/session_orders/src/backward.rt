@@ -41,7 +41,7 @@ impl Backward {
             ends: vec![in alloc; 0; index.sessions() as usize]?,
             readers: vec![in alloc; 0; index.operations() as usize]?,
             writes: vec![in alloc; 0; index.variables() as usize]?,
-            locks: vec![in alloc; None; index.variables() as usize]?,
+            locks: no_locks(alloc, index.variables())?,
             start: false,
         })
     }
@@ -72,31 +72,44 @@ impl Backward {
         ensures counts { HasCounts index.now (left_of index.now.history self.new) self.new }
     {
         for operation in 0..index.operations() {
-            if operation < self.ends[index.session_of(operation) as usize] {
-                self.count_operation(index, operation);
-            }
+            self.count_operation(index, operation);
         }
     }
 
-    /// Counts one operation more, after some of those with lower numbers.
+    /// Counts an operation, if it is left, after those with lower numbers.
     fn count_operation(&mut self, index: &LongIndex, operation: u32)
         requires distinct { IsDifferentiated index.now.history }
         requires few { many index.now.history ≤ MAX_NUMBERS }
         requires below { operation < many index.now.history }
         requires sizes { HasSizes index.now self.old }
+        requires within { (t : ℕ) → slice_index_or self.old.ends.items t 0 ≤ many_before index.now.history (t + 1) }
         requires most { CountsUpTo operation self.old }
         ensures sizes { HasSizes index.now self.new }
         ensures ends { self.new.ends.items ≡ self.old.ends.items }
         ensures locks { self.new.locks.items ≡ self.old.locks.items }
         ensures most { CountsUpTo (operation + 1) self.new }
-        ensures counted { (a : Operation) (left after : ℕ → ℕ) → IsOp index.now.history a → number index.now.history a ≡ operation
-            → IsPlacing a.session left after → last_left left a.session ≡ a → HasCounts index.now after self.old
-            → HasCounts index.now left self.new }
+        ensures counted { HasCounts index.now (left_under index.now.history self.old.ends.items operation) self.old
+            → HasCounts index.now (left_under index.now.history self.old.ends.items (operation + 1)) self.new }
     {
+        if operation >= self.ends[index.session_of(operation) as usize] {
+            return;
+        }
         match index.part(operation) {
             Part::Write => add_one(&mut self.writes, index.variable(operation)),
             Part::SourcedRead(source) => add_one(&mut self.readers, source),
             Part::InitialRead | Part::ThinAirRead | Part::UnknownRead => {}
         }
     }
+}
+
+/// As many variables, none of which is locked.
+fn no_locks(alloc: Global, variables: u32) -> Result<Vec<Option<u32>>, AllocError>
+    ensures size { IfOk result (λ locks. length locks.items ≡ variables) }
+    ensures none { IfOk result (λ locks. (x : ℕ) → slice_index_or locks.items x None ≡ None) }
+{
+    let mut locks = Vec::new(alloc);
+    for _variable in 0..variables {
+        locks.push(None)?;
+    }
+    Ok(locks)
 }
