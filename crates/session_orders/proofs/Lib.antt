@@ -2,6 +2,7 @@ pub mod CountSteps
 pub mod Counts
 pub mod Ended
 pub mod Explained
+pub mod FreeLaws
 pub mod HappenedBeforeDecided
 pub mod LeftSums
 pub mod Locks

@@ -6,5 +6,6 @@
 #![tactic(auto)]
 
 mod backward;
+mod free;
 mod numbers;
 mod pasts;

@@ -5,10 +5,10 @@ use Rattle.std.proofs.lemmas.List.{get_or-replicate, get_or_past}
 use Rattle.std.proofs.Math.ListN.{length-replicate}
 use Rattle.session_orders.proofs.backward.Backward.clear.Goals as goal
 
-zeros : (n i : ℕ) → slice_index_or (replicate n 0) i 0 ≡ 0
+zeros : (n i : ℕ) → slice_index_or (replicate {A = ℕ} n 0) i 0 ≡ 0
 zeros n i = ⊎_elim
     (λ (inside : i < n). get_or-replicate n i 0 0 inside)
-    (λ (past : n ≤ i). get_or_past (replicate n 0) i 0 (let size = length-replicate n 0 in omega arith))
+    (λ (past : n ≤ i). get_or_past (replicate {A = ℕ} n 0) i 0 (let size = length-replicate {A = ℕ} n 0 in omega arith))
     (cases_lt i n)
 
 pub returns : goal.returns
@@ -19,6 +19,11 @@ returns c =
     let of_ends : (t : ℕ) → slice_index_or c.in_ok-vec.field-0.items t 0 ≡ 0 = λ t. ap (λ (xs : List ℕ). slice_index_or xs t 0) ends ∙ zeros _ t in
     let of_readers : (t : ℕ) → slice_index_or c.in_ok-vec-2.field-0.items t 0 ≡ 0 = λ t. ap (λ (xs : List ℕ). slice_index_or xs t 0) readers ∙ zeros _ t in
     let of_writes : (t : ℕ) → slice_index_or c.in_ok-vec-3.field-0.items t 0 ≡ 0 = λ t. ap (λ (xs : List ℕ). slice_index_or xs t 0) writes ∙ zeros _ t in
+    let size_ends = c.in_ok-vec.ensures.len in
+    let size_readers = c.in_ok-vec-2.ensures.len in
+    let size_writes = c.in_ok-vec-3.ensures.len in
+    let size_locks = c.in_ok-no_locks.ensures.size in
+    let sessions = c.sessions.ensures.count in
     record {
       sizes = ?;
       none = λ t is_open. (let zero = of_ends t in omega arith);
@@ -26,5 +31,5 @@ returns c =
         readers = λ n. (let zero = of_readers n in omega arith);
         writes = λ x. (let zero = of_writes x in omega arith);
       };
-      unlocked = ?;
+      unlocked = c.in_ok-no_locks.ensures.none;
     }
