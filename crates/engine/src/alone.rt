@@ -82,6 +82,7 @@ fn stay_within(input: &[u8]) -> Result<(), RunError>
 }
 
 // The report on the history in the input.
+#[tactic(auto, using(crate::proofs::Reported::error_judged))]
 fn report_of(alloc: Global, input: &[u8]) -> Result<String, RunError>
     ensures output { IfOk result (λ text. IsOutput (Order.Judge judging_alone) input.now (string_bytes text)) }
     ensures error { IfErr result (IsOutputError (Order.Judge judging_alone) input.now) }

@@ -7,7 +7,6 @@ use Rattle.history.specs.declared.op_id.OpId.{OpId}
 use Rattle.history.specs.History.{HistoryValue, IsOp, Precedes, many_before, number, session}
 use Rattle.causal_order.specs.Orders.{op}
 use Rattle.causal_order.proofs.OrdersLaws.{same_op, session-of_history}
-
 use Rattle.history.proofs.Counting.{many_next}
 
 module _ {S C R : Type 0} (h : HistoryValue S C R) where

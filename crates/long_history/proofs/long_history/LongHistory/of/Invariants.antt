@@ -6,6 +6,6 @@ use Rattle.long_history.proofs.long_history.LongHistory.of.Given as goal
 -- the operations of the sessions so far are counted
 abbrev pub invariant-loop-session : goal.invariant-loop-session
 invariant-loop-session l = record {
-  count : l.operations ≡ many_before (l.start, l.sessions) l.session;
+  count : l.operations ≡ many_before (l.fn.start, l.fn.sessions) l.session;
   few : l.operations ≤ MAX_NUMBERS;
 }
