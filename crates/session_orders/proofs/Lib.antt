@@ -9,6 +9,7 @@ pub mod Locks
 pub mod PartLaws
 pub mod PastLaws
 pub mod PlacedOrder
+pub mod PlacementLaws
 pub mod Placing
 pub mod SessionSteps
 pub mod Starts

@@ -8,13 +8,10 @@ use Rattle.memory_order.proofs.MemoryLaws.{same_read, write-or_read}
 use Rattle.long_index.specs.declared.part.Part.{Part}
 use Rattle.long_index.specs.declared.part.Part.TheVariants.{InitialRead, ThinAirRead, UnknownRead}
 use Rattle.long_index.specs.Parts.{IsPart}
+use Rattle.session_orders.specs.Tables.{IsUnsourced}
 
 module _ (h : MemoryHistory) (a : OpId) where
-  -- a writes nothing, and read from no write
-  abbrev pub IsUnsourced : Type 0
-  IsUnsourced = ((x v : ℕ) → ¬ Writes h a x v) × ((w : OpId) → ¬ ReadsFrom h w a)
-
-  pub initial-unsourced : IsPart h a InitialRead → IsUnsourced
+  pub initial-unsourced : IsPart h a InitialRead → IsUnsourced h a
   initial-unsourced (x, reads) = (
     λ y v wrote. write-or_read h a a y v x (initial h x) wrote reads refl,
     λ w from.
@@ -22,7 +19,7 @@ module _ (h : MemoryHistory) (a : OpId) where
         from.4 (same.1 ∙ ap (initial h) (sym same.0)),
   )
 
-  thin-unsourced : IsPart h a ThinAirRead → IsUnsourced
+  thin-unsourced : IsPart h a ThinAirRead → IsUnsourced h a
   thin-unsourced (x, v, reads, other, none) = (
     λ y u wrote. write-or_read h a a y u x v wrote reads refl,
     λ w from.
@@ -31,14 +28,28 @@ module _ (h : MemoryHistory) (a : OpId) where
         none w wrote,
   )
 
-  unknown-unsourced : IsPart h a UnknownRead → IsUnsourced
+  unknown-unsourced : IsPart h a UnknownRead → IsUnsourced h a
   unknown-unsourced (no_write, no_read) = (no_write, λ w from. no_read from.0 from.1 from.3)
 
-  pub other-unsourced : (p : Part) → (p ≡ InitialRead) ⊎ ((p ≡ ThinAirRead) ⊎ (p ≡ UnknownRead)) → IsPart h a p → IsUnsourced
+  pub other-unsourced : (p : Part) → (p ≡ InitialRead) ⊎ ((p ≡ ThinAirRead) ⊎ (p ≡ UnknownRead)) → IsPart h a p → IsUnsourced h a
   other-unsourced p is part = ⊎_elim
       (λ (start : p ≡ InitialRead). initial-unsourced (subst (IsPart h a) start part))
       (λ (rest : (p ≡ ThinAirRead) ⊎ (p ≡ UnknownRead)). ⊎_elim
       (λ (thin : p ≡ ThinAirRead). thin-unsourced (subst (IsPart h a) thin part))
       (λ (unknown : p ≡ UnknownRead). unknown-unsourced (subst (IsPart h a) unknown part))
       rest)
+      is
+
+  -- what is no read of an initial value doesn't read one
+  pub thin-no_start : IsPart h a ThinAirRead → (x : ℕ) → ¬ Reads h a x (initial h x)
+  thin-no_start (y, v, reads, other, none) x start =
+      let same = same_read h a y v x (initial h x) reads start in
+      other (same.1 ∙ ap (initial h) (sym same.0))
+
+  pub unread-no_start : (p : Part) → (p ≡ ThinAirRead) ⊎ (p ≡ UnknownRead) → IsPart h a p → IsUnsourced h a × ((x : ℕ) → ¬ Reads h a x (initial h x))
+  unread-no_start p is part = ⊎_elim
+      (λ (thin : p ≡ ThinAirRead). let of_thin = subst (IsPart h a) thin part in (thin-unsourced of_thin, thin-no_start of_thin))
+      (λ (unknown : p ≡ UnknownRead).
+      let of_unknown = subst (IsPart h a) unknown part in
+      (unknown-unsourced of_unknown, λ x reads. of_unknown.1 x (initial h x) reads))
       is

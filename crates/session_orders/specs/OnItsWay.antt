@@ -3,14 +3,18 @@ use Rattle.std.specs.Prelude.{◌≡◌, ◌↔◌, ℕ, ◌<◌, ◌≤◌, ◌
 use Rattle.history.specs.declared.op_id.OpId.{OpId}
 use Rattle.history.specs.History.{IsOp, number, session}
 use Rattle.memory_order.specs.Memory.{MemoryHistory, IsDifferentiated}
+use Rattle.memory_order.specs.HappenedBeforePatterns.{HasHBCycle, HasStartOverwrittenInHB}
 use Rattle.memory_order.specs.SourceOrder.{IsCyclic}
 use Rattle.long_history.specs.Steps.{many}
 use Rattle.long_history.specs.declared.limits.TheConstants.{MAX_NUMBERS}
 use Rattle.long_index.specs.Indexed.{Indexed}
-use Rattle.long_index.specs.Parts.{AreVariables}
+use Rattle.long_index.specs.Parts.{AreVariables, IsPart}
+use Rattle.long_index.specs.declared.part.Part.{Part}
 use Rattle.session_orders.specs.declared.backward.Backward.{Backward}
-use Rattle.session_orders.specs.Backward.{IsOpen, IsBlocked, IsLockedOut, ReadsLockedOut}
-use Rattle.session_orders.specs.SessionOrders.{last_op}
+use Rattle.session_orders.specs.Backward.{IsOpen, IsBlocked, IsLockedOut, ReadsLockedOut, AreOthersBlocked, IsPlacing, last_left}
+use Rattle.session_orders.specs.declared.ordering.SessionOrder.{SessionOrder}
+use Rattle.session_orders.specs.declared.ordering.SessionOrder.TheVariants.{Explained, StartOverwritten, Cyclic}
+use Rattle.session_orders.specs.SessionOrders.{IsOrderedSession, last_op}
 use Rattle.session_orders.specs.SessionStates.{IsSessionState}
 use Rattle.session_orders.specs.Tables.{AreCounts, AreLocks, left_counts}
 
@@ -45,6 +49,7 @@ pub record CountsUpTo (m : ℕ) (b : Backward) : Type 0 where
 
 -- nothing is left, counted or locked
 pub record IsClear (index : Indexed) (b : Backward) : Type 0 where
+  pub few : many index.history ≤ MAX_NUMBERS
   pub sizes : HasSizes index b
   pub none : (t : ℕ) → ¬ IsOpen (left_of index.history b) t
   pub zero : CountsUpTo 0 b
@@ -67,13 +72,36 @@ IsStopped index own b t = IsBlocked index.history (last_op index.history own) (l
 abbrev pub IsFree : Indexed → ℕ → Backward → ℕ → Type 0
 IsFree index own b t = IsOpen (left_of index.history b) t × ¬ IsStopped index own b t
 
--- a write that is locked stands in the way of the operation a, which is of the session own or not
-abbrev pub IsShutOut : Indexed → ℕ → Backward → Type 0 → OpId → Type 0
-IsShutOut index own b is_own a =
+-- a write that is locked stands in the way of the operation a of the session t
+abbrev pub IsShutOut : Indexed → ℕ → Backward → ℕ → OpId → Type 0
+IsShutOut index own b t a =
     IsLockedOut index.history (last_op index.history own) (left_of index.history b) a
-    ⊎ (is_own × ReadsLockedOut index.history (last_op index.history own) (left_of index.history b) a)
+    ⊎ ((t ≡ own) × ReadsLockedOut index.history (last_op index.history own) (left_of index.history b) a)
+
+-- the last operation of the session t that is left is the next to be placed
+pub record CanBePlaced (index : Indexed) (own : ℕ) (b : Backward) (t : ℕ) : Type 0 where
+  pub on_its_way : IsOnItsWay index own b
+  pub exists : t < length index.history.1
+  pub free : IsFree index own b t
+  pub turn : t ≡ own → AreOthersBlocked index.history (last_op index.history own) (left_of index.history b)
+
+-- it has the number n, and what is known of it is p
+pub record IsNextPart (index : Indexed) (b : Backward) (t n : ℕ) (p : Part) : Type 0 where
+  pub number_of : number index.history (last_left (left_of index.history b) t) ≡ n
+  pub part : IsPart index.history (last_left (left_of index.history b) t) p
+
+-- and has been placed
+pub record IsPlaced (index : Indexed) (own : ℕ) (b after : Backward) (t : ℕ) : Type 0 where
+  pub on_its_way : IsOnItsWay index own after
+  pub placing : IsPlacing t (left_of index.history b) (left_of index.history after)
 
 -- the list has the sessions that have operations
 pub record ListsSessions (h : MemoryHistory) (sessions : List ℕ) : Type 0 where
   pub below : (i t : ℕ) → slice_get sessions i ≡ Some t → (t < length h.1) × (0 < length (session h t))
   pub each : (t : ℕ) → 0 < length (session h t) → (i : ℕ) × (slice_get sessions i ≡ Some t)
+
+-- what an outcome says of the session own
+abbrev pub IsOutcome : MemoryHistory → ℕ → SessionOrder → Type 0
+IsOutcome h own Explained = IsOrderedSession h own
+IsOutcome h own StartOverwritten = HasStartOverwrittenInHB h
+IsOutcome h own Cyclic = HasHBCycle h

@@ -48,3 +48,7 @@ module _ (h : MemoryHistory) (variables : List ℕ) where
   pub record AreLocks (o : OpId) (left : ℕ → ℕ) (lock : ℕ → Option ℕ) : Type 0 where
     pub locked : (x n : ℕ) → lock x ≡ Some n → (w : OpId) × (number h w ≡ n) × IsLocked h o left w × (variable w ≡ x)
     pub known : (w : OpId) → IsLocked h o left w → lock (variable w) ≡ Some (number h w)
+
+-- a writes nothing, and read from no write
+abbrev pub IsUnsourced : MemoryHistory → OpId → Type 0
+IsUnsourced h a = ((x v : ℕ) → ¬ Writes h a x v) × ((w : OpId) → ¬ ReadsFrom h w a)

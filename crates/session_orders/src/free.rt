@@ -26,21 +26,21 @@ impl Backward {
         if self.readers[last as usize] > 0 {
             return false;
         }
-        self.is_admitted(index, own, last, session == own)
+        self.is_admitted(index, own, session, last)
     }
 
-    /// Whether no lock stands in the way of an operation of the session itself or of another one.
-    fn is_admitted(&self, index: &LongIndex, own: u32, operation: u32, is_own: bool) -> bool
+    /// Whether no lock stands in the way of an operation of a session.
+    fn is_admitted(&self, index: &LongIndex, own: u32, session: u32, operation: u32) -> bool
         requires on_its_way { IsOnItsWay index.now own self.now }
         requires below { operation < many index.now.history }
         ensures admitted { (a : Operation) → IsOp index.now.history a → number index.now.history a ≡ operation → IsTrue result
-            → ¬ IsShutOut index.now own self.now (IsTrue is_own) a }
+            → ¬ IsShutOut index.now own self.now session a }
         ensures shut_out { (a : Operation) → IsOp index.now.history a → number index.now.history a ≡ operation → ¬ IsTrue result
-            → IsShutOut index.now own self.now (IsTrue is_own) a }
+            → IsShutOut index.now own self.now session a }
     {
         match index.part(operation) {
             Part::Write => self.admits(index.variable(operation), operation),
-            Part::SourcedRead(source) => !is_own || self.admits(index.variable(operation), source),
+            Part::SourcedRead(source) => session != own || self.admits(index.variable(operation), source),
             Part::InitialRead | Part::ThinAirRead | Part::UnknownRead => true,
         }
     }

@@ -8,4 +8,8 @@
 mod backward;
 mod free;
 mod numbers;
+mod ordering;
 mod pasts;
+mod placement;
+
+pub use ordering::SessionOrder;

@@ -25,7 +25,13 @@ returns c =
     let size_locks = c.in_ok-no_locks.ensures.size in
     let sessions = c.sessions.ensures.count in
     record {
-      sizes = ?;
+      few = (let most = c.operations.ensures.few in let count = c.operations.ensures.count in omega arith);
+      sizes = record {
+        ends = ap (λ (xs : List ℕ). length xs) ends ∙ length-replicate {A = ℕ} c.sessions.result 0 ∙ c.sessions.ensures.count;
+        readers = ap (λ (xs : List ℕ). length xs) readers ∙ length-replicate {A = ℕ} c.operations.result 0 ∙ c.operations.ensures.count;
+        writes = ap (λ (xs : List ℕ). length xs) writes ∙ length-replicate {A = ℕ} c.variables.result 0 ∙ c.variables.ensures;
+        locks = size_locks ∙ c.variables-2.ensures;
+      };
       none = λ t is_open. (let zero = of_ends t in omega arith);
       zero = record {
         readers = λ n. (let zero = of_readers n in omega arith);
