@@ -64,10 +64,10 @@ module _ (index : Indexed) (own : ℕ) (b : Backward) (t : ℕ) (can : CanBePlac
 
   -- only an operation of the session itself overwrites the start, and only a read of an initial value
   pub other-kept : t ≢ own → ¬ OverwritesStart h o left p
-  other-kept other (w, x, v, kept, rest) = other (program_past-parts o p kept).0
+  other-kept other (w, x, v, kept, reads, wrote, is_left) = other (program_past-parts o p kept).0
 
   pub unread-kept : ((x : ℕ) → ¬ Reads h p x (initial h x)) → ¬ OverwritesStart h o left p
-  unread-kept none (w, x, v, kept, reads, rest) = none x reads
+  unread-kept none (w, x, v, kept, reads, wrote, is_left) = none x reads
 
   -- where no write of its variable is counted, none is left
   pub unwritten-kept : (x : ℕ) → Reads h p x (initial h x) → writes_in b (variable h index.variables p) ≡ 0 → ¬ OverwritesStart h o left p

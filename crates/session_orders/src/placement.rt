@@ -117,10 +117,24 @@ impl Backward {
         requires part { IsNextPart index.now self.old session read InitialRead }
         ensures { IsPlaced index.now own self.old self.new session }
     {
-        if session == own && self.writes[index.variable(read) as usize] > 0 {
-            self.place_overwritten(index, own, read);
-        } else {
+        if session != own {
             self.place_other(index, own, session);
+        } else {
+            self.place_own_initial_read(index, own, read);
+        }
+    }
+
+    /// Places one of the session itself.
+    fn place_own_initial_read(&mut self, index: &LongIndex, own: u32, read: u32)
+        requires next { CanBePlaced index.now own self.old own }
+        requires below { read < many index.now.history }
+        requires part { IsNextPart index.now self.old own read InitialRead }
+        ensures { IsPlaced index.now own self.old self.new own }
+    {
+        if self.writes[index.variable(read) as usize] == 0 {
+            self.place_other(index, own, own);
+        } else {
+            self.place_overwritten(index, own, read);
         }
     }
 

@@ -6,13 +6,13 @@ use Rattle.session_orders.proofs.FreeLaws.{other-lock, read-admitted, read-shut_
 use Rattle.session_orders.proofs.backward.Backward.is_admitted.Goals as goal
 
 pub returns-in-Write-clause-admitted : goal.returns-in-Write-clause-admitted
-returns-in-Write-clause-admitted c a is_op at yes =
+returns-in-Write-clause-admitted c a is_op at holds =
     let variables = c.args.index.now.variables in
     let wrote = c.in-Write.ensures.part a is_op at in
     let place : c.variable.result ≡ variable c.args.index.now.history variables a =
         c.variable.ensures.variable ∙ ap (λ (n : ℕ). slice_index_or variables n 0) (sym at) in
     write-admitted c.args.index.now c.args.own c.args.self.now c.requires.on_its_way c.args.session a wrote.0 wrote.1 wrote.2
-    (λ n is_lock. c.admits.ensures.0 yes n (ap (λ (x : ℕ). slice_index_or c.args.self.now.locks.items x None) place ∙ is_lock) ∙ sym at)
+    (λ n is_lock. c.admits.ensures.0 holds n (ap (λ (x : ℕ). slice_index_or c.args.self.now.locks.items x None) place ∙ is_lock) ∙ sym at)
 
 pub returns-in-Write-clause-shut_out : goal.returns-in-Write-clause-shut_out
 returns-in-Write-clause-shut_out c a is_op at fails =
@@ -25,13 +25,13 @@ returns-in-Write-clause-shut_out c a is_op at fails =
     (ap (λ (x : ℕ). slice_index_or c.args.self.now.locks.items x None) (sym place) ∙ other.1) (λ same. other.2 (same ∙ at))
 
 pub returns-else-session-own-clause-admitted : goal.returns-else-session-own-clause-admitted
-returns-else-session-own-clause-admitted c a is_op at yes =
+returns-else-session-own-clause-admitted c a is_op at holds =
     let variables = c.args.index.now.variables in
     let read = c.in-SourcedRead.ensures.part a is_op at in
     let place : c.variable-else-session-own.result ≡ variable c.args.index.now.history variables a =
         c.variable-else-session-own.ensures.variable ∙ ap (λ (n : ℕ). slice_index_or variables n 0) (sym at) in
     read-admitted c.args.index.now c.args.own c.args.self.now c.requires.on_its_way c.args.session a read.0 read.1
-    (λ n is_lock. c.admits-else-session-own.ensures.0 yes n (ap (λ (x : ℕ). slice_index_or c.args.self.now.locks.items x None) place ∙ is_lock) ∙ sym read.2)
+    (λ n is_lock. c.admits-else-session-own.ensures.0 holds n (ap (λ (x : ℕ). slice_index_or c.args.self.now.locks.items x None) place ∙ is_lock) ∙ sym read.2)
 
 pub returns-else-session-own-clause-shut_out : goal.returns-else-session-own-clause-shut_out
 returns-else-session-own-clause-shut_out c a is_op at fails =

@@ -47,7 +47,7 @@ is_admitted-requires-clause-below c =
     omega arith
 
 pub returns-clause-free : goal.returns-clause-free
-returns-clause-free c yes =
+returns-clause-free c holds =
     let h = c.args.index.now.history in
     let b = c.args.self.now in
     let size = c.requires.on_its_way.sizes.ends in
@@ -61,7 +61,7 @@ returns-clause-free c yes =
     let here : number h (last_left (left_of h b) c.args.session) ≡ c.index-end.result.now - 1 = omega arith in
     let same = ap (λ (n : ℕ). slice_index_or b.readers.items n 0) here in
     (is_open, free-from c.args.index.now c.args.own b c.requires.on_its_way c.args.session is_open (omega arith)
-    (c.is_admitted.ensures.admitted (last_left (left_of h b) c.args.session) is_op here yes))
+    (c.is_admitted.ensures.admitted (last_left (left_of h b) c.args.session) is_op here holds))
 
 pub returns-clause-stopped : goal.returns-clause-stopped
 returns-clause-stopped c fails is_open =

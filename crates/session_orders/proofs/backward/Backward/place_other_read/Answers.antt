@@ -1,0 +1,34 @@
+use Rattle.std.specs.Prelude.{◌≡◌, ◌≢◌, ◌+◌, ◌-◌, ◌<◌, ℕ, true, None, Some, length, slice_index_or}
+use Rattle.std.proofs.Common.{arith, refl, sym, ap, subst, ◌∙◌}
+use Rattle.std.proofs.lemmas.List.{get_or_read}
+use Rattle.history.specs.declared.op_id.OpId.{OpId}
+use Rattle.history.specs.History.{IsOp, many_before, number}
+use Rattle.long_history.specs.Steps.{many}
+use Rattle.long_history.proofs.Numbers.{number-all}
+use Rattle.long_index.specs.Parts.{IsPart}
+use Rattle.session_orders.specs.declared.backward.Backward.{Backward}
+use Rattle.session_orders.specs.Backward.{IsOpen, last_left}
+use Rattle.session_orders.specs.OnItsWay.{CanBePlaced, IsNextPart, left_of}
+use Rattle.session_orders.specs.Tables.{variable}
+use Rattle.session_orders.proofs.FreeLaws.{last-number, last-op}
+use Rattle.session_orders.proofs.PartLaws.{initial-unsourced, unread-no_start}
+use Rattle.session_orders.proofs.PlacementLaws.{other-kept, other-placed, other_read-placed, overwritten-placed, own_read-placed, reader-some, unread-kept, unwritten-kept, write-placed, writer-some, written-overwrites}
+use Rattle.session_orders.proofs.backward.Backward.place_other_read.Goals as goal
+
+pub take_one-requires-2-clause-some : goal.take_one-requires-2-clause-some
+take_one-requires-2-clause-some c =
+    let part = c.requires.part.part in
+    subst (λ (n : ℕ). slice_index_or c.args.self.now.readers.items n 0 ≢ 0) part.2
+    (reader-some c.args.index.now c.args.own c.args.self.now c.args.session c.requires.next part.0 part.1)
+
+pub returns : goal.returns
+returns c =
+    let b = c.args.self.now in
+    let sizes = c.requires.next.on_its_way.sizes in
+    let part = c.requires.part.part in
+    let d : Backward = record { ends = c.take_one.new.numbers; readers = c.take_one-2.new.numbers; writes = b.writes; locks = b.locks; start = b.start } in
+    other_read-placed c.args.index.now c.args.own b c.args.session c.requires.next d
+    (record { ends = c.take_one.ensures.size ∙ sizes.ends; readers = c.take_one-2.ensures.size ∙ sizes.readers; writes = sizes.writes; locks = sizes.locks })
+    c.take_one.ensures.less c.take_one.ensures.others c.requires.other part.0 part.1
+    (subst (λ (n : ℕ). slice_index_or b.readers.items n 0 ≡ slice_index_or c.take_one-2.new.numbers.items n 0 + 1) (sym part.2) c.take_one-2.ensures.less)
+    (λ n apart. sym (c.take_one-2.ensures.others n (λ same. apart (same ∙ sym part.2)))) (λ x. refl) (λ y. refl) refl
