@@ -6,6 +6,7 @@ pub mod FreeLaws
 pub mod HappenedBeforeDecided
 pub mod LeftSums
 pub mod Locks
+pub mod OutcomeLaws
 pub mod PartLaws
 pub mod PastLaws
 pub mod PlacedOrder
@@ -15,3 +16,4 @@ pub mod SessionSteps
 pub mod Starts
 pub mod Stuck
 pub mod Tests
+pub mod TurnLaws

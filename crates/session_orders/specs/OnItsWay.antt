@@ -1,5 +1,5 @@
 -- The order of a session, on its way.
-use Rattle.std.specs.Prelude.{◌≡◌, ◌↔◌, ℕ, ◌<◌, ◌≤◌, ◌⊎◌, List, Option, Some, None, length, slice_get, slice_index_or}
+use Rattle.std.specs.Prelude.{◌≡◌, ◌≢◌, ◌↔◌, ℕ, ◌<◌, ◌≤◌, ◌⊎◌, List, Option, Some, None, length, slice_get, slice_index_or}
 use Rattle.history.specs.declared.op_id.OpId.{OpId}
 use Rattle.history.specs.History.{IsOp, number, session}
 use Rattle.memory_order.specs.Memory.{MemoryHistory, IsDifferentiated}
@@ -95,13 +95,25 @@ pub record IsPlaced (index : Indexed) (own : ℕ) (b after : Backward) (t : ℕ)
   pub on_its_way : IsOnItsWay index own after
   pub placing : IsPlacing t (left_of index.history b) (left_of index.history after)
 
--- the list has the sessions that have operations
-pub record ListsSessions (h : MemoryHistory) (sessions : List ℕ) : Type 0 where
+-- of the sessions at the places from i on and below n of a list each but own is done or stopped
+abbrev pub AreStopped : Indexed → ℕ → Backward → List ℕ → ℕ → ℕ → Type 0
+AreStopped index own b sessions i n =
+    (j : ℕ) → i ≤ j → j < n → slice_index_or sessions j 0 ≢ own → IsOpen (left_of index.history b) (slice_index_or sessions j 0)
+    → IsStopped index own b (slice_index_or sessions j 0)
+
+-- the list has the sessions below m that have operations
+pub record ListsSessions (h : MemoryHistory) (m : ℕ) (sessions : List ℕ) : Type 0 where
   pub below : (i t : ℕ) → slice_get sessions i ≡ Some t → (t < length h.1) × (0 < length (session h t))
-  pub each : (t : ℕ) → 0 < length (session h t) → (i : ℕ) × (slice_get sessions i ≡ Some t)
+  pub each : (t : ℕ) → t < m → 0 < length (session h t) → (i : ℕ) × (slice_get sessions i ≡ Some t)
 
 -- what an outcome says of the session own
 abbrev pub IsOutcome : MemoryHistory → ℕ → SessionOrder → Type 0
 IsOutcome h own Explained = IsOrderedSession h own
 IsOutcome h own StartOverwritten = HasStartOverwrittenInHB h
 IsOutcome h own Cyclic = HasHBCycle h
+
+-- what it says of all sessions
+abbrev pub AreOrdered : MemoryHistory → SessionOrder → Type 0
+AreOrdered h Explained = (s : ℕ) → s < length h.1 → IsOrderedSession h s
+AreOrdered h StartOverwritten = HasStartOverwrittenInHB h
+AreOrdered h Cyclic = HasHBCycle h

@@ -11,5 +11,6 @@ mod numbers;
 mod ordering;
 mod pasts;
 mod placement;
+mod turns;
 
-pub use ordering::SessionOrder;
+pub use ordering::{SessionOrder, order_sessions};
