@@ -1,6 +1,6 @@
 -- The counts where an operation is placed, and what they say.
 use Rattle.std.specs.Prelude.{◌≡◌, ◌≢◌, ◌↔◌, ℕ, ◌+◌, ◌<◌, List, length}
-use Rattle.std.proofs.Common.{arith, sym, ap, subst, refl, ⊎_elim, ◌∙◌}
+use Rattle.std.proofs.Common.{arith, sym, ap, subst, refl, ⊎_elim}
 use Rattle.std.proofs.lemmas.Bool.{cases_eq}
 use Rattle.history.specs.declared.op_id.OpId.{OpId}
 use Rattle.history.specs.History.{IsOp, number}

@@ -1,6 +1,6 @@
 -- What the counts and locks say of whether a session can go on.
-use Rattle.std.specs.Prelude.{◌≡◌, ◌≢◌, ◌⊎◌, ℕ, ◌-◌, ◌<◌, IsTrue, length, Option, Some, None, slice_index_or}
-use Rattle.std.proofs.Common.{arith, refl, sym, ap, subst, inl, inr, ⊎_elim, ◌∙◌}
+use Rattle.std.specs.Prelude.{◌≡◌, ◌≢◌, ℕ, ◌-◌, ◌<◌, length, Option, Some, None, slice_index_or}
+use Rattle.std.proofs.Common.{arith, refl, sym, ap, subst, inl, inr, ◌∙◌}
 use Rattle.std.proofs.lemmas.Option.{same_Some}
 use Rattle.history.specs.declared.op_id.OpId.{OpId}
 use Rattle.history.specs.History.{IsOp, number}
@@ -27,7 +27,6 @@ module _ (index : Indexed) (own : ℕ) (b : Backward) (now : IsOnItsWay index ow
 
   abbrev left : ℕ → ℕ
   left = left_of index.history b
-
 
   -- what is left is of the history
   pub left-op : (a : OpId) → IsLeft left a → IsOp h a
@@ -74,8 +73,15 @@ module _ (index : Indexed) (own : ℕ) (b : Backward) (now : IsOnItsWay index ow
         → IsShutOut index own b t a
     read-shut_out is u n from is_lock apart =
         let place = source-same h index.variables now.known.variables u a from in
-        inr (is, (u, from, locked-out h index.variables now.known.variables o left (λ y. slice_index_or b.locks.items y None) now.locks u from.0 from.1 n from.2
-        (ap (λ (x : ℕ). slice_index_or b.locks.items x None) place ∙ is_lock) apart))
+        inr (
+          is,
+          (
+            u,
+            from,
+            locked-out h index.variables now.known.variables o left (λ y. slice_index_or b.locks.items y None) now.locks u from.0 from.1 n from.2
+                (ap (λ (x : ℕ). slice_index_or b.locks.items x None) place ∙ is_lock) apart,
+          ),
+        )
 
     -- a read of another session, and what neither writes nor read from a write, is not
     pub other-admitted : t ≢ own → ((x v : ℕ) → ¬ Writes h a x v) → ¬ IsShutOut index own b t a

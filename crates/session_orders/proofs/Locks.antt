@@ -10,7 +10,7 @@ use Rattle.causal_order.proofs.Items.{cases-op}
 use Rattle.memory_order.specs.Memory.{MemoryHistory, IsDifferentiated, Writes}
 use Rattle.memory_order.specs.Relations.{ReadsFrom, AreRivalWrites, IsPast}
 use Rattle.memory_order.proofs.HappenedBeforeLaws.{past-program}
-use Rattle.memory_order.proofs.MemoryLaws.{same_written, write-of_history, write-or_read}
+use Rattle.memory_order.proofs.MemoryLaws.{write-of_history, write-or_read}
 use Rattle.long_history.proofs.Numbers.{number-once}
 use Rattle.long_index.specs.Parts.{AreVariables}
 use Rattle.session_orders.specs.Backward.{IsLeft, IsOpen, last_left, IsLocked, IsLockedOut, IsBlocked, IsPlacing}

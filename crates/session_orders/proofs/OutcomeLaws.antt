@@ -1,10 +1,10 @@
 -- What it says of a session that nothing can be placed any more.
-use Rattle.std.specs.Prelude.{◌≡◌, ◌≢◌, ℕ, ◌+◌, ◌-◌, ◌<◌, ◌≤◌, Bool, true, false, List, None, length, slice_index_or}
-use Rattle.std.proofs.Common.{arith, refl, sym, ap, subst, ⊎_elim, ◌∙◌}
+use Rattle.std.specs.Prelude.{◌≡◌, ℕ, ◌-◌, ◌<◌, ◌≤◌, true, false, None, length, slice_index_or}
+use Rattle.std.proofs.Common.{arith, sym, ap, subst, ⊎_elim, ◌∙◌}
 use Rattle.std.proofs.lemmas.Bool.{cases_lt}
 use Rattle.std.proofs.lemmas.List.{get_or_past}
 use Rattle.history.specs.declared.op_id.OpId.{OpId}
-use Rattle.history.specs.History.{IsOp, number, session}
+use Rattle.history.specs.History.{session}
 use Rattle.causal_order.specs.Orders.{op}
 use Rattle.memory_order.specs.HappenedBeforePatterns.{HasHBCycle, HasStartOverwrittenInHB}
 use Rattle.memory_order.specs.Memory.{MemoryHistory}
@@ -42,7 +42,7 @@ module _ (index : Indexed) (own : ℕ) (b : Backward) (now : IsOnItsWay index ow
   stuck-outcome sources stuck t is_open =
       let vectors = vectors-exist h now.known.straight sources in
       let cycle = cycle-found h vectors.0 vectors.1 now.known.distinct o now.known.operation
-          (stuck-cyclic h o now.known.operation left now.state.backward stuck t is_open) in
+      (stuck-cyclic h o now.known.operation left now.state.backward stuck t is_open) in
       (o, cycle.0, cycle.1)
 
   module _ (ended : (t : ℕ) → ¬ IsOpen left t) where

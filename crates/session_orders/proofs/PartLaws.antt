@@ -3,7 +3,6 @@ use Rattle.std.specs.Prelude.{◌≡◌, ◌⊎◌, ℕ}
 use Rattle.std.proofs.Common.{refl, sym, ap, subst, ⊎_elim, ◌∙◌}
 use Rattle.history.specs.declared.op_id.OpId.{OpId}
 use Rattle.memory_order.specs.Memory.{MemoryHistory, initial, Writes, Reads}
-use Rattle.memory_order.specs.Relations.{ReadsFrom}
 use Rattle.memory_order.proofs.MemoryLaws.{same_read, write-or_read}
 use Rattle.long_index.specs.declared.part.Part.{Part}
 use Rattle.long_index.specs.declared.part.Part.TheVariants.{InitialRead, ThinAirRead, UnknownRead}

@@ -1,17 +1,17 @@
 -- What is on its way stays so where one operation more is placed.
-use Rattle.std.specs.Prelude.{◌≡◌, ◌≢◌, ◌⊎◌, ℕ, ◌+◌, ◌-◌, ◌<◌, Bool, true, IsTrue, List, ◌∷◌, Option, Some, None, length, slice_index_or}
+use Rattle.std.specs.Prelude.{◌≡◌, ◌≢◌, ℕ, ◌+◌, ◌<◌, Bool, true, IsTrue, ◌∷◌, Option, Some, None, length, slice_index_or}
 use Rattle.std.proofs.Common.{arith, refl, sym, ap, subst, inl, inr, ◌∙◌}
 use Rattle.history.specs.declared.op_id.OpId.{OpId}
-use Rattle.history.specs.History.{IsOp, many_before, number}
+use Rattle.history.specs.History.{IsOp, number}
 use Rattle.causal_order.specs.Orders.{program_past}
 use Rattle.causal_order.proofs.PathsLaws.{leads-edge}
 use Rattle.memory_order.specs.Memory.{MemoryHistory, initial, Writes, Reads}
-use Rattle.memory_order.specs.Relations.{ReadsFrom, IsEdge, IsPast}
+use Rattle.memory_order.specs.Relations.{ReadsFrom, IsEdge}
 use Rattle.memory_order.proofs.HappenedBeforeLaws.{program_past-parts}
 use Rattle.memory_order.proofs.MemoryLaws.{same_read, write-of_history, write-or_read}
 use Rattle.long_index.specs.Indexed.{Indexed}
 use Rattle.session_orders.specs.declared.backward.Backward.{Backward}
-use Rattle.session_orders.specs.Backward.{IsLeft, IsOpen, last_left, IsPlacing}
+use Rattle.session_orders.specs.Backward.{IsLeft, last_left, IsPlacing}
 use Rattle.session_orders.specs.OnItsWay.{CanBePlaced, HasSizes, IsPlaced, left_of}
 use Rattle.session_orders.specs.SessionOrders.{last_op}
 use Rattle.session_orders.specs.SessionStates.{IsSessionState, OverwritesStart}

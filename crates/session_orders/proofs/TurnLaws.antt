@@ -1,16 +1,15 @@
 -- Lists of the sessions that have operations, and what they show where none of their sessions can go on.
-use Rattle.std.specs.Prelude.{◌≡◌, ◌≢◌, ◌⊎◌, ℕ, ◌+◌, ◌<◌, ◌≤◌, List, [], ◌∷◌, ◌++◌, Option, Some, length, slice_get, slice_index_or}
+use Rattle.std.specs.Prelude.{◌≡◌, ◌≢◌, ◌⊎◌, ℕ, ◌+◌, ◌<◌, ◌≤◌, List, [], ◌∷◌, ◌++◌, Some, length, slice_get, slice_index_or}
 use Rattle.std.proofs.Common.{zero, suc, arith, refl, sym, ap, subst, inl, inr, ⊎_elim, ◌∙◌}
 use Rattle.std.proofs.lemmas.Bool.{cases_eq, cases_lt}
 use Rattle.std.proofs.lemmas.Option.{same_Some, slice_get-get_or, slice_get_within, get_or_from_slice_get}
-use Rattle.history.specs.declared.op_id.OpId.{OpId}
-use Rattle.history.specs.History.{IsOp, session}
+use Rattle.history.specs.History.{session}
 use Rattle.causal_order.proofs.OrdersLaws.{session-of_history}
 use Rattle.memory_order.specs.Memory.{MemoryHistory}
 use Rattle.long_index.specs.Indexed.{Indexed}
 use Rattle.session_orders.specs.declared.backward.Backward.{Backward}
-use Rattle.session_orders.specs.Backward.{IsOpen, AreOthersBlocked, last_left}
-use Rattle.session_orders.specs.OnItsWay.{AreStopped, IsFree, IsOnItsWay, IsStopped, ListsSessions, left_of}
+use Rattle.session_orders.specs.Backward.{IsOpen, AreOthersBlocked}
+use Rattle.session_orders.specs.OnItsWay.{AreStopped, IsOnItsWay, IsStopped, ListsSessions, left_of}
 use Rattle.session_orders.specs.SessionOrders.{last_op}
 use Rattle.session_orders.proofs.FreeLaws.{last-op}
 

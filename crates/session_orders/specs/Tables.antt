@@ -1,6 +1,6 @@
 -- What decides whether a session can go on, while an order is made from its end: for each operation how many reads of it are left,
 -- for each variable how many writes of it are left and which of them is locked; by the numbers of operations and of variables.
-use Rattle.std.specs.Prelude.{◌≡◌, ◌≢◌, ℕ, ◌+◌, ◌-◌, List, Option, Some, length, min, slice_index_or}
+use Rattle.std.specs.Prelude.{◌≡◌, ◌≢◌, ℕ, ◌-◌, List, Option, Some, length, min, slice_index_or}
 use Rattle.history.specs.declared.op_id.OpId.{OpId}
 use Rattle.history.specs.History.{IsOp, many_before, number}
 use Rattle.causal_order.specs.Orders.{op}

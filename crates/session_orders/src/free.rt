@@ -40,7 +40,8 @@ impl Backward {
     {
         match index.part(operation) {
             Part::Write => self.admits(index.variable(operation), operation),
-            Part::SourcedRead(source) => session != own || self.admits(index.variable(operation), source),
+            Part::SourcedRead(source) => session != own
+                || self.admits(index.variable(operation), source),
             Part::InitialRead | Part::ThinAirRead | Part::UnknownRead => true,
         }
     }

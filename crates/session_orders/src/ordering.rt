@@ -29,7 +29,11 @@ pub enum SessionOrder {
 ///
 /// `order` is an order of all operations that program order and the sources make, and no known read lacks its source. Fails for want of
 /// memory alone. O(n k) for n operations in k sessions with operations, and O(n + k) numbers of memory for k sessions in all.
-pub fn order_sessions(alloc: Global, index: &LongIndex, order: &[u32]) -> Result<SessionOrder, AllocError>
+pub fn order_sessions(
+    alloc: Global,
+    index: &LongIndex,
+    order: &[u32],
+) -> Result<SessionOrder, AllocError>
     requires order { IsOrderBy index.now.history [] order.now }
     requires sources { ¬ LacksSource index.now.history }
     ensures { IfOk result (AreOrdered index.now.history) }

@@ -99,7 +99,14 @@ impl Backward {
     }
 
     /// Places one of another session.
-    fn place_other_read(&mut self, index: &LongIndex, own: u32, session: u32, read: u32, source: u32)
+    fn place_other_read(
+        &mut self,
+        index: &LongIndex,
+        own: u32,
+        session: u32,
+        read: u32,
+        source: u32,
+    )
         requires next { CanBePlaced index.now own self.old session }
         requires other { session ≢ own }
         requires source_below { source < many index.now.history }

@@ -119,7 +119,14 @@ impl Backward {
     }
 
     /// The first place in a range whose session is another one and can go on.
-    fn free_among(&self, index: &LongIndex, own: u32, sessions: &[u32], from: usize, end: usize) -> Option<usize>
+    fn free_among(
+        &self,
+        index: &LongIndex,
+        own: u32,
+        sessions: &[u32],
+        from: usize,
+        end: usize,
+    ) -> Option<usize>
         requires on_its_way { IsOnItsWay index.now own self.now }
         requires sessions { ListsSessions index.now.history (length index.now.history.1) sessions.now }
         requires inside { end ≤ length sessions.now }

@@ -1,4 +1,4 @@
-use Rattle.std.specs.Prelude.{◌≡◌, ℕ, List, Option, None, slice_index_or, length}
+use Rattle.std.specs.Prelude.{ℕ, List, Option, None, slice_index_or, length}
 use Rattle.std.proofs.Common.{arith, ap, length-append, ◌∙◌}
 use Rattle.session_orders.proofs.Locks.{none-push}
 use Rattle.session_orders.proofs.backward.no_locks.Goals as goal

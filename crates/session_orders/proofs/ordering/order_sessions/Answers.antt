@@ -2,7 +2,6 @@ use Rattle.std.specs.Prelude.{◌≡◌, ◌≢◌, ◌<◌, [], ℕ, List, leng
 use Rattle.std.proofs.Common.{arith, sym, ap, subst, ⊎_elim, ◌∙◌}
 use Rattle.std.proofs.lemmas.Bool.{cases_eq}
 use Rattle.std.proofs.lemmas.List.{get_or_read}
-use Rattle.history.specs.History.{session}
 use Rattle.long_order.proofs.Orders.{order_by-straight}
 use Rattle.session_orders.specs.OnItsWay.{IsKnown, IsOutcome, ListsSessions}
 use Rattle.session_orders.specs.SessionOrders.{IsOrderedSession}
@@ -36,7 +35,7 @@ loop-i-preserved c =
     let below : c.loop-i.i < length xs = omega arith in
     let read = get_or_read xs _ _ below c.index-own.ensures 0 in
     let explained : IsOrderedSession h c.index-own.result.now =
-        subst (IsOutcome h c.index-own.result.now) c.in-Explained.is c.in_ok-order_session.ensures.outcome in
+    subst (IsOutcome h c.index-own.result.now) c.in-Explained.is c.in_ok-order_session.ensures.outcome in
     record {
       clear = c.in_ok-order_session.ensures.clear c.in-Explained.is;
       sessions = c.in_ok-order_session.ensures.sessions ∙ c.loop-i.invariant.sessions;

@@ -1,5 +1,5 @@
-use Rattle.std.specs.Prelude.{◌≡◌, ◌<◌, ℕ, length, slice_index_or}
-use Rattle.session_orders.specs.OnItsWay.{IsClear, ListsSessions}
+use Rattle.std.specs.Prelude.{◌≡◌, ◌<◌, ℕ, slice_index_or}
+use Rattle.session_orders.specs.OnItsWay.{IsClear}
 use Rattle.session_orders.specs.SessionOrders.{IsOrderedSession}
 use Rattle.session_orders.proofs.ordering.order_sessions.Given as goal
 

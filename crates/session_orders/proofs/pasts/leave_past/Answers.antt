@@ -1,9 +1,7 @@
 use Rattle.std.specs.Prelude.{◌≡◌, ◌<◌, ◌+◌, ◌-◌, ℕ, [], Some, length, slice_get, slice_index_or}
-use Rattle.std.proofs.Common.{arith, refl, sym, ap, ◌∙◌, subst}
+use Rattle.std.proofs.Common.{arith, sym, ap, ◌∙◌, subst}
 use Rattle.std.proofs.lemmas.Option.{slice_get-get_or}
-use Rattle.history.specs.History.{number, many_before}
-use Rattle.memory_order.specs.Memory.{MemoryHistory}
-use Rattle.long_history.specs.Steps.{IsListedEdge, many}
+use Rattle.long_history.specs.Steps.{IsListedEdge}
 use Rattle.long_history.proofs.Numbers.{number-all, one_more}
 use Rattle.session_orders.specs.Pasts.{IsPastAfter}
 use Rattle.session_orders.specs.SessionOrders.{last_op}

@@ -1,8 +1,8 @@
-use Rattle.std.specs.Prelude.{◌≡◌, ◌≢◌, ◌<◌, ◌+◌, ℕ, max, slice_index_or}
-use Rattle.std.proofs.Common.{arith, ap, sym, subst, ◌∙◌}
+use Rattle.std.specs.Prelude.{◌≡◌, ◌+◌, ℕ, max, slice_index_or}
+use Rattle.std.proofs.Common.{arith, ap, subst, ◌∙◌}
 use Rattle.std.proofs.lemmas.List.{get_or_read}
 use Rattle.history.specs.declared.op_id.OpId.{OpId}
-use Rattle.history.specs.History.{many_before, number}
+use Rattle.history.specs.History.{number}
 use Rattle.session_orders.specs.Backward.{IsLeft}
 use Rattle.session_orders.specs.Tables.{left_counts}
 use Rattle.session_orders.proofs.PastLaws.{ends-raised, raised-none}

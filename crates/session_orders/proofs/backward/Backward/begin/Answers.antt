@@ -1,4 +1,4 @@
-use Rattle.std.specs.Prelude.{◌≡◌, ◌≤◌, ◌+◌, ◌↔◌, ℕ, List, [], Option, None, length, slice_index_or}
+use Rattle.std.specs.Prelude.{◌↔◌, ℕ, List, [], Option, None, slice_index_or}
 use Rattle.std.proofs.Common.{arith, ap, sym, subst, ◌∙◌}
 use Rattle.history.specs.declared.op_id.OpId.{OpId}
 use Rattle.memory_order.specs.Relations.{IsPast}
@@ -33,7 +33,7 @@ returns c =
     let o = last_op h c.args.own in
     let ends = c.count.new.self.ends.items in
     let whole : (a : OpId) → IsLeft (left_counts h ends) a ↔ IsPast h o a =
-        subst (λ (xs : List ℕ). (a : OpId) → IsLeft (left_counts h xs) a ↔ IsPast h o a) (sym c.count.ensures.ends) c.leave_past.ensures.left in
+    subst (λ (xs : List ℕ). (a : OpId) → IsLeft (left_counts h xs) a ↔ IsPast h o a) (sym c.count.ensures.ends) c.leave_past.ensures.left in
     record {
       known = c.requires.known;
       sizes = record { ends = c.count.ensures.sizes.ends; readers = c.count.ensures.sizes.readers; writes = c.count.ensures.sizes.writes; locks = c.count.ensures.sizes.locks };

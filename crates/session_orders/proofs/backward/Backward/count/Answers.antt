@@ -1,4 +1,4 @@
-use Rattle.std.specs.Prelude.{◌≡◌, ◌≤◌, ◌+◌, ℕ, List, length, slice_index_or}
+use Rattle.std.specs.Prelude.{◌≡◌, ◌≤◌, ◌+◌, ℕ, List, slice_index_or}
 use Rattle.std.proofs.Common.{arith, ap, sym, subst, ◌∙◌}
 use Rattle.history.specs.History.{many_before}
 use Rattle.long_history.specs.Steps.{many}
@@ -12,7 +12,7 @@ returns-clause-counts c =
     let h = c.args.index.now.history in
     let ends = c.loop-operation.self.ends.items in
     let within : (t : ℕ) → slice_index_or ends t 0 ≤ many_before h (t + 1) =
-        subst (λ (xs : List ℕ). (t : ℕ) → slice_index_or xs t 0 ≤ many_before h (t + 1)) (sym c.loop-operation.invariant.ends) c.requires.within in
+    subst (λ (xs : List ℕ). (t : ℕ) → slice_index_or xs t 0 ≤ many_before h (t + 1)) (sym c.loop-operation.invariant.ends) c.requires.within in
     let at : c.loop-operation.operation ≡ many h = (let count = c.operations-operation-end.ensures.count in omega arith) in
     counts-same h c.args.index.now.variables (left_under h ends c.loop-operation.operation) (λ n. slice_index_or c.loop-operation.self.readers.items n 0)
     (λ x. slice_index_or c.loop-operation.self.writes.items x 0) (left_counts h ends)

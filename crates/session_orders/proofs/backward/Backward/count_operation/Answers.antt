@@ -1,8 +1,8 @@
-use Rattle.std.specs.Prelude.{◌≡◌, ◌≢◌, ◌<◌, ◌≤◌, ◌+◌, ℕ, slice_index_or}
+use Rattle.std.specs.Prelude.{◌≡◌, ◌+◌, ℕ, slice_index_or}
 use Rattle.std.proofs.Common.{arith, refl, sym, ap, subst, ◌∙◌}
 use Rattle.std.proofs.lemmas.List.{get_or_read}
 use Rattle.history.specs.declared.op_id.OpId.{OpId}
-use Rattle.history.specs.History.{IsOp, number}
+use Rattle.history.specs.History.{number}
 use Rattle.long_history.proofs.Numbers.{number-found}
 use Rattle.session_orders.specs.OnItsWay.{HasCounts}
 use Rattle.session_orders.specs.Tables.{left_under, variable}
@@ -25,8 +25,8 @@ returns-then-operation-index-clause-counted c counts =
     let read = get_or_read ends _ _ (omega arith) c.index.ensures 0 in
     let here = ap (λ (s : ℕ). slice_index_or ends s 0) session in
     let same : (t : ℕ) → left_under h ends c.args.operation t ≡ left_under h ends (c.args.operation + 1) t =
-        subst (λ (n : ℕ). (t : ℕ) → left_under h ends n t ≡ left_under h ends (n + 1) t) at
-        (under-same h ends c.requires.within a found.1 (omega arith)) in
+    subst (λ (n : ℕ). (t : ℕ) → left_under h ends n t ≡ left_under h ends (n + 1) t) at
+    (under-same h ends c.requires.within a found.1 (omega arith)) in
     counts-same h variables (left_under h ends c.args.operation) (λ n. slice_index_or c.args.self.now.readers.items n 0)
     (λ x. slice_index_or c.args.self.now.writes.items x 0) (left_under h ends (c.args.operation + 1)) same counts
 
@@ -46,7 +46,7 @@ returns-in-Write-clause-counted c =
     let wrote = c.in-Write.ensures.part a found.1 at in
     let place : c.variable.result ≡ variable h variables a = c.variable.ensures.variable ∙ ap (λ (n : ℕ). slice_index_or variables n 0) (sym at) in
     subst (λ (n : ℕ). HasCounts c.args.index.now (left_under h ends n) c.args.self.now
-    → HasCounts c.args.index.now (left_under h ends (n + 1)) (record {ends = c.args.self.now.ends; readers = c.args.self.now.readers; writes = c.add_one.new.numbers; locks = c.args.self.now.locks; start = c.args.self.now.start})) at
+    → HasCounts c.args.index.now (left_under h ends (n + 1)) (record { ends = c.args.self.now.ends; readers = c.args.self.now.readers; writes = c.add_one.new.numbers; locks = c.args.self.now.locks; start = c.args.self.now.start })) at
     (counted-write h ends c.requires.within a found.1 variables (omega arith)
     (λ n. slice_index_or c.args.self.now.readers.items n 0) (λ n. slice_index_or c.args.self.now.readers.items n 0)
     (λ x. slice_index_or c.args.self.now.writes.items x 0) (λ x. slice_index_or c.add_one.new.numbers.items x 0)
@@ -70,7 +70,7 @@ returns-in-SourcedRead-clause-counted c =
     let from = c.in-SourcedRead.ensures.part a found.1 at in
     let added = c.add_one-in-SourcedRead.new.numbers in
     subst (λ (n : ℕ). HasCounts c.args.index.now (left_under h ends n) c.args.self.now
-    → HasCounts c.args.index.now (left_under h ends (n + 1)) (record {ends = c.args.self.now.ends; readers = added; writes = c.args.self.now.writes; locks = c.args.self.now.locks; start = c.args.self.now.start})) at
+    → HasCounts c.args.index.now (left_under h ends (n + 1)) (record { ends = c.args.self.now.ends; readers = added; writes = c.args.self.now.writes; locks = c.args.self.now.locks; start = c.args.self.now.start })) at
     (counted-read h ends c.requires.within a found.1 variables (omega arith)
     (λ n. slice_index_or c.args.self.now.readers.items n 0) (λ n. slice_index_or added.items n 0)
     (λ x. slice_index_or c.args.self.now.writes.items x 0) (λ x. slice_index_or c.args.self.now.writes.items x 0)

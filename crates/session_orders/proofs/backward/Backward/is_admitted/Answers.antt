@@ -1,6 +1,5 @@
-use Rattle.std.specs.Prelude.{◌≡◌, ℕ, None, Some, slice_index_or}
+use Rattle.std.specs.Prelude.{◌≡◌, ℕ, None, slice_index_or}
 use Rattle.std.proofs.Common.{sym, ap, ◌∙◌}
-use Rattle.history.specs.History.{number}
 use Rattle.session_orders.specs.Tables.{variable}
 use Rattle.session_orders.proofs.FreeLaws.{other-lock, read-admitted, read-shut_out, write-admitted, write-shut_out}
 use Rattle.session_orders.proofs.backward.Backward.is_admitted.Goals as goal
@@ -10,7 +9,7 @@ returns-in-Write-clause-admitted c a is_op at holds =
     let variables = c.args.index.now.variables in
     let wrote = c.in-Write.ensures.part a is_op at in
     let place : c.variable.result ≡ variable c.args.index.now.history variables a =
-        c.variable.ensures.variable ∙ ap (λ (n : ℕ). slice_index_or variables n 0) (sym at) in
+    c.variable.ensures.variable ∙ ap (λ (n : ℕ). slice_index_or variables n 0) (sym at) in
     write-admitted c.args.index.now c.args.own c.args.self.now c.requires.on_its_way c.args.session a wrote.0 wrote.1 wrote.2
     (λ n is_lock. c.admits.ensures.0 holds n (ap (λ (x : ℕ). slice_index_or c.args.self.now.locks.items x None) place ∙ is_lock) ∙ sym at)
 
@@ -19,7 +18,7 @@ returns-in-Write-clause-shut_out c a is_op at fails =
     let variables = c.args.index.now.variables in
     let wrote = c.in-Write.ensures.part a is_op at in
     let place : c.variable.result ≡ variable c.args.index.now.history variables a =
-        c.variable.ensures.variable ∙ ap (λ (n : ℕ). slice_index_or variables n 0) (sym at) in
+    c.variable.ensures.variable ∙ ap (λ (n : ℕ). slice_index_or variables n 0) (sym at) in
     let other = other-lock (slice_index_or c.args.self.now.locks.items c.variable.result None) c.args.operation (λ all. fails (c.admits.ensures.1 all)) in
     write-shut_out c.args.index.now c.args.own c.args.self.now c.requires.on_its_way c.args.session a wrote.0 wrote.1 other.0 wrote.2
     (ap (λ (x : ℕ). slice_index_or c.args.self.now.locks.items x None) (sym place) ∙ other.1) (λ same. other.2 (same ∙ at))
@@ -29,7 +28,7 @@ returns-else-session-own-clause-admitted c a is_op at holds =
     let variables = c.args.index.now.variables in
     let read = c.in-SourcedRead.ensures.part a is_op at in
     let place : c.variable-else-session-own.result ≡ variable c.args.index.now.history variables a =
-        c.variable-else-session-own.ensures.variable ∙ ap (λ (n : ℕ). slice_index_or variables n 0) (sym at) in
+    c.variable-else-session-own.ensures.variable ∙ ap (λ (n : ℕ). slice_index_or variables n 0) (sym at) in
     read-admitted c.args.index.now c.args.own c.args.self.now c.requires.on_its_way c.args.session a read.0 read.1
     (λ n is_lock. c.admits-else-session-own.ensures.0 holds n (ap (λ (x : ℕ). slice_index_or c.args.self.now.locks.items x None) place ∙ is_lock) ∙ sym read.2)
 
@@ -38,8 +37,8 @@ returns-else-session-own-clause-shut_out c a is_op at fails =
     let variables = c.args.index.now.variables in
     let read = c.in-SourcedRead.ensures.part a is_op at in
     let place : c.variable-else-session-own.result ≡ variable c.args.index.now.history variables a =
-        c.variable-else-session-own.ensures.variable ∙ ap (λ (n : ℕ). slice_index_or variables n 0) (sym at) in
+    c.variable-else-session-own.ensures.variable ∙ ap (λ (n : ℕ). slice_index_or variables n 0) (sym at) in
     let other = other-lock (slice_index_or c.args.self.now.locks.items c.variable-else-session-own.result None) c.in-SourcedRead.source
-        (λ all. fails (c.admits-else-session-own.ensures.1 all)) in
+    (λ all. fails (c.admits-else-session-own.ensures.1 all)) in
     read-shut_out c.args.index.now c.args.own c.args.self.now c.requires.on_its_way c.args.session a c.if-session-own.false read.0 other.0 read.1
     (ap (λ (x : ℕ). slice_index_or c.args.self.now.locks.items x None) (sym place) ∙ other.1) (λ same. other.2 (same ∙ read.2))

@@ -1,7 +1,6 @@
-use Rattle.std.specs.Prelude.{◌≡◌, ◌<◌, ◌≤◌, ℕ, length, slice_index_or}
+use Rattle.std.specs.Prelude.{slice_index_or}
 use Rattle.std.proofs.Common.{arith, sym, subst}
 use Rattle.std.proofs.lemmas.List.{get_or_read}
-use Rattle.history.specs.History.{many_before}
 use Rattle.session_orders.specs.Backward.{IsOpen}
 use Rattle.session_orders.specs.OnItsWay.{left_of}
 use Rattle.session_orders.proofs.TurnLaws.{listed-exists, open-place}

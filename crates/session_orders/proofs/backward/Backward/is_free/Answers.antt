@@ -1,8 +1,7 @@
-use Rattle.std.specs.Prelude.{◌≡◌, ◌≢◌, ◌-◌, ℕ, length, slice_index_or}
-use Rattle.std.proofs.Common.{arith, sym, ap, ◌∙◌}
+use Rattle.std.specs.Prelude.{◌≡◌, ◌-◌, ℕ, slice_index_or}
+use Rattle.std.proofs.Common.{arith, ap}
 use Rattle.std.proofs.lemmas.List.{get_or_read}
-use Rattle.history.specs.History.{IsOp, many_before, number}
-use Rattle.long_history.specs.Steps.{many}
+use Rattle.history.specs.History.{number}
 use Rattle.long_history.proofs.Numbers.{number-all}
 use Rattle.session_orders.specs.Backward.{IsOpen, last_left}
 use Rattle.session_orders.specs.OnItsWay.{left_of}
@@ -59,9 +58,11 @@ returns-clause-free c holds =
     let readers = c.requires.on_its_way.sizes.readers in
     let read = get_or_read b.readers.items _ _ (omega arith) c.index.ensures 0 in
     let here : number h (last_left (left_of h b) c.args.session) ≡ c.index-end.result.now - 1 = omega arith in
-    let same = ap (λ (n : ℕ). slice_index_or b.readers.items n 0) here in
-    (is_open, free-from c.args.index.now c.args.own b c.requires.on_its_way c.args.session is_open (omega arith)
-    (c.is_admitted.ensures.admitted (last_left (left_of h b) c.args.session) is_op here holds))
+    let same = ap (λ (n : ℕ). slice_index_or b.readers.items n 0) here in (
+      is_open,
+      free-from c.args.index.now c.args.own b c.requires.on_its_way c.args.session is_open (omega arith)
+          (c.is_admitted.ensures.admitted (last_left (left_of h b) c.args.session) is_op here holds),
+    )
 
 pub returns-clause-stopped : goal.returns-clause-stopped
 returns-clause-stopped c fails is_open =

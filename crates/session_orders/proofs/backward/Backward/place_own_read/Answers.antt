@@ -1,18 +1,11 @@
-use Rattle.std.specs.Prelude.{◌≡◌, ◌≢◌, ◌+◌, ◌-◌, ◌<◌, ℕ, true, None, Some, length, slice_index_or}
-use Rattle.std.proofs.Common.{arith, refl, sym, ap, subst, ◌∙◌}
-use Rattle.std.proofs.lemmas.List.{get_or_read}
+use Rattle.std.specs.Prelude.{◌≡◌, ◌≢◌, ◌+◌, ℕ, None, Some, slice_index_or}
+use Rattle.std.proofs.Common.{refl, sym, ap, subst, ◌∙◌}
 use Rattle.history.specs.declared.op_id.OpId.{OpId}
-use Rattle.history.specs.History.{IsOp, many_before, number}
-use Rattle.long_history.specs.Steps.{many}
-use Rattle.long_history.proofs.Numbers.{number-all}
-use Rattle.long_index.specs.Parts.{IsPart}
 use Rattle.session_orders.specs.declared.backward.Backward.{Backward}
-use Rattle.session_orders.specs.Backward.{IsOpen, last_left}
-use Rattle.session_orders.specs.OnItsWay.{CanBePlaced, IsNextPart, left_of}
+use Rattle.session_orders.specs.Backward.{last_left}
+use Rattle.session_orders.specs.OnItsWay.{left_of}
 use Rattle.session_orders.specs.Tables.{variable}
-use Rattle.session_orders.proofs.FreeLaws.{last-number, last-op}
-use Rattle.session_orders.proofs.PartLaws.{initial-unsourced, unread-no_start}
-use Rattle.session_orders.proofs.PlacementLaws.{other-kept, other-placed, other_read-placed, overwritten-placed, own_read-placed, reader-some, unread-kept, unwritten-kept, write-placed, writer-some, written-overwrites}
+use Rattle.session_orders.proofs.PlacementLaws.{own_read-placed, reader-some}
 use Rattle.session_orders.proofs.backward.Backward.place_own_read.Goals as goal
 
 pub take_one-requires-2-clause-some : goal.take_one-requires-2-clause-some
@@ -29,7 +22,7 @@ returns c =
     let part = c.requires.part.part in
     let p : OpId = last_left (left_of h b) c.args.own in
     let place : c.variable-variable.result ≡ variable h c.args.index.now.variables p =
-        c.variable-variable.ensures.variable ∙ ap (λ (n : ℕ). slice_index_or c.args.index.now.variables n 0) (sym c.requires.part.number_of) in
+    c.variable-variable.ensures.variable ∙ ap (λ (n : ℕ). slice_index_or c.args.index.now.variables n 0) (sym c.requires.part.number_of) in
     let d : Backward = record { ends = c.take_one.new.numbers; readers = c.take_one-2.new.numbers; writes = b.writes; locks = c.set_lock.new.locks; start = b.start } in
     own_read-placed c.args.index.now c.args.own b c.args.own c.requires.next d
     (record { ends = c.take_one.ensures.size ∙ sizes.ends; readers = c.take_one-2.ensures.size ∙ sizes.readers; writes = sizes.writes; locks = c.set_lock.ensures.size ∙ sizes.locks })
