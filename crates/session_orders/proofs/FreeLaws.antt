@@ -18,12 +18,12 @@ use Rattle.session_orders.specs.Tables.{IsUnsourced, variable}
 use Rattle.session_orders.proofs.Counts.{source-once, unread, read}
 use Rattle.session_orders.proofs.Locks.{admitted, locked-out, source-same}
 
-module _ (index : Indexed) (own : ℕ) (b : Backward) (now : IsOnItsWay index own b) where
+module _ (index : Indexed) (b : Backward) (now : IsOnItsWay index b) where
   abbrev h : MemoryHistory
   h = index.history
 
   abbrev o : OpId
-  o = last_op index.history own
+  o = last_op index.history b.own
 
   abbrev left : ℕ → ℕ
   left = left_of index.history b
@@ -49,18 +49,18 @@ module _ (index : Indexed) (own : ℕ) (b : Backward) (now : IsOnItsWay index ow
   module _ (t : ℕ) (a : OpId) where
     -- a write is shut out exactly where its variable is locked for another one
     pub write-admitted : (x v : ℕ) → Writes h a x v → ((n : ℕ) → slice_index_or b.locks.items (variable h index.variables a) None ≡ Some n → n ≡ number h a)
-        → ¬ IsShutOut index own b t a
+        → ¬ IsShutOut index b t a
     write-admitted x v wrote admits (inl out) = admitted h index.variables now.known.variables o left (λ y. slice_index_or b.locks.items y None) now.locks a x v wrote admits out
     write-admitted x v wrote admits (inr (is, (u, from, out))) = write-or_read h a a x v from.0 from.1 wrote from.3 (λ i. a)
 
     pub write-shut_out : (x v n : ℕ) → Writes h a x v → slice_index_or b.locks.items (variable h index.variables a) None ≡ Some n → n ≢ number h a
-        → IsShutOut index own b t a
+        → IsShutOut index b t a
     write-shut_out x v n wrote is_lock apart =
         inl (locked-out h index.variables now.known.variables o left (λ y. slice_index_or b.locks.items y None) now.locks a x v n wrote is_lock apart)
 
     -- a read of the session exactly where its variable is locked for another write than its source
     pub read-admitted : (u : OpId) → ReadsFrom h u a → ((n : ℕ) → slice_index_or b.locks.items (variable h index.variables a) None ≡ Some n → n ≡ number h u)
-        → ¬ IsShutOut index own b t a
+        → ¬ IsShutOut index b t a
     read-admitted u from admits (inl (w, locked, (apart, (x, v, t, wrote, other)))) = write-or_read h a a x v from.0 from.1 wrote from.3 (λ i. a)
     read-admitted u from admits (inr (is, (w, read, out))) =
         let same = source-once h now.known.distinct u w a from read in
@@ -69,8 +69,8 @@ module _ (index : Indexed) (own : ℕ) (b : Backward) (now : IsOnItsWay index ow
         (λ n is_lock. admits n (ap (λ (x : ℕ). slice_index_or b.locks.items x None) (sym place) ∙ is_lock))
         (subst (IsLockedOut h o left) (sym same) out)
 
-    pub read-shut_out : t ≡ own → (u : OpId) (n : ℕ) → ReadsFrom h u a → slice_index_or b.locks.items (variable h index.variables a) None ≡ Some n → n ≢ number h u
-        → IsShutOut index own b t a
+    pub read-shut_out : t ≡ b.own → (u : OpId) (n : ℕ) → ReadsFrom h u a → slice_index_or b.locks.items (variable h index.variables a) None ≡ Some n → n ≢ number h u
+        → IsShutOut index b t a
     read-shut_out is u n from is_lock apart =
         let place = source-same h index.variables now.known.variables u a from in
         inr (
@@ -84,11 +84,11 @@ module _ (index : Indexed) (own : ℕ) (b : Backward) (now : IsOnItsWay index ow
         )
 
     -- a read of another session, and what neither writes nor read from a write, is not
-    pub other-admitted : t ≢ own → ((x v : ℕ) → ¬ Writes h a x v) → ¬ IsShutOut index own b t a
+    pub other-admitted : t ≢ b.own → ((x v : ℕ) → ¬ Writes h a x v) → ¬ IsShutOut index b t a
     other-admitted other no_write (inl (w, locked, (apart, (x, u, v, wrote, wrote_locked)))) = no_write x u wrote
     other-admitted other no_write (inr (is, _)) = other is
 
-    pub unsourced-admitted : IsUnsourced h a → ¬ IsShutOut index own b t a
+    pub unsourced-admitted : IsUnsourced h a → ¬ IsShutOut index b t a
     unsourced-admitted none (inl (w, locked, (apart, (x, u, v, wrote, wrote_locked)))) = none.0 x u wrote
     unsourced-admitted none (inr (is, (u, from, out))) = none.1 u from
 
@@ -100,14 +100,14 @@ module _ (index : Indexed) (own : ℕ) (b : Backward) (now : IsOnItsWay index ow
     last-number = omega arith
 
     -- its last operation is free where it has no readers and is not shut out
-    pub free-from : slice_index_or b.readers.items (number h p) 0 ≡ 0 → ¬ IsShutOut index own b t p → ¬ IsStopped index own b t
+    pub free-from : slice_index_or b.readers.items (number h p) 0 ≡ 0 → ¬ IsShutOut index b t p → ¬ IsStopped index b t
     free-from none admits (inl read) = no-reader p (last-op t is_open) none read
     free-from none admits (inr out) = admits out
 
-    pub stopped-read : slice_index_or b.readers.items (number h p) 0 ≢ 0 → IsStopped index own b t
+    pub stopped-read : slice_index_or b.readers.items (number h p) 0 ≢ 0 → IsStopped index b t
     stopped-read some = inl (some-reader p (last-op t is_open) some)
 
-    pub stopped-out : IsShutOut index own b t p → IsStopped index own b t
+    pub stopped-out : IsShutOut index b t p → IsStopped index b t
     stopped-out out = inr out
 
 -- a lock that is not this write alone is another one

@@ -27,18 +27,18 @@ use Rattle.session_orders.proofs.SessionSteps.{state-ended_overwritten, state-en
 use Rattle.session_orders.proofs.Stuck.{stuck-cyclic}
 use Rattle.session_orders.proofs.Tests.{test-of, writes_number-decided, reads_from-decided}
 
-module _ (index : Indexed) (own : ℕ) (b : Backward) (now : IsOnItsWay index own b) where
+module _ (index : Indexed) (b : Backward) (now : IsOnItsWay index b) where
   abbrev h : MemoryHistory
   h = index.history
 
   abbrev o : OpId
-  o = last_op index.history own
+  o = last_op index.history b.own
 
   abbrev left : ℕ → ℕ
   left = left_of index.history b
 
   -- where something is left and stopped, something happened before itself
-  pub stuck-outcome : ¬ LacksSource h → ((t : ℕ) → IsOpen left t → IsStopped index own b t) → (t : ℕ) → IsOpen left t → HasHBCycle h
+  pub stuck-outcome : ¬ LacksSource h → ((t : ℕ) → IsOpen left t → IsStopped index b t) → (t : ℕ) → IsOpen left t → HasHBCycle h
   stuck-outcome sources stuck t is_open =
       let vectors = vectors-exist h now.known.straight sources in
       let cycle = cycle-found h vectors.0 vectors.1 now.known.distinct o now.known.operation
@@ -51,11 +51,11 @@ module _ (index : Indexed) (own : ℕ) (b : Backward) (now : IsOnItsWay index ow
         let found = state-ended_overwritten h o left now.ops ended (subst (IsSessionState h o left now.ops) start now.state) in
         (o, found.0, found.1, found.2, found.3, found.4, found.5, found.6, found.7)
 
-    pub explained-outcome : ¬ LacksSource h → b.start ≡ false → IsOrderedSession h own
+    pub explained-outcome : ¬ LacksSource h → b.start ≡ false → IsOrderedSession h b.own
     explained-outcome sources start i size =
         let list = state-ended_explained h o left now.ops ended sources now.known.operation (subst (IsSessionState h o left now.ops) start now.state) in
-        let last : length (session h own) - 1 ≡ i = omega arith in
-        (now.ops, subst (λ (j : ℕ). IsOrderOfPast h (op own j) now.ops) last list)
+        let last : length (session h b.own) - 1 ≡ i = omega arith in
+        (now.ops, subst (λ (j : ℕ). IsOrderOfPast h (op b.own j) now.ops) last list)
 
     no-readers : (n : ℕ) → slice_index_or b.readers.items n 0 ≡ 0
     no-readers n = ⊎_elim

@@ -12,7 +12,7 @@ use Rattle.memory_order.proofs.MemoryLaws.{same_read, write-of_history, write-or
 use Rattle.long_index.specs.Indexed.{Indexed}
 use Rattle.session_orders.specs.declared.backward.Backward.{Backward}
 use Rattle.session_orders.specs.Backward.{IsLeft, last_left, IsPlacing}
-use Rattle.session_orders.specs.OnItsWay.{CanBePlaced, HasSizes, IsPlaced, left_of}
+use Rattle.session_orders.specs.OnItsWay.{CanBePlaced, HasSizes, IsKnown, IsPlaced, left_of}
 use Rattle.session_orders.specs.SessionOrders.{last_op}
 use Rattle.session_orders.specs.SessionStates.{IsSessionState, OverwritesStart}
 use Rattle.session_orders.specs.Tables.{AreCounts, AreLocks, IsUnsourced, variable}
@@ -22,12 +22,12 @@ use Rattle.session_orders.proofs.Locks.{other-locks, read-locks, written-locks}
 use Rattle.session_orders.proofs.SessionSteps.{state-placed, state-overwritten}
 use Rattle.session_orders.proofs.Stuck.{past-own}
 
-module _ (index : Indexed) (own : ℕ) (b : Backward) (t : ℕ) (can : CanBePlaced index own b t) where
+module _ (index : Indexed) (b : Backward) (t : ℕ) (can : CanBePlaced index b t) where
   abbrev h : MemoryHistory
   h = index.history
 
   abbrev o : OpId
-  o = last_op index.history own
+  o = last_op index.history b.own
 
   abbrev left : ℕ → ℕ
   left = left_of index.history b
@@ -48,10 +48,10 @@ module _ (index : Indexed) (own : ℕ) (b : Backward) (t : ℕ) (can : CanBePlac
   p-left = let is_open = can.free.0 in omega arith
 
   p-op : IsOp h p
-  p-op = last-op index own b can.on_its_way t can.free.0
+  p-op = last-op index b can.on_its_way t can.free.0
 
   inside : (a : OpId) → IsLeft left a → a.session < length h.1
-  inside = left-session index own b can.on_its_way
+  inside = left-session index b can.on_its_way
 
   -- the operation itself is counted, if it is a write or reads from one
   pub writer-some : (x v : ℕ) → Writes h p x v → writes_in b (variable h index.variables p) ≢ 0
@@ -63,7 +63,7 @@ module _ (index : Indexed) (own : ℕ) (b : Backward) (t : ℕ) (can : CanBePlac
       some-reader h index.variables left (readers_in b) (writes_in b) can.on_its_way.counts inside u p (write-of_history h u from.0 from.1 from.2) p-left from
 
   -- only an operation of the session itself overwrites the start, and only a read of an initial value
-  pub other-kept : t ≢ own → ¬ OverwritesStart h o left p
+  pub other-kept : t ≢ b.own → ¬ OverwritesStart h o left p
   other-kept other (w, x, v, kept, reads, wrote, is_left) = other (program_past-parts o p kept).0
 
   pub unread-kept : ((x : ℕ) → ¬ Reads h p x (initial h x)) → ¬ OverwritesStart h o left p
@@ -76,12 +76,12 @@ module _ (index : Indexed) (own : ℕ) (b : Backward) (t : ℕ) (can : CanBePlac
       unwritten h index.variables left (readers_in b) (writes_in b) can.on_its_way.counts inside (variable h index.variables p) none w
       ((y, v, wrote), (can.on_its_way.known.variables w p y x (v, inl wrote) (initial h x, inr reads)).1 (sym same.0)) is_left
 
-  kept-own : t ≡ own → IsTrue (program_past o p)
+  kept-own : t ≡ b.own → IsTrue (program_past o p)
   kept-own same = past-own h o can.on_its_way.known.operation (λ before. can.on_its_way.known.straight (o, before)) p
       (can.on_its_way.state.backward.within p p-left) same
 
   -- else one is
-  pub written-overwrites : t ≡ own → (x : ℕ) → Reads h p x (initial h x) → writes_in b (variable h index.variables p) ≢ 0 → OverwritesStart h o left p
+  pub written-overwrites : t ≡ b.own → (x : ℕ) → Reads h p x (initial h x) → writes_in b (variable h index.variables p) ≢ 0 → OverwritesStart h o left p
   written-overwrites same x reads some =
       let found = written h index.variables left (readers_in b) (writes_in b) can.on_its_way.counts (variable h index.variables p) some in
       let w : OpId = found.0 in
@@ -91,7 +91,7 @@ module _ (index : Indexed) (own : ℕ) (b : Backward) (t : ℕ) (can : CanBePlac
       let key : y ≡ x = (can.on_its_way.known.variables w p y x (v, inl number_of.0.2) (initial h x, inr reads)).0 number_of.1 in
       (w, x, v, kept-own same, reads, subst (λ (z : ℕ). Writes h w z v) key number_of.0.2, found.1)
 
-  module _ (c : Backward) (sizes : HasSizes index c) (less : slice_index_or b.ends.items t 0 ≡ slice_index_or c.ends.items t 0 + 1)
+  module _ (c : Backward) (mine : c.own ≡ b.own) (sizes : HasSizes index c) (less : slice_index_or b.ends.items t 0 ≡ slice_index_or c.ends.items t 0 + 1)
       (others : (u : ℕ) → u ≢ t → slice_index_or c.ends.items u 0 ≡ slice_index_or b.ends.items u 0) where
     abbrev after : ℕ → ℕ
     after = left_of index.history c
@@ -103,16 +103,19 @@ module _ (index : Indexed) (own : ℕ) (b : Backward) (t : ℕ) (can : CanBePlac
     }
 
     placed-as : (start : Bool) → c.start ≡ start → IsSessionState h o after (p ∷ can.on_its_way.ops) start
-        → AreCounts h index.variables after (readers_in c) (writes_in c) → AreLocks h index.variables o after (lock_in c) → IsPlaced index own b c t
+        → AreCounts h index.variables after (readers_in c) (writes_in c) → AreLocks h index.variables o after (lock_in c)
+        → IsPlaced index b c t
     placed-as start same state counts locks = record {
       on_its_way = record {
-        known = can.on_its_way.known;
+        known = subst (IsKnown index) (sym mine) can.on_its_way.known;
         sizes = sizes;
         ops = p ∷ can.on_its_way.ops;
-        state = subst (IsSessionState h o after (p ∷ can.on_its_way.ops)) (sym same) state;
+        state = subst (λ (s : ℕ). IsSessionState h (last_op h s) after (p ∷ can.on_its_way.ops) c.start) (sym mine)
+            (subst (IsSessionState h o after (p ∷ can.on_its_way.ops)) (sym same) state);
         counts = counts;
-        locks = locks;
+        locks = subst (λ (s : ℕ). AreLocks h index.variables (last_op h s) after (lock_in c)) (sym mine) locks;
       };
+      own = mine;
       placing = placing;
     }
 
@@ -125,7 +128,7 @@ module _ (index : Indexed) (own : ℕ) (b : Backward) (t : ℕ) (can : CanBePlac
         → writes_in b (variable h index.variables p) ≡ writes_in c (variable h index.variables p) + 1
         → ((y : ℕ) → y ≢ variable h index.variables p → writes_in b y ≡ writes_in c y)
         → lock_in c (variable h index.variables p) ≡ None → ((y : ℕ) → y ≢ variable h index.variables p → lock_in c y ≡ lock_in b y)
-        → c.start ≡ b.start → IsPlaced index own b c t
+        → c.start ≡ b.start → IsPlaced index b c t
     write-placed x v wrote same one fewer opened locks start = placed-as b.start start
         (state-kept (λ overwrites. write-or_read h p p x v overwrites.1 (initial h overwrites.1) wrote overwrites.4 refl))
         ((counts-write h index.variables t left after placing can.exists (readers_in b) (readers_in c) (writes_in b) (writes_in c) x v wrote same one fewer).0
@@ -148,19 +151,19 @@ module _ (index : Indexed) (own : ℕ) (b : Backward) (t : ℕ) (can : CanBePlac
         (counts-read h index.variables t left after placing can.exists (readers_in b) (readers_in c) (writes_in b) (writes_in c)
         can.on_its_way.known.distinct u from one fewer same).0 can.on_its_way.counts
 
-    pub own_read-placed : t ≡ own → (u : OpId) → ReadsFrom h u p → readers_in b (number h u) ≡ readers_in c (number h u) + 1
+    pub own_read-placed : t ≡ b.own → (u : OpId) → ReadsFrom h u p → readers_in b (number h u) ≡ readers_in c (number h u) + 1
         → ((n : ℕ) → n ≢ number h u → readers_in b n ≡ readers_in c n) → ((x : ℕ) → writes_in b x ≡ writes_in c x)
         → lock_in c (variable h index.variables p) ≡ Some (number h u)
-        → ((y : ℕ) → y ≢ variable h index.variables p → lock_in c y ≡ lock_in b y) → c.start ≡ b.start → IsPlaced index own b c t
+        → ((y : ℕ) → y ≢ variable h index.variables p → lock_in c y ≡ lock_in b y) → c.start ≡ b.start → IsPlaced index b c t
     own_read-placed same u from one fewer writes locked locks start = placed-as b.start start (state-kept (source-kept u from))
         (read-counts u from one fewer writes)
         (read-locks h o t left after placing index.variables can.on_its_way.known.variables (lock_in b) can.on_its_way.locks can.free.1
         can.on_its_way.known.distinct u from same (kept-own same)
         (can.on_its_way.state.order.causes u p (leads-edge (IsEdge h) u p (inr from)) p-left) (lock_in c) locked locks)
 
-    pub other_read-placed : t ≢ own → (u : OpId) → ReadsFrom h u p → readers_in b (number h u) ≡ readers_in c (number h u) + 1
+    pub other_read-placed : t ≢ b.own → (u : OpId) → ReadsFrom h u p → readers_in b (number h u) ≡ readers_in c (number h u) + 1
         → ((n : ℕ) → n ≢ number h u → readers_in b n ≡ readers_in c n) → ((x : ℕ) → writes_in b x ≡ writes_in c x)
-        → ((y : ℕ) → lock_in c y ≡ lock_in b y) → c.start ≡ b.start → IsPlaced index own b c t
+        → ((y : ℕ) → lock_in c y ≡ lock_in b y) → c.start ≡ b.start → IsPlaced index b c t
     other_read-placed other u from one fewer writes locks start = placed-as b.start start (state-kept (source-kept u from))
         (read-counts u from one fewer writes)
         (other-locks h o t left after placing index.variables can.on_its_way.known.variables (lock_in b) can.on_its_way.locks can.free.1
@@ -177,10 +180,10 @@ module _ (index : Indexed) (own : ℕ) (b : Backward) (t : ℕ) (can : CanBePlac
       same-locks = other-locks h o t left after placing index.variables can.on_its_way.known.variables (lock_in b) can.on_its_way.locks can.free.1
           none.0 (λ kept w. none.1 w) (lock_in c) locks
 
-      pub other-placed : ¬ OverwritesStart h o left p → c.start ≡ b.start → IsPlaced index own b c t
+      pub other-placed : ¬ OverwritesStart h o left p → c.start ≡ b.start → IsPlaced index b c t
       other-placed right start = placed-as b.start start (state-kept right) same-counts same-locks
 
-      pub overwritten-placed : OverwritesStart h o left p → c.start ≡ true → IsPlaced index own b c t
+      pub overwritten-placed : OverwritesStart h o left p → c.start ≡ true → IsPlaced index b c t
       overwritten-placed overwrites start = placed-as true start
           (state-overwritten h can.on_its_way.known.straight o can.on_its_way.known.operation t left after placing can.free.1 can.turn can.on_its_way.ops b.start
           can.on_its_way.state overwrites)

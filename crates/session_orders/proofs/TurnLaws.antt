@@ -65,23 +65,23 @@ module _ (h : MemoryHistory) where
         let place = lists.each t (session-of_history h (record { session = t; index = 0 }) has) has in
         (place.0, slice_get_within xs place.0 t place.1, get_or_from_slice_get xs place.0 t 0 place.1)
 
-module _ (index : Indexed) (own : ℕ) (b : Backward) (now : IsOnItsWay index own b) (xs : List ℕ)
+module _ (index : Indexed) (b : Backward) (now : IsOnItsWay index b) (xs : List ℕ)
     (lists : ListsSessions index.history (length index.history.1) xs) where
   abbrev left : ℕ → ℕ
   left = left_of index.history b
 
   pub open-place : (t : ℕ) → IsOpen left t → (i : ℕ) × (i < length xs) × (slice_index_or xs i 0 ≡ t)
   open-place t is_open =
-      let is_op = last-op index own b now t is_open in
+      let is_op = last-op index b now t is_open in
       listed-place index.history xs lists t (omega arith)
 
   -- where all places were passed, no other session can go on
-  pub others-stopped : (at : ℕ) → AreStopped index own b xs at (length xs) → AreStopped index own b xs 0 at
-      → AreOthersBlocked index.history (last_op index.history own) left
+  pub others-stopped : (at : ℕ) → AreStopped index b xs at (length xs) → AreStopped index b xs 0 at
+      → AreOthersBlocked index.history (last_op index.history b.own) left
   others-stopped at behind before t other is_open =
       let place = open-place t is_open in
       let same : slice_index_or xs place.0 0 ≡ t = place.2 in
-      subst (IsStopped index own b) same (⊎_elim
+      subst (IsStopped index b) same (⊎_elim
       (λ (lower : place.0 < at).
       before place.0 (omega arith) lower (λ is. other (sym same ∙ is)) (subst (IsOpen left) (sym same) is_open))
       (λ (higher : at ≤ place.0).
@@ -89,9 +89,9 @@ module _ (index : Indexed) (own : ℕ) (b : Backward) (now : IsOnItsWay index ow
       (cases_lt place.0 at))
 
   -- nor any, where the session itself can't
-  pub all-stopped : AreOthersBlocked index.history (last_op index.history own) left → (IsOpen left own → IsStopped index own b own)
-      → (t : ℕ) → IsOpen left t → IsStopped index own b t
+  pub all-stopped : AreOthersBlocked index.history (last_op index.history b.own) left → (IsOpen left b.own → IsStopped index b b.own)
+      → (t : ℕ) → IsOpen left t → IsStopped index b t
   all-stopped others own_stopped t is_open = ⊎_elim
-      (λ (same : t ≡ own). subst (IsStopped index own b) (sym same) (own_stopped (subst (IsOpen left) same is_open)))
-      (λ (apart : t ≢ own). others t apart is_open)
-      (cases_eq t own)
+      (λ (same : t ≡ b.own). subst (IsStopped index b) (sym same) (own_stopped (subst (IsOpen left) same is_open)))
+      (λ (apart : t ≢ b.own). others t apart is_open)
+      (cases_eq t b.own)

@@ -56,34 +56,34 @@ pub record IsClear (index : Indexed) (b : Backward) : Type 0 where
   pub unlocked : (x : ℕ) → slice_index_or b.locks.items x None ≡ None
 
 -- the operations that are not left any more are in a list, and what is left is counted and locked
-pub record IsOnItsWay (index : Indexed) (own : ℕ) (b : Backward) : Type 0 where
-  pub known : IsKnown index own
+pub record IsOnItsWay (index : Indexed) (b : Backward) : Type 0 where
+  pub known : IsKnown index b.own
   pub sizes : HasSizes index b
   pub ops : List OpId
-  pub state : IsSessionState index.history (last_op index.history own) (left_of index.history b) ops b.start
+  pub state : IsSessionState index.history (last_op index.history b.own) (left_of index.history b) ops b.start
   pub counts : HasCounts index (left_of index.history b) b
-  pub locks : AreLocks index.history index.variables (last_op index.history own) (left_of index.history b) (λ x. slice_index_or b.locks.items x None)
+  pub locks : AreLocks index.history index.variables (last_op index.history b.own) (left_of index.history b) (λ x. slice_index_or b.locks.items x None)
 
 -- the session t cannot go on
-abbrev pub IsStopped : Indexed → ℕ → Backward → ℕ → Type 0
-IsStopped index own b t = IsBlocked index.history (last_op index.history own) (left_of index.history b) t
+abbrev pub IsStopped : Indexed → Backward → ℕ → Type 0
+IsStopped index b t = IsBlocked index.history (last_op index.history b.own) (left_of index.history b) t
 
 -- it can
-abbrev pub IsFree : Indexed → ℕ → Backward → ℕ → Type 0
-IsFree index own b t = IsOpen (left_of index.history b) t × ¬ IsStopped index own b t
+abbrev pub IsFree : Indexed → Backward → ℕ → Type 0
+IsFree index b t = IsOpen (left_of index.history b) t × ¬ IsStopped index b t
 
 -- a write that is locked stands in the way of the operation a of the session t
-abbrev pub IsShutOut : Indexed → ℕ → Backward → ℕ → OpId → Type 0
-IsShutOut index own b t a =
-    IsLockedOut index.history (last_op index.history own) (left_of index.history b) a
-    ⊎ ((t ≡ own) × ReadsLockedOut index.history (last_op index.history own) (left_of index.history b) a)
+abbrev pub IsShutOut : Indexed → Backward → ℕ → OpId → Type 0
+IsShutOut index b t a =
+    IsLockedOut index.history (last_op index.history b.own) (left_of index.history b) a
+    ⊎ ((t ≡ b.own) × ReadsLockedOut index.history (last_op index.history b.own) (left_of index.history b) a)
 
 -- the last operation of the session t that is left is the next to be placed
-pub record CanBePlaced (index : Indexed) (own : ℕ) (b : Backward) (t : ℕ) : Type 0 where
-  pub on_its_way : IsOnItsWay index own b
+pub record CanBePlaced (index : Indexed) (b : Backward) (t : ℕ) : Type 0 where
+  pub on_its_way : IsOnItsWay index b
   pub exists : t < length index.history.1
-  pub free : IsFree index own b t
-  pub turn : t ≡ own → AreOthersBlocked index.history (last_op index.history own) (left_of index.history b)
+  pub free : IsFree index b t
+  pub turn : t ≡ b.own → AreOthersBlocked index.history (last_op index.history b.own) (left_of index.history b)
 
 -- it has the number n, and what is known of it is p
 pub record IsNextPart (index : Indexed) (b : Backward) (t n : ℕ) (p : Part) : Type 0 where
@@ -91,15 +91,16 @@ pub record IsNextPart (index : Indexed) (b : Backward) (t n : ℕ) (p : Part) : 
   pub part : IsPart index.history (last_left (left_of index.history b) t) p
 
 -- and has been placed
-pub record IsPlaced (index : Indexed) (own : ℕ) (b after : Backward) (t : ℕ) : Type 0 where
-  pub on_its_way : IsOnItsWay index own after
+pub record IsPlaced (index : Indexed) (b after : Backward) (t : ℕ) : Type 0 where
+  pub on_its_way : IsOnItsWay index after
+  pub own : after.own ≡ b.own
   pub placing : IsPlacing t (left_of index.history b) (left_of index.history after)
 
--- of the sessions at the places from i on and below n of a list each but own is done or stopped
-abbrev pub AreStopped : Indexed → ℕ → Backward → List ℕ → ℕ → ℕ → Type 0
-AreStopped index own b sessions i n =
-    (j : ℕ) → i ≤ j → j < n → slice_index_or sessions j 0 ≢ own → IsOpen (left_of index.history b) (slice_index_or sessions j 0)
-    → IsStopped index own b (slice_index_or sessions j 0)
+-- of the sessions at the places from i on and below n of a list each but its own is done or stopped
+abbrev pub AreStopped : Indexed → Backward → List ℕ → ℕ → ℕ → Type 0
+AreStopped index b sessions i n =
+    (j : ℕ) → i ≤ j → j < n → slice_index_or sessions j 0 ≢ b.own → IsOpen (left_of index.history b) (slice_index_or sessions j 0)
+    → IsStopped index b (slice_index_or sessions j 0)
 
 -- the list has the sessions below m that have operations
 pub record ListsSessions (h : MemoryHistory) (m : ℕ) (sessions : List ℕ) : Type 0 where

@@ -19,6 +19,8 @@ use std::alloc::{AllocError, Global};
 /// What is left to place of the past of a session's last operation, and what decides which session can go on.
 #[derive(Drop)]
 pub(crate) struct Backward {
+    /// The session.
+    pub(crate) own: u32,
     /// Of each session the number after that of its last operation that is left.
     pub(crate) ends: Vec<u32>,
     /// Of each operation how many reads of it are left.
@@ -38,6 +40,7 @@ impl Backward {
         ensures { IfOk result (IsClear index.now) }
     {
         Ok(Backward {
+            own: 0,
             ends: vec![in alloc; 0; index.sessions() as usize]?,
             readers: vec![in alloc; 0; index.operations() as usize]?,
             writes: vec![in alloc; 0; index.variables() as usize]?,
@@ -51,8 +54,10 @@ impl Backward {
         requires known { IsKnown index.now own }
         requires order { IsOrderBy index.now.history [] order.now }
         requires clear { IsClear index.now self.old }
-        ensures { IsOnItsWay index.now own self.new }
+        ensures on_its_way { IsOnItsWay index.now self.new }
+        ensures own { self.new.own ≡ own }
     {
+        self.own = own;
         leave_past(index, order, own, &mut self.ends);
         self.count(index);
         self.start = false;
@@ -69,6 +74,7 @@ impl Backward {
         ensures sizes { HasSizes index.now self.new }
         ensures ends { self.new.ends.items ≡ self.old.ends.items }
         ensures locks { self.new.locks.items ≡ self.old.locks.items }
+        ensures own { self.new.own ≡ self.old.own }
         ensures counts { HasCounts index.now (left_of index.now.history self.new) self.new }
     {
         for operation in 0..index.operations() {
@@ -87,6 +93,7 @@ impl Backward {
         ensures sizes { HasSizes index.now self.new }
         ensures ends { self.new.ends.items ≡ self.old.ends.items }
         ensures locks { self.new.locks.items ≡ self.old.locks.items }
+        ensures own { self.new.own ≡ self.old.own }
         ensures most { CountsUpTo (operation + 1) self.new }
         ensures counted { HasCounts index.now (left_under index.now.history self.old.ends.items operation) self.old
             → HasCounts index.now (left_under index.now.history self.old.ends.items (operation + 1)) self.new }

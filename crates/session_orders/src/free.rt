@@ -12,11 +12,11 @@ use long_index::{LongIndex, Part};
 
 impl Backward {
     /// Whether the last operation of a session that is left can be placed: no read of it is left, and it stands in no lock's way. O(1).
-    pub(crate) fn is_free(&self, index: &LongIndex, own: u32, session: u32) -> bool
-        requires on_its_way { IsOnItsWay index.now own self.now }
+    pub(crate) fn is_free(&self, index: &LongIndex, session: u32) -> bool
+        requires on_its_way { IsOnItsWay index.now self.now }
         requires exists { session < length index.now.history.1 }
-        ensures free { IsTrue result → IsFree index.now own self.now session }
-        ensures stopped { ¬ IsTrue result → IsOpen (left_of index.now.history self.now) session → IsStopped index.now own self.now session }
+        ensures free { IsTrue result → IsFree index.now self.now session }
+        ensures stopped { ¬ IsTrue result → IsOpen (left_of index.now.history self.now) session → IsStopped index.now self.now session }
     {
         let end = self.ends[session as usize];
         if end <= index.start(session) {
@@ -26,21 +26,21 @@ impl Backward {
         if self.readers[last as usize] > 0 {
             return false;
         }
-        self.is_admitted(index, own, session, last)
+        self.is_admitted(index, session, last)
     }
 
     /// Whether no lock stands in the way of an operation of a session.
-    fn is_admitted(&self, index: &LongIndex, own: u32, session: u32, operation: u32) -> bool
-        requires on_its_way { IsOnItsWay index.now own self.now }
+    fn is_admitted(&self, index: &LongIndex, session: u32, operation: u32) -> bool
+        requires on_its_way { IsOnItsWay index.now self.now }
         requires below { operation < many index.now.history }
         ensures admitted { (a : Operation) → IsOp index.now.history a → number index.now.history a ≡ operation → IsTrue result
-            → ¬ IsShutOut index.now own self.now session a }
+            → ¬ IsShutOut index.now self.now session a }
         ensures shut_out { (a : Operation) → IsOp index.now.history a → number index.now.history a ≡ operation → ¬ IsTrue result
-            → IsShutOut index.now own self.now session a }
+            → IsShutOut index.now self.now session a }
     {
         match index.part(operation) {
             Part::Write => self.admits(index.variable(operation), operation),
-            Part::SourcedRead(source) => session != own
+            Part::SourcedRead(source) => session != self.own
                 || self.admits(index.variable(operation), source),
             Part::InitialRead | Part::ThinAirRead | Part::UnknownRead => true,
         }

@@ -70,24 +70,24 @@ fn order_session(
     ensures sessions { IfOk result (λ _. turns.new.sessions.items ≡ turns.old.sessions.items) }
 {
     backward.begin(index, order, own);
-    while let Some(session) = backward.next_session(index, own, turns) {
-        let hint = backward.place(index, own, session);
+    while let Some(session) = backward.next_session(index, turns) {
+        let hint = backward.place(index, session);
         turns.take_hint(hint)?;
     }
-    Ok(backward.outcome(index, own, &turns.sessions))
+    Ok(backward.outcome(index, &turns.sessions))
 }
 
 impl Backward {
     /// What it says of a session that none can go on.
-    fn outcome(&self, index: &LongIndex, own: u32, sessions: &[u32]) -> SessionOrder
-        requires on_its_way { IsOnItsWay index.now own self.now }
+    fn outcome(&self, index: &LongIndex, sessions: &[u32]) -> SessionOrder
+        requires on_its_way { IsOnItsWay index.now self.now }
         requires sources { ¬ LacksSource index.now.history }
         requires sessions { ListsSessions index.now.history (length index.now.history.1) sessions.now }
-        requires stuck { (t : ℕ) → IsOpen (left_of index.now.history self.now) t → IsStopped index.now own self.now t }
-        ensures outcome { IsOutcome index.now.history own result }
+        requires stuck { (t : ℕ) → IsOpen (left_of index.now.history self.now) t → IsStopped index.now self.now t }
+        ensures outcome { IsOutcome index.now.history self.now.own result }
         ensures clear { result ≡ Explained → IsClear index.now self.now }
     {
-        if self.is_any_left(index, own, sessions) {
+        if self.is_any_left(index, sessions) {
             SessionOrder::Cyclic
         } else if self.start {
             SessionOrder::StartOverwritten
@@ -97,8 +97,8 @@ impl Backward {
     }
 
     /// Whether an operation is left.
-    fn is_any_left(&self, index: &LongIndex, own: u32, sessions: &[u32]) -> bool
-        requires on_its_way { IsOnItsWay index.now own self.now }
+    fn is_any_left(&self, index: &LongIndex, sessions: &[u32]) -> bool
+        requires on_its_way { IsOnItsWay index.now self.now }
         requires sessions { ListsSessions index.now.history (length index.now.history.1) sessions.now }
         ensures some { IsTrue result → (t : ℕ) × IsOpen (left_of index.now.history self.now) t }
         ensures none { ¬ IsTrue result → (t : ℕ) → ¬ IsOpen (left_of index.now.history self.now) t }

@@ -3,11 +3,7 @@
 ghost use Rattle.std.specs.Prelude.{◌≡◌, ◌≢◌, ◌<◌, ℕ, length, None, slice_index_or};
 ghost use Rattle.long_history.specs.Steps.{many};
 ghost use Rattle.long_index.specs.declared.part.Part.TheVariants.{InitialRead, SourcedRead, Write};
-ghost use Rattle.session_orders.specs.Backward.{last_left};
-ghost use Rattle.session_orders.specs.OnItsWay.{CanBePlaced, HasSizes, IsNextPart, IsPlaced, left_of};
-ghost use Rattle.session_orders.specs.SessionOrders.{last_op};
-ghost use Rattle.session_orders.specs.SessionStates.{OverwritesStart};
-ghost use Rattle.session_orders.specs.Tables.{IsUnsourced};
+ghost use Rattle.session_orders.specs.OnItsWay.{CanBePlaced, HasSizes, IsNextPart, IsPlaced};
 
 use crate::backward::Backward;
 use crate::numbers::take_one;
@@ -17,13 +13,13 @@ impl Backward {
     /// Places the last operation of a session that is left, and names a session that may be able to go on since then, if there is one.
     ///
     /// O(1).
-    pub(crate) fn place(&mut self, index: &LongIndex, own: u32, session: u32) -> Option<u32>
-        requires { CanBePlaced index.now own self.old session }
-        ensures { IsPlaced index.now own self.old self.new session }
+    pub(crate) fn place(&mut self, index: &LongIndex, session: u32) -> Option<u32>
+        requires { CanBePlaced index.now self.old session }
+        ensures { IsPlaced index.now self.old self.new session }
     {
         let last = self.ends[session as usize] - 1;
         let part = index.part(last);
-        self.place_part(index, own, session, last, part);
+        self.place_part(index, session, last, part);
         self.freed_by(index, part)
     }
 
@@ -41,27 +37,27 @@ impl Backward {
     }
 
     /// Places it by what is known of it.
-    fn place_part(&mut self, index: &LongIndex, own: u32, session: u32, last: u32, part: Part)
-        requires next { CanBePlaced index.now own self.old session }
+    fn place_part(&mut self, index: &LongIndex, session: u32, last: u32, part: Part)
+        requires next { CanBePlaced index.now self.old session }
         requires below { last < many index.now.history }
         requires source_below { (n : ℕ) → part ≡ SourcedRead n → n < many index.now.history }
         requires part { IsNextPart index.now self.old session last part }
-        ensures { IsPlaced index.now own self.old self.new session }
+        ensures { IsPlaced index.now self.old self.new session }
     {
         match part {
-            Part::Write => self.place_write(index, own, session, last),
-            Part::SourcedRead(source) => self.place_read(index, own, session, last, source),
-            Part::InitialRead => self.place_initial_read(index, own, session, last),
-            Part::ThinAirRead | Part::UnknownRead => self.place_other(index, own, session),
+            Part::Write => self.place_write(index, session, last),
+            Part::SourcedRead(source) => self.place_read(index, session, last, source),
+            Part::InitialRead => self.place_initial_read(index, session, last),
+            Part::ThinAirRead | Part::UnknownRead => take_one(&mut self.ends, session),
         }
     }
 
     /// Places a write, which opens its variable.
-    fn place_write(&mut self, index: &LongIndex, own: u32, session: u32, write: u32)
-        requires next { CanBePlaced index.now own self.old session }
+    fn place_write(&mut self, index: &LongIndex, session: u32, write: u32)
+        requires next { CanBePlaced index.now self.old session }
         requires below { write < many index.now.history }
         requires part { IsNextPart index.now self.old session write Write }
-        ensures { IsPlaced index.now own self.old self.new session }
+        ensures { IsPlaced index.now self.old self.new session }
     {
         let variable = index.variable(write);
         take_one(&mut self.ends, session);
@@ -69,102 +65,35 @@ impl Backward {
         set_lock(&mut self.locks, variable, None);
     }
 
-    /// Places a read of a written value.
-    fn place_read(&mut self, index: &LongIndex, own: u32, session: u32, read: u32, source: u32)
-        requires next { CanBePlaced index.now own self.old session }
+    /// Places a read of a written value, which locks its variable for its source, if it is of the session itself.
+    fn place_read(&mut self, index: &LongIndex, session: u32, read: u32, source: u32)
+        requires next { CanBePlaced index.now self.old session }
         requires below { read < many index.now.history }
         requires source_below { source < many index.now.history }
         requires part { IsNextPart index.now self.old session read (SourcedRead source) }
-        ensures { IsPlaced index.now own self.old self.new session }
-    {
-        if session == own {
-            self.place_own_read(index, own, read, source);
-        } else {
-            self.place_other_read(index, own, session, read, source);
-        }
-    }
-
-    /// Places one of the session itself, which locks its variable for its source.
-    fn place_own_read(&mut self, index: &LongIndex, own: u32, read: u32, source: u32)
-        requires next { CanBePlaced index.now own self.old own }
-        requires below { read < many index.now.history }
-        requires source_below { source < many index.now.history }
-        requires part { IsNextPart index.now self.old own read (SourcedRead source) }
-        ensures { IsPlaced index.now own self.old self.new own }
-    {
-        let variable = index.variable(read);
-        take_one(&mut self.ends, own);
-        take_one(&mut self.readers, source);
-        set_lock(&mut self.locks, variable, Some(source));
-    }
-
-    /// Places one of another session.
-    fn place_other_read(
-        &mut self,
-        index: &LongIndex,
-        own: u32,
-        session: u32,
-        read: u32,
-        source: u32,
-    )
-        requires next { CanBePlaced index.now own self.old session }
-        requires other { session ≢ own }
-        requires source_below { source < many index.now.history }
-        requires part { IsNextPart index.now self.old session read (SourcedRead source) }
-        ensures { IsPlaced index.now own self.old self.new session }
+        ensures { IsPlaced index.now self.old self.new session }
     {
         take_one(&mut self.ends, session);
         take_one(&mut self.readers, source);
+        if session == self.own {
+            set_lock(&mut self.locks, index.variable(read), Some(source));
+        }
     }
 
-    /// Places a read of an initial value.
-    fn place_initial_read(&mut self, index: &LongIndex, own: u32, session: u32, read: u32)
-        requires next { CanBePlaced index.now own self.old session }
+    /// Places a read of an initial value, and notes if it is of the session itself and a write of its variable is left.
+    fn place_initial_read(&mut self, index: &LongIndex, session: u32, read: u32)
+        requires next { CanBePlaced index.now self.old session }
         requires below { read < many index.now.history }
         requires part { IsNextPart index.now self.old session read InitialRead }
-        ensures { IsPlaced index.now own self.old self.new session }
-    {
-        if session != own {
-            self.place_other(index, own, session);
-        } else {
-            self.place_own_initial_read(index, own, read);
-        }
-    }
-
-    /// Places one of the session itself.
-    fn place_own_initial_read(&mut self, index: &LongIndex, own: u32, read: u32)
-        requires next { CanBePlaced index.now own self.old own }
-        requires below { read < many index.now.history }
-        requires part { IsNextPart index.now self.old own read InitialRead }
-        ensures { IsPlaced index.now own self.old self.new own }
-    {
-        if self.writes[index.variable(read) as usize] == 0 {
-            self.place_other(index, own, own);
-        } else {
-            self.place_overwritten(index, own, read);
-        }
-    }
-
-    /// Places one of the session itself while a write of its variable is left.
-    fn place_overwritten(&mut self, index: &LongIndex, own: u32, read: u32)
-        requires next { CanBePlaced index.now own self.old own }
-        requires part { IsNextPart index.now self.old own read InitialRead }
-        requires written { slice_index_or self.old.writes.items (slice_index_or index.now.variables read 0) 0 ≢ 0 }
-        ensures { IsPlaced index.now own self.old self.new own }
-    {
-        take_one(&mut self.ends, own);
-        self.start = true;
-    }
-
-    /// Places an operation that neither writes nor read from a write.
-    fn place_other(&mut self, index: &LongIndex, own: u32, session: u32)
-        requires next { CanBePlaced index.now own self.old session }
-        requires unsourced { IsUnsourced index.now.history (last_left (left_of index.now.history self.old) session) }
-        requires kept { ¬ OverwritesStart index.now.history (last_op index.now.history own) (left_of index.now.history self.old)
-            (last_left (left_of index.now.history self.old) session) }
-        ensures { IsPlaced index.now own self.old self.new session }
+        ensures { IsPlaced index.now self.old self.new session }
     {
         take_one(&mut self.ends, session);
+        if session != self.own {
+            return;
+        }
+        if self.writes[index.variable(read) as usize] > 0 {
+            self.start = true;
+        }
     }
 }
 

@@ -67,34 +67,34 @@ impl Backward {
     /// none where that can't either.
     ///
     /// O(1) where a hint is good, else O(k) for k sessions with operations.
-    pub(crate) fn next_session(&self, index: &LongIndex, own: u32, turns: &mut Turns) -> Option<u32>
-        requires on_its_way { IsOnItsWay index.now own self.now }
+    pub(crate) fn next_session(&self, index: &LongIndex, turns: &mut Turns) -> Option<u32>
+        requires on_its_way { IsOnItsWay index.now self.now }
         requires sessions { ListsSessions index.now.history (length index.now.history.1) turns.old.sessions.items }
         ensures sessions { turns.new.sessions.items ≡ turns.old.sessions.items }
-        ensures next { IfSome result (CanBePlaced index.now own self.now) }
-        ensures stuck { IfNone result ((t : ℕ) → IsOpen (left_of index.now.history self.now) t → IsStopped index.now own self.now t) }
+        ensures next { IfSome result (CanBePlaced index.now self.now) }
+        ensures stuck { IfNone result ((t : ℕ) → IsOpen (left_of index.now.history self.now) t → IsStopped index.now self.now t) }
     {
-        if let Some(session) = self.hinted(index, own, &mut turns.hints) {
+        if let Some(session) = self.hinted(index, &mut turns.hints) {
             return Some(session);
         }
-        if let Some(place) = self.free_other(index, own, &turns.sessions, turns.at) {
+        if let Some(place) = self.free_other(index, &turns.sessions, turns.at) {
             turns.at = place;
             return Some(turns.sessions[place]);
         }
-        if self.is_free(index, own, own) {
-            Some(own)
+        if self.is_free(index, self.own) {
+            Some(self.own)
         } else {
             None
         }
     }
 
     /// The session of the newest hint that is good, after those that aren't are dropped.
-    fn hinted(&self, index: &LongIndex, own: u32, hints: &mut Vec<u32>) -> Option<u32>
-        requires { IsOnItsWay index.now own self.now }
-        ensures { IfSome result (CanBePlaced index.now own self.now) }
+    fn hinted(&self, index: &LongIndex, hints: &mut Vec<u32>) -> Option<u32>
+        requires { IsOnItsWay index.now self.now }
+        ensures { IfSome result (CanBePlaced index.now self.now) }
     {
         while let Some(session) = hints.last().copied() {
-            if session < index.sessions() && self.is_free_other(index, own, session) {
+            if session < index.sessions() && self.is_free_other(index, session) {
                 return Some(session);
             }
             let _dropped = hints.pop();
@@ -103,18 +103,18 @@ impl Backward {
     }
 
     /// The place of the first session from a place on, and then round, that is another one and can go on.
-    fn free_other(&self, index: &LongIndex, own: u32, sessions: &[u32], at: usize) -> Option<usize>
-        requires on_its_way { IsOnItsWay index.now own self.now }
+    fn free_other(&self, index: &LongIndex, sessions: &[u32], at: usize) -> Option<usize>
+        requires on_its_way { IsOnItsWay index.now self.now }
         requires sessions { ListsSessions index.now.history (length index.now.history.1) sessions.now }
         ensures inside { IfSome result (λ place. place < length sessions.now) }
-        ensures next { IfSome result (λ place. CanBePlaced index.now own self.now (slice_index_or sessions.now place 0)) }
+        ensures next { IfSome result (λ place. CanBePlaced index.now self.now (slice_index_or sessions.now place 0)) }
         ensures none { IfNone result
-            (AreOthersBlocked index.now.history (last_op index.now.history own) (left_of index.now.history self.now)) }
+            (AreOthersBlocked index.now.history (last_op index.now.history self.now.own) (left_of index.now.history self.now)) }
     {
         let at = at.min(sessions.len());
-        match self.free_among(index, own, sessions, at, sessions.len()) {
+        match self.free_among(index, sessions, at, sessions.len()) {
             Some(place) => Some(place),
-            None => self.free_among(index, own, sessions, 0, at),
+            None => self.free_among(index, sessions, 0, at),
         }
     }
 
@@ -122,20 +122,19 @@ impl Backward {
     fn free_among(
         &self,
         index: &LongIndex,
-        own: u32,
         sessions: &[u32],
         from: usize,
         end: usize,
     ) -> Option<usize>
-        requires on_its_way { IsOnItsWay index.now own self.now }
+        requires on_its_way { IsOnItsWay index.now self.now }
         requires sessions { ListsSessions index.now.history (length index.now.history.1) sessions.now }
         requires inside { end ≤ length sessions.now }
         ensures inside { IfSome result (λ place. place < length sessions.now) }
-        ensures next { IfSome result (λ place. CanBePlaced index.now own self.now (slice_index_or sessions.now place 0)) }
-        ensures none { IfNone result (AreStopped index.now own self.now sessions.now from end) }
+        ensures next { IfSome result (λ place. CanBePlaced index.now self.now (slice_index_or sessions.now place 0)) }
+        ensures none { IfNone result (AreStopped index.now self.now sessions.now from end) }
     {
         for place in from..end {
-            if self.is_free_other(index, own, sessions[place]) {
+            if self.is_free_other(index, sessions[place]) {
                 return Some(place);
             }
         }
@@ -143,16 +142,16 @@ impl Backward {
     }
 
     /// Whether a session is another one and can go on.
-    fn is_free_other(&self, index: &LongIndex, own: u32, session: u32) -> bool
-        requires on_its_way { IsOnItsWay index.now own self.now }
+    fn is_free_other(&self, index: &LongIndex, session: u32) -> bool
+        requires on_its_way { IsOnItsWay index.now self.now }
         requires exists { session < length index.now.history.1 }
-        ensures next { IsTrue result → CanBePlaced index.now own self.now session }
-        ensures stopped { ¬ IsTrue result → session ≢ own → IsOpen (left_of index.now.history self.now) session
-            → IsStopped index.now own self.now session }
+        ensures next { IsTrue result → CanBePlaced index.now self.now session }
+        ensures stopped { ¬ IsTrue result → session ≢ self.now.own → IsOpen (left_of index.now.history self.now) session
+            → IsStopped index.now self.now session }
     {
-        if session == own {
+        if session == self.own {
             return false;
         }
-        self.is_free(index, own, session)
+        self.is_free(index, session)
     }
 }

@@ -5,7 +5,8 @@ use Rattle.session_orders.proofs.ordering.order_session.Given as goal
 
 abbrev pub invariant-loop-session : goal.invariant-loop-session
 invariant-loop-session l = record {
-  on_its_way : IsOnItsWay l.index l.own l.backward;
+  on_its_way : IsOnItsWay l.index l.backward;
+  own : l.backward.own ≡ l.own;
   sessions : l.turns.sessions.items ≡ l.initial.turns.sessions.items;
 }
 

@@ -8,6 +8,7 @@ abbrev pub invariant-loop-operation : goal.invariant-loop-operation
 invariant-loop-operation l = record {
   sizes : HasSizes l.index l.self;
   ends : l.self.ends.items ≡ l.initial.self.ends.items;
+  own : l.self.own ≡ l.initial.self.own;
   locks : l.self.locks.items ≡ l.initial.self.locks.items;
   most : CountsUpTo l.operation l.self;
   counts : HasCounts l.index (left_under l.index.history l.self.ends.items l.operation) l.self;

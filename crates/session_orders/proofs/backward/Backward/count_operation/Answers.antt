@@ -46,7 +46,7 @@ returns-in-Write-clause-counted c =
     let wrote = c.in-Write.ensures.part a found.1 at in
     let place : c.variable.result ≡ variable h variables a = c.variable.ensures.variable ∙ ap (λ (n : ℕ). slice_index_or variables n 0) (sym at) in
     subst (λ (n : ℕ). HasCounts c.args.index.now (left_under h ends n) c.args.self.now
-    → HasCounts c.args.index.now (left_under h ends (n + 1)) (record { ends = c.args.self.now.ends; readers = c.args.self.now.readers; writes = c.add_one.new.numbers; locks = c.args.self.now.locks; start = c.args.self.now.start })) at
+    → HasCounts c.args.index.now (left_under h ends (n + 1)) (record { own = c.args.self.now.own; ends = c.args.self.now.ends; readers = c.args.self.now.readers; writes = c.add_one.new.numbers; locks = c.args.self.now.locks; start = c.args.self.now.start })) at
     (counted-write h ends c.requires.within a found.1 variables (omega arith)
     (λ n. slice_index_or c.args.self.now.readers.items n 0) (λ n. slice_index_or c.args.self.now.readers.items n 0)
     (λ x. slice_index_or c.args.self.now.writes.items x 0) (λ x. slice_index_or c.add_one.new.numbers.items x 0)
@@ -70,7 +70,7 @@ returns-in-SourcedRead-clause-counted c =
     let from = c.in-SourcedRead.ensures.part a found.1 at in
     let added = c.add_one-in-SourcedRead.new.numbers in
     subst (λ (n : ℕ). HasCounts c.args.index.now (left_under h ends n) c.args.self.now
-    → HasCounts c.args.index.now (left_under h ends (n + 1)) (record { ends = c.args.self.now.ends; readers = added; writes = c.args.self.now.writes; locks = c.args.self.now.locks; start = c.args.self.now.start })) at
+    → HasCounts c.args.index.now (left_under h ends (n + 1)) (record { own = c.args.self.now.own; ends = c.args.self.now.ends; readers = added; writes = c.args.self.now.writes; locks = c.args.self.now.locks; start = c.args.self.now.start })) at
     (counted-read h ends c.requires.within a found.1 variables (omega arith)
     (λ n. slice_index_or c.args.self.now.readers.items n 0) (λ n. slice_index_or added.items n 0)
     (λ x. slice_index_or c.args.self.now.writes.items x 0) (λ x. slice_index_or c.args.self.now.writes.items x 0)
@@ -96,6 +96,7 @@ returns-in-InitialRead c =
       sizes = c.requires.sizes;
       ends = refl;
       locks = refl;
+      own = refl;
       most = record {
         readers = λ n. (let up_to = c.requires.most.readers n in omega arith);
         writes = λ x. (let up_to = c.requires.most.writes x in omega arith);

@@ -13,9 +13,9 @@ is_free_other-requires-clause-exists c =
 pub loop-place-preserved : goal.loop-place-preserved
 loop-place-preserved c j from below other is_open = ⊎_elim
     (λ (here : j ≡ c.loop-place.place).
-    subst (λ (n : ℕ). slice_index_or c.args.sessions.now n 0 ≢ c.args.own
+    subst (λ (n : ℕ). slice_index_or c.args.sessions.now n 0 ≢ c.args.self.now.own
     → IsOpen (left_of c.args.index.now.history c.args.self.now) (slice_index_or c.args.sessions.now n 0)
-    → IsStopped c.args.index.now c.args.own c.args.self.now (slice_index_or c.args.sessions.now n 0)) (sym here)
+    → IsStopped c.args.index.now c.args.self.now (slice_index_or c.args.sessions.now n 0)) (sym here)
     (c.if-is_free_other.ensures.stopped (λ t. absurd cc)) other is_open)
     (λ (apart : j ≢ c.loop-place.place). c.loop-place.invariant j from (omega arith) other is_open)
     (cases_eq j c.loop-place.place)

@@ -25,6 +25,6 @@ returns-then-index-start-clause-some c _ =
 
 pub returns-clause-none : goal.returns-clause-none
 returns-clause-none c _ t is_open =
-    let place = open-place c.args.index.now c.args.own c.args.self.now c.requires.on_its_way c.args.sessions.now c.requires.sessions t is_open in
+    let place = open-place c.args.index.now c.args.self.now c.requires.on_its_way c.args.sessions.now c.requires.sessions t is_open in
     let below = place.1 in
     c.loop-i.invariant place.0 (omega arith) (subst (IsOpen (left_of c.args.index.now.history c.args.self.now)) (sym place.2) is_open)

@@ -15,8 +15,8 @@ index-requires c =
     let size = c.requires.on_its_way.sizes.ends in
     let end = get_or_read b.ends.items _ _ (omega arith) c.index-end.ensures 0 in
     let is_open : IsOpen (left_of h b) c.args.session = omega arith in
-    let at = last-number c.args.index.now c.args.own b c.requires.on_its_way c.args.session is_open in
-    let inside = number-all h (last_left (left_of h b) c.args.session) (last-op c.args.index.now c.args.own b c.requires.on_its_way c.args.session is_open) in
+    let at = last-number c.args.index.now b c.requires.on_its_way c.args.session is_open in
+    let inside = number-all h (last_left (left_of h b) c.args.session) (last-op c.args.index.now b c.requires.on_its_way c.args.session is_open) in
     let readers = c.requires.on_its_way.sizes.readers in
     omega arith
 
@@ -26,13 +26,13 @@ returns-then-index-gt0-clause-stopped c _ is_open =
     let b = c.args.self.now in
     let size = c.requires.on_its_way.sizes.ends in
     let end = get_or_read b.ends.items _ _ (omega arith) c.index-end.ensures 0 in
-    let at = last-number c.args.index.now c.args.own b c.requires.on_its_way c.args.session is_open in
-    let inside = number-all h (last_left (left_of h b) c.args.session) (last-op c.args.index.now c.args.own b c.requires.on_its_way c.args.session is_open) in
+    let at = last-number c.args.index.now b c.requires.on_its_way c.args.session is_open in
+    let inside = number-all h (last_left (left_of h b) c.args.session) (last-op c.args.index.now b c.requires.on_its_way c.args.session is_open) in
     let readers = c.requires.on_its_way.sizes.readers in
     let read = get_or_read b.readers.items _ _ (omega arith) c.index.ensures 0 in
     let here : number h (last_left (left_of h b) c.args.session) ≡ c.index-end.result.now - 1 = omega arith in
     let same = ap (λ (n : ℕ). slice_index_or b.readers.items n 0) here in
-    stopped-read c.args.index.now c.args.own b c.requires.on_its_way c.args.session is_open (λ none. omega arith)
+    stopped-read c.args.index.now b c.requires.on_its_way c.args.session is_open (λ none. omega arith)
 
 pub is_admitted-requires-clause-below : goal.is_admitted-requires-clause-below
 is_admitted-requires-clause-below c =
@@ -41,8 +41,8 @@ is_admitted-requires-clause-below c =
     let size = c.requires.on_its_way.sizes.ends in
     let end = get_or_read b.ends.items _ _ (omega arith) c.index-end.ensures 0 in
     let is_open : IsOpen (left_of h b) c.args.session = omega arith in
-    let at = last-number c.args.index.now c.args.own b c.requires.on_its_way c.args.session is_open in
-    let inside = number-all h (last_left (left_of h b) c.args.session) (last-op c.args.index.now c.args.own b c.requires.on_its_way c.args.session is_open) in
+    let at = last-number c.args.index.now b c.requires.on_its_way c.args.session is_open in
+    let inside = number-all h (last_left (left_of h b) c.args.session) (last-op c.args.index.now b c.requires.on_its_way c.args.session is_open) in
     omega arith
 
 pub returns-clause-free : goal.returns-clause-free
@@ -52,15 +52,15 @@ returns-clause-free c holds =
     let size = c.requires.on_its_way.sizes.ends in
     let end = get_or_read b.ends.items _ _ (omega arith) c.index-end.ensures 0 in
     let is_open : IsOpen (left_of h b) c.args.session = omega arith in
-    let at = last-number c.args.index.now c.args.own b c.requires.on_its_way c.args.session is_open in
-    let is_op = last-op c.args.index.now c.args.own b c.requires.on_its_way c.args.session is_open in
+    let at = last-number c.args.index.now b c.requires.on_its_way c.args.session is_open in
+    let is_op = last-op c.args.index.now b c.requires.on_its_way c.args.session is_open in
     let inside = number-all h (last_left (left_of h b) c.args.session) is_op in
     let readers = c.requires.on_its_way.sizes.readers in
     let read = get_or_read b.readers.items _ _ (omega arith) c.index.ensures 0 in
     let here : number h (last_left (left_of h b) c.args.session) ≡ c.index-end.result.now - 1 = omega arith in
     let same = ap (λ (n : ℕ). slice_index_or b.readers.items n 0) here in (
       is_open,
-      free-from c.args.index.now c.args.own b c.requires.on_its_way c.args.session is_open (omega arith)
+      free-from c.args.index.now b c.requires.on_its_way c.args.session is_open (omega arith)
           (c.is_admitted.ensures.admitted (last_left (left_of h b) c.args.session) is_op here holds),
     )
 
@@ -70,8 +70,8 @@ returns-clause-stopped c fails is_open =
     let b = c.args.self.now in
     let size = c.requires.on_its_way.sizes.ends in
     let end = get_or_read b.ends.items _ _ (omega arith) c.index-end.ensures 0 in
-    let at = last-number c.args.index.now c.args.own b c.requires.on_its_way c.args.session is_open in
-    let is_op = last-op c.args.index.now c.args.own b c.requires.on_its_way c.args.session is_open in
+    let at = last-number c.args.index.now b c.requires.on_its_way c.args.session is_open in
+    let is_op = last-op c.args.index.now b c.requires.on_its_way c.args.session is_open in
     let here : number h (last_left (left_of h b) c.args.session) ≡ c.index-end.result.now - 1 = omega arith in
-    stopped-out c.args.index.now c.args.own b c.requires.on_its_way c.args.session is_open
+    stopped-out c.args.index.now b c.requires.on_its_way c.args.session is_open
     (c.is_admitted.ensures.shut_out (last_left (left_of h b) c.args.session) is_op here fails)

@@ -5,5 +5,5 @@ returns-clause-next c holds = record {
   on_its_way = c.requires.on_its_way;
   exists = c.requires.exists;
   free = c.is_free.ensures.free holds;
-  turn = λ same. absurd (c.if-session-own.false same);
+  turn = λ same. absurd (c.if-session-self.false same);
 }

@@ -12,5 +12,5 @@ returns-then-is_free-clause-next c = record {
 
 pub returns-else-is_free-clause-stuck : goal.returns-else-is_free-clause-stuck
 returns-else-is_free-clause-stuck c =
-    all-stopped c.args.index.now c.args.own c.args.self.now c.requires.on_its_way c.args.turns.now.sessions.items c.requires.sessions
+    all-stopped c.args.index.now c.args.self.now c.requires.on_its_way c.args.turns.now.sessions.items c.requires.sessions
     c.in_default-free_other.ensures.none (c.if-is_free.ensures.stopped (λ t. absurd cc))

@@ -17,8 +17,8 @@ part-part-requires c =
     let exists = c.requires.exists in
     let end = get_or_read b.ends.items _ _ (omega arith) c.index.ensures 0 in
     let is_open : IsOpen (left_of h b) c.args.session = c.requires.free.0 in
-    let at = last-number c.args.index.now c.args.own b c.requires.on_its_way c.args.session is_open in
-    let inside = number-all h (last_left (left_of h b) c.args.session) (last-op c.args.index.now c.args.own b c.requires.on_its_way c.args.session is_open) in
+    let at = last-number c.args.index.now b c.requires.on_its_way c.args.session is_open in
+    let inside = number-all h (last_left (left_of h b) c.args.session) (last-op c.args.index.now b c.requires.on_its_way c.args.session is_open) in
     omega arith
 
 pub place_part-requires-clause-below : goal.place_part-requires-clause-below
@@ -29,8 +29,8 @@ place_part-requires-clause-below c =
     let exists = c.requires.exists in
     let end = get_or_read b.ends.items _ _ (omega arith) c.index.ensures 0 in
     let is_open : IsOpen (left_of h b) c.args.session = c.requires.free.0 in
-    let at = last-number c.args.index.now c.args.own b c.requires.on_its_way c.args.session is_open in
-    let inside = number-all h (last_left (left_of h b) c.args.session) (last-op c.args.index.now c.args.own b c.requires.on_its_way c.args.session is_open) in
+    let at = last-number c.args.index.now b c.requires.on_its_way c.args.session is_open in
+    let inside = number-all h (last_left (left_of h b) c.args.session) (last-op c.args.index.now b c.requires.on_its_way c.args.session is_open) in
     omega arith
 
 pub place_part-requires-clause-part : goal.place_part-requires-clause-part
@@ -42,9 +42,9 @@ place_part-requires-clause-part c =
     let end = get_or_read b.ends.items _ _ (omega arith) c.index.ensures 0 in
     let is_open : IsOpen (left_of h b) c.args.session = c.requires.free.0 in
     let p : OpId = last_left (left_of h b) c.args.session in
-    let at = last-number c.args.index.now c.args.own b c.requires.on_its_way c.args.session is_open in
+    let at = last-number c.args.index.now b c.requires.on_its_way c.args.session is_open in
     let here : number h p ≡ c.index.result.now - 1 = omega arith in
     record {
       number_of = here;
-      part = c.part-part.ensures.part p (last-op c.args.index.now c.args.own b c.requires.on_its_way c.args.session is_open) here;
+      part = c.part-part.ensures.part p (last-op c.args.index.now b c.requires.on_its_way c.args.session is_open) here;
     }
