@@ -78,7 +78,8 @@ module _ (h : MemoryHistory) (ends : List ℕ) where
       -- a write that is left is counted for its variable, a read for its source, and any other operation not at all
       module _ (variables : List ℕ) (is_left : n < slice_index_or ends a.session 0) (readers more_readers writes more_writes : ℕ → ℕ) where
         abbrev IsCounted : Type 0
-        IsCounted = AreCounts h variables (left_under h ends n) readers writes → AreCounts h variables (left_under h ends (n + 1)) more_readers more_writes
+        IsCounted = AreCounts h variables (left_under h ends n) readers writes → AreCounts h variables (left_under h ends (n + 1))
+            more_readers more_writes
 
         abbrev last : last_left (left_under h ends (n + 1)) a.session ≡ a
         last = under-last is_left
@@ -87,7 +88,8 @@ module _ (h : MemoryHistory) (ends : List ℕ) where
             → more_writes (variable h variables a) ≡ writes (variable h variables a) + 1
             → ((y : ℕ) → y ≢ variable h variables a → more_writes y ≡ writes y) → IsCounted
         counted-write x v wrote same one others =
-            (counts-write h variables a.session (left_under h ends (n + 1)) (left_under h ends n) (under-placing is_left) (session-of_history h a is_op)
+            (counts-write h variables a.session (left_under h ends (n + 1)) (left_under h ends n) (under-placing is_left)
+            (session-of_history h a is_op)
             more_readers readers more_writes writes x v (subst (λ (q : OpId). Writes h q x v) (sym last) wrote) same
             (subst (λ (q : OpId). more_writes (variable h variables q) ≡ writes (variable h variables q) + 1) (sym last) one)
             (λ y apart. others y (λ same_y. apart (same_y ∙ ap (variable h variables) (sym last))))).1
@@ -95,12 +97,14 @@ module _ (h : MemoryHistory) (ends : List ℕ) where
         pub counted-read : IsDifferentiated h → (u : OpId) → ReadsFrom h u a → more_readers (number h u) ≡ readers (number h u) + 1
             → ((m : ℕ) → m ≢ number h u → more_readers m ≡ readers m) → ((x : ℕ) → more_writes x ≡ writes x) → IsCounted
         counted-read distinct u from one others same =
-            (counts-read h variables a.session (left_under h ends (n + 1)) (left_under h ends n) (under-placing is_left) (session-of_history h a is_op)
+            (counts-read h variables a.session (left_under h ends (n + 1)) (left_under h ends n) (under-placing is_left)
+            (session-of_history h a is_op)
             more_readers readers more_writes writes distinct u (subst (λ (q : OpId). ReadsFrom h u q) (sym last) from) one others same).1
 
         pub counted-other : ((x v : ℕ) → ¬ Writes h a x v) → ((w : OpId) → ¬ ReadsFrom h w a) → ((m : ℕ) → more_readers m ≡ readers m)
             → ((x : ℕ) → more_writes x ≡ writes x) → IsCounted
         counted-other no_write no_read same_readers same_writes =
-            (counts-other h variables a.session (left_under h ends (n + 1)) (left_under h ends n) (under-placing is_left) (session-of_history h a is_op)
+            (counts-other h variables a.session (left_under h ends (n + 1)) (left_under h ends n) (under-placing is_left)
+            (session-of_history h a is_op)
             more_readers readers more_writes writes (λ x v wrote. no_write x v (subst (λ (q : OpId). Writes h q x v) last wrote))
             (λ w from. no_read w (subst (λ (q : OpId). ReadsFrom h w q) last from)) same_readers same_writes).1

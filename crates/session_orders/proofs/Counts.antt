@@ -66,7 +66,8 @@ module _ (h : MemoryHistory) (variables : List ℕ) (t : ℕ) (left after : ℕ 
   AreMoved = AreCounts h variables left readers writes ↔ AreCounts h variables after readers_after writes_after
 
   moved : ((w : OpId) → IsOp h w
-      → CountsLeft (length h.1) left (ReadsFrom h w) (readers (number h w)) ↔ CountsLeft (length h.1) after (ReadsFrom h w) (readers_after (number h w)))
+      → CountsLeft (length h.1) left (ReadsFrom h w) (readers (number h w)) ↔ CountsLeft (length h.1) after (ReadsFrom h w)
+      (readers_after (number h w)))
       → ((x : ℕ) → CountsLeft (length h.1) left (WritesNumber h variables x) (writes x)
       ↔ CountsLeft (length h.1) after (WritesNumber h variables x) (writes_after x)) → AreMoved
   moved of_readers of_writes = (
@@ -136,7 +137,8 @@ module _ (h : MemoryHistory) (variables : List ℕ) (left : ℕ → ℕ) (reader
   }
 
   -- counts are those of equal numbers
-  pub counts-same : (after : ℕ → ℕ) → ((t : ℕ) → left t ≡ after t) → AreCounts h variables left readers writes → AreCounts h variables after readers writes
+  pub counts-same : (after : ℕ → ℕ) → ((t : ℕ) → left t ≡ after t) → AreCounts h variables left readers writes
+      → AreCounts h variables after readers writes
   counts-same after same counts = record {
     reads_left = λ w is_w item test.
         let old = counts.reads_left w is_w item test in
@@ -148,7 +150,8 @@ module _ (h : MemoryHistory) (variables : List ℕ) (left : ℕ → ℕ) (reader
         omega arith;
   }
 
-  pub counts-zero : ((t : ℕ) → ¬ IsOpen left t) → ((n : ℕ) → readers n ≡ 0) → ((x : ℕ) → writes x ≡ 0) → AreCounts h variables left readers writes
+  pub counts-zero : ((t : ℕ) → ¬ IsOpen left t) → ((n : ℕ) → readers n ≡ 0) → ((x : ℕ) → writes x ≡ 0)
+      → AreCounts h variables left readers writes
   counts-zero none no_reader no_writer = record {
     reads_left = λ w is_w item test. let zero = no_reader (number h w) in let sum = left-none (length h.1) item left none in omega arith;
     writes_left = λ x item test. let zero = no_writer x in let sum = left-none (length h.1) item left none in omega arith;
@@ -156,7 +159,8 @@ module _ (h : MemoryHistory) (variables : List ℕ) (left : ℕ → ℕ) (reader
 
   module _ (counts : AreCounts h variables left readers writes) where
     -- no read of a write with no readers is left, and of one with readers some read is
-    pub unread : ((a : OpId) → IsLeft left a → a.session < length h.1) → (w : OpId) → IsOp h w → readers (number h w) ≡ 0 → ¬ HasReadLeft h left w
+    pub unread : ((a : OpId) → IsLeft left a → a.session < length h.1) → (w : OpId) → IsOp h w → readers (number h w) ≡ 0
+        → ¬ HasReadLeft h left w
     unread inside w is_w none (q, is_left, from) =
         let test = test-of (ReadsFrom h w) (reads_from-decided h w) in
         let counted = left-item (length h.1) test.0 left q (inside q is_left) is_left in
@@ -172,7 +176,8 @@ module _ (h : MemoryHistory) (variables : List ℕ) (left : ℕ → ℕ) (reader
         (found.0, found.1, test.1.only found.0 found.2)
 
     -- the same of the writes of a variable
-    pub unwritten : ((a : OpId) → IsLeft left a → a.session < length h.1) → (x : ℕ) → writes x ≡ 0 → (b : OpId) → WritesNumber h variables x b
+    pub unwritten : ((a : OpId) → IsLeft left a → a.session < length h.1) → (x : ℕ) → writes x ≡ 0 → (b : OpId)
+        → WritesNumber h variables x b
         → ¬ IsLeft left b
     unwritten inside x none b wrote is_left =
         let test = test-of (WritesNumber h variables x) (writes_number-decided h variables x) in
@@ -193,6 +198,7 @@ module _ (h : MemoryHistory) (variables : List ℕ) (left : ℕ → ℕ) (reader
         → readers (number h w) ≢ 0
     some-reader inside w q is_w is_left from none = unread inside w is_w none (q, is_left, from)
 
-    pub some-writer : ((a : OpId) → IsLeft left a → a.session < length h.1) → (x : ℕ) (b : OpId) → IsLeft left b → WritesNumber h variables x b
+    pub some-writer : ((a : OpId) → IsLeft left a → a.session < length h.1) → (x : ℕ) (b : OpId) → IsLeft left b
+        → WritesNumber h variables x b
         → writes x ≢ 0
     some-writer inside x b is_left wrote none = unwritten inside x none b wrote is_left

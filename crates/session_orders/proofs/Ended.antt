@@ -1,4 +1,4 @@
--- Where all is placed, no operation happened before itself.
+-- A finished order shows that the happened-before relation has no cycle.
 use Rattle.std.specs.Prelude.{◌≡◌, ◌≢◌, ℕ, ◌<◌, Bool, IsTrue, List, Some, length}
 use Rattle.std.proofs.Common.{false, arith, sym, ap, ◌∙◌, inl, inr, ⊎_elim, get_or, ltb, lt-ltb, ltb-true}
 use Rattle.std.proofs.lemmas.Option.{same_Some, slice_get_within, slice_get-get_or}
@@ -11,7 +11,7 @@ use Rattle.session_orders.specs.Backward.{IsOpen, IsAcyclic}
 use Rattle.session_orders.specs.BackwardOrder.{IsBackwardOrder}
 
 module _ (ops : List OpId) where
-  -- where an operation stands
+  -- a place of an operation in a list, or that it has none
   abbrev Place : OpId → Type 0
   Place a = (k : ℕ) × StandsAt ops k a
 
@@ -24,7 +24,7 @@ module _ (ops : List OpId) where
       none place.0 within (same_Some _ _ (sym (slice_get-get_or ops place.0 a within) ∙ place.1))))
       (least (λ k. get_or ops k a ≡ a) (λ k. op-decided (get_or ops k a) a) (length ops))
 
-  -- whether one operation stands before another, by where they stand
+  -- the order of the places, as a test
   is_before : (a b : OpId) → IsDecided (Place a) → IsDecided (Place b) → Bool
   is_before a b (inl i) (inl k) = ltb i.0 k.0
   is_before a b (inl i) (inr none) = false
@@ -83,7 +83,7 @@ module _ (h : MemoryHistory) (o : OpId) (left : ℕ → ℕ) (ops : List OpId) (
         stands-from ops order.once a b places.0 source.0 places.2 source.2 source.1;
   }
 
-  -- the order of the list is closed, and has no cycle
+  -- it is closed, so HB is within it, and no place is before itself
   pub ended-acyclic : IsAcyclic h o
   ended-acyclic a happened =
       let places = stands-places ops a a (happened (stands_before ops) closed) in

@@ -1,4 +1,4 @@
--- Where all is placed, the list answers each known read of the session of o.
+-- In a finished order the known reads of the session of o read what was last written.
 use Rattle.std.specs.Prelude.{◌≡◌, ◌≢◌, ℕ, IsTrue, List}
 use Rattle.std.proofs.Common.{arith, sym, subst, inr, ⊎_elim}
 use Rattle.std.proofs.lemmas.Bool.{cases_eq}
@@ -20,7 +20,7 @@ use Rattle.session_orders.specs.BackwardOrder.{IsBackwardOrder, IsStartKept}
 module _ (h : MemoryHistory) (sources : ¬ LacksSource h) (o : OpId) (is_op : IsOp h o) (left : ℕ → ℕ) (ops : List OpId)
     (order : IsBackwardOrder h o left ops) (ended : (t : ℕ) → ¬ IsOpen left t) where
   module _ (k : ℕ) (r : OpId) (at : StandsAt ops k r) (kept : IsTrue (program_past o r)) where
-    -- a read of a write stands behind it, and no other write of the variable stands between
+    -- a read with a source: no other write of the variable stands between them
     source-answers : (w : OpId) (from : ReadsFrom h w r) → AnswersBehind h ops k from.0 from.1
     source-answers w from =
         let leads = leads-edge (IsEdge h) w r (inr from) in

@@ -48,20 +48,26 @@ module _ (index : Indexed) (b : Backward) (now : IsOnItsWay index b) where
 
   module _ (t : ℕ) (a : OpId) where
     -- a write is shut out exactly where its variable is locked for another one
-    pub write-admitted : (x v : ℕ) → Writes h a x v → ((n : ℕ) → slice_index_or b.locks.items (variable h index.variables a) None ≡ Some n → n ≡ number h a)
+    pub write-admitted : (x v : ℕ) → Writes h a x v → ((n : ℕ) → slice_index_or b.locks.items (variable h index.variables a) None ≡ Some
+        n → n ≡ number h a)
         → ¬ IsShutOut index b t a
-    write-admitted x v wrote admits (inl out) = admitted h index.variables now.known.variables o left (λ y. slice_index_or b.locks.items y None) now.locks a x v wrote admits out
+    write-admitted x v wrote admits (inl out) = admitted h index.variables now.known.variables o left (λ y. slice_index_or b.locks.items
+        y None) now.locks a x v wrote admits out
     write-admitted x v wrote admits (inr (is, (u, from, out))) = write-or_read h a a x v from.0 from.1 wrote from.3 (λ i. a)
 
-    pub write-shut_out : (x v n : ℕ) → Writes h a x v → slice_index_or b.locks.items (variable h index.variables a) None ≡ Some n → n ≢ number h a
+    pub write-shut_out : (x v n : ℕ) → Writes h a x v → slice_index_or b.locks.items (variable h index.variables a) None ≡ Some n
+        → n ≢ number h a
         → IsShutOut index b t a
     write-shut_out x v n wrote is_lock apart =
-        inl (locked-out h index.variables now.known.variables o left (λ y. slice_index_or b.locks.items y None) now.locks a x v n wrote is_lock apart)
+        inl (locked-out h index.variables now.known.variables o left (λ y. slice_index_or b.locks.items y None) now.locks a x v n wrote
+        is_lock apart)
 
     -- a read of the session exactly where its variable is locked for another write than its source
-    pub read-admitted : (u : OpId) → ReadsFrom h u a → ((n : ℕ) → slice_index_or b.locks.items (variable h index.variables a) None ≡ Some n → n ≡ number h u)
+    pub read-admitted : (u : OpId) → ReadsFrom h u a → ((n : ℕ) → slice_index_or b.locks.items (variable h index.variables a) None ≡
+        Some n → n ≡ number h u)
         → ¬ IsShutOut index b t a
-    read-admitted u from admits (inl (w, locked, (apart, (x, v, t, wrote, other)))) = write-or_read h a a x v from.0 from.1 wrote from.3 (λ i. a)
+    read-admitted u from admits (inl (w, locked, (apart, (x, v, t, wrote, other)))) = write-or_read h a a x v from.0 from.1 wrote from.3
+        (λ i. a)
     read-admitted u from admits (inr (is, (w, read, out))) =
         let same = source-once h now.known.distinct u w a from read in
         let place = source-same h index.variables now.known.variables u a from in
@@ -69,7 +75,8 @@ module _ (index : Indexed) (b : Backward) (now : IsOnItsWay index b) where
         (λ n is_lock. admits n (ap (λ (x : ℕ). slice_index_or b.locks.items x None) (sym place) ∙ is_lock))
         (subst (IsLockedOut h o left) (sym same) out)
 
-    pub read-shut_out : t ≡ b.own → (u : OpId) (n : ℕ) → ReadsFrom h u a → slice_index_or b.locks.items (variable h index.variables a) None ≡ Some n → n ≢ number h u
+    pub read-shut_out : t ≡ b.own → (u : OpId) (n : ℕ) → ReadsFrom h u a → slice_index_or b.locks.items (variable h index.variables a)
+        None ≡ Some n → n ≢ number h u
         → IsShutOut index b t a
     read-shut_out is u n from is_lock apart =
         let place = source-same h index.variables now.known.variables u a from in
@@ -78,7 +85,8 @@ module _ (index : Indexed) (b : Backward) (now : IsOnItsWay index b) where
           (
             u,
             from,
-            locked-out h index.variables now.known.variables o left (λ y. slice_index_or b.locks.items y None) now.locks u from.0 from.1 n from.2
+            locked-out h index.variables now.known.variables o left (λ y. slice_index_or b.locks.items y None) now.locks u from.0 from.1
+                n from.2
                 (ap (λ (x : ℕ). slice_index_or b.locks.items x None) place ∙ is_lock) apart,
           ),
         )

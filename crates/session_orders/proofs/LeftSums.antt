@@ -1,4 +1,4 @@
--- Sums over what is left.
+-- Sums over the operations that are left.
 use Rattle.std.specs.Prelude.{◌≡◌, ◌≢◌, ℕ, ◌+◌, ◌-◌, ◌<◌, ◌≤◌}
 use Rattle.std.proofs.Common.{zero, suc, arith, refl, sym, ap, ⊎_elim, eq-or-lt_of_le}
 use Rattle.std.proofs.lemmas.Bool.{cases_eq}
@@ -9,15 +9,16 @@ use Rattle.memory_order.proofs.CountSumsLaws.{sum-changed, sum-same}
 use Rattle.session_orders.specs.Backward.{IsLeft, IsOpen, last_left, IsPlacing}
 use Rattle.session_orders.specs.Tables.{left_sum}
 
--- a sum that is not 0 has an item that is not
+-- where a sum is not 0, some item of it is not
 sum-some : (f : ℕ → ℕ) (n : ℕ) → sum_below f n ≢ 0 → (i : ℕ) × (i < n) × (f i ≢ 0)
 sum-some f zero some = absurd (some refl)
 sum-some f (suc n) some = ⊎_elim
-    (λ (none : f n ≡ 0). let before = sum-some f n (λ zero_sum. some (omega arith)) in let below = before.1 in (before.0, omega arith, before.2))
+    (λ (none : f n ≡ 0). let before = sum-some f n (λ zero_sum. some (omega arith)) in let below =
+    before.1 in (before.0, omega arith, before.2))
     (λ (here : f n ≢ 0). (n, omega arith, here))
     (cases_eq (f n) 0)
 
--- an item is at most the sum
+-- no item is above the sum
 sum-item : (f : ℕ → ℕ) (n i : ℕ) → i < n → f i ≤ sum_below f n
 sum-item f zero i below = absurd (omega arith)
 sum-item f (suc n) i below = ⊎_elim
@@ -51,7 +52,7 @@ left-same k item left after same =
     sum-same (λ t. sum_below (λ i. item (op t i)) (left t)) (λ t. sum_below (λ i. item (op t i)) (after t)) k
     (λ t below. ap (sum_below (λ i. item (op t i))) (same t))
 
--- what is placed is summed no more
+-- one operation fewer: the sum is less by its item
 pub left-placed : (k : ℕ) (item : OpId → ℕ) (t : ℕ) (left after : ℕ → ℕ) → IsPlacing t left after → t < k
     → left_sum k item left ≡ left_sum k item after + item (last_left left t)
 left-placed k item t left after placing below =
@@ -61,6 +62,7 @@ left-placed k item t left after placing below =
     let more : left t ≡ suc (after t) = omega arith in
     let both : sum_below (λ i. item (op t i)) (left t) ≡ sum_below (λ i. item (op t i)) (after t) + item (op t (after t)) =
     ap (sum_below (λ i. item (op t i))) more in
-    let changed = sum-changed (λ s. sum_below (λ i. item (op s i)) (left s)) (λ s. sum_below (λ i. item (op s i)) (after s)) k t 0 (item (last_left left t))
+    let changed = sum-changed (λ s. sum_below (λ i. item (op s i)) (left s)) (λ s. sum_below (λ i. item (op s i)) (after s)) k t 0
+    (item (last_left left t))
     below (omega arith) (λ s exists other. ap (sum_below (λ i. item (op s i))) (sym (placing.others s other))) in
     omega arith

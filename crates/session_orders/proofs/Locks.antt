@@ -43,14 +43,16 @@ module _ (h : MemoryHistory) (variables : List ℕ) (are : AreVariables h variab
   source-same w r from = (are w r from.0 from.0 (from.1, inl from.2) (from.1, inr from.3)).1 refl
 
   -- two writes of a variable are one or rivals
-  rivals : (a b : OpId) (x y u v : ℕ) → a ≢ b → Writes h a x u → Writes h b y v → variable h variables a ≡ variable h variables b → AreRivalWrites h a b
+  rivals : (a b : OpId) (x y u v : ℕ) → a ≢ b → Writes h a x u → Writes h b y v → variable h variables a ≡ variable h variables b
+      → AreRivalWrites h a b
   rivals a b x y u v apart first second same =
       let key = written-alike a b x y u v first second same in
       (apart, (y, u, v, subst (λ (z : ℕ). Writes h a z u) key first, second))
 
   module _ (o : OpId) (left : ℕ → ℕ) (lock : ℕ → Option ℕ) (locks : AreLocks h variables o left lock) where
     -- a write is not locked out where the lock of its variable is its own number or none
-    pub admitted : (a : OpId) (x v : ℕ) → Writes h a x v → ((n : ℕ) → lock (variable h variables a) ≡ Some n → n ≡ number h a) → ¬ IsLockedOut h o left a
+    pub admitted : (a : OpId) (x v : ℕ) → Writes h a x v → ((n : ℕ) → lock (variable h variables a) ≡ Some n → n ≡ number h a)
+        → ¬ IsLockedOut h o left a
     admitted a x v wrote admits (w, locked, (apart, (y, u, t, first, second))) =
         let from = locked.1.2 in
         let same = written-same w a y t u second first in
@@ -59,7 +61,8 @@ module _ (h : MemoryHistory) (variables : List ℕ) (are : AreVariables h variab
         apart (number-once h a w (write-of_history h a x v wrote) (write-of_history h w y t second) (sym one))
 
     -- and is where it is another one
-    pub locked-out : (a : OpId) (x v n : ℕ) → Writes h a x v → lock (variable h variables a) ≡ Some n → n ≢ number h a → IsLockedOut h o left a
+    pub locked-out : (a : OpId) (x v n : ℕ) → Writes h a x v → lock (variable h variables a) ≡ Some n → n ≢ number h a
+        → IsLockedOut h o left a
     locked-out a x v n wrote is_lock apart =
         let found = locks.locked (variable h variables a) n is_lock in
         let w : OpId = found.0 in
@@ -75,7 +78,8 @@ module _ (h : MemoryHistory) (variables : List ℕ) (are : AreVariables h variab
         ended w.session (omega arith))
 
 -- where nothing of the session of o is placed, nothing is locked
-pub first-locks : (h : MemoryHistory) (variables : List ℕ) (o : OpId) → IsOp h o → (left : ℕ → ℕ) → ((a : OpId) → IsPast h o a → IsLeft left a)
+pub first-locks : (h : MemoryHistory) (variables : List ℕ) (o : OpId) → IsOp h o → (left : ℕ → ℕ)
+    → ((a : OpId) → IsPast h o a → IsLeft left a)
     → (lock : ℕ → Option ℕ) → ((x : ℕ) → lock x ≡ None) → AreLocks h variables o left lock
 first-locks h variables o is_op left whole lock none = record {
   locked = λ x n is_lock. (let both : None ≡ Some n = sym (none x) ∙ is_lock in absurd cc);
@@ -143,7 +147,18 @@ module _ (h : MemoryHistory) (o : OpId) (t : ℕ) (left after : ℕ → ℕ) (pl
               (λ (same : y ≡ variable h variables p). (
                 u,
                 same_Some _ _ (sym locks_u ∙ ap next (sym same) ∙ is_lock),
-                (left-still t left after placing u u_left u_not_p, (p, (kept, λ there. (still-left t left after placing p there).1 refl), from)),
+                (
+                  left-still t left after placing u u_left u_not_p,
+                  (
+                    p,
+                    (
+                      kept,
+                      λ there. (still-left t left after placing p there).1
+                          refl,
+                    ),
+                    from,
+                  ),
+                ),
                 same_u ∙ sym same,
               ))
               (λ (apart : y ≢ variable h variables p).
@@ -160,7 +175,19 @@ module _ (h : MemoryHistory) (o : OpId) (t : ℕ) (left after : ℕ → ℕ) (pl
               (λ (one : u ≡ w). ap next same ∙ locks_u ∙ ap (λ (q : OpId). Some (number h q)) one)
               (λ (apart : u ≢ w).
               let read = was.1.2 in
-              absurd (free (inr (inr (own, (u, from, (w, was, rivals h variables are u w from.0 read.0 from.1 read.1 apart from.2 read.2 (same_u ∙ sym same))))))))
+              absurd (free (inr (inr (
+                own,
+                (
+                  u,
+                  from,
+                  (
+                    w,
+                    was,
+                    rivals h variables are u w from.0 read.0 from.1 read.1 apart from.2 read.2
+                        (same_u ∙ sym same),
+                  ),
+                ),
+              )))))
               (cases-op u w))
               (λ (apart : variable h variables w ≢ variable h variables p). others (variable h variables w) apart ∙ locks.known w was)
               (cases_eq (variable h variables w) (variable h variables p)))
@@ -179,7 +206,8 @@ module _ (h : MemoryHistory) (o : OpId) (t : ℕ) (left after : ℕ → ℕ) (pl
           let old = locks.locked y n (sym (same y) ∙ is_lock) in (
             old.0,
             old.1,
-            still-locked old.0 old.2 (λ is. no_write old.2.1.2.0 old.2.1.2.1 (subst (λ (q : OpId). Writes h q old.2.1.2.0 old.2.1.2.1) is old.2.1.2.2)),
+            still-locked old.0 old.2 (λ is. no_write old.2.1.2.0 old.2.1.2.1 (subst (λ (q : OpId). Writes h q old.2.1.2.0 old.2.1.2.1)
+                is old.2.1.2.2)),
             old.3,
           );
       known = λ w locked. ⊎_elim

@@ -53,7 +53,8 @@ module _ (index : Indexed) (b : Backward) (now : IsOnItsWay index b) where
 
     pub explained-outcome : ¬ LacksSource h → b.start ≡ false → IsOrderedSession h b.own
     explained-outcome sources start i size =
-        let list = state-ended_explained h o left now.ops ended sources now.known.operation (subst (IsSessionState h o left now.ops) start now.state) in
+        let list = state-ended_explained h o left now.ops ended sources now.known.operation (subst (IsSessionState h o left now.ops)
+        start now.state) in
         let last : length (session h b.own) - 1 ≡ i = omega arith in
         (now.ops, subst (λ (j : ℕ). IsOrderOfPast h (op b.own j) now.ops) last list)
 

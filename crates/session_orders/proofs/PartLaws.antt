@@ -45,7 +45,8 @@ module _ (h : MemoryHistory) (a : OpId) where
       let same = same_read h a y v x (initial h x) reads start in
       other (same.1 ∙ ap (initial h) (sym same.0))
 
-  pub unread-no_start : (p : Part) → (p ≡ ThinAirRead) ⊎ (p ≡ UnknownRead) → IsPart h a p → IsUnsourced h a × ((x : ℕ) → ¬ Reads h a x (initial h x))
+  pub unread-no_start : (p : Part) → (p ≡ ThinAirRead) ⊎ (p ≡ UnknownRead) → IsPart h a p
+      → IsUnsourced h a × ((x : ℕ) → ¬ Reads h a x (initial h x))
   unread-no_start p is part = ⊎_elim
       (λ (thin : p ≡ ThinAirRead). let of_thin = subst (IsPart h a) thin part in (thin-unsourced of_thin, thin-no_start of_thin))
       (λ (unknown : p ≡ UnknownRead).

@@ -1,4 +1,4 @@
--- One pass back along an order gives the past of an operation.
+-- The past of an operation, found by going once through an order from its end.
 use Rattle.std.specs.Prelude.{◌≡◌, ◌≢◌, ◌⊎◌, ◌↔◌, ℕ, ◌+◌, ◌<◌, ◌≤◌, List, length, max, slice_index_or}
 use Rattle.std.proofs.Common.{arith, sym, subst, inl, inr, ⊎_elim, ◌∙◌}
 use Rattle.std.proofs.lemmas.Bool.{cases_eq, cases_lt}
@@ -18,7 +18,7 @@ use Rattle.session_orders.specs.Tables.{left_counts}
 use Rattle.long_history.proofs.Steps.{step-of_history, first-step, program-causal}
 use Rattle.long_history.proofs.Numbers.{number-once}
 
--- where the operation is not left, or reads no write, nothing is raised
+-- an operation that is not left or has no source asks for no more
 pub raised-none : (h : MemoryHistory) (b : OpId) (left : ℕ → ℕ) → (IsLeft left b → (w : OpId) → ¬ ReadsFrom h w b) → IsRaised h b left left
 raised-none h b left none = record {
   more = λ u. omega arith;
@@ -26,7 +26,7 @@ raised-none h b left none = record {
   only = λ a is_left. inl is_left;
 }
 
--- else the count of the session of its source is raised to it, if it is lower
+-- for one that is left, its source is left too, with what precedes the source
 pub raised-source : (h : MemoryHistory) → IsDifferentiated h → (b w : OpId) (left after : ℕ → ℕ) → IsLeft left b → ReadsFrom h w b
     → left w.session ≤ after w.session → w.index < after w.session → (after w.session ≡ left w.session) ⊎ (after w.session ≡ w.index + 1)
     → ((u : ℕ) → u ≢ w.session → after u ≡ left u) → IsRaised h b left after
@@ -62,10 +62,12 @@ raised-source h distinct b w left after is_left from up_to raised one others = r
       (cases_eq a.session w.session);
 }
 
--- the same of the numbers after the last operations that are left
-pub ends-raised : (h : MemoryHistory) → IsDifferentiated h → (b w : OpId) (ends after : List ℕ) → IsLeft (left_counts h ends) b → ReadsFrom h w b
+-- the same by the numbers after the last operations that are left
+pub ends-raised : (h : MemoryHistory) → IsDifferentiated h → (b w : OpId) (ends after : List ℕ) → IsLeft (left_counts h ends) b
+    → ReadsFrom h w b
     → slice_index_or after w.session 0 ≡ max (slice_index_or ends w.session 0) (number h w + 1)
-    → ((t : ℕ) → t ≢ w.session → slice_index_or after t 0 ≡ slice_index_or ends t 0) → IsRaised h b (left_counts h ends) (left_counts h after)
+    → ((t : ℕ) → t ≢ w.session → slice_index_or after t 0 ≡ slice_index_or ends t 0) → IsRaised h b (left_counts h ends)
+    (left_counts h after)
 ends-raised h distinct b w ends after is_left from raised others =
     raised-source h distinct b w (left_counts h ends) (left_counts h after) is_left from
     (omega arith)
@@ -77,8 +79,9 @@ ends-raised h distinct b w ends after is_left from raised others =
     (λ t apart. let same = others t apart in omega arith)
 
 module _ (h : MemoryHistory) (also : OpId → OpId → Type 0) (order : List ℕ) (ordered : IsOrderWith h also order) where
-  -- of the operations from the place i on one stands at i, the others after it
-  after-cases : (i : ℕ) (o b : OpId) → IsOp h o → StandsAs h order i o → IsOp h b → IsAfter h order i b → IsAfter h order (i + 1) b ⊎ (b ≡ o)
+  -- the operation at the place i is the only one from i on that is not after i
+  after-cases : (i : ℕ) (o b : OpId) → IsOp h o → StandsAs h order i o → IsOp h b → IsAfter h order i b
+      → IsAfter h order (i + 1) b ⊎ (b ≡ o)
   after-cases i o b is_op at is_b (k, from, at_k) = ⊎_elim
       (λ (more : i < k). inl (k, omega arith, at_k))
       (λ (up_to : k ≤ i).
@@ -87,7 +90,7 @@ module _ (h : MemoryHistory) (also : OpId → OpId → Type 0) (order : List ℕ
       inr (number-once h b o is_b is_op (same_Some _ _ both)))
       (cases_lt i k)
 
-  -- what an operation steps to stands after it
+  -- the steps of an operation lead to later places
   step-after : (i : ℕ) (o d : OpId) → StandsAs h order i o → IsStep h o d → IsAfter h order (i + 1) d
   step-after i o d at step =
       let place = ordered.each d (step-of_history h o d step).1 in
@@ -97,7 +100,7 @@ module _ (h : MemoryHistory) (also : OpId → OpId → Type 0) (order : List ℕ
       (place.0, omega arith, place.1)
 
 module _ (h : MemoryHistory) (also : OpId → OpId → Type 0) (order : List ℕ) (ordered : IsOrderWith h also order) (o : OpId) where
-  -- at first o and what precedes it is left
+  -- before the first place, o is left with what precedes it
   pub past-first : IsOp h o → (left : ℕ → ℕ) → left o.session ≡ o.index + 1 → ((u : ℕ) → u ≢ o.session → left u ≡ 0)
       → IsPastAfter h o order (length order) left
   past-first is_op left own others = record {
@@ -122,7 +125,7 @@ module _ (h : MemoryHistory) (also : OpId → OpId → Type 0) (order : List ℕ
     still : (a : OpId) → IsLeft left a → IsLeft after a
     still a is_left = let more = raised.more a.session in omega arith
 
-    -- what is in the past is left when its place comes
+    -- an operation of the past is left by the time that its place is visited
     here-left : IsPast h o b → IsLeft left b
     here-left (inl same) = subst (IsLeft left) (sym same) now.own
     here-left (inr leads) =
@@ -165,7 +168,7 @@ module _ (h : MemoryHistory) (also : OpId → OpId → Type 0) (order : List ℕ
           (after-cases h also order ordered i b c is_b at is_c behind);
     }
 
-  -- at the end what is left is the past
+  -- after the last place, exactly the past is left
   pub past-whole : IsOp h o → (left : ℕ → ℕ) → IsPastAfter h o order 0 left → (a : OpId) → IsLeft left a ↔ IsPast h o a
   past-whole is_op left now a = (
     now.within a,

@@ -1,4 +1,4 @@
--- Where the last operation of a session that is left can be placed, it is put in front of the list of what is placed.
+-- The list of what is placed, with one operation more in front.
 use Rattle.std.specs.Prelude.{◌≡◌, ℕ, ◌<◌, ◌≤◌, IsTrue, List, ◌∷◌, Some}
 use Rattle.std.proofs.Common.{zero, suc, arith, refl, sym, ap, subst, inl, inr, ⊎_elim, ◌∙◌}
 use Rattle.std.proofs.lemmas.Bool.{cases_lt}
@@ -15,7 +15,8 @@ use Rattle.session_orders.specs.Backward.{IsLeft, last_left, IsBlocked, IsBackwa
 use Rattle.session_orders.specs.BackwardOrder.{IsBackwardOrder}
 use Rattle.session_orders.proofs.Placing.{still-left, just-placed}
 
-module _ (h : MemoryHistory) (straight : ¬ IsCyclic h) (o : OpId) (is_op : IsOp h o) (t : ℕ) (left after : ℕ → ℕ) (placing : IsPlacing t left after)
+module _ (h : MemoryHistory) (straight : ¬ IsCyclic h) (o : OpId) (is_op : IsOp h o) (t : ℕ) (left after : ℕ → ℕ)
+    (placing : IsPlacing t left after)
     (now : IsBackward h o left) (free : ¬ IsBlocked h o left t) (ops : List OpId) (order : IsBackwardOrder h o left ops) where
   abbrev p : OpId
   p = last_left left t
@@ -32,7 +33,7 @@ module _ (h : MemoryHistory) (straight : ¬ IsCyclic h) (o : OpId) (is_op : IsOp
   p-past : IsPast h o p
   p-past = now.within p p-left
 
-  -- what is placed now is the operation, or was placed
+  -- each placed operation is the new one, or has its place in the old list
   place-now : (a : OpId) → IsPast h o a → ¬ IsLeft after a → (k : ℕ) × StandsAt more k a
   place-now a in_past placed = ⊎_elim
       (λ (is_left : a.index < left a.session).

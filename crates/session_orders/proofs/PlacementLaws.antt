@@ -56,11 +56,13 @@ module _ (index : Indexed) (b : Backward) (t : ℕ) (can : CanBePlaced index b t
   -- the operation itself is counted, if it is a write or reads from one
   pub writer-some : (x v : ℕ) → Writes h p x v → writes_in b (variable h index.variables p) ≢ 0
   writer-some x v wrote =
-      some-writer h index.variables left (readers_in b) (writes_in b) can.on_its_way.counts inside (variable h index.variables p) p p-left ((x, v, wrote), refl)
+      some-writer h index.variables left (readers_in b) (writes_in b) can.on_its_way.counts inside (variable h index.variables p) p
+      p-left ((x, v, wrote), refl)
 
   pub reader-some : (u : OpId) → ReadsFrom h u p → readers_in b (number h u) ≢ 0
   reader-some u from =
-      some-reader h index.variables left (readers_in b) (writes_in b) can.on_its_way.counts inside u p (write-of_history h u from.0 from.1 from.2) p-left from
+      some-reader h index.variables left (readers_in b) (writes_in b) can.on_its_way.counts inside u p
+      (write-of_history h u from.0 from.1 from.2) p-left from
 
   -- only an operation of the session itself overwrites the start, and only a read of an initial value
   pub other-kept : t ≢ b.own → ¬ OverwritesStart h o left p
@@ -81,7 +83,8 @@ module _ (index : Indexed) (b : Backward) (t : ℕ) (can : CanBePlaced index b t
       (can.on_its_way.state.backward.within p p-left) same
 
   -- else one is
-  pub written-overwrites : t ≡ b.own → (x : ℕ) → Reads h p x (initial h x) → writes_in b (variable h index.variables p) ≢ 0 → OverwritesStart h o left p
+  pub written-overwrites : t ≡ b.own → (x : ℕ) → Reads h p x (initial h x) → writes_in b (variable h index.variables p) ≢ 0
+      → OverwritesStart h o left p
   written-overwrites same x reads some =
       let found = written h index.variables left (readers_in b) (writes_in b) can.on_its_way.counts (variable h index.variables p) some in
       let w : OpId = found.0 in
@@ -91,7 +94,8 @@ module _ (index : Indexed) (b : Backward) (t : ℕ) (can : CanBePlaced index b t
       let key : y ≡ x = (can.on_its_way.known.variables w p y x (v, inl number_of.0.2) (initial h x, inr reads)).0 number_of.1 in
       (w, x, v, kept-own same, reads, subst (λ (z : ℕ). Writes h w z v) key number_of.0.2, found.1)
 
-  module _ (c : Backward) (mine : c.own ≡ b.own) (sizes : HasSizes index c) (less : slice_index_or b.ends.items t 0 ≡ slice_index_or c.ends.items t 0 + 1)
+  module _ (c : Backward) (mine : c.own ≡ b.own) (sizes : HasSizes index c) (less : slice_index_or b.ends.items t 0 ≡ slice_index_or
+      c.ends.items t 0 + 1)
       (others : (u : ℕ) → u ≢ t → slice_index_or c.ends.items u 0 ≡ slice_index_or b.ends.items u 0) where
     abbrev after : ℕ → ℕ
     after = left_of index.history c
@@ -121,7 +125,8 @@ module _ (index : Indexed) (b : Backward) (t : ℕ) (can : CanBePlaced index b t
 
     state-kept : ¬ OverwritesStart h o left p → IsSessionState h o after (p ∷ can.on_its_way.ops) b.start
     state-kept right =
-        state-placed h can.on_its_way.known.straight o can.on_its_way.known.operation t left after placing can.free.1 can.turn can.on_its_way.ops b.start
+        state-placed h can.on_its_way.known.straight o can.on_its_way.known.operation t left after placing can.free.1 can.turn
+        can.on_its_way.ops b.start
         can.on_its_way.state right
 
     pub write-placed : (x v : ℕ) → Writes h p x v → ((n : ℕ) → readers_in b n ≡ readers_in c n)
@@ -131,9 +136,11 @@ module _ (index : Indexed) (b : Backward) (t : ℕ) (can : CanBePlaced index b t
         → c.start ≡ b.start → IsPlaced index b c t
     write-placed x v wrote same one fewer opened locks start = placed-as b.start start
         (state-kept (λ overwrites. write-or_read h p p x v overwrites.1 (initial h overwrites.1) wrote overwrites.4 refl))
-        ((counts-write h index.variables t left after placing can.exists (readers_in b) (readers_in c) (writes_in b) (writes_in c) x v wrote same one fewer).0
+        ((counts-write h index.variables t left after placing can.exists (readers_in b) (readers_in c) (writes_in b) (writes_in c) x v
+        wrote same one fewer).0
         can.on_its_way.counts)
-        (written-locks h o t left after placing index.variables can.on_its_way.known.variables (lock_in b) can.on_its_way.locks can.free.1 x v wrote (lock_in c) opened
+        (written-locks h o t left after placing index.variables can.on_its_way.known.variables (lock_in b) can.on_its_way.locks
+        can.free.1 x v wrote (lock_in c) opened
         locks)
 
     source-kept : (u : OpId) → ReadsFrom h u p → ¬ OverwritesStart h o left p
@@ -169,15 +176,18 @@ module _ (index : Indexed) (b : Backward) (t : ℕ) (can : CanBePlaced index b t
         (other-locks h o t left after placing index.variables can.on_its_way.known.variables (lock_in b) can.on_its_way.locks can.free.1
         (no-write u from) (λ kept w read. other (program_past-parts o p kept).0) (lock_in c) locks)
 
-    module _ (none : IsUnsourced h p) (readers : (n : ℕ) → readers_in b n ≡ readers_in c n) (writes : (x : ℕ) → writes_in b x ≡ writes_in c x)
+    module _ (none : IsUnsourced h p) (readers : (n : ℕ) → readers_in b n ≡ readers_in c n) (writes : (x : ℕ)
+        → writes_in b x ≡ writes_in c x)
         (locks : (y : ℕ) → lock_in c y ≡ lock_in b y) where
       same-counts : AreCounts h index.variables after (readers_in c) (writes_in c)
       same-counts =
-          (counts-other h index.variables t left after placing can.exists (readers_in b) (readers_in c) (writes_in b) (writes_in c) none.0 none.1 readers writes).0
+          (counts-other h index.variables t left after placing can.exists (readers_in b) (readers_in c) (writes_in b) (writes_in c)
+          none.0 none.1 readers writes).0
           can.on_its_way.counts
 
       same-locks : AreLocks h index.variables o after (lock_in c)
-      same-locks = other-locks h o t left after placing index.variables can.on_its_way.known.variables (lock_in b) can.on_its_way.locks can.free.1
+      same-locks = other-locks h o t left after placing index.variables can.on_its_way.known.variables (lock_in b) can.on_its_way.locks
+          can.free.1
           none.0 (λ kept w. none.1 w) (lock_in c) locks
 
       pub other-placed : ¬ OverwritesStart h o left p → c.start ≡ b.start → IsPlaced index b c t
@@ -185,6 +195,7 @@ module _ (index : Indexed) (b : Backward) (t : ℕ) (can : CanBePlaced index b t
 
       pub overwritten-placed : OverwritesStart h o left p → c.start ≡ true → IsPlaced index b c t
       overwritten-placed overwrites start = placed-as true start
-          (state-overwritten h can.on_its_way.known.straight o can.on_its_way.known.operation t left after placing can.free.1 can.turn can.on_its_way.ops b.start
+          (state-overwritten h can.on_its_way.known.straight o can.on_its_way.known.operation t left after placing can.free.1 can.turn
+          can.on_its_way.ops b.start
           can.on_its_way.state overwrites)
           same-counts same-locks

@@ -1,4 +1,4 @@
--- What stays true where the last operation of a session that is left is placed.
+-- One operation fewer is left.
 use Rattle.std.specs.Prelude.{◌≡◌, ◌≢◌, ℕ, ◌-◌, ◌<◌, ◌≤◌}
 use Rattle.std.proofs.Common.{arith, sym, ap, subst, ⊎_elim, ◌∙◌}
 use Rattle.std.proofs.lemmas.Bool.{cases_eq, cases_lt}
@@ -12,7 +12,7 @@ use Rattle.session_orders.specs.Backward.{IsLeft, IsOpen, last_left, AreOthersBl
 use Rattle.session_orders.proofs.Stuck.{left-before}
 
 module _ (t : ℕ) (left after : ℕ → ℕ) (placing : IsPlacing t left after) where
-  -- what is left then was left before, and is not what was placed
+  -- what is left after it was left before it, and is another operation
   pub still-left : (a : OpId) → IsLeft after a → IsLeft left a × (a ≢ last_left left t)
   still-left a is_left = ⊎_elim
       (λ (same : a.session ≡ t).
@@ -25,7 +25,7 @@ module _ (t : ℕ) (left after : ℕ → ℕ) (placing : IsPlacing t left after)
       let one = placing.others a.session other in (omega arith, λ is_last. other (ap (λ (b : OpId). b.session) is_last)))
       (cases_eq a.session t)
 
-  -- what is left before and not then is what was placed
+  -- only the operation itself is left no more
   pub just-placed : (a : OpId) → IsLeft left a → ¬ IsLeft after a → a ≡ last_left left t
   just-placed a is_left placed = ⊎_elim
       (λ (same : a.session ≡ t).
@@ -46,7 +46,7 @@ module _ (t : ℕ) (left after : ℕ → ℕ) (placing : IsPlacing t left after)
   was-open = let one = placing.placed in omega arith
 
   module _ (h : MemoryHistory) (o : OpId) (is_op : IsOp h o) (now : IsBackward h o left) where
-    -- a session is placed: the session of o only where no other can go on
+    -- the clauses of IsBackward are kept, if the session of o has its turn only where the others are blocked
     pub placed-backward : (t ≡ o.session → AreOthersBlocked h o left) → IsBackward h o after
     placed-backward last_of_all = record {
       within = λ a is_left. now.within a (still-left a is_left).0;

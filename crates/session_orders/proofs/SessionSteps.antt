@@ -1,4 +1,4 @@
--- How an order that is made from its end begins, goes on, and ends.
+-- The state of an order from its beginning to its end.
 use Rattle.std.specs.Prelude.{◌≡◌, ◌↔◌, ℕ, Bool, true, false, IsTrue, List, [], ◌∷◌}
 use Rattle.std.proofs.Common.{arith, refl, ap, subst}
 use Rattle.history.specs.declared.op_id.OpId.{OpId}
@@ -18,7 +18,7 @@ use Rattle.session_orders.proofs.PlacedOrder.{placed-order}
 use Rattle.session_orders.proofs.Placing.{placed-backward, was-open}
 use Rattle.session_orders.proofs.Starts.{whole-backward, whole-order, start-none, start-kept, start-overwritten}
 
--- at first the whole past is left
+-- it begins with the past left as a whole
 pub state-first : (h : MemoryHistory) (o : OpId) → IsOp h o → (left : ℕ → ℕ) → ((a : OpId) → IsLeft left a ↔ IsPast h o a)
     → IsSessionState h o left [] false
 state-first h o is_op left whole = record {
@@ -28,22 +28,24 @@ state-first h o is_op left whole = record {
   found = λ bad. absurd cc;
 }
 
-module _ (h : MemoryHistory) (straight : ¬ IsCyclic h) (o : OpId) (is_op : IsOp h o) (t : ℕ) (left after : ℕ → ℕ) (placing : IsPlacing t left after)
+module _ (h : MemoryHistory) (straight : ¬ IsCyclic h) (o : OpId) (is_op : IsOp h o) (t : ℕ) (left after : ℕ → ℕ)
+    (placing : IsPlacing t left after)
     (free : ¬ IsBlocked h o left t) (turn : t ≡ o.session → AreOthersBlocked h o left) (ops : List OpId) where
   abbrev p : OpId
   p = last_left left t
 
-  -- an operation that can be placed is, the session of o only where no other can go on
+  -- one operation more is placed, which is not blocked
   module _ (start : Bool) (now : IsSessionState h o left ops start) where
     pub state-placed : ¬ OverwritesStart h o left p → IsSessionState h o after (p ∷ ops) start
     state-placed right = record {
       backward = placed-backward t left after placing h o is_op now.backward turn;
       order = placed-order h straight o is_op t left after placing now.backward free ops now.order;
-      kept = λ clear. start-kept h o t left after placing ops (now.kept clear) (λ b x v kept reads wrote is_left. right (b, x, v, kept, reads, wrote, is_left));
+      kept = λ clear. start-kept h o t left after placing ops (now.kept clear) (λ b x v kept reads wrote is_left. right
+          (b, x, v, kept, reads, wrote, is_left));
       found = now.found;
     }
 
-    -- a write that is left of a variable whose initial value it read happened before it
+    -- the same where a write is left of a variable whose initial value it read
     pub state-overwritten : OverwritesStart h o left p → IsSessionState h o after (p ∷ ops) true
     state-overwritten (b, x, v, kept, reads, wrote, is_left) =
         let own : t ≡ o.session = (program_past-parts o p kept).0 in
@@ -52,16 +54,17 @@ module _ (h : MemoryHistory) (straight : ¬ IsCyclic h) (o : OpId) (is_op : IsOp
           backward = placed-backward t left after placing h o is_op now.backward turn;
           order = placed-order h straight o is_op t left after placing now.backward free ops now.order;
           kept = λ bad. absurd cc;
-          found = λ _. start-overwritten h o is_op left now.backward (turn own) (subst (IsOpen left) own (was-open t left after placing)) b x v is_left wrote
+          found = λ _. start-overwritten h o is_op left now.backward (turn own)
+              (subst (IsOpen left) own (was-open t left after placing)) b x v is_left wrote
               (subst (λ (q : OpId). Reads h q x (initial h x)) is_own reads) (subst (λ (q : OpId). IsTrue (program_past o q)) is_own kept);
         }
 
 module _ (h : MemoryHistory) (o : OpId) (left : ℕ → ℕ) (ops : List OpId) (ended : (t : ℕ) → ¬ IsOpen left t) where
-  -- where nothing is left, either a write happened before a read of the initial value of its variable
+  -- finished, it shows that a write happened before a read of the initial value of its variable
   pub state-ended_overwritten : IsSessionState h o left ops true → HasStartOverwrittenBefore h o
   state-ended_overwritten now = now.found refl (ended-acyclic h o left ops now.order ended)
 
-  -- or the list is an order of the past that answers each known read of the session
+  -- or else that the list orders the past and explains the session
   pub state-ended_explained : ¬ LacksSource h → IsOp h o → IsSessionState h o left ops false → IsOrderOfPast h o ops
   state-ended_explained sources is_op now = record {
     each = λ a in_past. now.order.each a in_past (λ is_left. ended a.session (omega arith));

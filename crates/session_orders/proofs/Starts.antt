@@ -1,4 +1,4 @@
--- The reads of initial values in an order that is made from its end, and the state that it begins with.
+-- How an order begins, and what its reads of initial values ask.
 use Rattle.std.specs.Prelude.{◌↔◌, ℕ, ◌<◌, IsTrue, List, [], ◌∷◌}
 use Rattle.std.proofs.Common.{zero, suc, arith, sym, subst}
 use Rattle.std.proofs.lemmas.Option.{same_Some}
@@ -15,7 +15,7 @@ use Rattle.session_orders.proofs.Placing.{still-left}
 use Rattle.session_orders.proofs.Stuck.{left-before}
 
 module _ (h : MemoryHistory) (o : OpId) (is_op : IsOp h o) (left : ℕ → ℕ) (whole : (a : OpId) → IsLeft left a ↔ IsPast h o a) where
-  -- where the whole past is left
+  -- at the beginning, when the past is left as a whole
   pub whole-backward : IsBackward h o left
   whole-backward = record {
     within = λ a. (whole a).0;
@@ -52,7 +52,8 @@ module _ (h : MemoryHistory) (o : OpId) (t : ℕ) (left after : ℕ → ℕ) (pl
       → Writes h b x v → ¬ IsLeft left b
   placed-now zero r b x v at kept reads wrote =
       let same = sym (same_Some _ _ at) in
-      unwritten b x v (subst (λ (q : OpId). IsTrue (program_past o q)) same kept) (subst (λ (q : OpId). Reads h q x (initial h x)) same reads) wrote
+      unwritten b x v (subst (λ (q : OpId). IsTrue (program_past o q)) same kept) (subst (λ (q : OpId). Reads h q x (initial h x)) same
+      reads) wrote
   placed-now (suc k) r b x v at kept reads wrote = start.placed k r b x v at kept reads wrote
 
   after-now : (i k : ℕ) (r b : OpId) (x v : ℕ) → StandsAt (p ∷ ops) k r → IsTrue (program_past o r) → Reads h r x (initial h x)
@@ -62,14 +63,16 @@ module _ (h : MemoryHistory) (o : OpId) (t : ℕ) (left after : ℕ → ℕ) (pl
   after-now (suc i) zero r b x v at kept reads wrote there = omega arith
   after-now (suc i) (suc k) r b x v at kept reads wrote there = let below = start.after i k r b x v at kept reads wrote there in omega arith
 
-  -- it stays so where no write is left of a variable whose initial value is read by the operation of the session of o that is placed
+  -- where the placed operation, if it is of the session of o, reads no initial value of a variable of which a write is left, starts are
+  -- kept
   pub start-kept : IsStartKept h o after (p ∷ ops)
   start-kept = record {
-    placed = λ k r b x v at kept reads wrote is_left. placed-now k r b x v at kept reads wrote (still-left t left after placing b is_left).0;
+    placed = λ k r b x v at kept reads wrote is_left. placed-now k r b x v at kept reads wrote (still-left t left after placing b
+        is_left).0;
     after = after-now;
   }
 
--- else the write that is left happened before that read
+-- where it does, such a write happened before it
 pub start-overwritten : (h : MemoryHistory) (o : OpId) → IsOp h o → (left : ℕ → ℕ) → IsBackward h o left → AreOthersBlocked h o left
     → IsOpen left o.session → (b : OpId) (x v : ℕ) → IsLeft left b → Writes h b x v → Reads h (last_left left o.session) x (initial h x)
     → IsTrue (program_past o (last_left left o.session)) → IsAcyclic h o → HasStartOverwrittenBefore h o

@@ -1,4 +1,4 @@
--- Where no session can go on and something is left, some operation happened before itself.
+-- The stuck lemma: an order that cannot be finished shows a cycle of the happened-before relation.
 use Rattle.std.specs.Prelude.{◌≡◌, ◌≢◌, ◌⊎◌, ℕ, ◌-◌, ◌<◌, ◌≤◌, Bool, IsTrue, length}
 use Rattle.std.proofs.Common.{true, false, arith, sym, subst, inl, inr, ⊎_elim, refl}
 use Rattle.std.proofs.lemmas.Bool.{cases_eq, cases_lt}
@@ -11,11 +11,30 @@ use Rattle.causal_order.proofs.PathsLaws.{leads-edge, leads-leads}
 use Rattle.causal_order.proofs.WaitingCycles.{waiting-cycle}
 use Rattle.memory_order.specs.Memory.{MemoryHistory}
 use Rattle.memory_order.specs.Relations.{ReadsFrom, IsEdge, CO, AreRivalWrites, IsPast, HB}
-use Rattle.memory_order.proofs.HappenedBeforeLaws.{HB-causal, HB-transitive, HB-read, past-before, past-of_history, past-program, program_past-from, program_past-parts}
+use Rattle.memory_order.proofs.HappenedBeforeLaws.{
+  HB-causal,
+  HB-transitive,
+  HB-read,
+  past-before,
+  past-of_history,
+  past-program,
+  program_past-from,
+  program_past-parts,
+}
 use Rattle.memory_order.proofs.MemoryLaws.{write-or_read}
-use Rattle.session_orders.specs.Backward.{IsLeft, IsOpen, last_left, IsAcyclic, IsOwnPlaced, IsLockedOut, IsBlocked, AreOthersBlocked, IsBackward}
+use Rattle.session_orders.specs.Backward.{
+  IsLeft,
+  IsOpen,
+  last_left,
+  IsAcyclic,
+  IsOwnPlaced,
+  IsLockedOut,
+  IsBlocked,
+  AreOthersBlocked,
+  IsBackward,
+}
 
--- a test that is not without being true is true
+-- a test that cannot fail holds
 bool-stable : (b : Bool) → ¬ (¬ IsTrue b) → IsTrue b
 bool-stable true twice = refl
 bool-stable false twice = absurd (twice (λ t. absurd cc))
@@ -23,8 +42,9 @@ bool-stable false twice = absurd (twice (λ t. absurd cc))
 rivals-back : (h : MemoryHistory) (a b : OpId) → AreRivalWrites h a b → AreRivalWrites h b a
 rivals-back h a b (apart, (x, u, v, first, second)) = (λ same. apart (sym same), (x, v, u, second, first))
 
--- what is in the past of an operation and of its session is it or before it in program order, where it is not in its own past
-pub past-own : (h : MemoryHistory) (o : OpId) → IsOp h o → ¬ CO h o o → (a : OpId) → IsPast h o a → a.session ≡ o.session → IsTrue (program_past o a)
+-- where o is not before itself, the operations of its session that are in its past are o and those before it in program order
+pub past-own : (h : MemoryHistory) (o : OpId) → IsOp h o → ¬ CO h o o → (a : OpId) → IsPast h o a → a.session ≡ o.session
+    → IsTrue (program_past o a)
 past-own h o is_op straight a in_past same = ⊎_elim
     (λ (above : o.index < a.index).
     let behind = leads-edge (IsEdge h) o a (inl ((sym same, above), past-of_history h o a is_op in_past)) in
@@ -36,11 +56,11 @@ past-own h o is_op straight a in_past same = ⊎_elim
     (cases_lt o.index a.index)
 
 module _ (h : MemoryHistory) (o : OpId) where
-  -- what cannot fail to have happened before has
+  -- so does HB, which every closed order has
   pub HB-stable : (a b : OpId) → ¬ (¬ HB h o a b) → HB h o a b
   HB-stable a b twice order closed = bool-stable (order a b) (λ none. twice (λ happened. none (happened order closed)))
 
-  -- the relation backward: a session waits for one whose operation comes later
+  -- turned round, as a session waits for another one whose last operation comes later
   abbrev HB-back : OpId → OpId → Type 0
   HB-back a b = HB h o b a
 
@@ -70,11 +90,12 @@ module _ (h : MemoryHistory) (o : OpId) (is_op : IsOp h o) (left : ℕ → ℕ) 
   last-session : (t : ℕ) → IsOpen left t → t < length h.1
   last-session t is_open = session-of_history h (last t) (past-of_history h o (last t) is_op (last-past t is_open))
 
-  -- what is left is the last of its session that is, or happened before that
+  -- each operation that is left is the last one of its session, or happened before that one
   up_to_last : (a : OpId) → IsLeft left a → (a ≡ last a.session) ⊎ HB h o a (last a.session)
   up_to_last a is_left = ⊎_elim
       (λ (same : a.index ≡ left a.session - 1). inl (same_op a (last a.session) refl same))
-      (λ (apart : a.index ≢ left a.session - 1). inr (program-happened a (last a.session) (refl, omega arith) (last-past a.session (omega arith))))
+      (λ (apart : a.index ≢ left a.session - 1). inr (program-happened a (last a.session) (refl, omega arith)
+      (last-past a.session (omega arith))))
       (cases_eq a.index (left a.session - 1))
 
   to_last : (a b : OpId) → IsLeft left b → HB h o a b → HB h o a (last b.session)
@@ -89,19 +110,19 @@ module _ (h : MemoryHistory) (o : OpId) (is_op : IsOp h o) (left : ℕ → ℕ) 
       (λ (earlier : HB h o a (last a.session)). HB-transitive h o a (last a.session) b earlier before)
       (up_to_last a is_left)
 
-  -- a write that is locked out happened before the write that is locked, where it happened before the placed reads of the session
+  -- what is locked out happened before the locked write, if it happened before the read that locks it
   before-locked : (a : OpId) (out : IsLockedOut h o left a) → HB h o a out.1.1.0 → HB h o a out.0
   before-locked a (w, (is_left, (r, placed, from)), rivals) before = HB-read h o a w r rivals from placed.0 before
 
   module _ (acyclic : IsAcyclic h o) where
-    -- a session waits for an open one
+    -- the last operation of the session t happened before that of some open session
     abbrev WaitsForOpen : ℕ → Type 0
     WaitsForOpen t = (u : ℕ) × IsOpen left u × HB h o (last t) (last u)
 
     waits-for : (t : ℕ) (b : OpId) → IsLeft left b → HB h o (last t) b → WaitsForOpen t
     waits-for t b is_left before = (b.session, omega arith, to_last (last t) b is_left before)
 
-    -- another session that is blocked waits for an open one
+    -- so it is of each blocked session but that of o
     pub blocked-waits : (t : ℕ) → t ≢ o.session → IsOpen left t → IsBlocked h o left t → WaitsForOpen t
     blocked-waits t other is_open (inl (q, is_left, from)) =
         waits-for t q is_left (source-happened h o (last t) q from (now.within q is_left))
@@ -114,7 +135,7 @@ module _ (h : MemoryHistory) (o : OpId) (is_op : IsOp h o) (left : ℕ → ℕ) 
       abbrev own : OpId
       own = last o.session
 
-      -- another session whose last operation that is left did not happen before that of the session of o
+      -- t is open, and its last operation did not happen before the next one of the session of o
       abbrev IsAstray : ℕ → Type 0
       IsAstray t = IsOpen left t × (t ≢ o.session) × ¬ HB h o (last t) own
 
@@ -132,10 +153,11 @@ module _ (h : MemoryHistory) (o : OpId) (is_op : IsOp h o) (left : ℕ → ℕ) 
 
       none-astray : (t : ℕ) → ¬ IsAstray t
       none-astray t astray =
-          let cycle = waiting-cycle IsAstray last (HB-back h o) (length h.1) (λ u found. last-session u found.0) astray-waits (HB-back-transitive h o) t astray in
+          let cycle = waiting-cycle IsAstray last (HB-back h o) (length h.1) (λ u found. last-session u found.0) astray-waits
+          (HB-back-transitive h o) t astray in
           acyclic cycle.0 cycle.1
 
-      -- what else is left happened before the last operation of the session of o that is left
+      -- where all other sessions are blocked, all else that is left happened before the next operation of the session of o
       pub left-before : (a : OpId) → IsLeft left a → a ≢ own → HB h o a own
       left-before a is_left apart = ⊎_elim
           (λ (same : a.session ≡ o.session). ⊎_elim
@@ -146,25 +168,26 @@ module _ (h : MemoryHistory) (o : OpId) (is_op : IsOp h o) (left : ℕ → ℕ) 
           from_last a own is_left (HB-stable h o (last a.session) own (λ none. none-astray a.session (omega arith, other, none))))
           (cases_eq a.session o.session)
 
-      -- nothing that is left happened behind it
+      -- and nothing that is left happened after it
       none-behind : (b : OpId) → IsLeft left b → ¬ HB h o own b
       none-behind b is_left behind = ⊎_elim
           (λ (same : own ≡ b). acyclic own (subst (λ (c : OpId). HB h o own c) (sym same) behind))
           (λ (apart : own ≢ b). acyclic own (HB-transitive h o own b own behind (left-before b is_left (λ same. apart (sym same)))))
           (cases-op own b)
 
-      -- it is o or before o in program order
+      -- being left, it is in the program past of o
       own-past : IsTrue (program_past o own)
-      own-past = past-own h o is_op (λ before. acyclic o (HB-causal h o o o (inl refl) (inl refl) before)) own (last-past o.session own_open) refl
+      own-past = past-own h o is_op (λ before. acyclic o (HB-causal h o o o (inl refl) (inl refl) before)) own
+          (last-past o.session own_open) refl
 
-      -- it happened before the placed operations of its session
+      -- and it happened before what is placed of its session
       own-before : (r : OpId) → IsOwnPlaced h o left r → HB h o own r
       own-before r (kept, placed) =
           let parts = program_past-parts o r kept in
           let behind : ¬ (r.index < left o.session) = subst (λ (t : ℕ). ¬ (r.index < left t)) parts.0 placed in
           program-happened own r (sym parts.0, omega arith) (past-program h o r is_op kept)
 
-      -- so it can be placed
+      -- therefore nothing blocks it
       pub own-free : ¬ IsBlocked h o left o.session
       own-free (inl (q, is_left, from)) = none-behind q is_left (source-happened h o own q from (now.within q is_left))
       own-free (inr (inl out)) = none-behind out.0 out.1.0 (before-locked own out (own-before out.1.1.0 out.1.1.1))
@@ -176,7 +199,7 @@ module _ (h : MemoryHistory) (o : OpId) (is_op : IsOp h o) (left : ℕ → ℕ) 
           let w_u = HB-read h o w u own (rivals-back h u w out.2) from own-past (left-before w out.1.0 apart) in
           acyclic w (HB-transitive h o w u w w_u u_w)
 
--- where every open session is blocked and one is open, not everything is acyclic
+-- where all open sessions are blocked, and there is one, something happened before itself
 pub stuck-cyclic : (h : MemoryHistory) (o : OpId) → IsOp h o → (left : ℕ → ℕ) → IsBackward h o left
     → ((t : ℕ) → IsOpen left t → IsBlocked h o left t) → (t : ℕ) → IsOpen left t → ¬ IsAcyclic h o
 stuck-cyclic h o is_op left now blocked t is_open acyclic = ⊎_elim

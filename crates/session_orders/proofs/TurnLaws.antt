@@ -34,7 +34,8 @@ module _ (h : MemoryHistory) where
   pub list-first : ListsSessions h 0 []
   list-first = record { below = λ i t at. absurd cc; each = λ t below. absurd (omega arith) }
 
-  pub list-push : (m : ℕ) (xs : List ℕ) → m < length h.1 → 0 < length (session h m) → ListsSessions h m xs → ListsSessions h (m + 1) (xs ++ m ∷ [])
+  pub list-push : (m : ℕ) (xs : List ℕ) → m < length h.1 → 0 < length (session h m) → ListsSessions h m xs
+      → ListsSessions h (m + 1) (xs ++ m ∷ [])
   list-push m xs exists some lists = record {
     below = λ i t at. ⊎_elim
         (λ (old : slice_get xs i ≡ Some t). lists.below i t old)

@@ -38,9 +38,10 @@ pub record HasSizes (index : Indexed) (b : Backward) : Type 0 where
   pub writes : length b.writes.items ≡ index.bound
   pub locks : length b.locks.items ≡ index.bound
 
--- what is left by left is counted
+-- the reads and writes that are left, as left says, are counted
 abbrev pub HasCounts : Indexed → (ℕ → ℕ) → Backward → Type 0
-HasCounts index left b = AreCounts index.history index.variables left (λ n. slice_index_or b.readers.items n 0) (λ x. slice_index_or b.writes.items x 0)
+HasCounts index left b = AreCounts index.history index.variables left (λ n. slice_index_or b.readers.items n 0)
+    (λ x. slice_index_or b.writes.items x 0)
 
 -- no count is above m
 pub record CountsUpTo (m : ℕ) (b : Backward) : Type 0 where
@@ -55,14 +56,15 @@ pub record IsClear (index : Indexed) (b : Backward) : Type 0 where
   pub zero : CountsUpTo 0 b
   pub unlocked : (x : ℕ) → slice_index_or b.locks.items x None ≡ None
 
--- the operations that are not left any more are in a list, and what is left is counted and locked
+-- what is placed is in such a list as a state has, and what is left is counted and locked
 pub record IsOnItsWay (index : Indexed) (b : Backward) : Type 0 where
   pub known : IsKnown index b.own
   pub sizes : HasSizes index b
   pub ops : List OpId
   pub state : IsSessionState index.history (last_op index.history b.own) (left_of index.history b) ops b.start
   pub counts : HasCounts index (left_of index.history b) b
-  pub locks : AreLocks index.history index.variables (last_op index.history b.own) (left_of index.history b) (λ x. slice_index_or b.locks.items x None)
+  pub locks : AreLocks index.history index.variables (last_op index.history b.own) (left_of index.history b)
+      (λ x. slice_index_or b.locks.items x None)
 
 -- the session t cannot go on
 abbrev pub IsStopped : Indexed → Backward → ℕ → Type 0
@@ -96,7 +98,7 @@ pub record IsPlaced (index : Indexed) (b after : Backward) (t : ℕ) : Type 0 wh
   pub own : after.own ≡ b.own
   pub placing : IsPlacing t (left_of index.history b) (left_of index.history after)
 
--- of the sessions at the places from i on and below n of a list each but its own is done or stopped
+-- of the sessions at the places from i to n of a list no open one can go on, but for the session itself
 abbrev pub AreStopped : Indexed → Backward → List ℕ → ℕ → ℕ → Type 0
 AreStopped index b sessions i n =
     (j : ℕ) → i ≤ j → j < n → slice_index_or sessions j 0 ≢ b.own → IsOpen (left_of index.history b) (slice_index_or sessions j 0)

@@ -8,7 +8,7 @@ use Rattle.long_history.specs.Steps.{IsAfter}
 use Rattle.session_orders.specs.Backward.{IsLeft}
 
 module _ (h : MemoryHistory) where
-  -- what is left is in the past of o; and so are, with their sources, the operations of the past from the place i of the order on
+  -- o is left, and only operations of its past are; those of its past from the place i of the order on are left with their sources
   pub record IsPastAfter (o : OpId) (order : List ℕ) (i : ℕ) (left : ℕ → ℕ) : Type 0 where
     pub own : IsLeft left o
     pub within : (a : OpId) → IsLeft left a → IsPast h o a

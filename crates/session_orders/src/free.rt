@@ -11,12 +11,15 @@ use crate::backward::Backward;
 use long_index::{LongIndex, Part};
 
 impl Backward {
-    /// Whether the last operation of a session that is left can be placed: no read of it is left, and it stands in no lock's way. O(1).
+    /// Whether the last operation of a session that is left can be placed: no read of it is left, and no lock stands in its way.
+    ///
+    /// O(1).
     pub(crate) fn is_free(&self, index: &LongIndex, session: u32) -> bool
         requires on_its_way { IsOnItsWay index.now self.now }
         requires exists { session < length index.now.history.1 }
         ensures free { IsTrue result → IsFree index.now self.now session }
-        ensures stopped { ¬ IsTrue result → IsOpen (left_of index.now.history self.now) session → IsStopped index.now self.now session }
+        ensures stopped { ¬ IsTrue result → IsOpen (left_of index.now.history self.now) session
+            → IsStopped index.now self.now session }
     {
         let end = self.ends[session as usize];
         if end <= index.start(session) {
@@ -46,7 +49,7 @@ impl Backward {
         }
     }
 
-    /// Whether no other write of a variable is locked.
+    /// Whether a variable is not locked, or is locked for this write.
     fn admits(&self, variable: u32, write: u32) -> bool
         requires { variable < length self.now.locks.items }
         ensures { IsTrue result ↔ ((n : ℕ) → slice_index_or self.now.locks.items variable None ≡ Some n → n ≡ write) }

@@ -9,5 +9,6 @@ loop-variable-preserved c =
     let size = ap (λ (es : List (Option ℕ)). length es) items in
     record {
       size = omega (arith, length-append {A = Option ℕ});
-      none = λ x. ap (λ (es : List (Option ℕ)). slice_index_or es x None) items ∙ none-push c.loop-variable.locks.items c.loop-variable.invariant.none x;
+      none = λ x. ap (λ (es : List (Option ℕ)). slice_index_or es x None) items ∙ none-push c.loop-variable.locks.items
+          c.loop-variable.invariant.none x;
     }

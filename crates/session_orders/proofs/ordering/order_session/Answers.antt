@@ -10,5 +10,6 @@ loop-session-smaller c =
     let h = c.args.index.now.history in
     let placed = left-placed (length h.1) (λ a. 1) c.in-Some.session (left_of h c.loop-session.backward) (left_of h c.place-hint.new.self)
     c.place-hint.ensures.placing c.in-Some.ensures.next.exists in
-    let fewer : left_sum (length h.1) (λ a. 1) (left_of h c.place-hint.new.self) < left_sum (length h.1) (λ a. 1) (left_of h c.loop-session.backward) = omega arith in
+    let fewer : left_sum (length h.1) (λ a. 1) (left_of h c.place-hint.new.self) < left_sum (length h.1) (λ a. 1)
+    (left_of h c.loop-session.backward) = omega arith in
     fewer

@@ -12,7 +12,8 @@ pub order_session-requires-clause-known : goal.order_session-requires-clause-kno
 order_session-requires-clause-known c =
     let h = c.args.index.now.history in
     let xs = c.loop-i.turns.sessions.items in
-    let lists : ListsSessions h (length h.1) xs = subst (ListsSessions h (length h.1)) (sym c.loop-i.invariant.sessions) c.in_ok-turns.ensures in
+    let lists : ListsSessions h (length h.1) xs = subst (ListsSessions h (length h.1)) (sym c.loop-i.invariant.sessions)
+    c.in_ok-turns.ensures in
     let size = ap (λ (ys : List ℕ). length ys) c.loop-i.invariant.sessions in
     let below : c.loop-i.i < length xs = omega arith in
     let read = get_or_read xs _ _ below c.index-own.ensures 0 in
@@ -39,7 +40,8 @@ loop-i-preserved c =
     record {
       clear = c.in_ok-order_session.ensures.clear c.in-Explained.is;
       sessions = c.in_ok-order_session.ensures.sessions ∙ c.loop-i.invariant.sessions;
-      ordered = λ j under. subst (λ (ys : List ℕ). IsOrderedSession h (slice_index_or ys j 0)) (sym c.in_ok-order_session.ensures.sessions) (⊎_elim
+      ordered = λ j under. subst (λ (ys : List ℕ). IsOrderedSession h (slice_index_or ys j 0))
+          (sym c.in_ok-order_session.ensures.sessions) (⊎_elim
           (λ (here : j ≡ c.loop-i.i).
           subst (λ (n : ℕ). IsOrderedSession h (slice_index_or xs n 0)) (sym here) (subst (IsOrderedSession h) read explained))
           (λ (apart : j ≢ c.loop-i.i). c.loop-i.invariant.ordered j (omega arith))
@@ -50,7 +52,8 @@ pub returns : goal.returns
 returns c s exists i size =
     let h = c.args.index.now.history in
     let xs = c.loop-i.turns.sessions.items in
-    let lists : ListsSessions h (length h.1) xs = subst (ListsSessions h (length h.1)) (sym c.loop-i.invariant.sessions) c.in_ok-turns.ensures in
+    let lists : ListsSessions h (length h.1) xs = subst (ListsSessions h (length h.1)) (sym c.loop-i.invariant.sessions)
+    c.in_ok-turns.ensures in
     let place = listed-place h xs lists s (omega arith) in
     let all = ap (λ (ys : List ℕ). length ys) c.loop-i.invariant.sessions in
     let below = place.1 in

@@ -51,12 +51,15 @@ loop-i-preserved c =
           (past-next h (IsListedEdge h []) c.args.order.now c.requires.order (last_op h c.args.own) p a.0 a.1
           (at ∙ ap (λ (k : ℕ). Some k) (sym a.2)) (left_counts h c.loop-i.ends.items) (left_counts h c.leave_source.new.ends.items)
           (c.leave_source.ensures.raised a.0 a.1 a.2)
-          (subst (λ (i : ℕ). IsPastAfter h (last_op h c.args.own) c.args.order.now i (left_counts h c.loop-i.ends.items)) here c.loop-i.invariant.past));
+          (subst (λ (i : ℕ). IsPastAfter h (last_op h c.args.own) c.args.order.now i (left_counts h c.loop-i.ends.items)) here
+          c.loop-i.invariant.past));
     }
 
 pub returns-clause-left : goal.returns-clause-left
 returns-clause-left c =
     let h = c.args.index.now.history in
     let none : length c.args.order.now - c.loop-i.i ≡ 0 = grind arith in
-    past-whole h (IsListedEdge h []) c.args.order.now c.requires.order (last_op h c.args.own) c.requires.operation (left_counts h c.loop-i.ends.items)
-    (subst (λ (i : ℕ). IsPastAfter h (last_op h c.args.own) c.args.order.now i (left_counts h c.loop-i.ends.items)) none c.loop-i.invariant.past)
+    past-whole h (IsListedEdge h []) c.args.order.now c.requires.order (last_op h c.args.own) c.requires.operation
+    (left_counts h c.loop-i.ends.items)
+    (subst (λ (i : ℕ). IsPastAfter h (last_op h c.args.own) c.args.order.now i (left_counts h c.loop-i.ends.items)) none
+    c.loop-i.invariant.past)

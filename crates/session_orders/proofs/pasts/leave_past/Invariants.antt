@@ -8,5 +8,6 @@ use Rattle.session_orders.proofs.pasts.leave_past.Given as goal
 abbrev pub invariant-loop-i : goal.invariant-loop-i
 invariant-loop-i l = record {
   sessions : length l.ends.items ≡ length l.index.history.1;
-  past : IsPastAfter l.index.history (last_op l.index.history l.own) l.order (length l.order - l.i) (left_counts l.index.history l.ends.items);
+  past : IsPastAfter l.index.history (last_op l.index.history l.own) l.order (length l.order - l.i)
+      (left_counts l.index.history l.ends.items);
 }

@@ -24,7 +24,8 @@ returns-in-Some-clause-raised c a is_op at =
     let more : c.in-Some.source + 1 ≡ number h w + 1 = (let number = source.3 in omega arith) in
     ends-raised h c.requires.distinct a w c.args.ends.now.items c.raise.new.numbers.items is_left source.2
     (subst (λ (n : ℕ). slice_index_or c.raise.new.numbers.items w.session 0 ≡ max (slice_index_or c.args.ends.now.items w.session 0) n) more
-    (subst (λ (s : ℕ). slice_index_or c.raise.new.numbers.items s 0 ≡ max (slice_index_or c.args.ends.now.items s 0) (c.in-Some.source + 1)) session raised))
+    (subst (λ (s : ℕ). slice_index_or c.raise.new.numbers.items s 0 ≡ max (slice_index_or c.args.ends.now.items s 0)
+    (c.in-Some.source + 1)) session raised))
     (λ t apart. c.raise.ensures.others t (λ same. apart (same ∙ session)))
 
 pub returns-in_default-clause-raised : goal.returns-in_default-clause-raised

@@ -40,7 +40,8 @@ returns-clause-on_its_way c =
     let sizes = c.count.ensures.sizes in
     let own = sym c.count.ensures.own in
     let whole : (a : OpId) → IsLeft (left_counts h ends) a ↔ IsPast h o a =
-        subst (λ (xs : List ℕ). (a : OpId) → IsLeft (left_counts h xs) a ↔ IsPast h o a) (sym c.count.ensures.ends) c.leave_past.ensures.left in
+    subst (λ (xs : List ℕ). (a : OpId) → IsLeft (left_counts h xs) a ↔ IsPast h o a) (sym c.count.ensures.ends)
+    c.leave_past.ensures.left in
     record {
       known = subst (IsKnown c.args.index.now) own c.requires.known;
       sizes = record { ends = sizes.ends; readers = sizes.readers; writes = sizes.writes; locks = sizes.locks };

@@ -16,9 +16,12 @@ returns c =
     let ends = c.in_ok-vec.ensures.items_if_clones_equal (λ y same. same) in
     let readers = c.in_ok-vec-2.ensures.items_if_clones_equal (λ y same. same) in
     let writes = c.in_ok-vec-3.ensures.items_if_clones_equal (λ y same. same) in
-    let of_ends : (t : ℕ) → slice_index_or c.in_ok-vec.field-0.items t 0 ≡ 0 = λ t. ap (λ (xs : List ℕ). slice_index_or xs t 0) ends ∙ zeros _ t in
-    let of_readers : (t : ℕ) → slice_index_or c.in_ok-vec-2.field-0.items t 0 ≡ 0 = λ t. ap (λ (xs : List ℕ). slice_index_or xs t 0) readers ∙ zeros _ t in
-    let of_writes : (t : ℕ) → slice_index_or c.in_ok-vec-3.field-0.items t 0 ≡ 0 = λ t. ap (λ (xs : List ℕ). slice_index_or xs t 0) writes ∙ zeros _ t in
+    let of_ends : (t : ℕ) → slice_index_or c.in_ok-vec.field-0.items t 0 ≡ 0 = λ t. ap (λ (xs : List ℕ). slice_index_or xs t 0) ends ∙
+    zeros _ t in
+    let of_readers : (t : ℕ) → slice_index_or c.in_ok-vec-2.field-0.items t 0 ≡ 0 = λ t. ap (λ (xs : List ℕ). slice_index_or xs t 0)
+    readers ∙ zeros _ t in
+    let of_writes : (t : ℕ) → slice_index_or c.in_ok-vec-3.field-0.items t 0 ≡ 0 = λ t. ap (λ (xs : List ℕ). slice_index_or xs t 0)
+    writes ∙ zeros _ t in
     let size_ends = c.in_ok-vec.ensures.len in
     let size_readers = c.in_ok-vec-2.ensures.len in
     let size_writes = c.in_ok-vec-3.ensures.len in

@@ -12,8 +12,10 @@ returns-clause-counts c =
     let h = c.args.index.now.history in
     let ends = c.loop-operation.self.ends.items in
     let within : (t : ℕ) → slice_index_or ends t 0 ≤ many_before h (t + 1) =
-    subst (λ (xs : List ℕ). (t : ℕ) → slice_index_or xs t 0 ≤ many_before h (t + 1)) (sym c.loop-operation.invariant.ends) c.requires.within in
+    subst (λ (xs : List ℕ). (t : ℕ) → slice_index_or xs t 0 ≤ many_before h (t + 1)) (sym c.loop-operation.invariant.ends)
+    c.requires.within in
     let at : c.loop-operation.operation ≡ many h = (let count = c.operations-operation-end.ensures.count in omega arith) in
-    counts-same h c.args.index.now.variables (left_under h ends c.loop-operation.operation) (λ n. slice_index_or c.loop-operation.self.readers.items n 0)
+    counts-same h c.args.index.now.variables (left_under h ends c.loop-operation.operation)
+    (λ n. slice_index_or c.loop-operation.self.readers.items n 0)
     (λ x. slice_index_or c.loop-operation.self.writes.items x 0) (left_counts h ends)
     (λ t. ap (λ (n : ℕ). left_under h ends n t) at ∙ under-whole h ends within t) c.loop-operation.invariant.counts

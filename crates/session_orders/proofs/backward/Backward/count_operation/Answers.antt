@@ -44,14 +44,24 @@ returns-in-Write-clause-counted c =
     let read = get_or_read ends _ _ (omega arith) c.index.ensures 0 in
     let here = ap (λ (s : ℕ). slice_index_or ends s 0) session in
     let wrote = c.in-Write.ensures.part a found.1 at in
-    let place : c.variable.result ≡ variable h variables a = c.variable.ensures.variable ∙ ap (λ (n : ℕ). slice_index_or variables n 0) (sym at) in
+    let place : c.variable.result ≡ variable h variables a = c.variable.ensures.variable ∙ ap (λ (n : ℕ). slice_index_or variables n 0)
+    (sym at) in
     subst (λ (n : ℕ). HasCounts c.args.index.now (left_under h ends n) c.args.self.now
-    → HasCounts c.args.index.now (left_under h ends (n + 1)) (record { own = c.args.self.now.own; ends = c.args.self.now.ends; readers = c.args.self.now.readers; writes = c.add_one.new.numbers; locks = c.args.self.now.locks; start = c.args.self.now.start })) at
+    → HasCounts c.args.index.now (left_under h ends (n + 1)) (record {
+      own = c.args.self.now.own;
+      ends = c.args.self.now.ends;
+      readers =
+          c.args.self.now.readers;
+      writes = c.add_one.new.numbers;
+      locks = c.args.self.now.locks;
+      start = c.args.self.now.start;
+    })) at
     (counted-write h ends c.requires.within a found.1 variables (omega arith)
     (λ n. slice_index_or c.args.self.now.readers.items n 0) (λ n. slice_index_or c.args.self.now.readers.items n 0)
     (λ x. slice_index_or c.args.self.now.writes.items x 0) (λ x. slice_index_or c.add_one.new.numbers.items x 0)
     wrote.0 wrote.1 wrote.2 (λ n. refl)
-    (subst (λ (x : ℕ). slice_index_or c.add_one.new.numbers.items x 0 ≡ slice_index_or c.args.self.now.writes.items x 0 + 1) place c.add_one.ensures.more)
+    (subst (λ (x : ℕ). slice_index_or c.add_one.new.numbers.items x 0 ≡ slice_index_or c.args.self.now.writes.items x 0 + 1) place
+    c.add_one.ensures.more)
     (λ y apart. c.add_one.ensures.others y (λ same. apart (same ∙ place))))
 
 pub returns-in-SourcedRead-clause-counted : goal.returns-in-SourcedRead-clause-counted
@@ -70,12 +80,21 @@ returns-in-SourcedRead-clause-counted c =
     let from = c.in-SourcedRead.ensures.part a found.1 at in
     let added = c.add_one-in-SourcedRead.new.numbers in
     subst (λ (n : ℕ). HasCounts c.args.index.now (left_under h ends n) c.args.self.now
-    → HasCounts c.args.index.now (left_under h ends (n + 1)) (record { own = c.args.self.now.own; ends = c.args.self.now.ends; readers = added; writes = c.args.self.now.writes; locks = c.args.self.now.locks; start = c.args.self.now.start })) at
+    → HasCounts c.args.index.now (left_under h ends (n + 1)) (record {
+      own = c.args.self.now.own;
+      ends = c.args.self.now.ends;
+      readers =
+          added;
+      writes = c.args.self.now.writes;
+      locks = c.args.self.now.locks;
+      start = c.args.self.now.start;
+    })) at
     (counted-read h ends c.requires.within a found.1 variables (omega arith)
     (λ n. slice_index_or c.args.self.now.readers.items n 0) (λ n. slice_index_or added.items n 0)
     (λ x. slice_index_or c.args.self.now.writes.items x 0) (λ x. slice_index_or c.args.self.now.writes.items x 0)
     c.requires.distinct from.0 from.1
-    (subst (λ (n : ℕ). slice_index_or added.items n 0 ≡ slice_index_or c.args.self.now.readers.items n 0 + 1) (sym from.2) c.add_one-in-SourcedRead.ensures.more)
+    (subst (λ (n : ℕ). slice_index_or added.items n 0 ≡ slice_index_or c.args.self.now.readers.items n 0 + 1) (sym from.2)
+    c.add_one-in-SourcedRead.ensures.more)
     (λ n apart. c.add_one-in-SourcedRead.ensures.others n (λ same. apart (same ∙ sym from.2))) (λ x. refl))
 
 pub returns-in-InitialRead : goal.returns-in-InitialRead

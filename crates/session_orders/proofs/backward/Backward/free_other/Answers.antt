@@ -10,5 +10,6 @@ none-so (Some a) so holds = holds
 pub returns-in-None-clause-none : goal.returns-in-None-clause-none
 returns-in-None-clause-none c =
     none-so c.free_among-in-None.result
-    (others-stopped c.args.index.now c.args.self.now c.requires.on_its_way c.args.sessions.now c.requires.sessions c.min-at.result c.in-None.ensures.none)
+    (others-stopped c.args.index.now c.args.self.now c.requires.on_its_way c.args.sessions.now c.requires.sessions c.min-at.result
+    c.in-None.ensures.none)
     c.free_among-in-None.ensures.none

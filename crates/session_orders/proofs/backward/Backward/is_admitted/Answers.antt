@@ -19,7 +19,8 @@ returns-in-Write-clause-shut_out c a is_op at fails =
     let wrote = c.in-Write.ensures.part a is_op at in
     let place : c.variable.result ≡ variable c.args.index.now.history variables a =
     c.variable.ensures.variable ∙ ap (λ (n : ℕ). slice_index_or variables n 0) (sym at) in
-    let other = other-lock (slice_index_or c.args.self.now.locks.items c.variable.result None) c.args.operation (λ all. fails (c.admits.ensures.1 all)) in
+    let other = other-lock (slice_index_or c.args.self.now.locks.items c.variable.result None) c.args.operation
+    (λ all. fails (c.admits.ensures.1 all)) in
     write-shut_out c.args.index.now c.args.self.now c.requires.on_its_way c.args.session a wrote.0 wrote.1 other.0 wrote.2
     (ap (λ (x : ℕ). slice_index_or c.args.self.now.locks.items x None) (sym place) ∙ other.1) (λ same. other.2 (same ∙ at))
 
@@ -30,7 +31,8 @@ returns-else-session-self-clause-admitted c a is_op at holds =
     let place : c.variable-else-session-self.result ≡ variable c.args.index.now.history variables a =
     c.variable-else-session-self.ensures.variable ∙ ap (λ (n : ℕ). slice_index_or variables n 0) (sym at) in
     read-admitted c.args.index.now c.args.self.now c.requires.on_its_way c.args.session a read.0 read.1
-    (λ n is_lock. c.admits-else-session-self.ensures.0 holds n (ap (λ (x : ℕ). slice_index_or c.args.self.now.locks.items x None) place ∙ is_lock) ∙ sym read.2)
+    (λ n is_lock. c.admits-else-session-self.ensures.0 holds n (ap (λ (x : ℕ). slice_index_or c.args.self.now.locks.items x None) place
+    ∙ is_lock) ∙ sym read.2)
 
 pub returns-else-session-self-clause-shut_out : goal.returns-else-session-self-clause-shut_out
 returns-else-session-self-clause-shut_out c a is_op at fails =

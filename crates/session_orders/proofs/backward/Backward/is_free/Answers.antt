@@ -16,7 +16,8 @@ index-requires c =
     let end = get_or_read b.ends.items _ _ (omega arith) c.index-end.ensures 0 in
     let is_open : IsOpen (left_of h b) c.args.session = omega arith in
     let at = last-number c.args.index.now b c.requires.on_its_way c.args.session is_open in
-    let inside = number-all h (last_left (left_of h b) c.args.session) (last-op c.args.index.now b c.requires.on_its_way c.args.session is_open) in
+    let inside = number-all h (last_left (left_of h b) c.args.session) (last-op c.args.index.now b c.requires.on_its_way c.args.session
+    is_open) in
     let readers = c.requires.on_its_way.sizes.readers in
     omega arith
 
@@ -27,7 +28,8 @@ returns-then-index-gt0-clause-stopped c _ is_open =
     let size = c.requires.on_its_way.sizes.ends in
     let end = get_or_read b.ends.items _ _ (omega arith) c.index-end.ensures 0 in
     let at = last-number c.args.index.now b c.requires.on_its_way c.args.session is_open in
-    let inside = number-all h (last_left (left_of h b) c.args.session) (last-op c.args.index.now b c.requires.on_its_way c.args.session is_open) in
+    let inside = number-all h (last_left (left_of h b) c.args.session) (last-op c.args.index.now b c.requires.on_its_way c.args.session
+    is_open) in
     let readers = c.requires.on_its_way.sizes.readers in
     let read = get_or_read b.readers.items _ _ (omega arith) c.index.ensures 0 in
     let here : number h (last_left (left_of h b) c.args.session) ≡ c.index-end.result.now - 1 = omega arith in
@@ -42,7 +44,8 @@ is_admitted-requires-clause-below c =
     let end = get_or_read b.ends.items _ _ (omega arith) c.index-end.ensures 0 in
     let is_open : IsOpen (left_of h b) c.args.session = omega arith in
     let at = last-number c.args.index.now b c.requires.on_its_way c.args.session is_open in
-    let inside = number-all h (last_left (left_of h b) c.args.session) (last-op c.args.index.now b c.requires.on_its_way c.args.session is_open) in
+    let inside = number-all h (last_left (left_of h b) c.args.session) (last-op c.args.index.now b c.requires.on_its_way c.args.session
+    is_open) in
     omega arith
 
 pub returns-clause-free : goal.returns-clause-free

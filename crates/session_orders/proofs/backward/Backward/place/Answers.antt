@@ -18,7 +18,8 @@ part-part-requires c =
     let end = get_or_read b.ends.items _ _ (omega arith) c.index.ensures 0 in
     let is_open : IsOpen (left_of h b) c.args.session = c.requires.free.0 in
     let at = last-number c.args.index.now b c.requires.on_its_way c.args.session is_open in
-    let inside = number-all h (last_left (left_of h b) c.args.session) (last-op c.args.index.now b c.requires.on_its_way c.args.session is_open) in
+    let inside = number-all h (last_left (left_of h b) c.args.session) (last-op c.args.index.now b c.requires.on_its_way c.args.session
+    is_open) in
     omega arith
 
 pub place_part-requires-clause-below : goal.place_part-requires-clause-below
@@ -30,7 +31,8 @@ place_part-requires-clause-below c =
     let end = get_or_read b.ends.items _ _ (omega arith) c.index.ensures 0 in
     let is_open : IsOpen (left_of h b) c.args.session = c.requires.free.0 in
     let at = last-number c.args.index.now b c.requires.on_its_way c.args.session is_open in
-    let inside = number-all h (last_left (left_of h b) c.args.session) (last-op c.args.index.now b c.requires.on_its_way c.args.session is_open) in
+    let inside = number-all h (last_left (left_of h b) c.args.session) (last-op c.args.index.now b c.requires.on_its_way c.args.session
+    is_open) in
     omega arith
 
 pub place_part-requires-clause-part : goal.place_part-requires-clause-part

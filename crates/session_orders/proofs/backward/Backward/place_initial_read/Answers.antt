@@ -1,14 +1,13 @@
-use Rattle.std.specs.Prelude.{◌≡◌, ◌≢◌, ◌+◌, ◌-◌, ◌<◌, ℕ, true, None, Some, length, slice_index_or}
-use Rattle.std.proofs.Common.{arith, refl, sym, ap, subst, ◌∙◌}
+use Rattle.std.specs.Prelude.{◌≡◌, ℕ, true, slice_index_or}
+use Rattle.std.proofs.Common.{arith, refl, sym, ap, ◌∙◌}
 use Rattle.std.proofs.lemmas.List.{get_or_read}
 use Rattle.history.specs.declared.op_id.OpId.{OpId}
-use Rattle.history.specs.History.{number}
 use Rattle.session_orders.specs.declared.backward.Backward.{Backward}
 use Rattle.session_orders.specs.Backward.{last_left}
 use Rattle.session_orders.specs.OnItsWay.{left_of}
 use Rattle.session_orders.specs.Tables.{variable}
 use Rattle.session_orders.proofs.PartLaws.{initial-unsourced}
-use Rattle.session_orders.proofs.PlacementLaws.{other-kept, other-placed, other_read-placed, overwritten-placed, own_read-placed, reader-some, unwritten-kept, written-overwrites}
+use Rattle.session_orders.proofs.PlacementLaws.{other-kept, other-placed, overwritten-placed, unwritten-kept, written-overwrites}
 use Rattle.session_orders.proofs.backward.Backward.place_initial_read.Goals as goal
 
 pub returns-then-session-self : goal.returns-then-session-self
@@ -42,7 +41,7 @@ returns-then-index-gt0 c =
     let below = c.variable.ensures.below in
     let read = get_or_read b.writes.items _ _ (omega arith) c.index.ensures 0 in
     let place : c.variable.result ≡ variable h c.args.index.now.variables p =
-        c.variable.ensures.variable ∙ ap (λ (n : ℕ). slice_index_or c.args.index.now.variables n 0) (sym c.requires.part.number_of) in
+    c.variable.ensures.variable ∙ ap (λ (n : ℕ). slice_index_or c.args.index.now.variables n 0) (sym c.requires.part.number_of) in
     let here = ap (λ (x : ℕ). slice_index_or b.writes.items x 0) place in
     let d : Backward = record {
       own = b.own;
@@ -69,7 +68,7 @@ returns-else-index-gt0 c =
     let below = c.variable.ensures.below in
     let read = get_or_read b.writes.items _ _ (omega arith) c.index.ensures 0 in
     let place : c.variable.result ≡ variable h c.args.index.now.variables p =
-        c.variable.ensures.variable ∙ ap (λ (n : ℕ). slice_index_or c.args.index.now.variables n 0) (sym c.requires.part.number_of) in
+    c.variable.ensures.variable ∙ ap (λ (n : ℕ). slice_index_or c.args.index.now.variables n 0) (sym c.requires.part.number_of) in
     let here = ap (λ (x : ℕ). slice_index_or b.writes.items x 0) place in
     let d : Backward = record {
       own = b.own;

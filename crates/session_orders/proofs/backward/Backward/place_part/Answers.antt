@@ -10,7 +10,11 @@ use Rattle.session_orders.proofs.backward.Backward.place_part.Goals as goal
 pub place_write-requires-clause-part : goal.place_write-requires-clause-part
 place_write-requires-clause-part c =
     let h = c.args.index.now.history in
-    record { number_of = c.requires.part.number_of; part = subst (IsPart h (last_left (left_of h c.args.self.now) c.args.session)) c.in-Write.is c.requires.part.part }
+    record {
+      number_of = c.requires.part.number_of;
+      part = subst (IsPart h (last_left (left_of h c.args.self.now) c.args.session))
+          c.in-Write.is c.requires.part.part;
+    }
 
 pub place_read-requires-clause-source_below : goal.place_read-requires-clause-source_below
 place_read-requires-clause-source_below c = c.requires.source_below c.in-SourcedRead.source c.in-SourcedRead.is
@@ -18,12 +22,20 @@ place_read-requires-clause-source_below c = c.requires.source_below c.in-Sourced
 pub place_read-requires-clause-part : goal.place_read-requires-clause-part
 place_read-requires-clause-part c =
     let h = c.args.index.now.history in
-    record { number_of = c.requires.part.number_of; part = subst (IsPart h (last_left (left_of h c.args.self.now) c.args.session)) c.in-SourcedRead.is c.requires.part.part }
+    record {
+      number_of = c.requires.part.number_of;
+      part = subst (IsPart h (last_left (left_of h c.args.self.now) c.args.session))
+          c.in-SourcedRead.is c.requires.part.part;
+    }
 
 pub place_initial_read-requires-clause-part : goal.place_initial_read-requires-clause-part
 place_initial_read-requires-clause-part c =
     let h = c.args.index.now.history in
-    record { number_of = c.requires.part.number_of; part = subst (IsPart h (last_left (left_of h c.args.self.now) c.args.session)) c.in-InitialRead.is c.requires.part.part }
+    record {
+      number_of = c.requires.part.number_of;
+      part = subst (IsPart h (last_left (left_of h c.args.self.now) c.args.session))
+          c.in-InitialRead.is c.requires.part.part;
+    }
 
 pub returns-in-ThinAirRead : goal.returns-in-ThinAirRead
 returns-in-ThinAirRead c =

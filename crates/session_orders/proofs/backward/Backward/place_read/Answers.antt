@@ -1,14 +1,11 @@
-use Rattle.std.specs.Prelude.{◌≡◌, ◌≢◌, ◌+◌, ◌-◌, ◌<◌, ℕ, true, None, Some, length, slice_index_or}
-use Rattle.std.proofs.Common.{arith, refl, sym, ap, subst, ◌∙◌}
-use Rattle.std.proofs.lemmas.List.{get_or_read}
+use Rattle.std.specs.Prelude.{◌≡◌, ◌≢◌, ◌+◌, ℕ, None, Some, slice_index_or}
+use Rattle.std.proofs.Common.{refl, sym, ap, subst, ◌∙◌}
 use Rattle.history.specs.declared.op_id.OpId.{OpId}
-use Rattle.history.specs.History.{number}
 use Rattle.session_orders.specs.declared.backward.Backward.{Backward}
 use Rattle.session_orders.specs.Backward.{last_left}
 use Rattle.session_orders.specs.OnItsWay.{left_of}
 use Rattle.session_orders.specs.Tables.{variable}
-use Rattle.session_orders.proofs.PartLaws.{initial-unsourced}
-use Rattle.session_orders.proofs.PlacementLaws.{other-kept, other-placed, other_read-placed, overwritten-placed, own_read-placed, reader-some, unwritten-kept, written-overwrites}
+use Rattle.session_orders.proofs.PlacementLaws.{other_read-placed, own_read-placed, reader-some}
 use Rattle.session_orders.proofs.backward.Backward.place_read.Goals as goal
 
 pub take_one-requires-2-clause-some : goal.take_one-requires-2-clause-some
@@ -25,7 +22,7 @@ returns-then-session-self c =
     let part = c.requires.part.part in
     let p : OpId = last_left (left_of h b) c.args.session in
     let place : c.variable.result ≡ variable h c.args.index.now.variables p =
-        c.variable.ensures.variable ∙ ap (λ (n : ℕ). slice_index_or c.args.index.now.variables n 0) (sym c.requires.part.number_of) in
+    c.variable.ensures.variable ∙ ap (λ (n : ℕ). slice_index_or c.args.index.now.variables n 0) (sym c.requires.part.number_of) in
     let d : Backward = record {
       own = b.own;
       ends = c.take_one.new.numbers;
@@ -45,7 +42,8 @@ returns-then-session-self c =
     (subst (λ (n : ℕ). slice_index_or b.readers.items n 0 ≡ slice_index_or c.take_one-2.new.numbers.items n 0 + 1) (sym part.2)
     c.take_one-2.ensures.less)
     (λ n apart. sym (c.take_one-2.ensures.others n (λ same. apart (same ∙ sym part.2)))) (λ x. refl)
-    (ap (λ (x : ℕ). slice_index_or c.set_lock.new.locks.items x None) (sym place) ∙ c.set_lock.ensures.set ∙ ap (λ (n : ℕ). Some n) (sym part.2))
+    (ap (λ (x : ℕ). slice_index_or c.set_lock.new.locks.items x None) (sym place) ∙ c.set_lock.ensures.set ∙ ap (λ (n : ℕ). Some n)
+    (sym part.2))
     (λ y apart. c.set_lock.ensures.others y (λ same. apart (same ∙ place))) refl
 
 pub returns-else-session-self : goal.returns-else-session-self
