@@ -7,18 +7,22 @@ use Rattle.causal_order.specs.Orders.{Order, op, program_past}
 use Rattle.causal_order.specs.Vectors.{Counts, IsVectorOk}
 use Rattle.memory_order.specs.Memory.{MemoryHistory, memory_answer, IsDifferentiated}
 use Rattle.memory_order.specs.Relations.{CO}
-use Rattle.memory_order.specs.SourceOrder.{CountsSourceOrder, IsCyclic, LacksSource}
+use Rattle.memory_order.specs.SourceOrder.{CountsSourceOrder}
 use Rattle.memory_order.proofs.FirstWrites.{counts-past}
 use Rattle.memory_order.proofs.ReadAnswers.{Fits}
 use Rattle.memory_order.proofs.SourceVectors.{order-vector_ok}
 use Rattle.memory_order.proofs.VectorsExist.{vectors-exist}
-use Rattle.cert_check.specs.Criteria.{IsCausalMemory}
+use Rattle.cert_check.specs.declared.criterion.Criterion.TheVariants.{Cm}
+use Rattle.cert_check.specs.Criteria.{IsCausalMemory, Meets}
 use Rattle.cert_check.specs.Witnesses.{counted_before}
 use Rattle.cert_check.proofs.Pasts.{counted_before-parts, counted-from_past, past-from_counted}
 use Rattle.certify.proofs.ReadPieces.{explains-reads}
 use Rattle.decision.specs.SessionOrders.{IsExplainingList}
 use Rattle.decision.proofs.SessionOrders.{lists-meet}
 use Rattle.session_orders.specs.SessionOrders.{IsOrderOfPast, IsOrderedSession}
+use Rattle.long_history.specs.LongHistories.{IsLongHistory}
+use Rattle.long_decision.specs.Steps.Consistency.{IsConsistent}
+use Rattle.long_decision.proofs.Consistent.{long-fits}
 
 module _ (h : MemoryHistory) (fits : Fits h) (distinct : IsDifferentiated h) where
   module _ (v : Counts) (order : CountsSourceOrder h v) where
@@ -53,5 +57,9 @@ module _ (h : MemoryHistory) (fits : Fits h) (distinct : IsDifferentiated h) whe
     counted-orders-meet ordered = lists-meet h fits distinct v order (λ s exists i ends.
         let is = ordered s exists i ends in (is.0, order-explains (op s i) (omega arith) is.0 is.1))
 
-  pub orders-meet : ¬ IsCyclic h → ¬ LacksSource h → ((s : ℕ) → s < length h.1 → IsOrderedSession h s) → IsCausalMemory memory_answer h
-  orders-meet acyclic sourced = let vectors = vectors-exist h acyclic sourced in counted-orders-meet vectors.0 vectors.1
+-- so it is met where none of the kinds against causal consistency is shown
+pub orders_meet : (h : MemoryHistory) → IsLongHistory h → IsDifferentiated h → IsConsistent h
+    → ((s : ℕ) → s < length h.1 → IsOrderedSession h s) → Meets memory_answer h Cm
+orders_meet h is distinct consistent ordered =
+    let vectors = vectors-exist h consistent.acyclic consistent.sourced in
+    counted-orders-meet h (long-fits h is) distinct vectors.0 vectors.1 ordered

@@ -1,15 +1,13 @@
 //! The decision whether a long history meets the three criteria.
 
-ghost use Rattle.std.specs.Prelude.{◌⊎◌, IfOk, IsTrue};
-ghost use Rattle.cert_check.specs.declared.criterion.Criterion.{Criterion as AnyCriterion};
-ghost use Rattle.cert_check.specs.declared.criterion.Criterion.TheVariants.{Cc, Cm, Ccv};
-ghost use Rattle.history.specs.declared.op_id.OpId.{OpId as Operation};
-ghost use Rattle.causal_order.specs.Orders.{Leads};
-ghost use Rattle.bad_patterns.specs.Kinds.{is_against, IsFreeOf, Shows};
+ghost use Rattle.std.specs.Prelude.{[], ℕ, IfOk};
+ghost use Rattle.cert_check.specs.declared.criterion.Criterion.TheVariants.{Cc, Ccv, Cm};
+ghost use Rattle.bad_patterns.specs.Kinds.{Shows};
 ghost use Rattle.long_history.specs.Steps.{IsListedEdge, IsOrderBy};
-ghost use Rattle.long_columns.specs.LastTables.{IsReducedIn};
+ghost use Rattle.long_columns.specs.Conflicts.{IsReducedIn};
+ghost use Rattle.long_columns.specs.Swept.{AreEdgesOf};
 ghost use Rattle.long_decision.specs.LongDecisions.{AreDecided, IsLongDecided};
-ghost use Rattle.memory_order.specs.SourceOrder.{LacksSource};
+ghost use Rattle.long_decision.specs.Steps.Consistency.{IsAgainstAll, IsConsistent, IsFirstShown};
 
 use crate::decisions::{LongDecision, LongDecisions};
 use crate::thin_air::lacks_source;
@@ -61,7 +59,7 @@ fn excluded_by(index: &LongIndex, kind: Kind) -> LongDecisions
 }
 
 /// What is decided of an indexed history.
-#[tactic(auto, using(crate::proofs::Firsts::none_before_start, crate::proofs::Firsts::none_before_thin_air))]
+#[tactic(auto, using(crate::proofs::Firsts::first_cyclic, crate::proofs::Firsts::first_thin_air, crate::proofs::Firsts::first_start, crate::proofs::Firsts::first_read))]
 fn decide_indexed(alloc: Global, index: &LongIndex) -> Result<LongDecisions, AllocError>
     ensures { IfOk result (AreDecided index.now.history) }
 {
@@ -90,28 +88,38 @@ fn decide_consistent(
 ) -> Result<LongDecisions, AllocError>
     requires order { IsOrderBy index.now.history [] order.now }
     requires consistent { IsConsistent index.now.history }
-    requires below { AreBelow edges.items (many index.now.history) }
+    requires below { AreEdgesOf index.now.history edges.items }
     requires reduced { (t : ℕ) → IsReducedIn index.now.history t (IsListedEdge index.now.history edges.items) }
     ensures { IfOk result (AreDecided index.now.history) }
 {
     let ccv = decide_convergence(alloc, index, edges)?;
     let cm = decide_memory(alloc, index, order)?;
-    index.value_is_indexed();
     Ok(LongDecisions {
-        cc: LongDecision::Meets,
+        cc: decide_consistency(index),
         cm,
         ccv,
     })
 }
 
+/// Such a history meets causal consistency.
+#[tactic(auto, using(crate::proofs::Consistent::consistent_meets))]
+fn decide_consistency(index: &LongIndex) -> LongDecision
+    requires { IsConsistent index.now.history }
+    ensures { IsLongDecided index.now.history Cc result }
+{
+    index.value_is_indexed();
+    LongDecision::Meets
+}
+
 /// Whether such a history meets causal convergence.
+#[tactic(auto, using(crate::proofs::Consistent::convergent_meets, crate::proofs::Firsts::first_conflict))]
 fn decide_convergence(
     alloc: Global,
     index: &LongIndex,
     edges: Vec<(u32, u32)>,
 ) -> Result<LongDecision, AllocError>
     requires consistent { IsConsistent index.now.history }
-    requires below { AreBelow edges.items (many index.now.history) }
+    requires below { AreEdgesOf index.now.history edges.items }
     requires reduced { (t : ℕ) → IsReducedIn index.now.history t (IsListedEdge index.now.history edges.items) }
     ensures { IfOk result (IsLongDecided index.now.history Ccv) }
 {
@@ -125,6 +133,7 @@ fn decide_convergence(
 }
 
 /// Whether such a history meets causal memory.
+#[tactic(auto, using(crate::proofs::Orders::orders_meet, crate::proofs::Firsts::first_overwritten))]
 fn decide_memory(
     alloc: Global,
     index: &LongIndex,
