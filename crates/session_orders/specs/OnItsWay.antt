@@ -3,7 +3,6 @@ use Rattle.std.specs.Prelude.{◌≡◌, ◌≢◌, ℕ, ◌<◌, ◌≤◌, ◌
 use Rattle.history.specs.declared.op_id.OpId.{OpId}
 use Rattle.history.specs.History.{IsOp, number, session}
 use Rattle.memory_order.specs.Memory.{MemoryHistory, IsDifferentiated}
-use Rattle.memory_order.specs.HappenedBeforePatterns.{HasHBCycle, HasStartOverwrittenInHB}
 use Rattle.memory_order.specs.SourceOrder.{IsCyclic}
 use Rattle.long_history.specs.Steps.{many}
 use Rattle.long_history.specs.declared.limits.TheConstants.{MAX_NUMBERS}
@@ -12,9 +11,7 @@ use Rattle.long_index.specs.Parts.{AreVariables, IsPart}
 use Rattle.long_index.specs.declared.part.Part.{Part}
 use Rattle.session_orders.specs.declared.backward.Backward.{Backward}
 use Rattle.session_orders.specs.Backward.{IsOpen, IsBlocked, IsLockedOut, ReadsLockedOut, AreOthersBlocked, IsPlacing, last_left}
-use Rattle.session_orders.specs.declared.ordering.SessionOrder.{SessionOrder}
-use Rattle.session_orders.specs.declared.ordering.SessionOrder.TheVariants.{Explained, StartOverwritten, Cyclic}
-use Rattle.session_orders.specs.SessionOrders.{IsOrderedSession, last_op}
+use Rattle.session_orders.specs.SessionOrders.{last_op}
 use Rattle.session_orders.specs.SessionStates.{IsSessionState}
 use Rattle.session_orders.specs.Tables.{AreCounts, AreLocks, left_counts}
 
@@ -108,15 +105,3 @@ AreStopped index b sessions i n =
 pub record ListsSessions (h : MemoryHistory) (m : ℕ) (sessions : List ℕ) : Type 0 where
   pub below : (i t : ℕ) → slice_get sessions i ≡ Some t → (t < length h.1) × (0 < length (session h t))
   pub each : (t : ℕ) → t < m → 0 < length (session h t) → (i : ℕ) × (slice_get sessions i ≡ Some t)
-
--- what an outcome says of the session own
-abbrev pub IsOutcome : MemoryHistory → ℕ → SessionOrder → Type 0
-IsOutcome h own Explained = IsOrderedSession h own
-IsOutcome h own StartOverwritten = HasStartOverwrittenInHB h
-IsOutcome h own Cyclic = HasHBCycle h
-
--- what it says of all sessions
-abbrev pub AreOrdered : MemoryHistory → SessionOrder → Type 0
-AreOrdered h Explained = (s : ℕ) → s < length h.1 → IsOrderedSession h s
-AreOrdered h StartOverwritten = HasStartOverwrittenInHB h
-AreOrdered h Cyclic = HasHBCycle h

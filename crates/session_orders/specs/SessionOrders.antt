@@ -5,8 +5,11 @@ use Rattle.objects.specs.declared.register.RegisterRet.TheVariants.{Value}
 use Rattle.history.specs.declared.op_id.OpId.{OpId}
 use Rattle.history.specs.History.{calls, session}
 use Rattle.causal_order.specs.Orders.{op, program_past, StandsAt}
+use Rattle.memory_order.specs.HappenedBeforePatterns.{HasHBCycle, HasStartOverwrittenInHB}
 use Rattle.memory_order.specs.Memory.{MemoryHistory, memory_answer, Reads}
 use Rattle.memory_order.specs.Relations.{CO, IsPast}
+use Rattle.session_orders.specs.declared.ordering.SessionOrder.{SessionOrder}
+use Rattle.session_orders.specs.declared.ordering.SessionOrder.TheVariants.{Explained, StartOverwritten, Cyclic}
 
 -- ops has the past of o, each operation once and in the causal order, and answers each known read that is o or before o in program
 -- order what it returned
@@ -25,3 +28,15 @@ IsOrderedSession h s = (i : ℕ) → length (session h s) ≡ i + 1 → (ops : L
 -- the last operation of the session s, where it has one
 abbrev pub last_op : MemoryHistory → ℕ → OpId
 last_op h s = op s (length (session h s) - 1)
+
+-- what an outcome says of one session
+abbrev pub IsOutcome : MemoryHistory → ℕ → SessionOrder → Type 0
+IsOutcome h own Explained = IsOrderedSession h own
+IsOutcome h own StartOverwritten = HasStartOverwrittenInHB h
+IsOutcome h own Cyclic = HasHBCycle h
+
+-- what it says of all sessions
+abbrev pub AreOrdered : MemoryHistory → SessionOrder → Type 0
+AreOrdered h Explained = (s : ℕ) → s < length h.1 → IsOrderedSession h s
+AreOrdered h StartOverwritten = HasStartOverwrittenInHB h
+AreOrdered h Cyclic = HasHBCycle h

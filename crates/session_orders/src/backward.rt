@@ -1,14 +1,12 @@
 //! What is left of the past of a session's last operation, while an order of it is made from its end.
 
-ghost use Rattle.std.specs.Prelude.{◌≡◌, ◌≢◌, ◌<◌, ◌≤◌, ◌+◌, ℕ, [], length, None, slice_index_or};
+ghost use Rattle.std.specs.Prelude.{◌≡◌, ◌<◌, ◌≤◌, ◌+◌, ℕ, [], length, None, slice_index_or};
 ghost use Rattle.std.specs.Prelude.{IfOk};
-ghost use Rattle.history.specs.declared.op_id.OpId.{OpId as Operation};
-ghost use Rattle.history.specs.History.{IsOp, many_before, number};
+ghost use Rattle.history.specs.History.{many_before};
 ghost use Rattle.memory_order.specs.Memory.{IsDifferentiated};
 ghost use Rattle.long_history.specs.Steps.{IsOrderBy, many};
-ghost use Rattle.session_orders.specs.Backward.{IsOpen, IsPlacing, last_left};
 ghost use Rattle.session_orders.specs.OnItsWay.{CountsUpTo, HasCounts, HasSizes, IsClear, IsKnown, IsOnItsWay, left_of};
-ghost use Rattle.session_orders.specs.Tables.{AreCounts, left_under};
+ghost use Rattle.session_orders.specs.Tables.{left_under};
 
 use crate::numbers::add_one;
 use crate::pasts::leave_past;

@@ -1,6 +1,6 @@
 //! Whether a session can go on.
 
-ghost use Rattle.std.specs.Prelude.{◌≡◌, ◌↔◌, ◌<◌, ◌≤◌, ℕ, length, None, Some, slice_index_or, IsTrue};
+ghost use Rattle.std.specs.Prelude.{◌≡◌, ◌↔◌, ◌<◌, ℕ, length, None, Some, slice_index_or, IsTrue};
 ghost use Rattle.history.specs.declared.op_id.OpId.{OpId as Operation};
 ghost use Rattle.history.specs.History.{IsOp, number};
 ghost use Rattle.long_history.specs.Steps.{many};

@@ -1,11 +1,12 @@
 //! Orders of all sessions.
 
-ghost use Rattle.std.specs.Prelude.{◌≡◌, ◌<◌, ℕ, [], length, IfOk, IsTrue};
+ghost use Rattle.std.specs.Prelude.{◌≡◌, ℕ, [], length, IfOk, IsTrue};
 ghost use Rattle.long_history.specs.Steps.{IsOrderBy};
 ghost use Rattle.memory_order.specs.SourceOrder.{LacksSource};
 ghost use Rattle.session_orders.specs.Backward.{IsOpen};
 ghost use Rattle.session_orders.specs.declared.ordering.SessionOrder.TheVariants.{Explained};
-ghost use Rattle.session_orders.specs.OnItsWay.{AreOrdered, IsClear, IsKnown, IsOnItsWay, IsOutcome, IsStopped, ListsSessions, left_of};
+ghost use Rattle.session_orders.specs.OnItsWay.{IsClear, IsKnown, IsOnItsWay, IsStopped, ListsSessions, left_of};
+ghost use Rattle.session_orders.specs.SessionOrders.{AreOrdered, IsOutcome};
 
 use crate::backward::Backward;
 use crate::turns::Turns;
@@ -78,7 +79,7 @@ fn order_session(
 }
 
 impl Backward {
-    /// What it says of a session that none can go on.
+    /// What it says of the session that no session can go on.
     fn outcome(&self, index: &LongIndex, sessions: &[u32]) -> SessionOrder
         requires on_its_way { IsOnItsWay index.now self.now }
         requires sources { ¬ LacksSource index.now.history }

@@ -3,8 +3,8 @@ use Rattle.std.proofs.Common.{arith, sym, ap, subst, ⊎_elim, ◌∙◌}
 use Rattle.std.proofs.lemmas.Bool.{cases_eq}
 use Rattle.std.proofs.lemmas.List.{get_or_read}
 use Rattle.long_order.proofs.Orders.{order_by-straight}
-use Rattle.session_orders.specs.OnItsWay.{IsKnown, IsOutcome, ListsSessions}
-use Rattle.session_orders.specs.SessionOrders.{IsOrderedSession}
+use Rattle.session_orders.specs.OnItsWay.{IsKnown, ListsSessions}
+use Rattle.session_orders.specs.SessionOrders.{IsOrderedSession, IsOutcome}
 use Rattle.session_orders.proofs.TurnLaws.{listed-exists, listed-place}
 use Rattle.session_orders.proofs.ordering.order_sessions.Goals as goal
 
