@@ -1,0 +1,7 @@
+pub mod Backward
+pub mod BackwardOrder
+pub mod OnItsWay
+pub mod Pasts
+pub mod SessionOrders
+pub mod SessionStates
+pub mod Tables

@@ -1,0 +1,16 @@
+use Rattle.std.proofs.Common.{refl}
+use Rattle.session_orders.proofs.TurnLaws.{all-stopped}
+use Rattle.session_orders.proofs.backward.Backward.next_session.Goals as goal
+
+pub returns-then-is_free-clause-next : goal.returns-then-is_free-clause-next
+returns-then-is_free-clause-next c = record {
+  on_its_way = c.requires.on_its_way;
+  exists = c.requires.on_its_way.known.exists;
+  free = c.if-is_free.ensures.free refl;
+  turn = λ _. c.in_default-free_other.ensures.none;
+}
+
+pub returns-else-is_free-clause-stuck : goal.returns-else-is_free-clause-stuck
+returns-else-is_free-clause-stuck c =
+    all-stopped c.args.index.now c.args.self.now c.requires.on_its_way c.args.turns.now.sessions.items c.requires.sessions
+    c.in_default-free_other.ensures.none (c.if-is_free.ensures.stopped (λ t. absurd cc))

@@ -1,0 +1,120 @@
+//! What is left of the past of a session's last operation, while an order of it is made from its end.
+
+ghost use Rattle.std.specs.Prelude.{◌≡◌, ◌<◌, ◌≤◌, ◌+◌, ℕ, [], length, None, slice_index_or};
+ghost use Rattle.std.specs.Prelude.{IfOk};
+ghost use Rattle.history.specs.History.{many_before};
+ghost use Rattle.memory_order.specs.Memory.{IsDifferentiated};
+ghost use Rattle.long_history.specs.Steps.{IsOrderBy, many};
+ghost use Rattle.session_orders.specs.OnItsWay.{CountsUpTo, HasCounts, HasSizes, IsClear, IsKnown, IsOnItsWay, left_of};
+ghost use Rattle.session_orders.specs.Tables.{left_under};
+
+use crate::numbers::add_one;
+use crate::pasts::leave_past;
+use long_history::MAX_NUMBERS;
+use long_index::{LongIndex, Part};
+use std::alloc::{AllocError, Global};
+
+/// What is left to place of the past of a session's last operation, and what decides which session can go on.
+#[derive(Drop)]
+pub(crate) struct Backward {
+    /// The session.
+    pub(crate) own: u32,
+    /// Of each session the number after that of its last operation that is left.
+    pub(crate) ends: Vec<u32>,
+    /// Of each operation how many reads of it are left.
+    pub(crate) readers: Vec<u32>,
+    /// Of each variable how many writes of it are left.
+    pub(crate) writes: Vec<u32>,
+    /// Of each variable the write that is locked: it is left, and a read of the session that is placed read from it, so that no other
+    /// write of the variable may come between.
+    pub(crate) locks: Vec<Option<u32>>,
+    /// Whether a write of a variable was left when a read of its initial value by the session was placed.
+    pub(crate) start: bool,
+}
+
+impl Backward {
+    /// With nothing left. O(n + k) for n operations of k sessions.
+    pub(crate) fn clear(alloc: Global, index: &LongIndex) -> Result<Backward, AllocError>
+        ensures { IfOk result (IsClear index.now) }
+    {
+        Ok(Backward {
+            own: 0,
+            ends: vec![in alloc; 0; index.sessions() as usize]?,
+            readers: vec![in alloc; 0; index.operations() as usize]?,
+            writes: vec![in alloc; 0; index.variables() as usize]?,
+            locks: no_locks(alloc, index.variables())?,
+            start: false,
+        })
+    }
+
+    /// Where nothing is left, leaves the past of the last operation of a session. O(n) for n operations.
+    pub(crate) fn begin(&mut self, index: &LongIndex, order: &[u32], own: u32)
+        requires known { IsKnown index.now own }
+        requires order { IsOrderBy index.now.history [] order.now }
+        requires clear { IsClear index.now self.old }
+        ensures on_its_way { IsOnItsWay index.now self.new }
+        ensures own { self.new.own ≡ own }
+    {
+        self.own = own;
+        leave_past(index, order, own, &mut self.ends);
+        self.count(index);
+        self.start = false;
+    }
+
+    /// Counts the reads and writes that are left, where none is counted yet.
+    fn count(&mut self, index: &LongIndex)
+        requires distinct { IsDifferentiated index.now.history }
+        requires few { many index.now.history ≤ MAX_NUMBERS }
+        requires sizes { HasSizes index.now self.old }
+        requires within { (t : ℕ) → slice_index_or self.old.ends.items t 0 ≤ many_before index.now.history (t + 1) }
+        requires zero { CountsUpTo 0 self.old }
+        requires none { HasCounts index.now (λ t. 0) self.old }
+        ensures sizes { HasSizes index.now self.new }
+        ensures ends { self.new.ends.items ≡ self.old.ends.items }
+        ensures locks { self.new.locks.items ≡ self.old.locks.items }
+        ensures own { self.new.own ≡ self.old.own }
+        ensures counts { HasCounts index.now (left_of index.now.history self.new) self.new }
+    {
+        for operation in 0..index.operations() {
+            self.count_operation(index, operation);
+        }
+    }
+
+    /// Counts an operation, if it is left, after those with lower numbers.
+    fn count_operation(&mut self, index: &LongIndex, operation: u32)
+        requires distinct { IsDifferentiated index.now.history }
+        requires few { many index.now.history ≤ MAX_NUMBERS }
+        requires below { operation < many index.now.history }
+        requires sizes { HasSizes index.now self.old }
+        requires within { (t : ℕ) → slice_index_or self.old.ends.items t 0 ≤ many_before index.now.history (t + 1) }
+        requires most { CountsUpTo operation self.old }
+        ensures sizes { HasSizes index.now self.new }
+        ensures ends { self.new.ends.items ≡ self.old.ends.items }
+        ensures locks { self.new.locks.items ≡ self.old.locks.items }
+        ensures own { self.new.own ≡ self.old.own }
+        ensures most { CountsUpTo (operation + 1) self.new }
+        ensures counted { HasCounts index.now (left_under index.now.history self.old.ends.items operation) self.old
+            → HasCounts index.now (left_under index.now.history self.old.ends.items (operation + 1)) self.new }
+    {
+        if operation >= self.ends[index.session_of(operation) as usize] {
+            return;
+        }
+        match index.part(operation) {
+            Part::Write => add_one(&mut self.writes, index.variable(operation)),
+            Part::SourcedRead(source) => add_one(&mut self.readers, source),
+            Part::InitialRead | Part::ThinAirRead | Part::UnknownRead => {}
+        }
+    }
+}
+
+/// As many variables, none of which is locked.
+fn no_locks(alloc: Global, variables: u32) -> Result<Vec<Option<u32>>, AllocError>
+    ensures size { IfOk result (λ locks. length locks.items ≡ variables) }
+    ensures none { IfOk result (λ locks. (x : ℕ) → slice_index_or locks.items x None ≡ None) }
+{
+    let mut locks = Vec::new(alloc);
+    for _variable in 0..variables {
+        locks.push(None)?;
+    }
+    Ok(locks)
+}

@@ -1,0 +1,114 @@
+//! Orders of all sessions.
+
+ghost use Rattle.std.specs.Prelude.{◌≡◌, ℕ, [], length, IfOk, IsTrue};
+ghost use Rattle.long_history.specs.Steps.{IsOrderBy};
+ghost use Rattle.memory_order.specs.SourceOrder.{LacksSource};
+ghost use Rattle.session_orders.specs.Backward.{IsOpen};
+ghost use Rattle.session_orders.specs.declared.ordering.SessionOrder.TheVariants.{Explained};
+ghost use Rattle.session_orders.specs.OnItsWay.{IsClear, IsKnown, IsOnItsWay, IsStopped, ListsSessions, left_of};
+ghost use Rattle.session_orders.specs.SessionOrders.{AreOrdered, IsOutcome};
+
+use crate::backward::Backward;
+use crate::turns::Turns;
+use long_index::LongIndex;
+use std::alloc::{AllocError, Global};
+
+/// Whether sessions have orders of what is before their last operations.
+#[derive(Clone, Copy, Debug, PartialEq, Eq)]
+pub enum SessionOrder {
+    /// Each has one in which its known reads read what was last written.
+    Explained,
+    /// In the happened-before relation of some operation a write comes before a read of the initial value of its variable, which is that
+    /// operation or before it in program order.
+    StartOverwritten,
+    /// In the happened-before relation of some operation an operation comes before itself.
+    Cyclic,
+}
+
+/// Whether each session has an order of what is before its last operation, in which each of its known reads reads what was last
+/// written to its variable; else why the first session that has none has none.
+///
+/// `order` is an order of all operations that program order and the sources make, and no known read lacks its source. Fails for want of
+/// memory alone. O(n k) for n operations in k sessions with operations, and O(n + k) numbers of memory for k sessions in all.
+pub fn order_sessions(
+    alloc: Global,
+    index: &LongIndex,
+    order: &[u32],
+) -> Result<SessionOrder, AllocError>
+    requires order { IsOrderBy index.now.history [] order.now }
+    requires sources { ¬ LacksSource index.now.history }
+    ensures { IfOk result (AreOrdered index.now.history) }
+{
+    index.value_is_indexed();
+    let mut backward = Backward::clear(alloc, index)?;
+    let mut turns = Turns::of(alloc, index)?;
+    for i in 0..turns.sessions.len() {
+        let own = turns.sessions[i];
+        match order_session(index, order, own, &mut backward, &mut turns)? {
+            SessionOrder::Explained => {}
+            SessionOrder::StartOverwritten => return Ok(SessionOrder::StartOverwritten),
+            SessionOrder::Cyclic => return Ok(SessionOrder::Cyclic),
+        }
+    }
+    Ok(SessionOrder::Explained)
+}
+
+/// The same of one session, where nothing is left; if it is explained, nothing is left then.
+fn order_session(
+    index: &LongIndex,
+    order: &[u32],
+    own: u32,
+    backward: &mut Backward,
+    turns: &mut Turns,
+) -> Result<SessionOrder, AllocError>
+    requires known { IsKnown index.now own }
+    requires order { IsOrderBy index.now.history [] order.now }
+    requires sources { ¬ LacksSource index.now.history }
+    requires clear { IsClear index.now backward.old }
+    requires sessions { ListsSessions index.now.history (length index.now.history.1) turns.old.sessions.items }
+    ensures outcome { IfOk result (IsOutcome index.now.history own) }
+    ensures clear { IfOk result (λ outcome. outcome ≡ Explained → IsClear index.now backward.new) }
+    ensures sessions { IfOk result (λ _. turns.new.sessions.items ≡ turns.old.sessions.items) }
+{
+    backward.begin(index, order, own);
+    while let Some(session) = backward.next_session(index, turns) {
+        let hint = backward.place(index, session);
+        turns.take_hint(hint)?;
+    }
+    Ok(backward.outcome(index, &turns.sessions))
+}
+
+impl Backward {
+    /// What it says of the session that no session can go on.
+    fn outcome(&self, index: &LongIndex, sessions: &[u32]) -> SessionOrder
+        requires on_its_way { IsOnItsWay index.now self.now }
+        requires sources { ¬ LacksSource index.now.history }
+        requires sessions { ListsSessions index.now.history (length index.now.history.1) sessions.now }
+        requires stuck { (t : ℕ) → IsOpen (left_of index.now.history self.now) t → IsStopped index.now self.now t }
+        ensures outcome { IsOutcome index.now.history self.now.own result }
+        ensures clear { result ≡ Explained → IsClear index.now self.now }
+    {
+        if self.is_any_left(index, sessions) {
+            SessionOrder::Cyclic
+        } else if self.start {
+            SessionOrder::StartOverwritten
+        } else {
+            SessionOrder::Explained
+        }
+    }
+
+    /// Whether an operation is left.
+    fn is_any_left(&self, index: &LongIndex, sessions: &[u32]) -> bool
+        requires on_its_way { IsOnItsWay index.now self.now }
+        requires sessions { ListsSessions index.now.history (length index.now.history.1) sessions.now }
+        ensures some { IsTrue result → (t : ℕ) × IsOpen (left_of index.now.history self.now) t }
+        ensures none { ¬ IsTrue result → (t : ℕ) → ¬ IsOpen (left_of index.now.history self.now) t }
+    {
+        for i in 0..sessions.len() {
+            if self.ends[sessions[i] as usize] > index.start(sessions[i]) {
+                return true;
+            }
+        }
+        false
+    }
+}

@@ -1,0 +1,108 @@
+//! One operation more is placed.
+
+ghost use Rattle.std.specs.Prelude.{◌≡◌, ◌≢◌, ◌<◌, ℕ, length, None, slice_index_or};
+ghost use Rattle.long_history.specs.Steps.{many};
+ghost use Rattle.long_index.specs.declared.part.Part.TheVariants.{InitialRead, SourcedRead, Write};
+ghost use Rattle.session_orders.specs.OnItsWay.{CanBePlaced, HasSizes, IsNextPart, IsPlaced};
+
+use crate::backward::Backward;
+use crate::numbers::take_one;
+use long_index::{LongIndex, Part};
+
+impl Backward {
+    /// Places the last operation of a session that is left, and names a session that may be able to go on since then, if there is one.
+    ///
+    /// O(1).
+    pub(crate) fn place(&mut self, index: &LongIndex, session: u32) -> Option<u32>
+        requires { CanBePlaced index.now self.old session }
+        ensures { IsPlaced index.now self.old self.new session }
+    {
+        let last = self.ends[session as usize] - 1;
+        let part = index.part(last);
+        self.place_part(index, session, last, part);
+        self.freed_by(index, part)
+    }
+
+    /// The session of the source of a read that is placed, where that was the last one that was left.
+    fn freed_by(&self, index: &LongIndex, part: Part) -> Option<u32>
+        requires sizes { HasSizes index.now self.now }
+        requires below { (n : ℕ) → part ≡ SourcedRead n → n < many index.now.history }
+    {
+        if let Part::SourcedRead(source) = part {
+            if self.readers[source as usize] == 0 {
+                return Some(index.session_of(source));
+            }
+        }
+        None
+    }
+
+    /// Places it by what is known of it.
+    fn place_part(&mut self, index: &LongIndex, session: u32, last: u32, part: Part)
+        requires next { CanBePlaced index.now self.old session }
+        requires below { last < many index.now.history }
+        requires source_below { (n : ℕ) → part ≡ SourcedRead n → n < many index.now.history }
+        requires part { IsNextPart index.now self.old session last part }
+        ensures { IsPlaced index.now self.old self.new session }
+    {
+        match part {
+            Part::Write => self.place_write(index, session, last),
+            Part::SourcedRead(source) => self.place_read(index, session, last, source),
+            Part::InitialRead => self.place_initial_read(index, session, last),
+            Part::ThinAirRead | Part::UnknownRead => take_one(&mut self.ends, session),
+        }
+    }
+
+    /// Places a write, which opens its variable.
+    fn place_write(&mut self, index: &LongIndex, session: u32, write: u32)
+        requires next { CanBePlaced index.now self.old session }
+        requires below { write < many index.now.history }
+        requires part { IsNextPart index.now self.old session write Write }
+        ensures { IsPlaced index.now self.old self.new session }
+    {
+        let variable = index.variable(write);
+        take_one(&mut self.ends, session);
+        take_one(&mut self.writes, variable);
+        set_lock(&mut self.locks, variable, None);
+    }
+
+    /// Places a read of a written value, which locks its variable for its source, if it is of the session itself.
+    fn place_read(&mut self, index: &LongIndex, session: u32, read: u32, source: u32)
+        requires next { CanBePlaced index.now self.old session }
+        requires below { read < many index.now.history }
+        requires source_below { source < many index.now.history }
+        requires part { IsNextPart index.now self.old session read (SourcedRead source) }
+        ensures { IsPlaced index.now self.old self.new session }
+    {
+        take_one(&mut self.ends, session);
+        take_one(&mut self.readers, source);
+        if session == self.own {
+            set_lock(&mut self.locks, index.variable(read), Some(source));
+        }
+    }
+
+    /// Places a read of an initial value, and notes if it is of the session itself and a write of its variable is left.
+    fn place_initial_read(&mut self, index: &LongIndex, session: u32, read: u32)
+        requires next { CanBePlaced index.now self.old session }
+        requires below { read < many index.now.history }
+        requires part { IsNextPart index.now self.old session read InitialRead }
+        ensures { IsPlaced index.now self.old self.new session }
+    {
+        take_one(&mut self.ends, session);
+        if session != self.own {
+            return;
+        }
+        if self.writes[index.variable(read) as usize] > 0 {
+            self.start = true;
+        }
+    }
+}
+
+/// Sets the lock of a variable.
+fn set_lock(locks: &mut Vec<Option<u32>>, variable: u32, lock: Option<u32>)
+    requires { variable < length locks.old.items }
+    ensures size { length locks.new.items ≡ length locks.old.items }
+    ensures set { slice_index_or locks.new.items variable None ≡ lock }
+    ensures others { (x : ℕ) → x ≢ variable → slice_index_or locks.new.items x None ≡ slice_index_or locks.old.items x None }
+{
+    locks[variable as usize] = lock;
+}
