@@ -1,0 +1,9 @@
+pub mod Columns
+pub mod Firsts
+pub mod LastWrites
+pub mod LateWrites
+pub mod Orders
+pub mod Overwrites
+pub mod Sights
+pub mod Sweeps
+pub mod Visits
