@@ -1,9 +1,12 @@
+pub mod ByNumber
 pub mod Columns
 pub mod Firsts
 pub mod LastWrites
 pub mod LateWrites
 pub mod Orders
 pub mod Overwrites
+pub mod PassSteps
+pub mod SessionsSwept
 pub mod Sights
 pub mod Sweeps
 pub mod Visits

@@ -3,4 +3,5 @@ pub mod Conflicts
 pub mod LastWrites
 pub mod Sights
 pub mod Sweeps
+pub mod Swept
 pub mod Visits

@@ -1,6 +1,9 @@
 //! Which operations of a session are before and after each operation, and what that shows.
 #![tactic(auto)]
 
-mod columns;
+mod passes;
 mod sight;
-mod sweeps;
+mod sweeping;
+mod swept;
+
+pub use swept::{Swept, sweep};
