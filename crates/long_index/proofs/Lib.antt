@@ -1,0 +1,4 @@
+pub mod IndexedLaws
+pub mod KeyPlaces
+pub mod ListsLaws
+pub mod PartsLaws

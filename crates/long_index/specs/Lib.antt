@@ -1,2 +1,4 @@
 pub mod Indexed
+pub mod Lists
 pub mod Parts
+pub mod Writes

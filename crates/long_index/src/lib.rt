@@ -7,6 +7,10 @@
 
 mod long_index;
 mod part;
+mod reads;
+mod sessions;
+mod variables;
+mod writes;
 
 pub use long_index::LongIndex;
 pub use part::Part;

@@ -1,0 +1,12 @@
+use Rattle.long_index.specs.Lists.{IsKeyOf}
+use Rattle.long_index.proofs.ListsLaws.{each-push, key-at, op-at}
+use Rattle.long_index.proofs.variables.push_keys.Goals as goal
+
+pub loop-call-preserved : goal.loop-call-preserved
+loop-call-preserved c =
+    let below = c.loop-call-test.true in
+    rw c.in_ok-push.ensures.items
+    (each-push c.args.h.now (IsKeyOf c.args.h.now) c.args.session c.loop-call.call-index _ _
+    (op-at c.args.h.now _ _ _ c.session-call-items.ensures below)
+    (key-at c.args.h.now _ _ _ c.session-call-items.ensures below _)
+    c.loop-call.invariant)
