@@ -1,6 +1,7 @@
 -- What an operation shows of the last write of a session in its past.
-use Rattle.std.specs.Prelude.{◌≡◌, ◌≢◌, ◌⊎◌, ◌↔◌, ℕ, ◌+◌, ◌<◌, ◌≤◌, List, slice_index_or}
+use Rattle.std.specs.Prelude.{◌≡◌, ◌≢◌, ◌⊎◌, ◌↔◌, ℕ, ◌+◌, ◌-◌, ◌<◌, ◌≤◌, List, length, slice_index_or, slice_set}
 use Rattle.std.proofs.Common.{arith, refl, ap, sym, inl, inr, ◌∙◌, subst}
+use Rattle.std.proofs.lemmas.List.{get_or-set_same, get_or-set_other}
 use Rattle.history.specs.declared.op_id.OpId.{OpId}
 use Rattle.history.specs.History.{IsOp, many_before, number}
 use Rattle.memory_order.specs.Memory.{MemoryHistory, initial, Reads, Writes, IsDifferentiated}
@@ -10,6 +11,7 @@ use Rattle.long_history.proofs.Numbers.{number-once}
 use Rattle.long_index.specs.Parts.{AreVariables, IsPart, IsThinAir}
 use Rattle.long_index.specs.declared.part.Part.{Part}
 use Rattle.long_index.specs.declared.part.Part.TheVariants as parts
+use Rattle.long_columns.specs.Columns.{AreWithinSession}
 use Rattle.long_columns.specs.declared.sight.Sight.{Sight}
 use Rattle.long_columns.specs.declared.sight.Sight.TheVariants as sights
 use Rattle.long_columns.specs.LastWrites.{AreWrites, IsLastBeside, IsLastIn, ShowsStart, WritesTo}
@@ -30,14 +32,15 @@ module _ (h : MemoryHistory) (t : ℕ) (ends firsts : ℕ → ℕ) (r : OpId) wh
       let same = same_read h r from.0 from.1 x (initial h x) from.3 reads in
       from.4 (same.1 ∙ ap (initial h) (sym same.0))
 
-  -- what is no known read shows nothing
-  pub sight-unread : ((x v : ℕ) → ¬ Reads h r x v) → IsSight h t ends firsts r sights.Nothing
-  sight-unread unread = (
-    (λ shows. unread shows.1 (initial h shows.1) shows.2),
-    λ w a beside. absurd (unread beside.0.0 beside.0.1 beside.0.3),
+  -- nothing is shown where no read has a write of its variable in its past
+  pub sight-none : ((x v : ℕ) → Reads h r x v → (a : OpId) → ¬ IsLastIn h (WritesTo h) t x (ends (number h r)) a)
+      → IsSight h t ends firsts r sights.Nothing
+  sight-none none = (
+    (λ shows. none shows.1 (initial h shows.1) shows.2 shows.0 shows.3),
+    λ w a beside. absurd (none beside.0.0 beside.0.1 beside.0.3 a beside.1),
   )
 
-  -- nor does a read of a value that nobody writes
+  -- nor by a read of a value that nobody writes
   pub sight-thin : IsThinAir h r → IsSight h t ends firsts r sights.Nothing
   sight-thin (x, v, reads, other, unwritten) = (
     (λ shows.
@@ -47,16 +50,6 @@ module _ (h : MemoryHistory) (t : ℕ) (ends firsts : ℕ → ℕ) (r : OpId) wh
         let from = beside.0 in
         let same = same_read h r from.0 from.1 x v from.3 reads in
         absurd (unwritten w (subst (λ (y : ℕ). Writes h w y v) same.0 (subst (Writes h w from.0) same.1 from.2))),
-  )
-
-  -- nor one with no write of its variable in its past
-  pub sight-none : (x v : ℕ) → Reads h r x v → ((a : OpId) → ¬ IsLastIn h (WritesTo h) t x (ends (number h r)) a)
-      → IsSight h t ends firsts r sights.Nothing
-  sight-none x v reads none = (
-    (λ shows. none shows.0 (subst (λ (y : ℕ). IsLastIn h (WritesTo h) t y (ends (number h r)) shows.0)
-    (same_read h r shows.1 (initial h shows.1) x v shows.2 reads).0 shows.3)),
-    λ w a beside. absurd (none a (subst (λ (y : ℕ). IsLastIn h (WritesTo h) t y (ends (number h r)) a)
-        (same_read h r beside.0.0 beside.0.1 x v beside.0.3 reads).0 beside.1)),
   )
 
   module _ (distinct : IsDifferentiated h) (w a : OpId) (from : ReadsFrom h w r) (last : IsLastIn h (WritesTo h) t from.0 (ends (number h r)) a) where
@@ -95,26 +88,22 @@ module _ (h : MemoryHistory) (t : ℕ) (ends firsts : ℕ → ℕ) (r : OpId) wh
     sight-beside (sights.Conflict n m) (apart, ahead, at_a, at_w) =
         (w, a, (from, last, λ same. apart (ap (number h) same)), ahead, sym at_a, sym at_w)
 
--- a part that is not that of a write is of no write, and one that is not that of a known read of no known read
-module _ (h : MemoryHistory) (o : OpId) where
-  pub unwritten : (p : Part) → IsPart h o p → p ≢ parts.Write → (x v : ℕ) → ¬ Writes h o x v
-  unwritten parts.Write is apart x v wrote = apart refl
-  unwritten (parts.SourcedRead n) (w, from, at) apart x v wrote = write-or_read h o o x v from.0 from.1 wrote from.3 refl
-  unwritten parts.InitialRead (y, reads) apart x v wrote = write-or_read h o o x v y (initial h y) wrote reads refl
-  unwritten parts.ThinAirRead (y, u, reads, other, none) apart x v wrote = write-or_read h o o x v y u wrote reads refl
-  unwritten parts.UnknownRead (none, unread) apart x v wrote = none x v wrote
-
-  pub write-unread : (y u : ℕ) → Writes h o y u → (x v : ℕ) → ¬ Reads h o x v
-  write-unread y u wrote x v reads = write-or_read h o o y u x v wrote reads refl
+-- what an operation that is no write has for its part
+pub unwritten : (h : MemoryHistory) (o : OpId) (p : Part) → IsPart h o p → p ≢ parts.Write → (x v : ℕ) → ¬ Writes h o x v
+unwritten h o parts.Write is apart x v wrote = apart refl
+unwritten h o (parts.SourcedRead n) (w, from, at) apart x v wrote = write-or_read h o o x v from.0 from.1 wrote from.3 refl
+unwritten h o parts.InitialRead (y, reads) apart x v wrote = write-or_read h o o x v y (initial h y) wrote reads refl
+unwritten h o parts.ThinAirRead (y, u, reads, other, none) apart x v wrote = write-or_read h o o x v y u wrote reads refl
+unwritten h o parts.UnknownRead (none, unread) apart x v wrote = none x v wrote
 
 -- writes by the numbers of variables
-module _ (h : MemoryHistory) (variables : List ℕ) (are : AreVariables h variables) where
-  pub are-numbered : AreWrites h (WritesNumbered h variables)
-  are-numbered = record {
-    is_op = λ x a wrote. write-of_history h a wrote.0.0 wrote.0.1 wrote.0.2;
-    one = λ x y a first second. sym first.1 ∙ second.1;
-  }
+pub are-numbered : (h : MemoryHistory) (variables : List ℕ) → AreWrites h (WritesNumbered h variables)
+are-numbered h variables = record {
+  is_op = λ x a wrote. write-of_history h a wrote.0.0 wrote.0.1 wrote.0.2;
+  one = λ x y a first second. sym first.1 ∙ second.1;
+}
 
+module _ (h : MemoryHistory) (variables : List ℕ) (are : AreVariables h variables) where
   -- the variable of a known read has the number that its writes have
   pub numbered-same : (r : OpId) (y u : ℕ) → Reads h r y u → (a : OpId)
       → WritesNumbered h variables (slice_index_or variables (number h r) 0) a ↔ WritesTo h y a
@@ -125,19 +114,86 @@ module _ (h : MemoryHistory) (variables : List ℕ) (are : AreVariables h variab
     λ wrote. ((y, wrote.0, wrote.1), (are a r y y (wrote.0, inl wrote.1) (u, inr reads)).1 refl),
   )
 
-  module _ (t at : ℕ) (last : List ℕ) (now : IsTable h variables t at last) (inside : at ≤ many_before h (t + 1)) (r : OpId) (y u : ℕ) (reads : Reads h r y u) where
-    abbrev x : ℕ
-    x = slice_index_or variables (number h r) 0
+  module _ (t : ℕ) (ends firsts last : List ℕ) (start n x : ℕ) (begins : start ≡ many_before h t) (r : OpId) (is_op : IsOp h r)
+      (at_n : number h r ≡ n) (variable : x ≡ slice_index_or variables n 0) (within : AreWithinSession h t (λ k. slice_index_or ends k 0))
+      (table : IsTable h variables t (slice_index_or ends n 0) last) where
+    abbrev E : ℕ → ℕ
+    E k = slice_index_or ends k 0
 
-    -- what the table shows for a known read is the last write of its variable
-    pub seen-some : (n : ℕ) → slice_index_or last x 0 ≡ n + 1 → many_before h t ≤ n → n < at
-        → (a : OpId) × IsLastIn h (WritesTo h) t y at a × (number h a ≡ n)
-    seen-some n is from below =
-        let found = look-some h (WritesNumbered h variables) are-numbered t at (λ z. slice_index_or last z 0) now inside x n is from below in
-        (found.0, last-renamed h (WritesNumbered h variables) (WritesTo h) x y (numbered-same r y u reads) t at found.0 found.1, found.2)
+    abbrev F : ℕ → ℕ
+    F k = slice_index_or firsts k 0
 
-    pub seen-none : ¬ ((many_before h t < slice_index_or last x 0) × (slice_index_or last x 0 ≤ at)) → (a : OpId)
-        → ¬ IsLastIn h (WritesTo h) t y at a
-    seen-none none a is =
-        look-none h (WritesNumbered h variables) are-numbered t at (λ z. slice_index_or last z 0) now inside x none a
-        (last-renamed h (WritesTo h) (WritesNumbered h variables) y x (λ b. let same = numbered-same r y u reads b in (same.1, same.0)) t at a is)
+    abbrev z : ℕ
+    z = slice_index_or variables (number h r) 0
+
+    in_place : IsTable h variables t (E (number h r)) last
+    in_place = subst (λ (k : ℕ). IsTable h variables t (E k) last) (sym at_n) table
+
+    inside : E (number h r) ≤ many_before h (t + 1)
+    inside = (within r is_op).1
+
+    place : z ≡ x
+    place = ap (λ (k : ℕ). slice_index_or variables k 0) at_n ∙ sym variable
+
+    after_same : slice_index_or last z 0 ≡ slice_index_or last x 0
+    after_same = ap (λ (k : ℕ). slice_index_or last k 0) place
+
+    end_same : E (number h r) ≡ E n
+    end_same = ap E at_n
+
+    -- nothing is shown where the table has no write of the session in the past of the operation
+    pub looks-none : ¬ ((start < slice_index_or last x 0) × (slice_index_or last x 0 ≤ slice_index_or ends n 0))
+        → IsSight h t (λ k. slice_index_or ends k 0) (λ k. slice_index_or firsts k 0) r sights.Nothing
+    looks-none none = sight-none h t E F r (λ y u reads a is.
+        look-none h (WritesNumbered h variables) (are-numbered h variables) t (E (number h r)) (λ k. slice_index_or last k 0) in_place inside z
+        (λ both.
+        let from = both.0 in let to = both.1 in let one = after_same in let two = end_same in
+        none (omega arith, omega arith)) a
+        (last-renamed h (WritesTo h) (WritesNumbered h variables) y z (λ b. let same = numbered-same r y u reads b in (same.1, same.0)) t
+        (E (number h r)) a is))
+
+    module _ (from : start < slice_index_or last x 0) (to : slice_index_or last x 0 ≤ slice_index_or ends n 0) where
+      -- else it is the last write of the variable that the operation reads
+      seen : (y u : ℕ) → Reads h r y u → (a : OpId) × IsLastIn h (WritesTo h) t y (E (number h r)) a × (number h a ≡ slice_index_or last x 0 - 1)
+      seen y u reads =
+          let one = after_same in
+          let two = end_same in
+          let found = look-some h (WritesNumbered h variables) (are-numbered h variables) t (E (number h r)) (λ k. slice_index_or last k 0) in_place
+          inside z (slice_index_or last x 0 - 1) (omega arith) (omega arith) (omega arith) in
+          (found.0, last-renamed h (WritesNumbered h variables) (WritesTo h) z y (numbered-same r y u reads) t (E (number h r)) found.0 found.1, found.2)
+
+      pub looks-start : IsPart h r parts.InitialRead → ShowsStart h t (λ k. slice_index_or ends k 0) r
+      looks-start (y, reads) = let found = seen y (initial h y) reads in (found.0, y, reads, found.1)
+
+      pub looks-beside : IsDifferentiated h → (source : ℕ) (s : Sight) → IsPart h r (parts.SourcedRead source)
+          → IsComparison (slice_index_or ends source 0) (slice_index_or firsts source 0) (slice_index_or last x 0 - 1) source s
+          → IsSight h t (λ k. slice_index_or ends k 0) (λ k. slice_index_or firsts k 0) r s
+      looks-beside distinct source s (w, reads_from, at_w) comparison =
+          let found = seen reads_from.0 reads_from.1 reads_from.3 in
+          sight-beside h t E F r distinct w found.0 reads_from found.1 s
+          (subst (λ (k : ℕ). IsComparison (E k) (F k) (number h found.0) k s) (sym at_w)
+          (subst (λ (k : ℕ). IsComparison (E source) (F source) k source s) (sym found.2) comparison))
+
+-- an operation that is no known read of a written or an initial value shows nothing
+module _ (h : MemoryHistory) (t : ℕ) (ends firsts : ℕ → ℕ) (r : OpId) where
+  pub sight-write : IsPart h r parts.Write → IsSight h t ends firsts r sights.Nothing
+  sight-write (y, u, wrote) = sight-none h t ends firsts r (λ x v reads a is. write-or_read h r r y u x v wrote reads refl)
+
+  pub sight-unknown : IsPart h r parts.UnknownRead → IsSight h t ends firsts r sights.Nothing
+  sight-unknown (none, unread) = sight-none h t ends firsts r (λ x v reads a is. unread x v reads)
+
+module _ (h : MemoryHistory) (variables : List ℕ) (t n x : ℕ) (last : List ℕ) (o : OpId) (is_op : IsOp h o) (at_n : number h o ≡ n) where
+  -- an operation more is passed
+  pub passed-write : IsPart h o parts.Write → x ≡ slice_index_or variables n 0 → x < length last → IsTable h variables t n last
+      → IsTable h variables t (n + 1) (slice_set last x (n + 1))
+  passed-write (y, v, wrote) variable inside now =
+      table-write h (WritesNumbered h variables) (are-numbered h variables) t n (λ k. slice_index_or last k 0) now o is_op at_n
+      (λ k. slice_index_or (slice_set last x (n + 1)) k 0) x
+      ((y, v, wrote), ap (λ (k : ℕ). slice_index_or variables k 0) at_n ∙ sym variable)
+      (get_or-set_same last x (n + 1) 0 inside)
+      (λ k apart. get_or-set_other last x k (n + 1) 0 apart)
+
+  pub passed-other : (p : Part) → IsPart h o p → p ≢ parts.Write → IsTable h variables t n last → IsTable h variables t (n + 1) last
+  passed-other p is apart now =
+      table-other h (WritesNumbered h variables) (are-numbered h variables) t n (λ k. slice_index_or last k 0) now o is_op at_n
+      (λ k wrote. unwritten h o p is apart wrote.0.0 wrote.0.1 wrote.0.2)

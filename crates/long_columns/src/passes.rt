@@ -1,6 +1,6 @@
 //! The column of a session, by one pass along an order and one back.
 
-ghost use Rattle.std.specs.Prelude.{◌≡◌, ◌≢◌, ◌<◌, ℕ, [], length, slice_index_or, IfOk, IfSome, IsTrue};
+ghost use Rattle.std.specs.Prelude.{◌≡◌, ◌≢◌, ◌+◌, ◌<◌, ℕ, [], length, slice_index_or, slice_set, IfOk, IfSome, IsTrue};
 ghost use Rattle.history.specs.declared.op_id.OpId.{OpId as Operation};
 ghost use Rattle.history.specs.History.{IsOp, number};
 ghost use Rattle.long_history.specs.Steps.{IsOrderBy, many};
@@ -22,7 +22,7 @@ pub(crate) fn find_past_ends(index: &LongIndex, order: &[u32], session: u32, end
     for i in 0..order.len() {
         let operation = order[i];
         let end = end_for(index, ends, session, operation);
-        ends[operation as usize] = end;
+        put(ends, operation, end);
     }
 }
 
@@ -34,8 +34,9 @@ fn end_for(index: &LongIndex, ends: &[u32], session: u32, operation: u32) -> u32
     ensures { (o : Operation) → IsOp index.now.history o → number index.now.history o ≡ operation
         → IsNextEnd index.now.history session (λ n. slice_index_or ends.now n 0) o result }
 {
+    index.value_is_indexed();
     if index.session_of(operation) == session {
-        return operation + 1;
+        return number_after(index, operation);
     }
     let before = raised(ends, index.start(session), index.before(operation));
     raised(ends, before, index.source(operation))
@@ -56,6 +57,24 @@ fn greater(a: u32, b: u32) -> u32
     ensures { IsGreater a b result }
 {
     if a < b { b } else { a }
+}
+
+/// The number after that of an operation.
+pub(crate) fn number_after(index: &LongIndex, operation: u32) -> u32
+    requires { operation < many index.now.history }
+    ensures { result ≡ operation + 1 }
+{
+    let is_one = operation < index.operations();
+    prove!(is_one);
+    operation + 1
+}
+
+/// Puts a number in the place of an operation or a variable.
+pub(crate) fn put(numbers: &mut Vec<u32>, place: u32, number: u32)
+    requires { place < length numbers.old.items }
+    ensures { numbers.new.items ≡ slice_set numbers.old.items place number }
+{
+    numbers[place as usize] = number;
 }
 
 /// Finds for each operation the first one of a session that has it in its past: the number after that of the session's last operation
@@ -91,6 +110,7 @@ fn lower_steps(index: &LongIndex, session: u32, operation: u32, firsts: &mut Vec
     ensures lowered { (o : Operation) → IsOp index.now.history o → number index.now.history o ≡ operation
         → IsLowered index.now.history session (λ n. slice_index_or firsts.old.items n 0) o (λ n. slice_index_or firsts.new.items n 0) }
 {
+    index.value_is_indexed();
     put_own(firsts, operation, index.session_of(operation) == session);
     let first = firsts[operation as usize];
     lower(firsts, index.before(operation), first);

@@ -10,6 +10,7 @@ ghost use Rattle.long_columns.specs.Conflicts.{IsLateEdge, IsReducedIn};
 ghost use Rattle.long_columns.specs.LastWrites.{HasOverwrittenReadBy, HasOverwrittenStartFrom};
 ghost use Rattle.long_columns.specs.Sights.{IsComparison, IsNoted, IsRaisedAt, IsSight, IsSmall, IsTable};
 
+use crate::passes::{number_after, put};
 use crate::sight::Sight;
 use long_index::{LongIndex, Part};
 
@@ -45,6 +46,7 @@ pub(crate) fn sweep_column(index: &LongIndex, session: u32, ends: &[u32], firsts
     ensures writes { (w : Operation) (n : ℕ) → IsOp index.now.history w → slice_index_or late.new.items (number index.now.history w) 0 ≡ n + 1
         → n < many index.now.history }
 {
+    index.value_is_indexed();
     let start = index.start(session);
     let mut at = start;
     let mut overwritten = Overwritten { start: false, read: false };
@@ -94,8 +96,8 @@ fn pass_one(index: &LongIndex, operation: u32, last: &mut Vec<u32>)
     ensures table { (t : ℕ) → IsTable index.now.history index.now.variables t operation last.old.items
         → IsTable index.now.history index.now.variables t (operation + 1) last.new.items }
 {
-    if index.part(operation) == Part::Write {
-        last[index.variable(operation) as usize] = operation + 1;
+    if let Part::Write = index.part(operation) {
+        put(last, index.variable(operation), number_after(index, operation));
     }
 }
 
@@ -111,6 +113,7 @@ fn look(index: &LongIndex, ends: &[u32], firsts: &[u32], last: &[u32], start: u3
         → IsTable index.now.history index.now.variables t (slice_index_or ends.now operation 0) last.now
         → IsSight index.now.history t (λ n. slice_index_or ends.now n 0) (λ n. slice_index_or firsts.now n 0) o result }
 {
+    index.value_is_indexed();
     let after = last[index.variable(operation) as usize];
     if after <= start || ends[operation as usize] < after {
         return Sight::Nothing;

@@ -59,7 +59,7 @@ fn writing_sessions(alloc: Global, index: &LongIndex) -> Result<Vec<u32>, AllocE
 {
     let mut sessions = Vec::new(alloc);
     for operation in 0..index.operations() {
-        if index.part(operation) == Part::Write {
+        if let Part::Write = index.part(operation) {
             add_session(&mut sessions, index.session_of(operation))?;
         }
     }
