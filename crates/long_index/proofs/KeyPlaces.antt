@@ -95,7 +95,8 @@ module _ (h : MemoryHistory) where
     places-count = let count = lists.count in let count_places = found.count in omega arith
 
 -- they are below how many distinct keys there are
-pub places-below : (keys distinct places : List ℕ) → ArePlaces distinct keys places → (n x : ℕ) → slice_get places n ≡ Some x → x < length distinct
+pub places-below : (keys distinct places : List ℕ) → ArePlaces distinct keys places → (n x : ℕ) → slice_get places n ≡ Some x
+    → x < length distinct
 places-below keys distinct places found n x at =
     let inside = slice_get_within places n x at in
     let count = found.count in
@@ -105,6 +106,7 @@ places-below keys distinct places found n x at =
 pub distinct-each : (keys copied sorted kept : List ℕ) → copied ≡ keys → IsPermutation copied sorted → kept ≡ dedup eqb sorted
     → All (Contains kept) keys
 distinct-each keys copied sorted kept same moved is k d below =
-    let inside : Contains copied (get_or keys k d) = subst (λ (xs : List ℕ). Contains xs (get_or keys k d)) (sym same) (Contains-get_or keys k d below) in
+    let inside : Contains copied (get_or keys k d) =
+    subst (λ (xs : List ℕ). Contains xs (get_or keys k d)) (sym same) (Contains-get_or keys k d below) in
     subst (λ (xs : List ℕ). Contains xs (get_or keys k d)) (sym is)
     (Contains-dedup_nat sorted _ (Contains-permutation copied sorted _ moved inside))

@@ -39,7 +39,8 @@ module _ {X : Type 0} (h : MemoryHistory) (is_of : OpId → X → Type 0) where
         same_Some _ _ (sym (slice_get-get_or (xs ++ x ∷ []) (number h o) y within) ∙ at) in
         ⊎_elim
         (λ (old : number h o < length xs).
-        before.each o y is_o (slice_get-get_or xs (number h o) y old ∙ ap (λ z. Some z) (sym (get_or_append_left xs (x ∷ []) y (number h o) old) ∙ here)))
+        let same = sym (get_or_append_left xs (x ∷ []) y (number h o) old) ∙ here in
+        before.each o y is_o (slice_get-get_or xs (number h o) y old ∙ ap (λ z. Some z) same))
         (λ (new : length xs ≤ number h o).
         let one : op s i ≡ o = number-once h (op s i) o is_op is_o (omega arith) in
         let same : x ≡ y = sym (get_or_push xs x y (number h o) (omega arith)) ∙ here in
@@ -48,8 +49,8 @@ module _ {X : Type 0} (h : MemoryHistory) (is_of : OpId → X → Type 0) where
   }
 
   -- those of a session whose last operation has one
-  pub each-session : (es : List (MemoryCall × Option RegisterRet)) (s i : ℕ) (xs : List X) → s < length h.1 → es ≡ session h s → i ≡ length es
-      → ListsEach h is_of (many_before h s + i) xs → ListsEach h is_of (many_before h (s + 1)) xs
+  pub each-session : (es : List (MemoryCall × Option RegisterRet)) (s i : ℕ) (xs : List X) → s < length h.1 → es ≡ session h s
+      → i ≡ length es → ListsEach h is_of (many_before h s + i) xs → ListsEach h is_of (many_before h (s + 1)) xs
   each-session es s i xs exists read ended before =
       let next = many_next h s exists in
       let same = ap (λ (ys : List (MemoryCall × Option RegisterRet)). length ys) read in
@@ -75,7 +76,8 @@ module _ (h : MemoryHistory) where
   }
 
   -- the start of one session more
-  pub starts-push : (n next : ℕ) (starts : List ℕ) → next ≡ many_before h (n + 1) → ListsStarts h n starts → ListsStarts h (n + 1) (starts ++ next ∷ [])
+  pub starts-push : (n next : ℕ) (starts : List ℕ) → next ≡ many_before h (n + 1) → ListsStarts h n starts
+      → ListsStarts h (n + 1) (starts ++ next ∷ [])
   starts-push n next starts is before = record {
     count = let count = before.count in length-append starts (next ∷ []) ∙ omega arith;
     start = λ t up_to.

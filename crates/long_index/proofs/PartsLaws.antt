@@ -26,9 +26,11 @@ module _ (h : MemoryHistory) (o : OpId) where
     ap (option_map (λ (e : MemoryCall × Option RegisterRet). e.0)) at ∙ (λ j. Some (record { key = c.key; call = is j })),
   )
 
-  module _ (x v : ℕ) (reads : Reads h o x v) (writes : List WriteEntry) (lists : ListsSortedWrites h writes) (apart : v ≡ initial h x → ⊥) where
+  module _ (x v : ℕ) (reads : Reads h o x v) (writes : List WriteEntry) (lists : ListsSortedWrites h writes)
+      (apart : v ≡ initial h x → ⊥) where
     pub part-thin_air : LacksWrite writes x v → IsPart h o parts.ThinAirRead
-    part-thin_air none = (x, v, reads, apart, λ w wrote. none (record { op = w; key = x; value = v }) (lists.lists.each w x v wrote) refl refl)
+    part-thin_air none =
+        (x, v, reads, apart, λ w wrote. none (record { op = w; key = x; value = v }) (lists.lists.each w x v wrote) refl refl)
 
     pub part-sourced : (w : OpId) (n : ℕ) → IsLeastWrite writes x v w → number h w ≡ n → IsPart h o (parts.SourcedRead n)
     part-sourced w n least at = (w, (source-written h writes lists.lists o x v reads apart w least).0, at)

@@ -156,7 +156,8 @@ impl<'a> LongIndex<'a> {
     pub fn part(&self, operation: u32) -> Part
         requires { operation < many self.now.history }
         ensures below { (n : ℕ) → result ≡ SourcedRead n → n < many self.now.history }
-        ensures part { (o : Operation) → IsOp self.now.history o → number self.now.history o ≡ operation → IsPart self.now.history o result }
+        ensures part { (o : Operation) → IsOp self.now.history o → number self.now.history o ≡ operation
+            → IsPart self.now.history o result }
     {
         self.parts[operation as usize]
     }

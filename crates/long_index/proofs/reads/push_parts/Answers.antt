@@ -16,4 +16,5 @@ pub returns : goal.returns
 returns c =
     let up_to = c.loop-operation.auto.operation-index-end in
     let ended = c.loop-operation-test.false in
-    each-session c.args.h.now (IsPart c.args.h.now) _ c.args.session _ _ c.requires.exists c.session-operation-items.ensures (omega arith) c.loop-operation.invariant
+    each-session c.args.h.now (IsPart c.args.h.now) _ c.args.session _ _ c.requires.exists c.session-operation-items.ensures (omega arith)
+    c.loop-operation.invariant

@@ -10,5 +10,6 @@ loop-session-preserved c =
     let so_far = c.loop-session.invariant.next in
     record {
       next = omega arith;
-      so_far = rw c.in_ok-push-2.ensures.items (starts-push c.args.h.now c.loop-session.session _ _ (omega arith) c.loop-session.invariant.so_far);
+      so_far = rw c.in_ok-push-2.ensures.items
+          (starts-push c.args.h.now c.loop-session.session _ _ (omega arith) c.loop-session.invariant.so_far);
     }

@@ -8,4 +8,5 @@ pub returns-clause-rising : goal.returns-clause-rising
 returns-clause-rising c = rw (dedup_is eqb _ _ c.dedup.ensures.filtered) (IsStrictlyIncreasing-dedup _ c.sort_unstable.ensures.sorted)
 
 pub returns-clause-each : goal.returns-clause-each
-returns-clause-each c = distinct-each _ _ _ _ c.in_ok-distinct.ensures.items c.sort_unstable.ensures.permutation (dedup_is eqb _ _ c.dedup.ensures.filtered)
+returns-clause-each c = distinct-each _ _ _ _ c.in_ok-distinct.ensures.items c.sort_unstable.ensures.permutation
+    (dedup_is eqb _ _ c.dedup.ensures.filtered)

@@ -4,7 +4,9 @@ use Rattle.long_index.proofs.writes.are_distinct.Goals as goal
 
 pub returns-then-are_once : goal.returns-then-are_once
 returns-then-are_once c = (
-  (λ yes. differentiated-from c.args.h.now c.args.writes.now c.requires.lists (c.are_once.ensures.0 c.if-are_once.true) (c.are_not_initial.ensures.0 yes)),
+  (λ yes.
+      differentiated-from c.args.h.now c.args.writes.now c.requires.lists (c.are_once.ensures.0 c.if-are_once.true)
+      (c.are_not_initial.ensures.0 yes)),
   λ distinct. c.are_not_initial.ensures.1 (All-from_differentiated c.args.h.now c.args.writes.now c.requires.lists distinct),
 )
 

@@ -1,5 +1,6 @@
 use Rattle.std.proofs.Common.{arith, ap, length}
-use Rattle.memory_order.proofs.Listed.{ListsWritesBefore-write, ListsWritesBefore-other, ListsWritesBefore-session, Writes-read, no_write-read}
+use Rattle.memory_order.proofs.Listed.{ListsWritesBefore-write, ListsWritesBefore-other, ListsWritesBefore-session}
+use Rattle.memory_order.proofs.Listed.{Writes-read, no_write-read}
 use Rattle.long_index.proofs.writes.push_writes.Goals as goal
 use Rattle.long_index.proofs.writes.push_writes.Goals.{in-Write+in_ok-push, in_default}
 

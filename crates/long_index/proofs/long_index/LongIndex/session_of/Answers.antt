@@ -8,10 +8,12 @@ use Rattle.long_index.proofs.long_index.LongIndex.session_of.Goals as goal
 
 pub returns-clause-below : goal.returns-clause-below
 returns-clause-below c =
-    let lists = subst (λ (v : Indexed). ListsEach v.history IsSessionOf (many v.history) c.self.inside.sessions.items) c.self.view_is c.self.invariant.each_session in
+    let lists = subst (λ (v : Indexed). ListsEach v.history IsSessionOf (many v.history) c.self.inside.sessions.items)
+    c.self.view_is c.self.invariant.each_session in
     session-below c.args.self.now.history _ lists c.args.operation _ c.requires c.index.ensures
 
 pub returns-clause-session : goal.returns-clause-session
 returns-clause-session c =
-    let lists = subst (λ (v : Indexed). ListsEach v.history IsSessionOf (many v.history) c.self.inside.sessions.items) c.self.view_is c.self.invariant.each_session in
+    let lists = subst (λ (v : Indexed). ListsEach v.history IsSessionOf (many v.history) c.self.inside.sessions.items)
+    c.self.view_is c.self.invariant.each_session in
     λ o is_op at. each-at c.args.self.now.history IsSessionOf _ lists o c.args.operation _ is_op at c.index.ensures

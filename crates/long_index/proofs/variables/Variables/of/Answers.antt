@@ -8,7 +8,8 @@ places-requires-clause-each c = rw (c.deref-2.ensures.value, c.deref-3.ensures.v
 
 pub returns-clause-variables : goal.returns-clause-variables
 returns-clause-variables c =
-    let places = subst₂ (λ (xs ys : List ℕ). ArePlaces xs ys c.in_ok-by_number.by_number.items) c.deref-2.ensures.value c.deref-3.ensures.value c.in_ok-by_number.ensures in
+    let places = subst₂ (λ (xs ys : List ℕ). ArePlaces xs ys c.in_ok-by_number.by_number.items)
+    c.deref-2.ensures.value c.deref-3.ensures.value c.in_ok-by_number.ensures in
     places-variables c.args.h.now _ _ _ c.in_ok-keys.ensures.keys places c.in_ok-distinct.ensures.rising
 
 pub returns-clause-below : goal.returns-clause-below
