@@ -11,7 +11,7 @@ use Rattle.long_history.specs.Steps.{IsStep, AreOfHistory, StandsAs, IsVisited, 
 use Rattle.long_columns.specs.Columns.{ArePastEnds, AreWithinSession, IsNextEnd, ArePastEndsBefore}
 use Rattle.long_history.proofs.Numbers.{many-rises, number-below, number-once, number-found, number-session, number-bound}
 use Rattle.long_history.proofs.Steps.{step-of_history, last-step, step-past, prefix-past, program-causal, session-cases}
-use Rattle.long_columns.proofs.Orders.{order-straight}
+use Rattle.long_order.proofs.Orders.{order-straight}
 
 module _ (h : MemoryHistory) (also : OpId → OpId → Type 0) (named : AreOfHistory h also) (order : List ℕ) (ordered : IsOrderWith h also order) where
   -- an operation up to the place i stands before it, or is the one there

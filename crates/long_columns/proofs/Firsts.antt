@@ -12,7 +12,7 @@ use Rattle.long_history.specs.Steps.{IsStep, AreOfHistory, StandsAs, IsAfter, Is
 use Rattle.long_columns.specs.Columns.{AreFirsts, IsLowered, AreFirstsFrom}
 use Rattle.long_history.proofs.Numbers.{number-below, number-once}
 use Rattle.long_history.proofs.Steps.{step-of_history, first-step, past-step, suffix-past, program-causal, session-cases}
-use Rattle.long_columns.proofs.Orders.{order-straight}
+use Rattle.long_order.proofs.Orders.{order-straight}
 
 module _ (h : MemoryHistory) (also : OpId → OpId → Type 0) (named : AreOfHistory h also) (order : List ℕ) (ordered : IsOrderWith h also order) where
   -- an operation from the place i on stands after it, or is the one there

@@ -18,7 +18,7 @@ use Rattle.long_columns.specs.LastWrites.{WritesTo, IsLastIn, HasOverwrittenRead
 use Rattle.long_columns.specs.Visits.{IsGreater}
 use Rattle.long_history.proofs.Numbers.{number-once, number-up_to}
 use Rattle.long_history.proofs.Steps.{program-steps, program-causal, steps-from_causal, steps-with, step-causal}
-use Rattle.long_columns.proofs.Orders.{order-acyclic}
+use Rattle.long_order.proofs.Orders.{order-acyclic}
 use Rattle.long_columns.proofs.LastWrites.{are-writes, last-once}
 use Rattle.long_columns.proofs.Visits.{one-source}
 use Rattle.long_columns.proofs.Overwrites.{rival-writes, last-before, last-after, after-earlier, read-exact}

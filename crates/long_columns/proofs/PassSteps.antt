@@ -11,7 +11,7 @@ use Rattle.long_history.proofs.Numbers.{number-all}
 use Rattle.long_columns.specs.Columns.{ArePastEndsBefore, AreFirstsFrom, IsLowered, IsNextEnd}
 use Rattle.long_columns.proofs.Columns.{column-next}
 use Rattle.long_columns.proofs.Firsts.{firsts-next}
-use Rattle.long_columns.proofs.Orders.{listed-of_history}
+use Rattle.long_order.proofs.Orders.{listed-of_history}
 
 module _ (h : MemoryHistory) (order : List ℕ) (ordered : IsOrderBy h [] order) (t i : ℕ) (inside : i < length order) where
   abbrev n : ℕ

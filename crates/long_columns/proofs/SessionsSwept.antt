@@ -1,7 +1,7 @@
 -- The columns of sessions show together what each shows alone.
-use Rattle.std.specs.Prelude.{◌≡◌, ◌≢◌, ◌⊎◌, ◌↔◌, ℕ, ◌+◌, ◌<◌, ◌≤◌, Bool, false, IsTrue, List, [], Some, length, slice_get}
+use Rattle.std.specs.Prelude.{◌≡◌, ◌≢◌, ◌⊎◌, ◌↔◌, ℕ, ◌+◌, ◌<◌, ◌≤◌, ◌||◌, Bool, false, IsTrue, List, [], Some, length, slice_get}
 use Rattle.std.proofs.Common.{arith, refl, ap, sym, ◌∙◌, subst, inl, inr, ⊎_elim}
-use Rattle.std.proofs.lemmas.Bool.{cases_eq, cases_lt}
+use Rattle.std.proofs.lemmas.Bool.{cases_eq, cases_lt, or_cases, or_left, or_right}
 use Rattle.std.proofs.lemmas.Option.{same_Some, slice_get_within}
 use Rattle.history.specs.declared.op_id.OpId.{OpId}
 use Rattle.history.specs.History.{IsOp, Precedes, number}
@@ -14,6 +14,10 @@ use Rattle.long_columns.specs.Conflicts.{IsLateEdge, IsReducedIn}
 use Rattle.long_columns.specs.LastWrites.{HasOverwrittenStartFrom, HasOverwrittenReadBy}
 use Rattle.long_columns.specs.Swept.{AreEdgesOf, AreSwept, HasEdge, IsAmongFirst}
 use Rattle.long_columns.proofs.Overwrites.{starts-by_sessions, reads-by_sessions}
+
+-- one of two flags is set
+pub or-either : (a b : Bool) → IsTrue (a || b) ↔ (IsTrue a ⊎ IsTrue b)
+or-either a b = (or_cases a b, λ either. ⊎_elim (λ (first : IsTrue a). or_left a b first) (λ (second : IsTrue b). or_right a b second) either)
 
 module _ (h : MemoryHistory) (sessions : List ℕ) where
   -- before the first session

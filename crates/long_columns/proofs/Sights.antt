@@ -16,7 +16,7 @@ use Rattle.long_columns.specs.declared.sight.Sight.{Sight}
 use Rattle.long_columns.specs.declared.sight.Sight.TheVariants as sights
 use Rattle.long_columns.specs.LastWrites.{AreWrites, IsLastBeside, IsLastIn, ShowsStart, WritesTo}
 use Rattle.long_columns.specs.Sights.{IsComparison, IsSight, IsTable, WritesNumbered}
-use Rattle.long_columns.proofs.LastWrites.{are-writes, last-once, last-renamed, look-some, look-none}
+use Rattle.long_columns.proofs.LastWrites.{are-writes, last-once, last-renamed, look-some, look-none, table-other, table-write}
 use Rattle.long_columns.proofs.LateWrites.{beside-once}
 use Rattle.long_columns.proofs.Visits.{one-source}
 
@@ -186,11 +186,11 @@ module _ (h : MemoryHistory) (variables : List ℕ) (t n x : ℕ) (last : List �
   -- an operation more is passed
   pub passed-write : IsPart h o parts.Write → x ≡ slice_index_or variables n 0 → x < length last → IsTable h variables t n last
       → IsTable h variables t (n + 1) (slice_set last x (n + 1))
-  passed-write (y, v, wrote) variable inside now =
+  passed-write (y, v, wrote) variable in_table now =
       table-write h (WritesNumbered h variables) (are-numbered h variables) t n (λ k. slice_index_or last k 0) now o is_op at_n
       (λ k. slice_index_or (slice_set last x (n + 1)) k 0) x
       ((y, v, wrote), ap (λ (k : ℕ). slice_index_or variables k 0) at_n ∙ sym variable)
-      (get_or-set_same last x (n + 1) 0 inside)
+      (get_or-set_same last x (n + 1) 0 in_table)
       (λ k apart. get_or-set_other last x k (n + 1) 0 apart)
 
   pub passed-other : (p : Part) → IsPart h o p → p ≢ parts.Write → IsTable h variables t n last → IsTable h variables t (n + 1) last

@@ -142,21 +142,30 @@ fn sweep_session(
         &mut arrays.last,
         &mut arrays.late,
     );
+    push_edges(index, &arrays.late, &mut swept.edges)?;
     swept.has_overwritten_start |= overwritten.start;
     swept.has_overwritten_read |= overwritten.read;
-    push_edges(&arrays.late, &mut swept.edges)
+    Ok(())
 }
 
-/// Pushes an edge for each place of the table of late writes that has one.
-fn push_edges(late: &[u32], edges: &mut Vec<(u32, u32)>) -> Result<(), AllocError>
-    requires { length late.now < 2 ^ 32 }
+/// Pushes the edges of the table of late writes.
+fn push_edges(index: &LongIndex, late: &[u32], edges: &mut Vec<(u32, u32)>) -> Result<(), AllocError>
+    requires { length late.now ≡ many index.now.history }
     ensures { OnOk result ((from to : ℕ) → HasEdge edges.new.items from to
         ↔ (HasEdge edges.old.items from to ⊎ (slice_index_or late.now to 0 ≡ from + 1))) }
 {
-    for to in 0..late.len() {
-        if late[to] > 0 {
-            edges.push((late[to] - 1, to as u32))?;
-        }
+    for to in 0..index.operations() {
+        push_edge(late[to as usize], to, edges)?;
+    }
+    Ok(())
+}
+
+/// Pushes an edge from the operation before a number, unless that is 0.
+fn push_edge(after: u32, to: u32, edges: &mut Vec<(u32, u32)>) -> Result<(), AllocError>
+    ensures { OnOk result ((a b : ℕ) → HasEdge edges.new.items a b ↔ (HasEdge edges.old.items a b ⊎ ((b ≡ to) × (after ≡ a + 1)))) }
+{
+    if after > 0 {
+        edges.push((after - 1, to))?;
     }
     Ok(())
 }
