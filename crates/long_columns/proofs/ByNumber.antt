@@ -7,7 +7,8 @@ use Rattle.long_index.specs.Parts.{IsNumberOf}
 use Rattle.long_columns.specs.Visits.{IsGreater, IsLoweredAt, IsLoweredBy, IsLoweredTo, IsRaisedBy, IsRaisedTo}
 
 module _ (h : MemoryHistory) (related : OpId → OpId → Type 0) (o : OpId) where
-  pub raised-by : (e : Option ℕ) (ends : ℕ → ℕ) (a m : ℕ) → IsNumberOf h related o e → IsRaisedTo ends a e m → IsRaisedBy h o related ends a m
+  pub raised-by : (e : Option ℕ) (ends : ℕ → ℕ) (a m : ℕ) → IsNumberOf h related o e → IsRaisedTo ends a e m
+      → IsRaisedBy h o related ends a m
   raised-by None ends a m none same = inl (none, same)
   raised-by (Some n) ends a m (p, is_op, is, at) raised = inr (p, is, subst (λ (k : ℕ). IsGreater a (ends k) m) (sym at) raised)
 

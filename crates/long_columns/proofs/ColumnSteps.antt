@@ -1,5 +1,5 @@
 -- One operation more of the sweep of a column, by its number.
-use Rattle.std.specs.Prelude.{◌≡◌, ℕ, ◌+◌, ◌<◌, ◌≤◌, Bool, IsTrue, List, length, slice_index_or}
+use Rattle.std.specs.Prelude.{◌≡◌, ℕ, ◌+◌, ◌<◌, ◌≤◌, Bool, length}
 use Rattle.std.proofs.Common.{arith, ap, sym, subst}
 use Rattle.history.specs.declared.op_id.OpId.{OpId}
 use Rattle.history.specs.History.{IsOp, many_before, number}
@@ -44,8 +44,8 @@ module _ (h : MemoryHistory) (t : ℕ) (ends firsts : ℕ → ℕ) where
       start_now read_now late_now s (sight a.0 a.1 a.2) noted)
 
   -- late writes are operations
-  pub late-below : (seen : OpId → Type 0) (start read : Bool) (late : ℕ → ℕ) → IsSwept h t ends firsts seen start read late → (w : OpId) (n : ℕ)
-      → IsOp h w → late (number h w) ≡ n + 1 → n < many h
+  pub late-below : (seen : OpId → Type 0) (start read : Bool) (late : ℕ → ℕ) → IsSwept h t ends firsts seen start read late
+      → (w : OpId) (n : ℕ) → IsOp h w → late (number h w) ≡ n + 1 → n < many h
   late-below seen start read late now w n is_op is =
       let found = now.edges.sound w n is_op is in
       let last = found.2.1 in

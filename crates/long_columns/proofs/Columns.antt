@@ -1,21 +1,22 @@
 -- A pass along an order finds where the past of each operation ends in a session.
 use Rattle.std.specs.Prelude.{◌≡◌, ◌≢◌, ◌⊎◌, ◌↔◌, ℕ, ◌+◌, ◌<◌, ◌≤◌, List, length, Some, slice_get}
-use Rattle.std.proofs.Common.{zero, suc, arith, refl, ap, sym, ◌∙◌, subst, inl, inr, ⊎_elim, get_or}
+use Rattle.std.proofs.Common.{arith, ap, sym, ◌∙◌, subst, inl, inr, ⊎_elim}
 use Rattle.std.proofs.lemmas.Bool.{cases_lt, cases_eq}
-use Rattle.std.proofs.lemmas.Option.{same_Some, slice_get_within, slice_get-get_or}
+use Rattle.std.proofs.lemmas.Option.{same_Some, slice_get_within}
 use Rattle.history.specs.declared.op_id.OpId.{OpId}
 use Rattle.history.specs.History.{IsOp, Precedes, many_before, number}
 use Rattle.memory_order.specs.Memory.{MemoryHistory}
 use Rattle.memory_order.specs.Relations.{CO, IsPast}
 use Rattle.long_history.specs.Steps.{IsStep, AreOfHistory, StandsAs, IsVisited, IsOrderWith}
 use Rattle.long_columns.specs.Columns.{ArePastEnds, AreWithinSession, IsNextEnd, ArePastEndsBefore}
-use Rattle.long_history.proofs.Numbers.{many-rises, number-below, number-once, number-found, number-session, number-bound}
+use Rattle.long_history.proofs.Numbers.{many-rises, number-below, number-once}
 use Rattle.long_history.proofs.Steps.{step-of_history, last-step, step-past, prefix-past, program-causal, session-cases}
 use Rattle.long_order.proofs.Orders.{order-straight}
 
-module _ (h : MemoryHistory) (also : OpId → OpId → Type 0) (named : AreOfHistory h also) (order : List ℕ) (ordered : IsOrderWith h also order) where
+module _ (h : MemoryHistory) (also : OpId → OpId → Type 0) (named : AreOfHistory h also) (order : List ℕ)
+    (ordered : IsOrderWith h also order) where
   -- an operation up to the place i stands before it, or is the one there
-  pub visited-cases : (i : ℕ) (o b : OpId) → IsOp h o → StandsAs h order i o → IsOp h b → IsVisited h order (i + 1) b
+  visited-cases : (i : ℕ) (o b : OpId) → IsOp h o → StandsAs h order i o → IsOp h b → IsVisited h order (i + 1) b
       → (IsVisited h order i b × (number h b ≢ number h o)) ⊎ (b ≡ o)
   visited-cases i o b is_op at is_b (k, below, at_k) = ⊎_elim
       (λ (before : k < i). inl (
@@ -136,12 +137,16 @@ module _ (h : MemoryHistory) (also : OpId → OpId → Type 0) (named : AreOfHis
       to = λ o is_op visited. let below = visited.1 in absurd (omega arith);
     }
 
-    all-visited : (o : OpId) → IsOp h o → IsVisited h order (length order) o
-    all-visited o is_op = let place = ordered.each o is_op in (place.0, slice_get_within order place.0 (number h o) place.1, place.1)
+    module _ (i : ℕ) (whole : length order ≤ i) (now : ArePastEndsBefore h t order i ends) where
+      all-visited : (o : OpId) → IsOp h o → IsVisited h order i o
+      all-visited o is_op =
+          let place = ordered.each o is_op in
+          let inside = slice_get_within order place.0 (number h o) place.1 in
+          (place.0, omega arith, place.1)
 
-    -- before the end of the order all are
-    pub column-whole : ArePastEndsBefore h t order (length order) ends → ArePastEnds h t ends
-    column-whole now o c is_op is_c of_t = now.exact o c is_op (all-visited o is_op) is_c of_t
+      -- at the end of the order all are
+      pub column-whole : ArePastEnds h t ends
+      column-whole o c is_op is_c of_t = now.exact o c is_op (all-visited o is_op) is_c of_t
 
-    pub column-within : ArePastEndsBefore h t order (length order) ends → AreWithinSession h t ends
-    column-within now o is_op = (now.from o is_op (all-visited o is_op), now.to o is_op (all-visited o is_op))
+      pub column-within : AreWithinSession h t ends
+      column-within o is_op = (now.from o is_op (all-visited o is_op), now.to o is_op (all-visited o is_op))

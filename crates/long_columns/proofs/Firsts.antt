@@ -14,9 +14,11 @@ use Rattle.long_history.proofs.Numbers.{number-below, number-once}
 use Rattle.long_history.proofs.Steps.{step-of_history, first-step, past-step, suffix-past, program-causal, session-cases}
 use Rattle.long_order.proofs.Orders.{order-straight}
 
-module _ (h : MemoryHistory) (also : OpId → OpId → Type 0) (named : AreOfHistory h also) (order : List ℕ) (ordered : IsOrderWith h also order) where
+module _ (h : MemoryHistory) (also : OpId → OpId → Type 0) (named : AreOfHistory h also) (order : List ℕ)
+    (ordered : IsOrderWith h also order) where
   -- an operation from the place i on stands after it, or is the one there
-  pub after-cases : (i : ℕ) (o b : OpId) → IsOp h o → StandsAs h order i o → IsOp h b → IsAfter h order i b → IsAfter h order (i + 1) b ⊎ (b ≡ o)
+  after-cases : (i : ℕ) (o b : OpId) → IsOp h o → StandsAs h order i o → IsOp h b → IsAfter h order i b
+      → IsAfter h order (i + 1) b ⊎ (b ≡ o)
   after-cases i o b is_op at is_b (k, from, at_k) = ⊎_elim
       (λ (more : i < k). inl (k, omega arith, at_k))
       (λ (up_to : k ≤ i).
@@ -25,11 +27,11 @@ module _ (h : MemoryHistory) (also : OpId → OpId → Type 0) (named : AreOfHis
       inr (number-once h b o is_b is_op (same_Some _ _ both)))
       (cases_lt i k)
 
-  pub after-wider : (i : ℕ) (b : OpId) → IsAfter h order (i + 1) b → IsAfter h order i b
+  after-wider : (i : ℕ) (b : OpId) → IsAfter h order (i + 1) b → IsAfter h order i b
   after-wider i b (k, from, at_k) = (k, omega arith, at_k)
 
   -- what an operation steps to stands after it
-  pub step-after : (i : ℕ) (o d : OpId) → IsOp h o → StandsAs h order i o → IsStep h o d → IsAfter h order (i + 1) d
+  step-after : (i : ℕ) (o d : OpId) → IsOp h o → StandsAs h order i o → IsStep h o d → IsAfter h order (i + 1) d
   step-after i o d is_op at step =
       let place = ordered.each d (step-of_history h o d step).1 in
       let before = ordered.after place.0 o d (inl step) place.1 in

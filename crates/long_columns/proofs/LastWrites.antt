@@ -17,16 +17,10 @@ use Rattle.long_columns.specs.LastWrites.{WritesTo, AreWrites, IsLastIn, IsLastT
 use Rattle.long_history.proofs.Numbers.{number-once, number-session}
 
 module _ (h : MemoryHistory) (writes : ℕ → OpId → Type 0) (are : AreWrites h writes) where
-  -- an empty table is right at the first number of a session, and so is one that other operations left
+  -- an empty table is right at the first number of a session
   pub table-empty : (t : ℕ) (table : ℕ → ℕ) → ((x : ℕ) → table x ≡ 0) → IsLastTable h writes t (many_before h t) table
   table-empty t table empty = record {
     written = λ x n is. let none = empty x in absurd (omega arith);
-    latest = λ x b of_t wrote below. let start = ap (many_before h) of_t in absurd (omega arith);
-  }
-
-  pub table-begins : (s at t : ℕ) (table : ℕ → ℕ) → IsLastTable h writes s at table → IsLastTable h writes t (many_before h t) table
-  table-begins s at t table now = record {
-    written = now.written;
     latest = λ x b of_t wrote below. let start = ap (many_before h) of_t in absurd (omega arith);
   }
 

@@ -8,7 +8,7 @@ use Rattle.causal_order.specs.Orders.{Leads}
 use Rattle.causal_order.proofs.Items.{cases-op}
 use Rattle.causal_order.proofs.PathsLaws.{leads-edge, leads-leads, leads-within}
 use Rattle.memory_order.specs.Memory.{MemoryHistory, IsDifferentiated}
-use Rattle.memory_order.specs.Relations.{ReadsFrom, CO, CF}
+use Rattle.memory_order.specs.Relations.{CO, CF}
 use Rattle.memory_order.specs.SourceOrder.{IsCyclic}
 use Rattle.memory_order.proofs.MemoryLaws.{same_read, write-of_history}
 use Rattle.long_history.specs.Steps.{IsStep, IsStepWith, AreOfHistory, IsOrderWith}
@@ -35,7 +35,8 @@ beside-once h t ends distinct w r a (mine, last, _) u b (from, is, apart) =
 
 module _ (h : MemoryHistory) (t : ℕ) (ends firsts : ℕ → ℕ) where
   -- before any read is seen the table is empty
-  pub late-first : (seen : OpId → Type 0) → ((r : OpId) → ¬ seen r) → (late : ℕ → ℕ) → ((n : ℕ) → late n ≡ 0) → IsLateTable h t ends firsts seen late
+  pub late-first : (seen : OpId → Type 0) → ((r : OpId) → ¬ seen r) → (late : ℕ → ℕ) → ((n : ℕ) → late n ≡ 0)
+      → IsLateTable h t ends firsts seen late
   late-first seen unseen late none = record {
     sound = λ w n is_op is. let empty = none (number h w) in absurd (omega arith);
     each = λ w r a is_seen beside. absurd (unseen r is_seen);
@@ -74,11 +75,13 @@ module _ (h : MemoryHistory) (t : ℕ) (ends firsts : ℕ → ℕ) where
 
     -- else the number after it is put into the place of the source, if it is the greater
     module _ (distinct : IsDifferentiated h) (w a : OpId) (beside : IsLastBeside h t ends w r a) (made : ℕ → ℕ)
-        (here : IsGreater (late (number h w)) (number h a + 1) (made (number h w))) (others : (n : ℕ) → n ≢ number h w → made n ≡ late n) where
+        (here : IsGreater (late (number h w)) (number h a + 1) (made (number h w)))
+        (others : (n : ℕ) → n ≢ number h w → made n ≡ late n) where
       is_w : IsOp h w
       is_w = write-of_history h w beside.0.0 beside.0.1 beside.0.2
 
-      sound-now : (u : OpId) (n : ℕ) → IsOp h u → made (number h u) ≡ n + 1 → (q b : OpId) × IsLastBeside h t ends u q b × (number h b ≡ n)
+      sound-now : (u : OpId) (n : ℕ) → IsOp h u → made (number h u) ≡ n + 1
+          → (q b : OpId) × IsLastBeside h t ends u q b × (number h b ≡ n)
       sound-now u n is_u is = ⊎_elim
           (λ (place : number h u ≡ number h w).
           let value = ap made place in
@@ -118,11 +121,14 @@ module _ (h : MemoryHistory) (t : ℕ) (ends firsts : ℕ → ℕ) where
       late-raised = record { sound = sound-now; each = each-now }
 
   -- once all reads are seen, the edges of the table stand for the conflicts
-  module _ (straight : ¬ IsCyclic h) (column : ArePastEnds h t ends) (are_firsts : AreFirsts h t firsts) (clear : ¬ HasOverwrittenReadBy h t)
-      (seen : OpId → Type 0) (all : (w r a : OpId) → IsLastBeside h t ends w r a → seen r) (late : ℕ → ℕ) (now : IsLateTable h t ends firsts seen late) where
+  module _ (straight : ¬ IsCyclic h) (column : ArePastEnds h t ends) (are_firsts : AreFirsts h t firsts)
+      (clear : ¬ HasOverwrittenReadBy h t) (seen : OpId → Type 0) (all : (w r a : OpId) → IsLastBeside h t ends w r a → seen r)
+      (late : ℕ → ℕ) (now : IsLateTable h t ends firsts seen late) where
     conflict : (w r a b : OpId) → IsLastBeside h t ends w r a → a ≡ b → CF h b w
-    conflict w r a b (from, is, apart) same = subst (λ (q : OpId). CF h q w) same
-        ((apart, (from.0, is.wrote.0, from.1, is.wrote.1, from.2)), (r, last-before h t ends column a r from.0 from.0 from.1 from.3 is, from))
+    conflict w r a b (from, is, apart) same = subst (λ (q : OpId). CF h q w) same (
+      (apart, (from.0, is.wrote.0, from.1, is.wrote.1, from.2)),
+      (r, last-before h t ends column a r from.0 from.0 from.1 from.3 is, from),
+    )
 
     sound-edge : (a w : OpId) → IsLateEdge h late a w → (a.session ≡ t) × CF h a w
     sound-edge a w (is_a, is_w, is) =
@@ -174,7 +180,7 @@ module _ (h : MemoryHistory) where
   InConflict a b = CO h a b ⊎ CF h a b
 
   module _ (edge : OpId → OpId → Type 0) (reduced : (t : ℕ) → IsReducedIn h t edge) where
-    pub reduced-of_history : AreOfHistory h edge
+    reduced-of_history : AreOfHistory h edge
     reduced-of_history a w is =
         let rivals = ((reduced 0).sound a w is).0.1 in
         (write-of_history h a rivals.0 rivals.1 rivals.3, write-of_history h w rivals.0 rivals.2 rivals.4)
@@ -202,7 +208,7 @@ module _ (h : MemoryHistory) where
         some.1)
         ((reduced b.session).each b w refl conflict)
 
-    pub reduced-from_conflicts : (a b : OpId) → Leads InConflict a b → Leads (IsStepWith h edge) a b
+    reduced-from_conflicts : (a b : OpId) → Leads InConflict a b → Leads (IsStepWith h edge) a b
     reduced-from_conflicts = leads-within InConflict (Leads (IsStepWith h edge)) (λ a b edge_of. ⊎_elim
         (λ (before : CO h a b). causal-leads a b before)
         (λ (conflict : CF h a b). conflict-leads a b conflict)

@@ -2,7 +2,7 @@
 use Rattle.std.specs.Prelude.{◌≡◌, ◌⊎◌, ◌↔◌, ℕ, ◌<◌}
 use Rattle.std.proofs.Common.{refl, sym, ◌∙◌, subst, inl, inr, ⊎_elim}
 use Rattle.history.specs.declared.op_id.OpId.{OpId}
-use Rattle.history.specs.History.{IsOp, Precedes, many_before, number}
+use Rattle.history.specs.History.{IsOp, Precedes, number}
 use Rattle.causal_order.proofs.PathsLaws.{leads-leads}
 use Rattle.memory_order.specs.Memory.{MemoryHistory, initial, Writes, Reads}
 use Rattle.memory_order.specs.OverwrittenReads.{HasOverwrittenStart, HasOverwrittenRead}
@@ -20,12 +20,13 @@ pub rival-writes : (h : MemoryHistory) (a w : OpId) (x v : ℕ) → Writes h w x
 rival-writes h a w x v wrote (apart, (y, u, z, first, second)) =
     (u, subst (λ (n : ℕ). Writes h a n u) (same_written h w y z x v second wrote).0 first)
 
-pub rivals-turned : (h : MemoryHistory) (a b : OpId) → AreRivalWrites h a b → AreRivalWrites h b a
+rivals-turned : (h : MemoryHistory) (a b : OpId) → AreRivalWrites h a b → AreRivalWrites h b a
 rivals-turned h a b (apart, (x, u, v, first, second)) = (λ same. apart (sym same), (x, v, u, second, first))
 
 module _ (h : MemoryHistory) (t : ℕ) (ends : ℕ → ℕ) (column : ArePastEnds h t ends) where
   -- a write is in CO before a read exactly where its number is below the end for the read
-  pub write-before : (a r : OpId) (x v y u : ℕ) → Writes h a x v → Reads h r y u → a.session ≡ t → (number h a < ends (number h r)) ↔ CO h a r
+  write-before : (a r : OpId) (x v y u : ℕ) → Writes h a x v → Reads h r y u → a.session ≡ t
+      → (number h a < ends (number h r)) ↔ CO h a r
   write-before a r x v y u wrote reads of_t =
       let exact = column r a (read-of_history h r y u reads) (write-of_history h a x v wrote) of_t in (
         (λ below. ⊎_elim
@@ -56,7 +57,7 @@ module _ (h : MemoryHistory) (t : ℕ) (ends : ℕ → ℕ) (column : ArePastEnd
   )
 
   -- what is before an operation in CO is before the later ones of its session
-  pub before-later : (a b l : OpId) → IsOp h l → (b ≡ l) ⊎ Precedes b l → CO h a b → CO h a l
+  before-later : (a b l : OpId) → IsOp h l → (b ≡ l) ⊎ Precedes b l → CO h a b → CO h a l
   before-later a b l is_op (inl same) leads = subst (CO h a) same leads
   before-later a b l is_op (inr before) leads = leads-leads (IsEdge h) a b l leads (program-causal h b l before is_op)
 

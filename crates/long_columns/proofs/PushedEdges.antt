@@ -1,53 +1,12 @@
--- Edges that are pushed to a list.
-use Rattle.std.specs.Prelude.{◌≡◌, ◌⊎◌, ◌↔◌, ℕ, ◌+◌, ◌<◌, ◌≤◌, List, [], ◌∷◌, ◌++◌, Some, length, slice_get, slice_index_or}
-use Rattle.std.proofs.Common.{arith, refl, ap, sym, ◌∙◌, subst, inl, inr, ⊎_elim}
+-- Edges that are pushed to a list, one place of a table after the other.
+use Rattle.std.specs.Prelude.{◌≡◌, ◌⊎◌, ◌↔◌, ℕ, ◌+◌, ◌<◌, ◌≤◌, List, length, slice_index_or}
+use Rattle.std.proofs.Common.{arith, ap, sym, ◌∙◌, inl, inr, ⊎_elim}
 use Rattle.std.proofs.lemmas.Bool.{cases_eq, cases_lt}
-use Rattle.std.proofs.lemmas.Option.{slice_get_within}
-use Rattle.std.proofs.lemmas.List.{get_or_past, length_push}
-use Rattle.causal_order.proofs.Fronts.{push-at, push-last}
-use Rattle.memory_order.proofs.RaiseLists.{at-left, at-last}
+use Rattle.std.proofs.lemmas.List.{get_or_past}
 use Rattle.long_columns.specs.Swept.{HasEdge}
 
 abbrev Edges : Type 0
 Edges = List (ℕ × ℕ)
-
-module _ (edges pushed : Edges) (after to : ℕ) where
-  -- nothing is pushed for 0
-  pub edge-none : pushed ≡ edges → after ≡ 0 → (a b : ℕ) → HasEdge pushed a b ↔ (HasEdge edges a b ⊎ ((b ≡ to) × (after ≡ a + 1)))
-  edge-none same none a b = (
-    (λ has. inl (subst (λ (xs : Edges). HasEdge xs a b) same has)),
-    λ either. ⊎_elim
-        (λ (has : HasEdge edges a b). subst (λ (xs : Edges). HasEdge xs a b) (sym same) has)
-        (λ (new : (b ≡ to) × (after ≡ a + 1)). let some = new.1 in absurd (omega arith))
-        either,
-  )
-
-  -- else one edge is
-  pub edge-pushed : (from : ℕ) → after ≡ from + 1 → pushed ≡ edges ++ (from, to) ∷ [] → (a b : ℕ)
-      → HasEdge pushed a b ↔ (HasEdge edges a b ⊎ ((b ≡ to) × (after ≡ a + 1)))
-  edge-pushed from some same a b = (
-    (λ has.
-        let (k, at) = subst (λ (xs : Edges). HasEdge xs a b) same has in
-        ⊎_elim
-        (λ (inside : k < length edges). inl (k, push-at edges (from, to) k (a, b) inside at))
-        (λ (end : length edges ≤ k).
-        let within = slice_get_within (edges ++ (from, to) ∷ []) k (a, b) at in
-        let more = length_push edges (from, to) in
-        let here : k ≡ length edges = omega arith in
-        let both : (from, to) ≡ (a, b) = push-last edges (from, to) (a, b) (subst (λ (j : ℕ). slice_get (edges ++ (from, to) ∷ []) j ≡ Some (a, b)) here at) in
-        let first : from ≡ a = ap (λ (e : ℕ × ℕ). e.0) both in
-        let second : to ≡ b = ap (λ (e : ℕ × ℕ). e.1) both in
-        inr (sym second, omega arith))
-        (cases_lt k (length edges))),
-    λ either. subst (λ (xs : Edges). HasEdge xs a b) (sym same) (⊎_elim
-        (λ (has : HasEdge edges a b). (has.0, at-left edges ((from, to) ∷ []) has.0 (a, b) has.1))
-        (λ (new : (b ≡ to) × (after ≡ a + 1)).
-        let value = new.1 in
-        let first : from ≡ a = omega arith in
-        (length edges, at-last edges (from, to) (length edges) refl
-        ∙ ap (λ (x : ℕ). Some (x, to)) first ∙ ap (λ (y : ℕ). Some (a, y)) (sym new.0)))
-        either),
-  )
 
 -- the edge of one place of the table more
 pub edges-more : (late : List ℕ) (first edges pushed : Edges) (n after : ℕ) → after ≡ slice_index_or late n 0

@@ -1,6 +1,6 @@
 -- The columns of sessions show together what each shows alone.
-use Rattle.std.specs.Prelude.{◌≡◌, ◌≢◌, ◌⊎◌, ◌↔◌, ℕ, ◌+◌, ◌<◌, ◌≤◌, ◌||◌, Bool, false, IsTrue, List, [], Some, length, slice_get}
-use Rattle.std.proofs.Common.{arith, refl, ap, sym, ◌∙◌, subst, inl, inr, ⊎_elim}
+use Rattle.std.specs.Prelude.{◌≡◌, ◌≢◌, ◌⊎◌, ◌↔◌, ℕ, ◌+◌, ◌<◌, ◌≤◌, ◌||◌, Bool, IsTrue, List, Some, length, slice_get}
+use Rattle.std.proofs.Common.{arith, ap, sym, ◌∙◌, subst, inl, inr, ⊎_elim}
 use Rattle.std.proofs.lemmas.Bool.{cases_eq, cases_lt, or_cases, or_left, or_right}
 use Rattle.std.proofs.lemmas.Option.{same_Some, slice_get_within}
 use Rattle.history.specs.declared.op_id.OpId.{OpId}
@@ -17,19 +17,12 @@ use Rattle.long_columns.proofs.Overwrites.{starts-by_sessions, reads-by_sessions
 
 -- one of two flags is set
 pub or-either : (a b : Bool) → IsTrue (a || b) ↔ (IsTrue a ⊎ IsTrue b)
-or-either a b = (or_cases a b, λ either. ⊎_elim (λ (first : IsTrue a). or_left a b first) (λ (second : IsTrue b). or_right a b second) either)
+or-either a b = (
+  or_cases a b,
+  λ either. ⊎_elim (λ (first : IsTrue a). or_left a b first) (λ (second : IsTrue b). or_right a b second) either,
+)
 
 module _ (h : MemoryHistory) (sessions : List ℕ) where
-  -- before the first session
-  pub none-swept : AreSwept h sessions 0 false false []
-  none-swept = record {
-    starts = ((λ bad. absurd cc), λ some. let below = some.1.1 in absurd (omega arith));
-    reads = ((λ bad. absurd cc), λ some. let below = some.1.1 in absurd (omega arith));
-    sound = λ clear a w edge. (let at = edge.1 in absurd cc);
-    reduced = λ clear t among. let below = among.1 in absurd (omega arith);
-    below = λ j from to at. absurd cc;
-  }
-
   module _ (i t : ℕ) (here : slice_get sessions i ≡ Some t) where
     among-more : (u : ℕ) → IsAmongFirst sessions (i + 1) u → IsAmongFirst sessions i u ⊎ (u ≡ t)
     among-more u (k, below, at) = ⊎_elim
@@ -44,7 +37,8 @@ module _ (h : MemoryHistory) (sessions : List ℕ) where
     among-this = (i, omega arith, here)
 
     flag-more : (shows : ℕ → Type 0) (flag one made : Bool) → IsTrue flag ↔ ((u : ℕ) × IsAmongFirst sessions i u × shows u)
-        → IsTrue one ↔ shows t → IsTrue made ↔ (IsTrue flag ⊎ IsTrue one) → IsTrue made ↔ ((u : ℕ) × IsAmongFirst sessions (i + 1) u × shows u)
+        → IsTrue one ↔ shows t → IsTrue made ↔ (IsTrue flag ⊎ IsTrue one)
+        → IsTrue made ↔ ((u : ℕ) × IsAmongFirst sessions (i + 1) u × shows u)
     flag-more shows flag one made was is either = (
       (λ set. ⊎_elim
           (λ (old : IsTrue flag). let some = was.0 old in (some.0, among-still some.0 some.1, some.2))
@@ -66,10 +60,12 @@ module _ (h : MemoryHistory) (sessions : List ℕ) where
           ((listed (number h a) (number h w)).0 (j, at))
 
       edge-still : (a w : OpId) → IsListedEdge h edges a w → IsListedEdge h edges_now a w
-      edge-still a w (j, at, is_a, is_w) = let place = (listed (number h a) (number h w)).1 (inl (j, at)) in (place.0, place.1, is_a, is_w)
+      edge-still a w (j, at, is_a, is_w) =
+          let place = (listed (number h a) (number h w)).1 (inl (j, at)) in (place.0, place.1, is_a, is_w)
 
       edge-late : (a w : OpId) → IsLateEdge h late a w → IsListedEdge h edges_now a w
-      edge-late a w (is_a, is_w, new) = let place = (listed (number h a) (number h w)).1 (inr new) in (place.0, place.1, is_a, is_w)
+      edge-late a w (is_a, is_w, new) =
+          let place = (listed (number h a) (number h w)).1 (inr new) in (place.0, place.1, is_a, is_w)
 
       module _ (start_shows : IsTrue one_start ↔ HasOverwrittenStartFrom h t) (read_shows : IsTrue one_read ↔ HasOverwrittenReadBy h t)
           (reduced : ¬ IsTrue one_read → IsReducedIn h t (IsLateEdge h late))
@@ -82,8 +78,8 @@ module _ (h : MemoryHistory) (sessions : List ℕ) where
             (λ (new : IsLateEdge h late a w). (reduced (λ set. clear (reads.1 (inr set)))).sound a w new)
             (edge-cases a w edge)
 
-        reduced-wider : (edge : OpId → OpId → Type 0) → ((a w : OpId) → edge a w → IsListedEdge h edges_now a w) → ¬ IsTrue read_now → (u : ℕ)
-            → IsReducedIn h u edge → IsReducedIn h u (IsListedEdge h edges_now)
+        reduced-wider : (edge : OpId → OpId → Type 0) → ((a w : OpId) → edge a w → IsListedEdge h edges_now a w) → ¬ IsTrue read_now
+            → (u : ℕ) → IsReducedIn h u edge → IsReducedIn h u (IsListedEdge h edges_now)
         reduced-wider edge wider clear u is = record {
           sound = sound-now clear;
           each = λ b w of_u conflict. ⊎_elim
@@ -118,13 +114,15 @@ module _ (h : MemoryHistory) (sessions : List ℕ) where
           below = below-now;
         }
 
-  -- after the last session that writes
-  module _ (writers : (w : OpId) (x v : ℕ) → Writes h w x v → (k : ℕ) × (slice_get sessions k ≡ Some w.session))
-      (start read : Bool) (edges : List (ℕ × ℕ)) (now : AreSwept h sessions (length sessions) start read edges) where
-    among-all : (w : OpId) (x v t : ℕ) → Writes h w x v → w.session ≡ t → IsAmongFirst sessions (length sessions) t
+  -- after the last session
+  module _ (i : ℕ) (whole : length sessions ≤ i)
+      (writers : (w : OpId) (x v : ℕ) → Writes h w x v → (k : ℕ) × (slice_get sessions k ≡ Some w.session))
+      (start read : Bool) (edges : List (ℕ × ℕ)) (now : AreSwept h sessions i start read edges) where
+    among-all : (w : OpId) (x v t : ℕ) → Writes h w x v → w.session ≡ t → IsAmongFirst sessions i t
     among-all w x v t wrote of_t =
         let place = writers w x v wrote in
-        (place.0, slice_get_within sessions place.0 w.session place.1, place.1 ∙ ap (λ (s : ℕ). Some s) of_t)
+        let inside = slice_get_within sessions place.0 w.session place.1 in
+        (place.0, omega arith, place.1 ∙ ap (λ (s : ℕ). Some s) of_t)
 
     pub all-starts : IsTrue start ↔ HasOverwrittenStart h
     all-starts = (

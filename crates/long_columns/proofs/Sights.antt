@@ -1,5 +1,5 @@
 -- What an operation shows of the last write of a session in its past.
-use Rattle.std.specs.Prelude.{◌≡◌, ◌≢◌, ◌⊎◌, ◌↔◌, ℕ, ◌+◌, ◌-◌, ◌<◌, ◌≤◌, List, length, slice_index_or, slice_set}
+use Rattle.std.specs.Prelude.{◌≡◌, ◌≢◌, ◌↔◌, ℕ, ◌+◌, ◌-◌, ◌<◌, ◌≤◌, List, length, slice_index_or, slice_set}
 use Rattle.std.proofs.Common.{arith, refl, ap, sym, inl, inr, ◌∙◌, subst}
 use Rattle.std.proofs.lemmas.List.{get_or-set_same, get_or-set_other}
 use Rattle.history.specs.declared.op_id.OpId.{OpId}
@@ -8,7 +8,7 @@ use Rattle.memory_order.specs.Memory.{MemoryHistory, initial, Reads, Writes, IsD
 use Rattle.memory_order.specs.Relations.{ReadsFrom}
 use Rattle.memory_order.proofs.MemoryLaws.{same_read, write-of_history, write-or_read}
 use Rattle.long_history.proofs.Numbers.{number-once}
-use Rattle.long_index.specs.Parts.{AreVariables, IsPart, IsThinAir}
+use Rattle.long_index.specs.Parts.{AreVariables, IsPart}
 use Rattle.long_index.specs.declared.part.Part.{Part}
 use Rattle.long_index.specs.declared.part.Part.TheVariants as parts
 use Rattle.long_columns.specs.Columns.{AreWithinSession}
@@ -33,26 +33,15 @@ module _ (h : MemoryHistory) (t : ℕ) (ends firsts : ℕ → ℕ) (r : OpId) wh
       from.4 (same.1 ∙ ap (initial h) (sym same.0))
 
   -- nothing is shown where no read has a write of its variable in its past
-  pub sight-none : ((x v : ℕ) → Reads h r x v → (a : OpId) → ¬ IsLastIn h (WritesTo h) t x (ends (number h r)) a)
+  sight-none : ((x v : ℕ) → Reads h r x v → (a : OpId) → ¬ IsLastIn h (WritesTo h) t x (ends (number h r)) a)
       → IsSight h t ends firsts r sights.Nothing
   sight-none none = (
     (λ shows. none shows.1 (initial h shows.1) shows.2 shows.0 shows.3),
     λ w a beside. absurd (none beside.0.0 beside.0.1 beside.0.3 a beside.1),
   )
 
-  -- nor by a read of a value that nobody writes
-  pub sight-thin : IsThinAir h r → IsSight h t ends firsts r sights.Nothing
-  sight-thin (x, v, reads, other, unwritten) = (
-    (λ shows.
-    let same = same_read h r x v shows.1 (initial h shows.1) reads shows.2 in
-    other (same.1 ∙ ap (initial h) (sym same.0))),
-    λ w a beside.
-        let from = beside.0 in
-        let same = same_read h r from.0 from.1 x v from.3 reads in
-        absurd (unwritten w (subst (λ (y : ℕ). Writes h w y v) same.0 (subst (Writes h w from.0) same.1 from.2))),
-  )
-
-  module _ (distinct : IsDifferentiated h) (w a : OpId) (from : ReadsFrom h w r) (last : IsLastIn h (WritesTo h) t from.0 (ends (number h r)) a) where
+  module _ (distinct : IsDifferentiated h) (w a : OpId) (from : ReadsFrom h w r)
+      (last : IsLastIn h (WritesTo h) t from.0 (ends (number h r)) a) where
     -- the last write is the source
     sight-own : a ≡ w → IsSight h t ends firsts r sights.Nothing
     sight-own same = (
@@ -78,10 +67,11 @@ module _ (h : MemoryHistory) (t : ℕ) (ends firsts : ℕ → ℕ) (r : OpId) wh
     )
 
     -- what comparing it with the source shows
-    pub sight-beside : (s : Sight) → IsComparison (ends (number h w)) (firsts (number h w)) (number h a) (number h w) s
+    sight-beside : (s : Sight) → IsComparison (ends (number h w)) (firsts (number h w)) (number h a) (number h w) s
         → IsSight h t ends firsts r s
     sight-beside sights.Nothing (inl same) =
-        sight-own (number-once h a w (write-of_history h a from.0 last.wrote.0 last.wrote.1) (write-of_history h w from.0 from.1 from.2) same)
+        sight-own (number-once h a w (write-of_history h a from.0 last.wrote.0 last.wrote.1)
+        (write-of_history h w from.0 from.1 from.2) same)
     sight-beside sights.Nothing (inr (apart, ahead, first)) = sight-before (λ same. apart (ap (number h) same)) ahead first
     sight-beside sights.OverwrittenStart bad = absurd bad
     sight-beside sights.OverwrittenRead (apart, up_to) = (w, a, (from, last, λ same. apart (ap (number h) same)), up_to)
@@ -89,7 +79,7 @@ module _ (h : MemoryHistory) (t : ℕ) (ends firsts : ℕ → ℕ) (r : OpId) wh
         (w, a, (from, last, λ same. apart (ap (number h) same)), ahead, sym at_a, sym at_w)
 
 -- what an operation that is no write has for its part
-pub unwritten : (h : MemoryHistory) (o : OpId) (p : Part) → IsPart h o p → p ≢ parts.Write → (x v : ℕ) → ¬ Writes h o x v
+unwritten : (h : MemoryHistory) (o : OpId) (p : Part) → IsPart h o p → p ≢ parts.Write → (x v : ℕ) → ¬ Writes h o x v
 unwritten h o parts.Write is apart x v wrote = apart refl
 unwritten h o (parts.SourcedRead n) (w, from, at) apart x v wrote = write-or_read h o o x v from.0 from.1 wrote from.3 refl
 unwritten h o parts.InitialRead (y, reads) apart x v wrote = write-or_read h o o x v y (initial h y) wrote reads refl
@@ -105,7 +95,7 @@ are-numbered h variables = record {
 
 module _ (h : MemoryHistory) (variables : List ℕ) (are : AreVariables h variables) where
   -- the variable of a known read has the number that its writes have
-  pub numbered-same : (r : OpId) (y u : ℕ) → Reads h r y u → (a : OpId)
+  numbered-same : (r : OpId) (y u : ℕ) → Reads h r y u → (a : OpId)
       → WritesNumbered h variables (slice_index_or variables (number h r) 0) a ↔ WritesTo h y a
   numbered-same r y u reads a = (
     (λ wrote.
@@ -145,7 +135,8 @@ module _ (h : MemoryHistory) (variables : List ℕ) (are : AreVariables h variab
     pub looks-none : ¬ ((start < slice_index_or last x 0) × (slice_index_or last x 0 ≤ slice_index_or ends n 0))
         → IsSight h t (λ k. slice_index_or ends k 0) (λ k. slice_index_or firsts k 0) r sights.Nothing
     looks-none none = sight-none h t E F r (λ y u reads a is.
-        look-none h (WritesNumbered h variables) (are-numbered h variables) t (E (number h r)) (λ k. slice_index_or last k 0) in_place inside z
+        look-none h (WritesNumbered h variables) (are-numbered h variables) t (E (number h r)) (λ k. slice_index_or last k 0) in_place
+        inside z
         (λ both.
         let from = both.0 in let to = both.1 in let one = after_same in let two = end_same in
         none (omega arith, omega arith)) a
@@ -154,16 +145,21 @@ module _ (h : MemoryHistory) (variables : List ℕ) (are : AreVariables h variab
 
     module _ (from : start < slice_index_or last x 0) (to : slice_index_or last x 0 ≤ slice_index_or ends n 0) where
       -- else it is the last write of the variable that the operation reads
-      seen : (y u : ℕ) → Reads h r y u → (a : OpId) × IsLastIn h (WritesTo h) t y (E (number h r)) a × (number h a ≡ slice_index_or last x 0 - 1)
+      seen : (y u : ℕ) → Reads h r y u
+          → (a : OpId) × IsLastIn h (WritesTo h) t y (E (number h r)) a × (number h a ≡ slice_index_or last x 0 - 1)
       seen y u reads =
           let one = after_same in
           let two = end_same in
-          let found = look-some h (WritesNumbered h variables) (are-numbered h variables) t (E (number h r)) (λ k. slice_index_or last k 0) in_place
-          inside z (slice_index_or last x 0 - 1) (omega arith) (omega arith) (omega arith) in
-          (found.0, last-renamed h (WritesNumbered h variables) (WritesTo h) z y (numbered-same r y u reads) t (E (number h r)) found.0 found.1, found.2)
+          let found = look-some h (WritesNumbered h variables) (are-numbered h variables) t (E (number h r)) (λ k. slice_index_or last k 0)
+          in_place inside z (slice_index_or last x 0 - 1) (omega arith) (omega arith) (omega arith) in (
+            found.0,
+            last-renamed h (WritesNumbered h variables) (WritesTo h) z y (numbered-same r y u reads) t (E (number h r)) found.0 found.1,
+            found.2,
+          )
 
       pub looks-start : IsPart h r parts.InitialRead → ShowsStart h t (λ k. slice_index_or ends k 0) r
-      looks-start (y, reads) = let found = seen y (initial h y) reads in (found.0, y, reads, found.1)
+      looks-start (y, reads) =
+          let found = seen y (initial h y) reads in (found.0, y, reads, found.1)
 
       pub looks-beside : IsDifferentiated h → (source : ℕ) (s : Sight) → IsPart h r (parts.SourcedRead source)
           → IsComparison (slice_index_or ends source 0) (slice_index_or firsts source 0) (slice_index_or last x 0 - 1) source s
@@ -173,14 +169,6 @@ module _ (h : MemoryHistory) (variables : List ℕ) (are : AreVariables h variab
           sight-beside h t E F r distinct w found.0 reads_from found.1 s
           (subst (λ (k : ℕ). IsComparison (E k) (F k) (number h found.0) k s) (sym at_w)
           (subst (λ (k : ℕ). IsComparison (E source) (F source) k source s) (sym found.2) comparison))
-
--- an operation that is no known read of a written or an initial value shows nothing
-module _ (h : MemoryHistory) (t : ℕ) (ends firsts : ℕ → ℕ) (r : OpId) where
-  pub sight-write : IsPart h r parts.Write → IsSight h t ends firsts r sights.Nothing
-  sight-write (y, u, wrote) = sight-none h t ends firsts r (λ x v reads a is. write-or_read h r r y u x v wrote reads refl)
-
-  pub sight-unknown : IsPart h r parts.UnknownRead → IsSight h t ends firsts r sights.Nothing
-  sight-unknown (none, unread) = sight-none h t ends firsts r (λ x v reads a is. unread x v reads)
 
 module _ (h : MemoryHistory) (variables : List ℕ) (t n x : ℕ) (last : List ℕ) (o : OpId) (is_op : IsOp h o) (at_n : number h o ≡ n) where
   -- an operation more is passed

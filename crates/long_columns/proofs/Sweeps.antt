@@ -1,6 +1,6 @@
 -- How a sweep begins, sees one operation more, and ends.
 use Rattle.std.specs.Prelude.{◌≡◌, ◌≢◌, ◌⊎◌, ◌↔◌, ℕ, ◌+◌, ◌<◌, ◌≤◌, Bool, true, false, IsTrue}
-use Rattle.std.proofs.Common.{arith, refl, ap, sym, ◌∙◌, subst, inl, inr, ⊎_elim}
+use Rattle.std.proofs.Common.{arith, ap, sym, ◌∙◌, subst, inl, inr, ⊎_elim}
 use Rattle.std.proofs.lemmas.Bool.{cases_eq}
 use Rattle.history.specs.declared.op_id.OpId.{OpId}
 use Rattle.history.specs.History.{IsOp, number}
@@ -8,11 +8,11 @@ use Rattle.memory_order.specs.Memory.{MemoryHistory, initial, IsDifferentiated}
 use Rattle.memory_order.specs.SourceOrder.{IsCyclic}
 use Rattle.memory_order.proofs.MemoryLaws.{read-of_history}
 use Rattle.long_history.specs.Steps.{many}
-use Rattle.long_history.proofs.Numbers.{number-all, number-found, number-once}
+use Rattle.long_history.proofs.Numbers.{number-all, number-once}
 use Rattle.long_columns.specs.Columns.{ArePastEnds, AreFirsts}
 use Rattle.long_columns.specs.Conflicts.{IsLateEdge, IsLateTable, IsReducedIn}
 use Rattle.long_columns.specs.LastWrites.{ShowsStart, ShowsRead, IsLastBeside, HasOverwrittenStartFrom, HasOverwrittenReadBy}
-use Rattle.long_columns.specs.Sights.{IsNoted, IsRaisedAt, IsSeen, IsSight}
+use Rattle.long_columns.specs.Sights.{IsNoted, IsSeen, IsSight}
 use Rattle.long_columns.specs.Sweeps.{IsSwept}
 use Rattle.long_columns.specs.Visits.{IsGreater}
 use Rattle.long_columns.specs.declared.sight.Sight.{Sight}
@@ -96,7 +96,8 @@ module _ (h : MemoryHistory) (t : ℕ) (ends firsts : ℕ → ℕ) where
         starts = flag-set (ShowsStart h t ends) start start_now set was.starts shows;
         reads = flag-same (ShowsRead h t ends firsts) read read_now same_read was.reads
             (λ reads. start-apart h t ends firsts r shows.1 shows.2 reads.0 reads.1 reads.2);
-        edges = late-still late late_now same_late was.edges (λ w a beside. absurd (start-apart h t ends firsts r shows.1 shows.2 w a beside));
+        edges = late-still late late_now same_late was.edges
+            (λ w a beside. absurd (start-apart h t ends firsts r shows.1 shows.2 w a beside));
       }
       swept-noted sights.OverwrittenRead (w, a, beside, up_to) (same_start, set, same_late) = record {
         starts = flag-same (ShowsStart h t ends) start start_now same_start was.starts (source-apart h t ends firsts r w beside.0);
@@ -121,20 +122,22 @@ module _ (h : MemoryHistory) (t : ℕ) (ends firsts : ℕ → ℕ) where
       }
 
   -- once every operation is seen
-  module _ (column : ArePastEnds h t ends) (start read : Bool) (late : ℕ → ℕ) (now : IsSwept h t ends firsts (IsSeen h (many h)) start read late) where
+  module _ (column : ArePastEnds h t ends) (n : ℕ) (whole : many h ≤ n) (start read : Bool) (late : ℕ → ℕ)
+      (now : IsSwept h t ends firsts (IsSeen h n) start read late) where
+    seen-all : (r : OpId) → IsOp h r → IsSeen h n r
+    seen-all r is_op = let below = number-all h r is_op in (is_op, omega arith)
+
     pub swept-starts : IsTrue start ↔ HasOverwrittenStartFrom h t
     swept-starts = (
       (λ set. let found = now.starts.0 set in (start-exact h t ends column).1 (found.0, found.2)),
       λ has.
           let shows = (start-exact h t ends column).0 has in
           let is_op = read-of_history h shows.0 shows.1.1 (initial h shows.1.1) shows.1.2 in
-          now.starts.1 (shows.0, (is_op, number-all h shows.0 is_op), shows.1),
+          now.starts.1 (shows.0, seen-all shows.0 is_op, shows.1),
     )
 
-    all-seen : (w r a : OpId) → IsLastBeside h t ends w r a → IsSeen h (many h) r
-    all-seen w r a (from, is, apart) =
-        let is_op = read-of_history h r from.0 from.1 from.3 in
-        (is_op, number-all h r is_op)
+    all-seen : (w r a : OpId) → IsLastBeside h t ends w r a → IsSeen h n r
+    all-seen w r a (from, is, apart) = seen-all r (read-of_history h r from.0 from.1 from.3)
 
     module _ (straight : ¬ IsCyclic h) (are_firsts : AreFirsts h t firsts) where
       pub swept-reads : IsTrue read ↔ HasOverwrittenReadBy h t
@@ -146,5 +149,5 @@ module _ (h : MemoryHistory) (t : ℕ) (ends firsts : ℕ → ℕ) where
       )
 
       pub swept-edges : ¬ IsTrue read → IsReducedIn h t (IsLateEdge h late)
-      swept-edges clear = reduced-made h t ends firsts straight column are_firsts (λ has. clear (swept-reads.1 has)) (IsSeen h (many h))
+      swept-edges clear = reduced-made h t ends firsts straight column are_firsts (λ has. clear (swept-reads.1 has)) (IsSeen h n)
           all-seen late now.edges

@@ -1,10 +1,9 @@
 -- The visit of an operation finds the end for it, and lowers the firsts for what steps to it.
-use Rattle.std.specs.Prelude.{◌≡◌, ◌≢◌, ◌⊎◌, ◌↔◌, ℕ, ◌+◌, ◌-◌, ◌≤◌}
+use Rattle.std.specs.Prelude.{◌≡◌, ◌≢◌, ◌⊎◌, ◌↔◌, ℕ, ◌≤◌}
 use Rattle.std.proofs.Common.{arith, ap, sym, ◌∙◌, subst, inl, inr, ⊎_elim}
 use Rattle.std.proofs.lemmas.Bool.{cases_eq}
 use Rattle.history.specs.declared.op_id.OpId.{OpId}
 use Rattle.history.specs.History.{IsOp, many_before, number}
-use Rattle.causal_order.specs.Orders.{op}
 use Rattle.causal_order.proofs.OrdersLaws.{same_op}
 use Rattle.memory_order.specs.Memory.{MemoryHistory, Writes, IsDifferentiated}
 use Rattle.memory_order.specs.Relations.{ReadsFrom}
@@ -100,18 +99,8 @@ module _ (h : MemoryHistory) (o : OpId) (related : OpId → OpId → Type 0) (of
         lowered
 
 module _ (h : MemoryHistory) where
-  -- the operation before another in its session has the number before its own
-  pub next-number : (a b : OpId) → IsNext h a b → number h b ≡ number h a + 1
-  next-number a b (same, more, is_op) = let start = ap (many_before h) same in omega arith
-
-  pub number-next : (a b : OpId) → IsOp h a → IsOp h b → b.index ≢ 0 → number h a ≡ number h b - 1 → IsNext h a b
-  number-next a b is_a is_b some same =
-      let p : OpId = op b.session (b.index - 1) in
-      let one : a ≡ p = number-once h a p is_a (omega arith) (omega arith) in
-      (ap (λ (q : OpId). q.session) one, (let index : a.index ≡ b.index - 1 = ap (λ (q : OpId). q.index) one in omega arith), is_b)
-
   -- there is one operation before another in its session, and one source of it where values are distinct
-  pub one-next : (u w b : OpId) → IsNext h u b → IsNext h w b → u ≡ w
+  one-next : (u w b : OpId) → IsNext h u b → IsNext h w b → u ≡ w
   one-next u w b first second = let one = first.1 in let two = second.1 in same_op u w (first.0 ∙ sym second.0) (omega arith)
 
   pub one-source : IsDifferentiated h → (u w r : OpId) → ReadsFrom h u r → ReadsFrom h w r → u ≡ w
@@ -142,13 +131,18 @@ module _ (h : MemoryHistory) where
           most = λ other p step.
               let same = visit.other other in
               ⊎_elim
-              (λ (next : IsNext h p o). let less = raised-most h o (IsNext h) next-op next-once ends (many_before h t) before visit.previous p next in omega arith)
-              (λ (from : ReadsFrom h p o). let less = raised-most h o (ReadsFrom h) source-op source-once ends before read visit.source p from in omega arith)
+              (λ (next : IsNext h p o).
+              let less = raised-most h o (IsNext h) next-op next-once ends (many_before h t) before visit.previous p next in
+              omega arith)
+              (λ (from : ReadsFrom h p o).
+              let less = raised-most h o (ReadsFrom h) source-op source-once ends before read visit.source p from in
+              omega arith)
               step;
           one = λ other. ⊎_elim
               (λ (kept : read ≡ before). ⊎_elim
               (λ (least : before ≡ many_before h t). inl (visit.other other ∙ kept ∙ least))
-              (λ (some : (p : OpId) × IsNext h p o × (before ≡ ends (number h p))). inr (some.0, inl some.1, visit.other other ∙ kept ∙ some.2))
+              (λ (some : (p : OpId) × IsNext h p o × (before ≡ ends (number h p))).
+              inr (some.0, inl some.1, visit.other other ∙ kept ∙ some.2))
               (raised-one h o (IsNext h) next-op next-once ends (many_before h t) before visit.previous))
               (λ (some : (p : OpId) × ReadsFrom h p o × (read ≡ ends (number h p))). inr (some.0, inr some.1, visit.other other ∙ some.2))
               (raised-one h o (ReadsFrom h) source-op source-once ends before read visit.source);

@@ -15,9 +15,13 @@ use std::alloc::{AllocError, Global};
 
 /// Whether the causal order and the conflicts of writes have no cycle together.
 ///
-/// The edges stand for all conflicts, as those of [`crate::sweep`] do. Fails for want of memory alone. O(n + k + e log e) for n operations in
-/// k sessions and e edges, and the rounds of [`order`].
-pub fn is_convergent(alloc: Global, index: &LongIndex, edges: Vec<(u32, u32)>) -> Result<bool, AllocError>
+/// The edges stand for all conflicts, as those of [`crate::sweep`] do. Fails for want of memory alone. O(e log e) for e edges, and the cost
+/// of [`order`].
+pub fn is_convergent(
+    alloc: Global,
+    index: &LongIndex,
+    edges: Vec<(u32, u32)>,
+) -> Result<bool, AllocError>
     requires below { AreEdgesOf index.now.history edges.items }
     requires reduced { (t : ℕ) → IsReducedIn index.now.history t (IsListedEdge index.now.history edges.items) }
     ensures { IfOk result (λ yes. IsTrue yes
@@ -30,7 +34,7 @@ pub fn is_convergent(alloc: Global, index: &LongIndex, edges: Vec<(u32, u32)>) -
     }
 }
 
-/// The edges by where they lead.
+/// The edges, sorted by where they lead.
 fn sorted(mut edges: Vec<(u32, u32)>) -> Vec<(u32, u32)>
     ensures same { IsPermutation edges.items result.items }
     ensures sorted { AreSortedEdges result.items }

@@ -14,7 +14,7 @@ use crate::passes::{number_after, put};
 use crate::sight::Sight;
 use long_index::{LongIndex, Part};
 
-/// Whether a write of a session overwrote what a later read returned.
+/// Whether a write of a session overwrote what a read after it returned.
 #[derive(Clone, Copy)]
 pub(crate) struct Overwritten {
     /// It was an initial value.
@@ -23,10 +23,18 @@ pub(crate) struct Overwritten {
     pub read: bool,
 }
 
-/// Sweeps the column of a session: goes over all reads, with the last writes of the session in the past of each.
+/// Sweeps the column of a session: looks, for each read, at the session's last write of its variable in its past.
 ///
-/// It leaves in `late` the conflicts with each write. O(n) for n operations, and for each session its operations once more.
-pub(crate) fn sweep_column(index: &LongIndex, session: u32, ends: &[u32], firsts: &[u32], last: &mut Vec<u32>, late: &mut Vec<u32>) -> Overwritten
+/// Afterwards `late` has, for each write, the number after that of the last write of the session that conflicts with it, or 0. O(n + k m)
+/// for n operations in k sessions and m operations of this one.
+pub(crate) fn sweep_column(
+    index: &LongIndex,
+    session: u32,
+    ends: &[u32],
+    firsts: &[u32],
+    last: &mut Vec<u32>,
+    late: &mut Vec<u32>,
+) -> Overwritten
     requires session { session < length index.now.history.1 }
     requires ends_size { length ends.now ≡ many index.now.history }
     requires firsts_size { length firsts.now ≡ many index.now.history }
@@ -42,24 +50,33 @@ pub(crate) fn sweep_column(index: &LongIndex, session: u32, ends: &[u32], firsts
     ensures late_size { length late.new.items ≡ many index.now.history }
     ensures start { IsTrue result.start ↔ HasOverwrittenStartFrom index.now.history session }
     ensures read { IsTrue result.read ↔ HasOverwrittenReadBy index.now.history session }
-    ensures edges { ¬ IsTrue result.read → IsReducedIn index.now.history session (IsLateEdge index.now.history (λ n. slice_index_or late.new.items n 0)) }
-    ensures writes { (w : Operation) (n : ℕ) → IsOp index.now.history w → slice_index_or late.new.items (number index.now.history w) 0 ≡ n + 1
-        → n < many index.now.history }
+    ensures edges { ¬ IsTrue result.read
+        → IsReducedIn index.now.history session (IsLateEdge index.now.history (λ n. slice_index_or late.new.items n 0)) }
+    ensures writes { (w : Operation) (n : ℕ) → IsOp index.now.history w
+        → slice_index_or late.new.items (number index.now.history w) 0 ≡ n + 1 → n < many index.now.history }
 {
     index.value_is_indexed();
     let start = index.start(session);
     let mut at = start;
-    let mut overwritten = Overwritten { start: false, read: false };
+    let mut overwritten = Overwritten {
+        start: false,
+        read: false,
+    };
     for operation in 0..index.operations() {
         let end = ends[operation as usize];
         advance(index, start, at, end, last);
         at = end;
-        note(look(index, ends, firsts, last, start, operation), &mut overwritten, late);
+        note(
+            look(index, ends, firsts, last, start, operation),
+            &mut overwritten,
+            late,
+        );
     }
     overwritten
 }
 
-/// Brings the table of last writes from one place of the session to another. From a later place it begins again at the first.
+/// Brings the table of last writes from one place of the session to another: on from there, or from the session's start if that place is
+/// behind it.
 fn advance(index: &LongIndex, start: u32, at: u32, to: u32, last: &mut Vec<u32>)
     requires from { start ≤ to }
     requires within { to ≤ many index.now.history }
@@ -97,19 +114,30 @@ fn pass_one(index: &LongIndex, operation: u32, last: &mut Vec<u32>)
         → IsTable index.now.history index.now.variables t (operation + 1) last.new.items }
 {
     if let Part::Write = index.part(operation) {
-        put(last, index.variable(operation), number_after(index, operation));
+        put(
+            last,
+            index.variable(operation),
+            number_after(index, operation),
+        );
     }
 }
 
-/// What an operation shows, by the last write of its variable in its past.
-fn look(index: &LongIndex, ends: &[u32], firsts: &[u32], last: &[u32], start: u32, operation: u32) -> Sight
+/// What an operation shows, by the session's last write of its variable in its past.
+fn look(
+    index: &LongIndex,
+    ends: &[u32],
+    firsts: &[u32],
+    last: &[u32],
+    start: u32,
+    operation: u32,
+) -> Sight
     requires operation { operation < many index.now.history }
     requires ends_size { length ends.now ≡ many index.now.history }
     requires firsts_size { length firsts.now ≡ many index.now.history }
     requires last_size { length last.now ≡ index.now.bound }
     ensures small { IsSmall result (many index.now.history) }
-    ensures sight { (t : ℕ) (o : Operation) → start ≡ many_before index.now.history t → IsOp index.now.history o → number index.now.history o ≡ operation
-        → AreWithinSession index.now.history t (λ n. slice_index_or ends.now n 0)
+    ensures sight { (t : ℕ) (o : Operation) → start ≡ many_before index.now.history t → IsOp index.now.history o
+        → number index.now.history o ≡ operation → AreWithinSession index.now.history t (λ n. slice_index_or ends.now n 0)
         → IsTable index.now.history index.now.variables t (slice_index_or ends.now operation 0) last.now
         → IsSight index.now.history t (λ n. slice_index_or ends.now n 0) (λ n. slice_index_or firsts.now n 0) o result }
 {
@@ -125,7 +153,7 @@ fn look(index: &LongIndex, ends: &[u32], firsts: &[u32], last: &[u32], start: u3
     }
 }
 
-/// What a read shows, by the last write and the one that it returned.
+/// What a read shows, by that last write and the write that it returned.
 fn look_beside(ends: &[u32], firsts: &[u32], source: u32, last: u32) -> Sight
     requires ends { source < length ends.now }
     requires firsts { source < length firsts.now }
@@ -144,7 +172,7 @@ fn look_beside(ends: &[u32], firsts: &[u32], source: u32, last: u32) -> Sight
     }
 }
 
-/// Keeps what an operation shows.
+/// Notes what an operation shows.
 fn note(sight: Sight, overwritten: &mut Overwritten, late: &mut Vec<u32>)
     requires small { IsSmall sight (length late.old.items) }
     ensures size { length late.new.items ≡ length late.old.items }
@@ -159,7 +187,7 @@ fn note(sight: Sight, overwritten: &mut Overwritten, late: &mut Vec<u32>)
     }
 }
 
-/// Raises a number to another.
+/// Raises the number in a place to another.
 fn raise(late: &mut Vec<u32>, place: u32, number: u32)
     requires { place < length late.old.items }
     ensures size { length late.new.items ≡ length late.old.items }

@@ -18,18 +18,19 @@ use std::alloc::{AllocError, Global};
 /// What the columns of all sessions show of a history.
 #[derive(Drop)]
 pub struct Swept {
-    /// A write comes before a read of its variable's initial value in CO.
+    /// Some read returned an initial value that a write before it in the causal order had overwritten.
     pub has_overwritten_start: bool,
-    /// A write comes after another of its variable and before a read of that one in CO.
+    /// Some read returned a value that another write before it in the causal order had overwritten.
     pub has_overwritten_read: bool,
-    /// Conflicts, as the numbers of two writes, the earlier first: where no read is overwritten, they lead with CO wherever conflicts do.
+    /// If no read did, conflicts that stand for all: each has the numbers of two writes, the one that comes first and the other.
     pub edges: Vec<(u32, u32)>,
 }
 
-/// Finds whether writes overwrote what later reads returned, and edges that stand for all conflicts of writes.
+/// Finds whether writes overwrote what reads after them returned, and edges that stand for all conflicts of writes.
 ///
-/// The order is one of the causal order, as `long_order` gives it. Fails for want of memory alone. O(n k) for n operations and k sessions
-/// that write.
+/// The order is one that [`long_order::causal_order`] gives. Fails for want of memory alone. O(n k) for n operations and k sessions that
+/// write. It takes 12 bytes an operation and 4 a variable, and 8 an edge: of these there is at most one for each write that is read and
+/// each session that writes.
 pub fn sweep(alloc: Global, index: &LongIndex, order: &[u32]) -> Result<Swept, AllocError>
     requires { IsOrderBy index.now.history [] order.now }
     ensures start { IfOk result (λ s. IsTrue s.has_overwritten_start ↔ HasOverwrittenStart index.now.history) }
@@ -66,10 +67,11 @@ fn writing_sessions(alloc: Global, index: &LongIndex) -> Result<Vec<u32>, AllocE
     Ok(sessions)
 }
 
-/// Adds a session to a list, unless it is the last one there.
+/// Adds a session to a list, unless it stands there last.
 fn add_session(sessions: &mut Vec<u32>, session: u32) -> Result<(), AllocError>
     ensures added { OnOk result ((k : ℕ) × (slice_get sessions.new.items k ≡ Some session)) }
-    ensures others { OnOk result ((k t : ℕ) → slice_get sessions.new.items k ≡ Some t → (slice_get sessions.old.items k ≡ Some t) ⊎ (t ≡ session)) }
+    ensures others { OnOk result ((k t : ℕ) → slice_get sessions.new.items k ≡ Some t
+        → (slice_get sessions.old.items k ≡ Some t) ⊎ (t ≡ session)) }
     ensures kept { OnOk result ((k t : ℕ) → slice_get sessions.old.items k ≡ Some t → slice_get sessions.new.items k ≡ Some t) }
 {
     if sessions.last() != Some(&session) {
@@ -78,7 +80,7 @@ fn add_session(sessions: &mut Vec<u32>, session: u32) -> Result<(), AllocError>
     Ok(())
 }
 
-/// The arrays of one column and its sweep. They are made once, and filled again for each session.
+/// The numbers of one column and its sweep: the arrays are made once and filled again for each session.
 #[derive(Drop)]
 struct Arrays {
     /// By operation: where its past ends in the session.
@@ -128,7 +130,8 @@ fn sweep_session(
     ensures late { length arrays.new.late.items ≡ many index.now.history }
     ensures swept { OnOk result ((sessions : List ℕ) (i : ℕ) → slice_get sessions i ≡ Some session
         → AreSwept index.now.history sessions i swept.old.has_overwritten_start swept.old.has_overwritten_read swept.old.edges.items
-        → AreSwept index.now.history sessions (i + 1) swept.new.has_overwritten_start swept.new.has_overwritten_read swept.new.edges.items) }
+        → AreSwept index.now.history sessions (i + 1) swept.new.has_overwritten_start swept.new.has_overwritten_read
+        swept.new.edges.items) }
 {
     find_past_ends(index, order, session, &mut arrays.ends);
     find_firsts(index, order, session, &mut arrays.firsts);
@@ -149,7 +152,11 @@ fn sweep_session(
 }
 
 /// Pushes the edges of the table of late writes.
-fn push_edges(index: &LongIndex, late: &[u32], edges: &mut Vec<(u32, u32)>) -> Result<(), AllocError>
+fn push_edges(
+    index: &LongIndex,
+    late: &[u32],
+    edges: &mut Vec<(u32, u32)>,
+) -> Result<(), AllocError>
     requires { length late.now ≡ many index.now.history }
     ensures { OnOk result ((from to : ℕ) → HasEdge edges.new.items from to
         ↔ (HasEdge edges.old.items from to ⊎ (slice_index_or late.now to 0 ≡ from + 1))) }

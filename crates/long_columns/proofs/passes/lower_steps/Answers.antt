@@ -21,8 +21,9 @@ returns-clause-lowered c o is_op at =
     let size_before = c.requires.size in
     let below = c.requires.operation in
     let inside : c.args.operation < length c.put_own.new.firsts.items = omega arith in
-    let same : first ≡ own c.args.operation = c.index-first.ensures ∙ same_Some _ _
-        (sym (slice_get-get_or c.put_own.new.firsts.items c.args.operation first inside) ∙ slice_get-get_or c.put_own.new.firsts.items c.args.operation 0 inside) in
+    let items : List ℕ = c.put_own.new.firsts.items in
+    let same : first ≡ own c.args.operation = c.index-first.ensures
+    ∙ same_Some _ _ (sym (slice_get-get_or items c.args.operation first inside) ∙ slice_get-get_or items c.args.operation 0 inside) in
     let here : first ≡ own (number h o) = same ∙ ap own (sym at) in
     let session = c.session_of.ensures.session o is_op at in
     lowered-made h c.value_is_indexed.ensures.distinct c.args.session o is_op (F c.args.firsts.now.items) own before read (record {

@@ -1,4 +1,4 @@
-use Rattle.std.specs.Prelude.{◌≡◌, ◌+◌, ◌<◌, ℕ, List, length, slice_set}
+use Rattle.std.specs.Prelude.{◌+◌, ◌<◌, ℕ, List, length, slice_set}
 use Rattle.std.proofs.Common.{arith, sym, ap, ◌∙◌, subst}
 use Rattle.long_history.proofs.Numbers.{number-found}
 use Rattle.long_columns.specs.Sights.{IsTable}

@@ -1,4 +1,4 @@
-use Rattle.std.specs.Prelude.{◌≡◌, ◌≤◌, ℕ, length, slice_index_or}
+use Rattle.std.specs.Prelude.{◌≤◌, length, slice_index_or}
 use Rattle.std.proofs.Common.{arith, refl}
 use Rattle.long_columns.proofs.PushedEdges.{edges-more, edges-whole}
 use Rattle.long_columns.proofs.swept.push_edges.Goals as goal

@@ -1,7 +1,6 @@
-use Rattle.std.specs.Prelude.{◌≡◌, ◌<◌, ℕ, Some, length, slice_get}
-use Rattle.std.proofs.Common.{arith, sym, ap, ◌∙◌, subst}
+use Rattle.std.specs.Prelude.{◌≡◌, ◌<◌, ◌≤◌, ℕ, Some, length, slice_get}
+use Rattle.std.proofs.Common.{arith, sym, ap, ◌∙◌}
 use Rattle.std.proofs.lemmas.Option.{slice_get-get_or}
-use Rattle.long_columns.specs.Swept.{AreSwept}
 use Rattle.long_columns.proofs.SessionsSwept.{all-starts, all-reads, all-reduced}
 use Rattle.long_columns.proofs.swept.sweep.Goals as goal
 
@@ -26,30 +25,21 @@ loop-i-preserved c =
 
 pub returns-clause-start : goal.returns-clause-start
 returns-clause-start c =
-    let h = c.args.index.now.history in
     let sessions = c.in_ok-sessions.sessions.items in
-    let end : c.loop-i.i ≡ length sessions = grind arith in
-    all-starts h sessions c.in_ok-sessions.ensures.each c.loop-i.swept.has_overwritten_start c.loop-i.swept.has_overwritten_read
-    c.loop-i.swept.edges.items
-    (subst (λ (i : ℕ). AreSwept h sessions i c.loop-i.swept.has_overwritten_start c.loop-i.swept.has_overwritten_read c.loop-i.swept.edges.items)
-    end c.loop-i.invariant.swept)
+    let whole : length sessions ≤ c.loop-i.i = grind arith in
+    all-starts c.args.index.now.history sessions c.loop-i.i whole c.in_ok-sessions.ensures.each c.loop-i.swept.has_overwritten_start
+    c.loop-i.swept.has_overwritten_read c.loop-i.swept.edges.items c.loop-i.invariant.swept
 
 pub returns-clause-read : goal.returns-clause-read
 returns-clause-read c =
-    let h = c.args.index.now.history in
     let sessions = c.in_ok-sessions.sessions.items in
-    let end : c.loop-i.i ≡ length sessions = grind arith in
-    all-reads h sessions c.in_ok-sessions.ensures.each c.loop-i.swept.has_overwritten_start c.loop-i.swept.has_overwritten_read
-    c.loop-i.swept.edges.items
-    (subst (λ (i : ℕ). AreSwept h sessions i c.loop-i.swept.has_overwritten_start c.loop-i.swept.has_overwritten_read c.loop-i.swept.edges.items)
-    end c.loop-i.invariant.swept)
+    let whole : length sessions ≤ c.loop-i.i = grind arith in
+    all-reads c.args.index.now.history sessions c.loop-i.i whole c.in_ok-sessions.ensures.each c.loop-i.swept.has_overwritten_start
+    c.loop-i.swept.has_overwritten_read c.loop-i.swept.edges.items c.loop-i.invariant.swept
 
 pub returns-clause-edges : goal.returns-clause-edges
 returns-clause-edges c =
-    let h = c.args.index.now.history in
     let sessions = c.in_ok-sessions.sessions.items in
-    let end : c.loop-i.i ≡ length sessions = grind arith in
-    all-reduced h sessions c.in_ok-sessions.ensures.each c.loop-i.swept.has_overwritten_start c.loop-i.swept.has_overwritten_read
-    c.loop-i.swept.edges.items
-    (subst (λ (i : ℕ). AreSwept h sessions i c.loop-i.swept.has_overwritten_start c.loop-i.swept.has_overwritten_read c.loop-i.swept.edges.items)
-    end c.loop-i.invariant.swept)
+    let whole : length sessions ≤ c.loop-i.i = grind arith in
+    all-reduced c.args.index.now.history sessions c.loop-i.i whole c.in_ok-sessions.ensures.each c.loop-i.swept.has_overwritten_start
+    c.loop-i.swept.has_overwritten_read c.loop-i.swept.edges.items c.loop-i.invariant.swept

@@ -11,16 +11,17 @@ sweep_column-overwritten-requires-clause-straight c = order_by-straight c.args.i
 
 pub returns-clause-swept : goal.returns-clause-swept
 returns-clause-swept c sessions i here was =
-    let h = c.args.index.now.history in
+    let old = c.args.swept.now in
+    let one = c.sweep_column-overwritten.result in
+    let shows = c.sweep_column-overwritten.ensures in
+    let edges : List (ℕ × ℕ) = c.push_edges.new.edges.items in
     let late : List ℕ = c.sweep_column-overwritten.new.late.items in
-    let size = c.sweep_column-overwritten.ensures.late_size in
-    swept-more h sessions i c.args.session here c.args.swept.now.has_overwritten_start c.args.swept.now.has_overwritten_read
-    c.args.swept.now.edges.items was c.sweep_column-overwritten.result.start c.sweep_column-overwritten.result.read (λ n. slice_index_or late n 0)
-    (c.args.swept.now.has_overwritten_start || c.sweep_column-overwritten.result.start)
-    (c.args.swept.now.has_overwritten_read || c.sweep_column-overwritten.result.read) c.push_edges.new.edges.items
-    (subst (λ (xs : List ℕ). (from to : ℕ) → HasEdge c.push_edges.new.edges.items from to
-        ↔ (HasEdge c.args.swept.now.edges.items from to ⊎ (slice_index_or xs to 0 ≡ from + 1))) c.deref-3.ensures.value c.in_ok-push_edges.ensures)
-    c.sweep_column-overwritten.ensures.start c.sweep_column-overwritten.ensures.read c.sweep_column-overwritten.ensures.edges
-    (λ to past. get_or_past late to 0 (omega arith)) c.sweep_column-overwritten.ensures.writes
-    (or-either c.args.swept.now.has_overwritten_start c.sweep_column-overwritten.result.start)
-    (or-either c.args.swept.now.has_overwritten_read c.sweep_column-overwritten.result.read)
+    let size = shows.late_size in
+    swept-more c.args.index.now.history sessions i c.args.session here old.has_overwritten_start old.has_overwritten_read
+    old.edges.items was one.start one.read (λ n. slice_index_or late n 0) (old.has_overwritten_start || one.start)
+    (old.has_overwritten_read || one.read) edges
+    (subst (λ (xs : List ℕ). (from to : ℕ)
+    → HasEdge edges from to ↔ (HasEdge old.edges.items from to ⊎ (slice_index_or xs to 0 ≡ from + 1)))
+    c.deref-3.ensures.value c.in_ok-push_edges.ensures)
+    shows.start shows.read shows.edges (λ to past. get_or_past late to 0 (omega arith)) shows.writes
+    (or-either old.has_overwritten_start one.start) (or-either old.has_overwritten_read one.read)
