@@ -1,4 +1,4 @@
--- A list of names, by its first name and the list behind it.
+-- A list of names, by its first name and the rest after the comma.
 use Rattle.std.proofs.Common.{◌≡◌, ◌<◌, ◌∙◌, ℕ, List, [], ◌∷◌, length, get_or, refl, sym, ap, subst, Option, Some, None, MatchOption}
 use Rattle.std.specs.Prelude.{◌≢◌, ◌==◌, Bool, true, false, if◌then◌else◌}
 use Rattle.std.specs.List.{before_first, after_first, position_or_len}
@@ -61,7 +61,7 @@ each_last : (before : Expected) (name : Text) (r : Option Expected)
 each_last before name None none = λ after each. none each.0 each.1
 each_last before name (Some after) adds = (after, adds, refl)
 
--- a list with a comma is a name and the list behind it, and one without is a name
+-- a list with a comma is a name and the list after the comma, and one without is a name
 only_part : (list : Text) → ((i : ℕ) → i < length list → get_or list i 0 ≢ 44) → parts list ≡ list ∷ []
 only_part list none =
     slice_split_none (λ c. c == 44) list (All-from_get_or (λ c. (c == 44) ≡ false) list 0 (λ i within. ne_eqb (get_or list i 0) 44 (none i within)))

@@ -1,4 +1,4 @@
--- What the words behind a command say, one after the other, and the order that they give.
+-- What the words after a command say, one by one, and the order that they give.
 use Rattle.std.proofs.Common.{◌≡◌, ◌≤◌, ◌∙◌, ◌-◌, List, [], ◌∷◌, length, map, drop, take, get_or, arith, sym, ap, subst, Option, Some, None, inl, inr, ⊎_elim, MatchOption}
 use Rattle.std.proofs.lemmas.List.{take_all}
 use Rattle.std.proofs.lemmas.Option.{same_Some}
@@ -78,7 +78,7 @@ pub say_no_value : (before : Said) (w value : Text) (words : List Text) → ((af
     → (after : Said) → ¬ Say before (Some w) (value ∷ words) after
 say_no_value before w value words none after behind = none behind.0 behind.1
 
--- the first of some words, and those behind it
+-- the first of some words, and those after it
 abbrev pub behind_first : {A : Type 0} → List A → List A
 behind_first xs = take (length xs - 1) (drop 1 xs)
 

@@ -28,13 +28,14 @@ mark _ = 0
 abbrev number_in : Text → ℕ
 number_in text = digits_value 10 (without_leading_plus text)
 
--- what a word and a value say, and the value behind the sign of equality in a word
+-- what a word and a value say, and the value after the equals sign in a word
 abbrev setting_of : Text → Text → Setting
 setting_of word value =
     if mark word == 115117099 then settings.Store Causal else
     if mark word == 112109108 then settings.Store Lamport else
     if mark word == 97101045 then settings.Eager else
     if mark word == 105108045 then settings.Lines else
+    if mark word == 111108045 then settings.Long else
     if mark word == 115106045 then settings.Json else
     if mark word == 101099045 then settings.Certificates else
     if mark word == 118115045 then settings.Svg else
@@ -51,6 +52,7 @@ alone-read (settings.Store Causal) w says = ap (λ v. setting_of v (value_of v))
 alone-read (settings.Store Lamport) w says = ap (λ v. setting_of v (value_of v)) says
 alone-read settings.Eager w says = ap (λ v. setting_of v (value_of v)) says
 alone-read settings.Lines w says = ap (λ v. setting_of v (value_of v)) says
+alone-read settings.Long w says = ap (λ v. setting_of v (value_of v)) says
 alone-read settings.Json w says = ap (λ v. setting_of v (value_of v)) says
 alone-read settings.Certificates w says = ap (λ v. setting_of v (value_of v)) says
 alone-read settings.Svg w says = ap (λ v. setting_of v (value_of v)) says
@@ -67,6 +69,7 @@ together-read (settings.Expect e) w value says = ap (λ v. setting_of v value) s
 together-read (settings.Store store) w value says = absurd says
 together-read settings.Eager w value says = absurd says
 together-read settings.Lines w value says = absurd says
+together-read settings.Long w value says = absurd says
 together-read settings.Json w value says = absurd says
 together-read settings.Certificates w value says = absurd says
 together-read settings.Svg w value says = absurd says
@@ -88,6 +91,7 @@ alone-no-option (settings.Store Causal) w says = ap names_option says
 alone-no-option (settings.Store Lamport) w says = ap names_option says
 alone-no-option settings.Eager w says = ap names_option says
 alone-no-option settings.Lines w says = ap names_option says
+alone-no-option settings.Long w says = ap names_option says
 alone-no-option settings.Json w says = ap names_option says
 alone-no-option settings.Certificates w says = ap names_option says
 alone-no-option settings.Svg w says = ap names_option says
@@ -104,6 +108,7 @@ together-option (settings.Expect n) w value says = ap names_option says.0
 together-option (settings.Store store) w value says = absurd says
 together-option settings.Eager w value says = absurd says
 together-option settings.Lines w value says = absurd says
+together-option settings.Long w value says = absurd says
 together-option settings.Json w value says = absurd says
 together-option settings.Certificates w value says = absurd says
 together-option settings.Svg w value says = absurd says
@@ -141,7 +146,7 @@ no_expect w list is none s says =
     let so : SaysAlone (settings.Expect (listed list)) w = alone_as w (codes "--expect=" ++ list) s is says in
     none (listed list) (subst (λ (t : Text). Lists t (listed list)) (ap value_of (sym so.1 ∙ is)) so.2)
 
--- a word and a value behind it that the option does not take say nothing
+-- the name of an option says nothing with a value that the option does not take
 pub no_seals_behind : (w number : Text) → w ≡ codes "--seals" → ((n : ℕ) → n ≤ MAX_SEALS → ¬ Writes number n) → (s : Setting) → ¬ SaysTogether s w number
 no_seals_behind w number is none s says =
     let so : SaysTogether (settings.Seals (number_in number)) w number = together_as w (codes "--seals") number s is says in none (number_in number) so.2 so.1
@@ -165,6 +170,7 @@ no_alone w bare _ _ _ _ (settings.Store Causal) says = bare.causal says
 no_alone w bare _ _ _ _ (settings.Store Lamport) says = bare.lamport says
 no_alone w bare _ _ _ _ settings.Eager says = bare.eager says
 no_alone w bare _ _ _ _ settings.Lines says = bare.lines says
+no_alone w bare _ _ _ _ settings.Long says = bare.long says
 no_alone w bare _ _ _ _ settings.Json says = bare.json says
 no_alone w bare _ _ _ _ settings.Certificates says = bare.certificates says
 no_alone w bare _ _ _ _ settings.Svg says = bare.svg says
@@ -181,11 +187,12 @@ no_together w value _ _ is_no _ (settings.Expect n) says = is_no says.0
 no_together w value _ _ _ _ (settings.Store store) says = says
 no_together w value _ _ _ _ settings.Eager says = says
 no_together w value _ _ _ _ settings.Lines says = says
+no_together w value _ _ _ _ settings.Long says = says
 no_together w value _ _ _ _ settings.Json says = says
 no_together w value _ _ _ _ settings.Certificates says = says
 no_together w value _ _ _ _ settings.Svg says = says
 
--- why a word says nothing alone, and why it says nothing with the value behind it
+-- why a word says nothing alone, and why it says nothing with the value after it
 pub ruleset nothing_alone = (no_alone, no_seals, no_workers, no_expect, no_stop)
 
 pub ruleset nothing_together = (no_together, no_seals_behind, no_workers_behind, no_expect_behind, no_stop_behind)

@@ -6,7 +6,7 @@ use Rattle.command_line.specs.declared.order.Order.{Order}
 use Rattle.command_line.specs.CommandLine.{GivesNoOrder, IsCommandLine}
 use Rattle.command_line.specs.Options.{IsOrder}
 
--- the words of a command line are the program's name, the word of a command, and the words behind it
+-- the words of a command line are the program's name, the word of a command, and the words after it
 pub whole_order : {A : Type 0} (f : A → Text) (xs : List A) (word : A) (named : Text) (r : Option Order) → 2 ≤ length xs → word ≡ get_or xs 1 word
     → named ≡ f word
     → MatchOption r ((order : Order) → ¬ IsOrder order named (map f (take (length xs - 2) (drop 2 xs))))

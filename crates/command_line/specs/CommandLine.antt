@@ -14,7 +14,7 @@ use Rattle.command_line.specs.declared.order.Order.{Order}
 use Rattle.command_line.specs.declared.order.Usage.{Usage}
 use Rattle.command_line.specs.declared.order.Usage.TheVariants.{Fault, Help, Memory}
 
--- the command line of an order: the program's name, the word of its command, and the words behind it
+-- the command line of an order: the program's name, the word of its command, and the words after it
 abbrev pub IsCommandLine : Order → List Text → Type 0
 IsCommandLine order [] = ⊥
 IsCommandLine order (program ∷ []) = ⊥
@@ -30,8 +30,8 @@ top =
     let app = new_app (codes "causal_judge") in
     record app { top = record app.top { subcommand_required = true; has_version = true } }
 
--- the command `judge` takes the options `--workers N`, `--expect LIST` and `--lines`, `check` takes `--workers N`, `explain` takes
--- `--json`, `--certificates` and `--svg`, `refute` and `replay` take none, and `drive` takes the name of a store and four options
+-- the command `judge` takes the options `--workers N`, `--expect LIST`, `--lines` and `--long`, `check` takes `--workers N`, `explain`
+-- takes `--json`, `--certificates` and `--svg`, `refute` and `replay` take none, and `drive` takes the name of a store and four options
 abbrev pub workers : Rule
 workers = record (new_rule (codes "workers")) {
   long = Some (codes "workers");
@@ -46,13 +46,17 @@ expect = record (new_rule (codes "expect")) { long = Some (codes "expect"); acti
 abbrev pub flag : Text → Rule
 flag name = record (new_rule name) { long = Some name; action = Some SetTrue }
 
+-- the command `judge` without `--lines` and `--long`; and whole
+abbrev pub expecting : App
+expecting = with_rule (with_rule (new_app (codes "judge")) workers) expect
+
 abbrev pub judge : App
-judge = with_rule (with_rule (with_rule (new_app (codes "judge")) workers) expect) (flag (codes "lines"))
+judge = with_rule (with_rule expecting (flag (codes "lines"))) (flag (codes "long"))
 
 abbrev pub check : App
 check = with_rule (new_app (codes "check")) workers
 
--- the command `explain` with what is shown as JSON; and whole
+-- the command `explain` without `--svg`; and whole
 abbrev pub certifying : App
 certifying = with_rule (with_rule (new_app (codes "explain")) (flag (codes "json"))) (flag (codes "certificates"))
 

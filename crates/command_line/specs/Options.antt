@@ -1,5 +1,5 @@
--- What the words behind a command say: in any order, and each at most once, what the command takes. Behind the name of an option
--- that has a value stands its value, or both are one word, joined by a sign of equality. Text is bytes.
+-- What the words after a command say: in any order, and each at most once, what the command takes. An option and its value are two
+-- words, or one word with an equals sign between. Text is bytes.
 use Rattle.std.specs.Prelude.{◌≡◌, ◌⊎◌, ◌<◌, ◌≤◌, ◌&&◌, ℕ, List, [], ◌∷◌, ◌++◌, Option, Some, None, codes, option_map, Bool, true, false, if◌then◌else◌, is_some, not, unwrap_or}
 use Rattle.clap.specs.Words.{Text}
 use Rattle.history.specs.Workers.{AreWorkers}
@@ -13,6 +13,8 @@ use Rattle.command_line.specs.declared.drive.TheConstants.{MAX_SEALS}
 use Rattle.command_line.specs.declared.form.Form.{Form}
 use Rattle.command_line.specs.declared.form.Form.TheVariants as forms
 use Rattle.command_line.specs.declared.judging.Judging.{Judging}
+use Rattle.command_line.specs.declared.length.Length.{Length}
+use Rattle.command_line.specs.declared.length.Length.TheVariants as lengths
 use Rattle.command_line.specs.declared.order.Order.{Order}
 use Rattle.command_line.specs.declared.order.Order.TheVariants as orders
 use Rattle.command_line.specs.declared.said.Said.{Said}
@@ -37,6 +39,7 @@ abbrev pub takes : CommandName → Setting → Bool
 takes commands.Judge (settings.Workers n) = true
 takes commands.Judge (settings.Expect expected) = true
 takes commands.Judge settings.Lines = true
+takes commands.Judge settings.Long = true
 takes commands.Check (settings.Workers n) = true
 takes commands.Explain settings.Json = true
 takes commands.Explain settings.Certificates = true
@@ -58,6 +61,7 @@ abbrev pub SaysAlone : Setting → Text → Type 0
 SaysAlone (settings.Store store) word = word ≡ store_word store
 SaysAlone settings.Eager word = word ≡ codes "--eager"
 SaysAlone settings.Lines word = word ≡ codes "--lines"
+SaysAlone settings.Long word = word ≡ codes "--long"
 SaysAlone settings.Json word = word ≡ codes "--json"
 SaysAlone settings.Certificates word = word ≡ codes "--certificates"
 SaysAlone settings.Svg word = word ≡ codes "--svg"
@@ -83,6 +87,7 @@ says said (settings.Workers n) = is_some said.workers
 says said (settings.Stop s) = is_some said.stop
 says said (settings.Expect expected) = is_some said.expected
 says said settings.Lines = said.lines
+says said settings.Long = said.long
 says said settings.Json = said.json
 says said settings.Certificates = said.certificates
 says said settings.Svg = said.svg
@@ -95,6 +100,7 @@ with_setting said (settings.Workers n) = record said { workers = Some n }
 with_setting said (settings.Stop s) = record said { stop = Some s }
 with_setting said (settings.Expect expected) = record said { expected = Some expected }
 with_setting said settings.Lines = record said { lines = true }
+with_setting said settings.Long = record said { long = true }
 with_setting said settings.Json = record said { json = true }
 with_setting said settings.Certificates = record said { certificates = true }
 with_setting said settings.Svg = record said { svg = true }
@@ -114,6 +120,7 @@ unsaid command = record {
   stop = None;
   expected = None;
   lines = false;
+  long = false;
   json = false;
   certificates = false;
   svg = false;
@@ -126,8 +133,8 @@ AddsAlone before word after = (setting : Setting) × SaysAlone setting word × (
 abbrev pub AddsTogether : Said → Text → Text → Said → Type 0
 AddsTogether before word value after = (setting : Setting) × SaysTogether setting word value × (and_also before setting ≡ Some after)
 
--- words say all that is said after them, and was not said before them; where the name of an option went before, the first of
--- them is its value
+-- all that is said after some words, by what was said before them; if the name of an option stands before them, the first of them
+-- is its value
 abbrev pub Say : Said → Option Text → List Text → Said → Type 0
 Say before None [] after = after ≡ before
 Say before (Some name) [] after = ⊥
@@ -138,11 +145,16 @@ Say before (Some name) (value ∷ words) after = (said : Said) × AddsTogether b
 abbrev pub workers_for : Said → ℕ
 workers_for said = unwrap_or said.workers 2
 
+-- of which length: within the limits where nothing is said
+abbrev pub length_for : Said → Length
+length_for said = if said.long then lengths.Any else lengths.Limited
+
 -- how histories are judged
 abbrev pub judging_for : Said → Judging
 judging_for said = record {
   workers = workers_for said;
   expected = unwrap_or said.expected expecting_nothing;
+  length = length_for said;
 }
 
 -- one history is judged, or one in each line
@@ -188,7 +200,7 @@ order_to commands.Drive said = option_map orders.Drive (drive_for said)
 abbrev pub order_for : Said → Option Order
 order_for said = order_to said.command said
 
--- a command's word, and the words behind it, give an order
+-- a command's word, and the words after it, give an order
 abbrev pub IsOrder : Order → Text → List Text → Type 0
 IsOrder order word words =
     (command : CommandName) × (word ≡ command_word command)

@@ -76,7 +76,7 @@ pub fn seals_option<'a>(alloc: Global) -> Arg<'a>
         )
 }
 
-/// Whose client never ends its last call.
+/// The session whose client never ends its last call.
 pub fn stop_option<'a>(alloc: Global) -> Arg<'a>
     ensures rule { rule_of result ≡ number_option (codes "stop") (MAX_SESSIONS - 1) }
     ensures local { result.global ≡ false }

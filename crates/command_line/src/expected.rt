@@ -5,7 +5,7 @@ ghost use Rattle.command_line.specs.Expected.{AddEach, AddsName, Lists, and_expe
 
 use cert_check::Criterion;
 
-/// The criteria that are expected to be met: of none nothing is expected.
+/// The criteria that are expected to be met, if any are.
 #[derive(Clone, Copy, Debug, PartialEq, Eq)]
 pub struct Expected {
     /// Causal consistency.
@@ -28,7 +28,7 @@ impl Expected {
         }
     }
 
-    // With the criterion of this name; none where no criterion has it, or that one was expected before.
+    // With the criterion of this name; none where no criterion has the name, or that criterion was expected before.
     #[tactic(auto, using(crate::proofs::Names::name_added, crate::proofs::Names::no_name_added))]
     fn and_name(self, name: &str) -> Option<Expected>
         ensures { MatchOption result ((after : Expected) → ¬ AddsName self name.now after) (AddsName self name.now) }
@@ -75,7 +75,7 @@ pub fn expected_in(list: &str) -> Option<Expected>
     expected_after(Expected::nothing(), list)
 }
 
-// What is expected after those criteria, and those that the list names besides.
+// What is expected once each criterion that the list names is added; none where a part is no name, or one is added twice.
 fn expected_after(before: Expected, list: &str) -> Option<Expected>
     ensures { MatchOption result ((after : Expected) → ¬ AddEach before (parts list.now) after)
         (AddEach before (parts list.now)) }

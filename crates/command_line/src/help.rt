@@ -1,16 +1,20 @@
 //! What the help says beside the commands and their options.
 
 /// The version of the program, as in the file VERSION, and the kit that proves it.
-pub const VERSION: &str = "0.1.0 (rattle-kit-13b logic dac8208d650f15bf)";
+pub const VERSION: &str = "0.1.0 (rattle-kit-13f logic dac8208d650f15bf)";
 
 /// What the program is for.
 pub const ABOUT: &str =
     "Judges a recorded history of replicated objects by the criteria of causal consistency";
 
+/// What `--long` lets `judge` take.
+pub const LONG: &str =
+    "Judges a memory, and no other object, with any number of sessions and operations, in the same three lines; made for 10 to 1,000 sessions";
+
 /// What is read and written, with an example, and what statuses and refusals mean.
 pub const MANUAL: &str =
     r#"The input is read from standard input, and the answer is written to standard
-output. Here a client reads the old value behind its own write:
+output. Here a client reads the old value after its own write:
 
   $ echo '["memory",[[["w",0,1],["r",0,0]]]]' | causal_judge judge
   cc no WriteCOInitRead
@@ -26,12 +30,14 @@ list of its operations in order: each is a call with what it returned.
   set       ["add",E]   ["rem",E]   ["has",E,true]   ["has",E,false]
   queue     ["push",V]  ["pop",V]   ["pop",null]     null: it was empty
   memory    ["w",X,V]   ["r",X,V]           a register for each key X
-  counters, sets, queues: as above, with a key X behind the word, ["get",X,N]
+  counters, sets, queues: as above, with a key X after the word, ["get",X,N]
 
-"?" stands for a return that is not known: ["r",X,"?"], ["w",X,V,"?"]. Behind it
-no known return may stand in its session. X is below 2^32, V, N and E are below
-2^64, and there are at most 16 sessions of at most 256 operations. A memory with
-other values at first: ["memory",SESSIONS,[[X,V],..]], X rising and V not 0.
+"?" stands for an unknown return: ["r",X,"?"], ["w",X,V,"?"]. After a call with
+an unknown return, a session may hold only more such calls. X is below 2^32, V,
+N and E are below 2^64, and there are at most 16 sessions of at most 256
+operations; judge --long has no limit on sessions and operations, and takes a
+memory only. A memory with other values at first:
+["memory",SESSIONS,[[X,V],..]], X rising and V not 0.
 Write no value twice to a key: else a line is yes or unknown, and never no.
 
 Answers of judge, for causal consistency (cc), causal memory (cm) and causal
@@ -52,6 +58,7 @@ a line was refused, else with --expect as above for the worst of all lines.
 
 'refused N', or 'refused N S.I' with the operation, says what is wrong:
   1 no JSON   2 no list of a name and sessions   3 unknown NAME   4 no such
-  operation   5 a known return behind an unknown one   6 too many sessions
+  operation   5 a known return after an unknown one   6 too many sessions
   7 too many operations   9 over 64 MiB   29 bad first values
+With judge --long 6 and 7 never come, and 3 comes for any NAME but memory.
 The other commands have more of them: docs/guide.md tells of all."#;

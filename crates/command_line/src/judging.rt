@@ -2,8 +2,10 @@
 
 ghost use Rattle.std.specs.Prelude.{◌≡◌};
 ghost use Rattle.command_line.specs.Expected.{expecting_nothing};
+ghost use Rattle.command_line.specs.declared.length.Length.TheVariants.{Limited};
 
 use crate::expected::Expected;
+use crate::length::Length;
 use crate::workers::Workers;
 
 /// How a history is judged.
@@ -13,16 +15,19 @@ pub struct Judging {
     pub workers: Workers,
     /// The criteria that are expected to be met.
     pub expected: Expected,
+    /// How long a history may be.
+    pub length: Length,
 }
 
 impl Judging {
-    /// A history is judged by so many workers, and nothing is expected of it.
+    /// So many workers judge a history within the limits, and nothing is expected of it.
     pub fn by(workers: Workers) -> Judging
-        ensures { result ≡ record { workers = workers; expected = expecting_nothing } }
+        ensures { result ≡ record { workers = workers; expected = expecting_nothing; length = Limited } }
     {
         Judging {
             workers,
             expected: Expected::nothing(),
+            length: Length::Limited,
         }
     }
 }

@@ -1,4 +1,4 @@
-//! The words behind a command.
+//! The words after a command.
 
 ghost use Rattle.std.specs.Prelude.{MatchOption, None, Some, map};
 ghost use Rattle.command_line.specs.Options.{AddsAlone, AddsTogether, IsOrder, Say};
@@ -8,7 +8,7 @@ use crate::said::Said;
 use crate::settings::{command_named, setting_alone, setting_together};
 use std::convert::AsStr;
 
-/// The order of a command's word and the words behind it. O(1): it stops where something is said again.
+/// The order that the word of a command and the words after it give. O(1): it stops at the first thing that is said twice.
 #[tactic(auto, using(crate::proofs::Saying::order_given, crate::proofs::Saying::nothing_said, crate::proofs::Saying::no_command))]
 pub fn order_of<S: AsStr>(word: &str, words: &[S]) -> Option<Order>
     ensures { MatchOption result ((order : Order) → ¬ IsOrder order word.now (map S.text words.now))
@@ -39,7 +39,7 @@ fn said_in<S: AsStr>(before: &Said, words: &[S]) -> Option<Said>
     }
 }
 
-// All that is said after this word, which is the name of an option, and the words behind it.
+// All that is said after this word, which is the name of an option, and the words after it.
 #[cycle(said)]
 fn said_behind<S: AsStr>(before: &Said, word: &str, behind: &[S]) -> Option<Said>
     ensures { MatchOption result ((after : Said) → ¬ Say before.now (Some word.now) (map S.text behind.now) after)

@@ -44,11 +44,11 @@ pub enum Usage {
     Memory,
 }
 
-/// The order that a command line gives: the program's name, the word of a command, and behind it what the command takes, each at most
-/// once and in any order.
+/// The order that a command line gives. A command line is the program's name, the word of a command, and then what the command takes,
+/// in any order and each at most once.
 ///
 /// - `judge` takes `--workers N` for a number from 1 to 16, or nothing for 2; and `--expect LIST`, where the list is one or more of
-///   `cc`, `cm` and `ccv`, each at most once, joined by commas; and `--lines`.
+///   `cc`, `cm` and `ccv`, each at most once, joined by commas; and `--lines`; and `--long`.
 /// - `check` takes `--workers N`.
 /// - `explain` takes nothing, `--json`, `--json` and `--certificates`, or `--svg`.
 /// - `refute` and `replay` take nothing.
@@ -57,9 +57,9 @@ pub enum Usage {
 ///
 /// An option and its value are two words, or one as in `--workers=N`.
 ///
-/// Any other words give none. `Help` answers those in which `clap` finds a request for help or for the version, and `Fault` all
-/// others: an unknown command, option or further word, no command, another number or list or none. `Memory` comes in the place of
-/// either where memory ran out.
+/// Any other words give a `Usage`. It is `Help` where `clap` finds a request for help or for the version, and `Fault` for all else: an
+/// unknown command, option or further word, no command, or a number or list that is missing or that the option doesn't take. `Memory`
+/// comes in the place of either where memory ran out.
 pub fn command_of<S: AsStr>(alloc: Global, words: &[S]) -> Result<Order, Usage>
     ensures order { MatchResult result (λ order. IsCommandLine order (map S.text words.now))
         (λ _. GivesNoOrder (map S.text words.now)) }
@@ -81,7 +81,7 @@ fn order_in<S: AsStr>(words: &[S]) -> Option<Order>
     order_of(word.as_str(), further)
 }
 
-// What is said of words that give no order. A few that `clap` would take are none either, as `judge --`.
+// What is said of words that give no order. `clap` would take a few of them, as `judge --`.
 fn usage_of<S: AsStr>(alloc: Global, words: &[S]) -> Usage
     ensures { IsUsageFor (fault_of command_line (map S.text words.now)) result }
 {
@@ -92,7 +92,7 @@ fn usage_of<S: AsStr>(alloc: Global, words: &[S]) -> Usage
 }
 
 const UNEXPECTED_WORDS: &str =
-    r#"error: unexpected words, options that don't go together, or no list of cc, cm and ccv behind '--expect'
+    r#"error: unexpected words, options that don't go together, or no list of cc, cm and ccv after '--expect'
 
 Usage: causal_judge <COMMAND>
 

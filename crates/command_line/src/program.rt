@@ -1,15 +1,15 @@
 //! The commands of the program, as `clap` is told of them.
-ghost use Rattle.std.specs.Prelude.{◌≡◌, codes, false, IfOk};
-ghost use Rattle.clap.specs.Words.{app_of, new_app, with_rule};
+ghost use Rattle.std.specs.Prelude.{◌≡◌, false, IfOk};
+ghost use Rattle.clap.specs.Words.{app_of};
 ghost use Rattle.clap.specs.declared.builder.Command.TheViews.{out-Command};
 ghost use Rattle.command_line.specs.CommandLine.{certifying, check, command_line, drive, explain, explaining};
 ghost use Rattle.command_line.specs.CommandLine.{judge, judging, refute, replay};
-ghost use Rattle.command_line.specs.CommandLine.{expect, sealing, storing, workers};
+ghost use Rattle.command_line.specs.CommandLine.{expecting, sealing, storing};
 
 use crate::arguments::{
     expect_option, flag_option, seals_option, stop_option, store_argument, workers_option,
 };
-use crate::help::{ABOUT, MANUAL, VERSION};
+use crate::help::{ABOUT, LONG, MANUAL, VERSION};
 use clap::Command;
 use std::alloc::{AllocError, Global};
 
@@ -48,16 +48,18 @@ fn judge_command<'a>(alloc: Global) -> Result<Command<'a>, AllocError>
     ensures app { IfOk result (λ command. app_of command ≡ judge) }
     ensures local { IfOk result (λ command. (out-Command command).has_globals ≡ false) }
 {
-    expecting_command(alloc)?.arg(flag_option(
-        alloc,
-        "lines",
-        "Judges a history in each line, and answers each with one line",
-    ))
+    expecting_command(alloc)?
+        .arg(flag_option(
+            alloc,
+            "lines",
+            "Judges a history in each line, and answers each with one line",
+        ))?
+        .arg(flag_option(alloc, "long", LONG))
 }
 
-// The same without `--lines`.
+// The same without `--lines` and `--long`.
 fn expecting_command<'a>(alloc: Global) -> Result<Command<'a>, AllocError>
-    ensures app { IfOk result (λ command. app_of command ≡ with_rule (with_rule (new_app (codes "judge")) workers) expect) }
+    ensures app { IfOk result (λ command. app_of command ≡ expecting) }
     ensures local { IfOk result (λ command. (out-Command command).has_globals ≡ false) }
 {
     Command::new(alloc, "judge")

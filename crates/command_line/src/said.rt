@@ -1,13 +1,14 @@
-//! All that the words behind a command say, and the order that they give.
+//! All that the words after a command say, and the order that they give.
 
 ghost use Rattle.std.specs.Prelude.{◌≡◌};
-ghost use Rattle.command_line.specs.Options.{and_also, delivery_for, drive_for, drive_of, form_for, judge_for, judging_for, order_for};
-ghost use Rattle.command_line.specs.Options.{says, unsaid, with_setting, workers_for};
+ghost use Rattle.command_line.specs.Options.{and_also, delivery_for, drive_for, drive_of, form_for, judge_for};
+ghost use Rattle.command_line.specs.Options.{judging_for, length_for, order_for, says, unsaid, with_setting, workers_for};
 
 use crate::drive::{Drive, Store};
 use crate::expected::Expected;
 use crate::form::Form;
 use crate::judging::Judging;
+use crate::length::Length;
 use crate::order::Order;
 use crate::settings::{CommandName, Setting};
 use crate::workers::Workers;
@@ -24,6 +25,7 @@ pub struct Said {
     stop: Option<usize>,
     expected: Option<Expected>,
     lines: bool,
+    long: bool,
     json: bool,
     certificates: bool,
     svg: bool,
@@ -43,6 +45,7 @@ impl Said {
             stop: None,
             expected: None,
             lines: false,
+            long: false,
             json: false,
             certificates: false,
             svg: false,
@@ -72,6 +75,7 @@ impl Said {
             Setting::Stop(_) => self.stop.is_some(),
             Setting::Expect(_) => self.expected.is_some(),
             Setting::Lines => self.lines,
+            Setting::Long => self.long,
             Setting::Json => self.json,
             Setting::Certificates => self.certificates,
             Setting::Svg => self.svg,
@@ -111,6 +115,10 @@ impl Said {
                 lines: true,
                 ..*self
             },
+            Setting::Long => Said {
+                long: true,
+                ..*self
+            },
             Setting::Json => Said {
                 json: true,
                 ..*self
@@ -123,7 +131,7 @@ impl Said {
         }
     }
 
-    /// The order that is given, where what it needs was said.
+    /// The order that was given; none where a store is missing, or what was said doesn't go together.
     pub fn order(&self) -> Option<Order>
         ensures { result ≡ order_for self.now }
     {
@@ -154,6 +162,17 @@ impl Said {
         Judging {
             workers: self.workers(),
             expected: self.expected.unwrap_or(Expected::nothing()),
+            length: self.length(),
+        }
+    }
+
+    fn length(&self) -> Length
+        ensures { result ≡ length_for self.now }
+    {
+        if self.long {
+            Length::Any
+        } else {
+            Length::Limited
         }
     }
 
@@ -163,7 +182,7 @@ impl Said {
         self.workers.unwrap_or(Workers::usual())
     }
 
-    // The form of a reason, where there is one.
+    // The form of a reason; none where what was said doesn't go together.
     fn form(&self) -> Option<Form>
         ensures { result ≡ form_for self.now }
     {

@@ -1,4 +1,4 @@
-//! What a word behind a command says, and to which commands.
+//! What a word after a command says, and to which commands.
 
 ghost use Rattle.std.specs.Prelude.{◌≡◌, ◌≢◌, MatchOption};
 ghost use Rattle.command_line.specs.Options.{SaysAlone, SaysTogether, command_word, takes};
@@ -26,7 +26,7 @@ pub enum CommandName {
     Drive,
 }
 
-/// One thing that the words behind a command say.
+/// One thing that the words after a command say.
 #[derive(Clone, Copy, Debug, PartialEq, Eq)]
 pub enum Setting {
     /// The store.
@@ -43,6 +43,8 @@ pub enum Setting {
     Expect(Expected),
     /// Each line of the input holds a history.
     Lines,
+    /// A history may have any length.
+    Long,
     /// A reason is given as JSON.
     Json,
     /// Certificates stand with it.
@@ -72,7 +74,7 @@ impl Setting {
         ensures { result ≡ takes CommandName.Judge self.now }
     {
         match self {
-            Setting::Workers(_) | Setting::Expect(_) | Setting::Lines => true,
+            Setting::Workers(_) | Setting::Expect(_) | Setting::Lines | Setting::Long => true,
             _ => false,
         }
     }
@@ -133,6 +135,7 @@ pub fn setting_alone(word: &str) -> Option<Setting>
         "lamport" => Some(Setting::Store(Store::Lamport)),
         "--eager" => Some(Setting::Eager),
         "--lines" => Some(Setting::Lines),
+        "--long" => Some(Setting::Long),
         "--json" => Some(Setting::Json),
         "--certificates" => Some(Setting::Certificates),
         "--svg" => Some(Setting::Svg),
@@ -161,7 +164,7 @@ fn value_alone(word: &str) -> Option<Setting>
     }
 }
 
-/// What a word and the value behind it say.
+/// What a word and the value after it say.
 #[tactic(auto, using(crate::proofs::SettingWords::nothing_together))]
 pub fn setting_together(word: &str, value: &str) -> Option<Setting>
     ensures { MatchOption result ((setting : Setting) → ¬ SaysTogether setting word.now value.now)

@@ -14,7 +14,7 @@ use Rattle.operations.proofs.AnyForms.{any_forms_are_distinct}
 use Rattle.memory_order.specs.Memory.{MemoryHistory}
 use Rattle.long_history.specs.LongHistories.{IsLongHistory}
 use Rattle.long_reader.specs.LongRefusals.{IsRefusedLong, first_long_refusal}
-use Rattle.long_reader.proofs.LongForms.{long_form_is_fine, long_forms_are_distinct}
+use Rattle.long_reader.proofs.LongForms as long
 use Rattle.cert_check.specs.declared.certificate.Certificate.{Certificate}
 use Rattle.cert_check.specs.CertificateForm.{IsCertificate, form_of as certificate_form}
 use Rattle.cert_check.proofs.CertificateForms.{one_certificate}
@@ -54,7 +54,7 @@ one_history text g h is_g is_h first second = any_forms_are_distinct g h is_g is
 one_long : (text : List ℕ) (g : AnyHistory) (h : MemoryHistory) → IsHistoryOf Any g → IsLongHistory h → IsJson text (form_of g)
     → IsJson text (form_of (histories.Memory h)) → g ≡ histories.Memory h
 one_long text (histories.Memory g) h is_g is_h first second =
-    ap histories.Memory (long_forms_are_distinct g h is_g is_h (one_value text (form_of (histories.Memory g)) (form_of (histories.Memory h)) first second))
+    ap histories.Memory (long.forms_are_distinct g h is_g is_h (one_value text (form_of (histories.Memory g)) (form_of (histories.Memory h)) first second))
 one_long text (histories.Register g) h is_g is_h first second = absurd is_g
 one_long text (histories.Counter g) h is_g is_h first second = absurd is_g
 one_long text (histories.Set g) h is_g is_h first second = absurd is_g
@@ -138,7 +138,7 @@ refused_as Any text e is one = long_refused text e is one
 
 fine_as : (long : Length) (h : AnyHistory) → IsHistoryOf long h → first_refusal_of long (form_of h) ≡ None
 fine_as Limited h is = form_is_fine h is
-fine_as Any (histories.Memory h) is = long_form_is_fine h is
+fine_as Any (histories.Memory h) is = long.form_is_fine h is
 fine_as Any (histories.Register h) is = absurd is
 fine_as Any (histories.Counter h) is = absurd is
 fine_as Any (histories.Set h) is = absurd is

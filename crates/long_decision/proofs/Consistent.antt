@@ -9,23 +9,40 @@ use Rattle.bad_patterns.specs.declared.kind.Kind.TheVariants.{CyclicCO, ThinAirR
 use Rattle.bad_patterns.specs.Kinds.{is_against, IsFreeOf}
 use Rattle.memory_order.specs.Memory.{MemoryHistory}
 use Rattle.memory_order.specs.Relations.{CO, CF}
+use Rattle.memory_order.specs.Memory.{IsDifferentiated, memory_answer}
+use Rattle.memory_order.proofs.ReadAnswers.{Fits}
+use Rattle.cert_check.specs.Criteria.{Meets}
+use Rattle.decision.proofs.Completeness.{free-meets}
+use Rattle.long_history.specs.LongHistories.{IsLongHistory}
 use Rattle.long_decision.specs.Steps.Consistency.{IsConsistent}
+use Rattle.long_decision.proofs.Firsts.{sourceless}
+
+-- each known return fits its call
+pub long-fits : (h : MemoryHistory) → IsLongHistory h → Fits h
+long-fits h is o c r known = (is.each o.session).fitting o.index c r known
 
 module _ (h : MemoryHistory) (consistent : IsConsistent h) where
   pub free-consistent : IsFreeOf h Cc
   free-consistent CyclicCO against present = consistent.acyclic present.1
-  free-consistent ThinAirRead against present = consistent.sourced (present.1.0, present.1.1)
+  free-consistent ThinAirRead against present = consistent.sourced (sourceless h present.1)
   free-consistent WriteCOInitRead against present = consistent.start present.1
   free-consistent WriteCORead against present = consistent.read present.1
-  free-consistent WriteHBInitRead against present = absurd against
-  free-consistent CyclicHB against present = absurd against
-  free-consistent CyclicCF against present = absurd against
+  free-consistent WriteHBInitRead against present = absurd cc
+  free-consistent CyclicHB against present = absurd cc
+  free-consistent CyclicCF against present = absurd cc
 
   pub free-convergent : ((a : OpId) → ¬ Leads (λ b c. CO h b c ⊎ CF h b c) a a) → IsFreeOf h Ccv
   free-convergent none CyclicCO against present = consistent.acyclic present.1
-  free-convergent none ThinAirRead against present = consistent.sourced (present.1.0, present.1.1)
+  free-convergent none ThinAirRead against present = consistent.sourced (sourceless h present.1)
   free-convergent none WriteCOInitRead against present = consistent.start present.1
   free-convergent none WriteCORead against present = consistent.read present.1
-  free-convergent none WriteHBInitRead against present = absurd against
-  free-convergent none CyclicHB against present = absurd against
+  free-convergent none WriteHBInitRead against present = absurd cc
+  free-convergent none CyclicHB against present = absurd cc
   free-convergent none CyclicCF against present = none present.1.0 present.1.1
+
+  module _ (is : IsLongHistory h) (distinct : IsDifferentiated h) where
+    pub consistent_meets : Meets memory_answer h Cc
+    consistent_meets = free-meets h (long-fits h is) distinct Cc free-consistent
+
+    pub convergent_meets : ((a : OpId) → ¬ Leads (λ b c. CO h b c ⊎ CF h b c) a a) → Meets memory_answer h Ccv
+    convergent_meets none = free-meets h (long-fits h is) distinct Ccv (free-convergent none)

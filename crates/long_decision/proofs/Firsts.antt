@@ -12,6 +12,10 @@ use Rattle.memory_order.specs.SourceOrder.{IsCyclic, LacksSource}
 use Rattle.pattern_search.specs.FirstKinds.{ComesFirst, place_of}
 use Rattle.long_decision.specs.Steps.Consistency.{IsConsistent, IsFirstShown}
 
+-- a read of a value that nobody wrote lacks its source
+pub sourceless : (h : MemoryHistory) → Shows h ThinAirRead → LacksSource h
+sourceless h (r, (x, v, reads, apart, unwritten)) = (r, x, v, reads, apart, unwritten)
+
 module _ (h : MemoryHistory) where
   pub first-cyclic : IsFirstShown h CyclicCO
   first-cyclic CyclicCO below = absurd (omega arith)
@@ -33,7 +37,7 @@ module _ (h : MemoryHistory) where
 
   pub first-start : ¬ IsCyclic h → ¬ LacksSource h → IsFirstShown h WriteCOInitRead
   first-start acyclic sourced CyclicCO below = acyclic
-  first-start acyclic sourced ThinAirRead below = λ shown. sourced (shown.0, shown.1)
+  first-start acyclic sourced ThinAirRead below = λ shown. sourced (sourceless h shown)
   first-start acyclic sourced WriteCOInitRead below = absurd (omega arith)
   first-start acyclic sourced WriteCORead below = absurd (omega arith)
   first-start acyclic sourced WriteHBInitRead below = absurd (omega arith)
@@ -42,7 +46,7 @@ module _ (h : MemoryHistory) where
 
   pub first-read : ¬ IsCyclic h → ¬ LacksSource h → ¬ HasOverwrittenStart h → IsFirstShown h WriteCORead
   first-read acyclic sourced start CyclicCO below = acyclic
-  first-read acyclic sourced start ThinAirRead below = λ shown. sourced (shown.0, shown.1)
+  first-read acyclic sourced start ThinAirRead below = λ shown. sourced (sourceless h shown)
   first-read acyclic sourced start WriteCOInitRead below = start
   first-read acyclic sourced start WriteCORead below = absurd (omega arith)
   first-read acyclic sourced start WriteHBInitRead below = absurd (omega arith)
@@ -56,16 +60,16 @@ module _ (h : MemoryHistory) where
   module _ (consistent : IsConsistent h) where
     pub first-conflict : ComesFirst h Ccv CyclicCF
     first-conflict CyclicCO before against present = consistent.acyclic present.1
-    first-conflict ThinAirRead before against present = consistent.sourced (present.1.0, present.1.1)
+    first-conflict ThinAirRead before against present = consistent.sourced (sourceless h present.1)
     first-conflict WriteCOInitRead before against present = consistent.start present.1
     first-conflict WriteCORead before against present = consistent.read present.1
-    first-conflict WriteHBInitRead before against present = absurd against
-    first-conflict CyclicHB before against present = absurd against
+    first-conflict WriteHBInitRead before against present = absurd cc
+    first-conflict CyclicHB before against present = absurd cc
     first-conflict CyclicCF before against present = absurd (omega arith)
 
     pub first-overwritten : ComesFirst h Cm WriteHBInitRead
     first-overwritten CyclicCO before against present = consistent.acyclic present.1
-    first-overwritten ThinAirRead before against present = consistent.sourced (present.1.0, present.1.1)
+    first-overwritten ThinAirRead before against present = consistent.sourced (sourceless h present.1)
     first-overwritten WriteCOInitRead before against present = consistent.start present.1
     first-overwritten WriteCORead before against present = consistent.read present.1
     first-overwritten WriteHBInitRead before against present = absurd (omega arith)

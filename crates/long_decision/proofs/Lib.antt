@@ -1,4 +1,4 @@
-mod Consistent
-mod Firsts
-mod Orders
+pub mod Consistent
+pub mod Firsts
+pub mod Orders
 pub mod ThinAir

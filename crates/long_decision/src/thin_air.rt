@@ -6,12 +6,11 @@ ghost use Rattle.memory_order.specs.SourceOrder.{LacksSource};
 use long_index::{LongIndex, Part};
 
 /// Whether a known read returned a value that is not the initial one and that nobody wrote. O(n) for n operations.
-#[tactic(auto, using(crate::proofs::ThinAir::found, crate::proofs::ThinAir::none_found))]
 pub(crate) fn lacks_source(index: &LongIndex) -> bool
     ensures { IsTrue result ↔ LacksSource index.now.history }
 {
     for operation in 0..index.operations() {
-        if index.part(operation) == Part::ThinAirRead {
+        if let Part::ThinAirRead = index.part(operation) {
             return true;
         }
     }

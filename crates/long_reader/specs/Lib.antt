@@ -1,0 +1,3 @@
+pub mod LongRefusals
+pub mod Small
+pub mod Steps

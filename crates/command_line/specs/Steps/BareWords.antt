@@ -1,4 +1,4 @@
--- Words without a value, behind a command.
+-- Words without a value, after a command.
 use Rattle.std.specs.Prelude.{◌≢◌, codes}
 use Rattle.clap.specs.Words.{Text}
 
@@ -8,6 +8,7 @@ pub record IsNoBareWord (word : Text) : Type 0 where
   pub lamport : word ≢ codes "lamport"
   pub eager : word ≢ codes "--eager"
   pub lines : word ≢ codes "--lines"
+  pub long : word ≢ codes "--long"
   pub json : word ≢ codes "--json"
   pub certificates : word ≢ codes "--certificates"
   pub svg : word ≢ codes "--svg"

@@ -1,4 +1,4 @@
--- The names of a list are the first and those behind its comma.
+-- The names of a list are the first and those after its comma.
 use Rattle.std.proofs.Common.{Some, None, arith}
 use Rattle.std.proofs.lemmas.Str.Pattern.{split_once_first, split_parts}
 use Rattle.command_line.proofs.Names.{listed_last, listed_none}

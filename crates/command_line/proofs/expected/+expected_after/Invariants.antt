@@ -1,4 +1,4 @@
--- Each call goes on with the list behind a comma.
+-- Each call goes on with the list after a comma.
 use Rattle.std.proofs.Common.{length}
 use Rattle.command_line.proofs.expected.+expected_after.Given as goal
 

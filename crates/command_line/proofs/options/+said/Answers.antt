@@ -1,4 +1,4 @@
--- What is said of the words is said of the first and of those behind it.
+-- What words say is said by the first of them and by those after it.
 use Rattle.command_line.proofs.Saying.{says_later, says_next, says_no_value, says_value}
 use Rattle.command_line.proofs.options.+said.Goals as goal
 

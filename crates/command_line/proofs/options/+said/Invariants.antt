@@ -1,4 +1,4 @@
--- Each call goes on with the words behind one.
+-- Each call goes on with the words after one.
 use Rattle.std.proofs.Common.{length}
 use Rattle.command_line.proofs.options.+said.Given as goal
 

@@ -1,3 +1,4 @@
+-- `clap` takes the words, or finds a kind of fault in them.
 use Rattle.std.proofs.Common.{◌≡◌, map, subst, refl, true}
 use Rattle.clap.specs.Words.{App, fault_of, is_simple_and_free, FailsBy}
 use Rattle.command_line.proofs.Usages.{refused_by_a_kind, taken_without_fault}

@@ -1,7 +1,7 @@
+-- The command's word is the second one of the command line.
 use Rattle.command_line.proofs.Words.{too_few, whole_order}
 use Rattle.command_line.proofs.order.order_in.Goals as goal
 
--- src/order.rt:77:9
 pub returns-in_default : goal.returns-in_default
 returns-in_default g c = too_few g.S.AsStr.text c.args.words.now c.in_default.len_below
 

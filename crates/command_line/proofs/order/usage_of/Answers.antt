@@ -1,3 +1,4 @@
+-- What is said of an error of `clap` is said of a fault in the words.
 use Rattle.command_line.proofs.Usages.{usage_among}
 use Rattle.command_line.proofs.order.usage_of.Goals as goal
 

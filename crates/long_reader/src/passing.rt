@@ -1,0 +1,71 @@
+//! Steps that the readers share: the next token, the next value cut at its place, and values of which nothing is kept.
+
+ghost use Rattle.std.specs.Prelude.{◌≡◌, ◌≢◌, [], ◌∷◌, ◌<◌, ◌≤◌, ℕ, length, IfOk, IfErr, OnOk, OnErr, None};
+ghost use Rattle.json.specs.Reads.{token_of};
+ghost use Rattle.serde_json.specs.View.{view};
+ghost use Rattle.bounded_json.specs.Steps.Reading.{IsCut, IsRefused};
+ghost use Rattle.operations.specs.Places.{inside_of, limit_of};
+ghost use Rattle.long_reader.specs.Steps.{IsList, IsValue};
+
+use bounded_json::{TextError, read_value};
+use json::{Reader, Token};
+use operations::HistoryPlace;
+use serde_json::Value;
+use std::alloc::Global;
+
+/// The next token, with which a value begins.
+pub(crate) fn next_token<'a>(reader: &mut Reader<'a>) -> Result<Token<'a>, TextError>
+    ensures token { IfOk result (λ token. reader.old ≡ token_of token ∷ reader.new) }
+    ensures none { OnErr result (reader.old ≡ []) }
+    ensures refused { IfErr result (λ error. (depth : ℕ) → IsRefused depth reader.old error) }
+{
+    match reader.next() {
+        Some(token) => Ok(token),
+        None => Err(TextError::NotJson),
+    }
+}
+
+/// The value that comes next, cut at its place.
+pub(crate) fn next_value(
+    alloc: Global,
+    reader: &mut Reader<'_>,
+    place: HistoryPlace,
+    depth: usize,
+) -> Result<Value, TextError>
+    ensures read { IfOk result (λ value. IsCut limit_of inside_of place depth reader.old reader.new (view value)) }
+    ensures shorter { OnOk result (length reader.new < length reader.old) }
+    ensures refused { IfErr result (IsRefused depth reader.old) }
+{
+    let token = next_token(reader)?;
+    read_value(alloc, token, reader, place, depth)
+}
+
+/// Passes the value that comes next.
+pub(crate) fn pass_value(
+    alloc: Global,
+    reader: &mut Reader<'_>,
+    depth: usize,
+) -> Result<(), TextError>
+    ensures passed { OnOk result (IsValue (λ _. Unit {0}) depth reader.old reader.new) }
+    ensures shorter { OnOk result (length reader.new < length reader.old) }
+    ensures refused { IfErr result (IsRefused depth reader.old) }
+{
+    let _value = next_value(alloc, reader, HistoryPlace::Scalar, depth)?;
+    Ok(())
+}
+
+/// Passes the value that begins with a token, which is no list.
+pub(crate) fn pass_no_list(
+    alloc: Global,
+    token: Token<'_>,
+    reader: &mut Reader<'_>,
+    depth: usize,
+) -> Result<(), TextError>
+    requires { token ≢ Token.BeginArray }
+    ensures passed { OnOk result (IsList (λ ds. ds ≡ None) depth (token_of token.entry ∷ reader.old) reader.new) }
+    ensures shorter { OnOk result (length reader.new ≤ length reader.old) }
+    ensures refused { IfErr result (IsRefused depth (token_of token.entry ∷ reader.old)) }
+{
+    let _value = read_value(alloc, token, reader, HistoryPlace::Scalar, depth)?;
+    Ok(())
+}

@@ -1,0 +1,65 @@
+//! Reading a long history from its text.
+
+ghost use Rattle.std.specs.Prelude.{◌≡◌, IfOk, IfErr, MatchResult};
+ghost use Rattle.bounded_json.specs.Steps.Reading.{IsWholeRefused};
+ghost use Rattle.long_history.specs.LongHistories.{IsLongHistory};
+ghost use Rattle.memory_order.specs.Memory.{MemoryHistory};
+ghost use Rattle.operations.specs.AnyForm.{IsJson, form_of};
+ghost use Rattle.long_reader.specs.LongRefusals.{IsRefusedLong};
+ghost use Rattle.long_reader.specs.Steps.{IsJsonOf, IsWhole};
+
+use crate::parts::{Parts, read_history};
+use crate::passing::next_token;
+use bounded_json::{MAX_DEPTH, TextError};
+use json::{Reader, Scratch};
+use long_history::LongHistory;
+use operations::{AnyHistory, ReadError};
+use std::alloc::Global;
+
+/// The parts of the history that the text is, or their first refusal.
+fn read_text(alloc: Global, text: &str) -> Result<Result<Parts, ReadError>, TextError>
+    ensures read { IfOk result (IsWhole text.now) }
+    ensures refused { IfErr result (IsWholeRefused text.now) }
+{
+    let mut scratch = Scratch::new(alloc);
+    let mut reader = Reader::new(text, &mut scratch)?;
+    let token = next_token(&mut reader)?;
+    let parts = read_history(alloc, token, &mut reader, MAX_DEPTH)?;
+    if reader.next().is_some() {
+        return Err(TextError::NotJson);
+    }
+    Ok(parts)
+}
+
+/// The parts of the history that the bytes are, or why they are none.
+fn read_bytes(alloc: Global, text: &[u8]) -> Result<Parts, ReadError>
+    ensures read { IfOk result (IsJsonOf text.now) }
+    ensures refused { IfErr result (IsRefusedLong text.now) }
+{
+    let Ok(text) = simdutf8::compat::from_utf8(text) else {
+        return Err(ReadError::NotJson);
+    };
+    match read_text(alloc, text) {
+        Ok(parts) => parts,
+        Err(TextError::NotJson) => Err(ReadError::NotJson),
+        Err(TextError::Memory) => Err(ReadError::Memory),
+    }
+}
+
+/// The memory history whose form the text is, as JSON: any number of sessions, each with any number of operations.
+///
+/// `NotJson` where `serde_json` refuses the text, else the first refusal of its value: of its shape, of its name, which is `memory`, of each
+/// session in order, and of the start at last. `Memory` where an allocation was refused, or where there are more operations or sessions than
+/// [`long_history::MAX_NUMBERS`]. O(n) for a text of n bytes, and beside the text it takes memory for the operations alone.
+pub fn read_long(alloc: Global, text: &[u8]) -> Result<LongHistory, ReadError>
+    ensures is_history { IfOk result IsLongHistory }
+    ensures form { IfOk result (λ h. IsJson text.now (form_of (AnyHistory.Memory h))) }
+
+    // A text of the form of a long history is read as that history, unless memory runs out.
+    ensures only { (h : MemoryHistory) → IsLongHistory h → IsJson text.now (form_of (AnyHistory.Memory h))
+        → MatchResult result (λ g. g ≡ h) (λ e. e ≡ ReadError.Memory) }
+    ensures refused { IfErr result (IsRefusedLong text.now) }
+{
+    let (start, sessions) = read_bytes(alloc, text)?;
+    Ok(LongHistory::of(start, sessions)?)
+}

@@ -1,0 +1,80 @@
+//! Reading the sessions, one after the other.
+
+ghost use Rattle.std.specs.Prelude.{◌≡◌, ◌<◌, ◌≤◌, length, IfOk, IfErr, OnOk, None};
+ghost use Rattle.bounded_json.specs.Steps.Reading.{AreRefused, IsRefused};
+ghost use Rattle.long_reader.specs.Steps.{AreOperations, AreSessions, IsList, IsRest, IsSessionList};
+
+use crate::passing::{next_token, pass_no_list};
+use crate::session::read_operations;
+use bounded_json::{TextError, walk_items};
+use causal_order::Rows;
+use json::{Reader, Token};
+use long_history::LongEntry;
+use operations::ReadError;
+use std::alloc::Global;
+
+/// Reads the value that comes next, as the session numbered `s`, into `entries`, and gives its first refusal, if there is one.
+fn read_session(
+    alloc: Global,
+    reader: &mut Reader<'_>,
+    depth: usize,
+    s: usize,
+    entries: &mut Vec<LongEntry>,
+) -> Result<Option<ReadError>, TextError>
+    requires { 0 < depth }
+    ensures read { IfOk result
+        (λ refusal. IsList (λ ds. AreOperations s ds entries.new.items refusal) depth reader.old reader.new) }
+    ensures shorter { OnOk result (length reader.new < length reader.old) }
+    ensures refused { IfErr result (IsRefused depth reader.old) }
+{
+    let token = next_token(reader)?;
+    if let Token::BeginArray = token {
+        return read_operations(alloc, reader, depth - 1, s, entries);
+    }
+    pass_no_list(alloc, token, reader, depth)?;
+    Ok(Some(ReadError::BadShape))
+}
+
+/// The sessions of the rest of a list, or their first refusal. It passes the whole list in any case.
+fn read_sessions(
+    alloc: Global,
+    reader: &mut Reader<'_>,
+    depth: usize,
+) -> Result<Result<Rows<LongEntry>, ReadError>, TextError>
+    requires { 0 < depth }
+    ensures read { IfOk result (λ r. IsRest (λ ds. AreSessions ds r) depth reader.old reader.new) }
+    ensures shorter { OnOk result (length reader.new ≤ length reader.old) }
+    ensures refused { IfErr result (AreRefused depth reader.old) }
+{
+    let mut sessions = Rows::new(alloc);
+    let mut entries = Vec::new(alloc);
+    'sessions: while !reader.take_end_array() {
+        match read_session(alloc, reader, depth, sessions.len(), &mut entries)? {
+            None => sessions.push(&entries)?,
+            Some(refusal) => {
+                walk_items(reader, depth)?;
+                return Ok(Err(refusal));
+            }
+        }
+    }
+    Ok(Ok(sessions))
+}
+
+/// The sessions that the value that comes next lists, or their first refusal, or none where it is no list.
+pub(crate) fn read_session_list(
+    alloc: Global,
+    reader: &mut Reader<'_>,
+    depth: usize,
+) -> Result<Option<Result<Rows<LongEntry>, ReadError>>, TextError>
+    requires { 1 < depth }
+    ensures read { IfOk result (λ o. IsList (λ ds. IsSessionList ds o) depth reader.old reader.new) }
+    ensures shorter { OnOk result (length reader.new < length reader.old) }
+    ensures refused { IfErr result (IsRefused depth reader.old) }
+{
+    let token = next_token(reader)?;
+    if let Token::BeginArray = token {
+        return Ok(Some(read_sessions(alloc, reader, depth - 1)?));
+    }
+    pass_no_list(alloc, token, reader, depth)?;
+    Ok(None)
+}
