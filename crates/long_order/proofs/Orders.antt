@@ -1,8 +1,8 @@
 -- An order by steps shows that they make no cycle.
-use Rattle.std.specs.Prelude.{◌≡◌, ℕ, ◌<◌, List, [], Option, None, Some, Result, Ok, Err, IfOk, MatchOption, slice_get}
+use Rattle.std.specs.Prelude.{ℕ, List, [], Option, None, Some, Result, Ok, Err, IfOk, MatchOption}
 use Rattle.std.proofs.Common.{arith, ⊎_elim}
 use Rattle.history.specs.declared.op_id.OpId.{OpId}
-use Rattle.history.specs.History.{IsOp, number}
+use Rattle.history.specs.History.{number}
 use Rattle.causal_order.specs.Orders.{Leads}
 use Rattle.causal_order.proofs.PathsLaws.{leads-wider, leads-within, last-edge}
 use Rattle.memory_order.specs.Memory.{MemoryHistory}

@@ -1,12 +1,12 @@
 -- A session goes through the edges to its next operation.
-use Rattle.std.specs.Prelude.{◌≡◌, ◌≢◌, ℕ, ◌+◌, ◌<◌, ◌≤◌, List, length, Some, slice_get}
-use Rattle.std.proofs.Common.{arith, refl, ap, sym, ◌∙◌, subst, inl, inr, ⊎_elim, get_or}
+use Rattle.std.specs.Prelude.{◌≡◌, ◌≢◌, ℕ, ◌+◌, ◌<◌, ◌≤◌, List, Some, slice_get}
+use Rattle.std.proofs.Common.{arith, refl, sym, ◌∙◌, subst, inl, inr, ⊎_elim, get_or}
 use Rattle.std.proofs.lemmas.Bool.{cases_lt, cases_eq}
 use Rattle.std.proofs.lemmas.Option.{same_Some, slice_get_within, slice_get-get_or}
 use Rattle.history.specs.declared.op_id.OpId.{OpId}
 use Rattle.history.specs.History.{IsOp, number}
 use Rattle.memory_order.specs.Memory.{MemoryHistory}
-use Rattle.long_history.specs.Steps.{many, IsListedEdge}
+use Rattle.long_history.specs.Steps.{IsListedEdge}
 use Rattle.long_history.proofs.Numbers.{number-found, number-once}
 use Rattle.long_order.specs.Edges.{AreSortedEdges, AreFromOperations}
 use Rattle.long_order.specs.Placements.{IsPlaced, IsNumberPlaced, IsPassed, ArePassed, IsWaiting}

@@ -1,5 +1,5 @@
 -- A session goes on: its next operation is placed, or it waits.
-use Rattle.std.specs.Prelude.{◌≡◌, ◌↔◌, ◌⊎◌, ℕ, ◌+◌, ◌<◌, ◌≤◌, List, [], ◌∷◌, ◌++◌, length, Option, None, Some, slice_get, slice_set}
+use Rattle.std.specs.Prelude.{◌≡◌, ◌↔◌, ℕ, ◌+◌, ◌<◌, ◌≤◌, List, [], ◌∷◌, ◌++◌, length, None, Some, slice_get, slice_set}
 use Rattle.std.proofs.Common.{arith, ap, sym, ◌∙◌, subst, ⊎_elim, get_or}
 use Rattle.std.proofs.lemmas.Option.{slice_get_cases, slice_get_within}
 use Rattle.history.specs.declared.op_id.OpId.{OpId}
@@ -10,10 +10,10 @@ use Rattle.memory_order.specs.Memory.{MemoryHistory, IsDifferentiated}
 use Rattle.memory_order.specs.Relations.{ReadsFrom}
 use Rattle.memory_order.proofs.FirstWrites.{distinct-source, source-unique}
 use Rattle.long_history.specs.Steps.{many, IsListedEdge, IsOrderBy, IsStepWith}
-use Rattle.long_history.proofs.Numbers.{many-rises, number-found, number-once, number-below}
+use Rattle.long_history.proofs.Numbers.{number-found, number-once, number-below}
 use Rattle.long_order.specs.declared.rounds.Unfinished.{Unfinished}
-use Rattle.long_order.specs.Placements.{ArePassed, IsGrownFrom, IsNextToPlace, IsNumberPlaced, IsPlaced, IsPlacement, IsReady, IsUnfinished, IsWaiting, next_of}
-use Rattle.long_order.specs.Sessions.{AreStuck, AreUnfinished, IsGoneThrough, IsStuck}
+use Rattle.long_order.specs.Placements.{ArePassed, IsGrownFrom, IsNextToPlace, IsNumberPlaced, IsPlaced, IsPlacement, IsReady, IsWaiting, next_of}
+use Rattle.long_order.specs.Sessions.{AreStuck, AreUnfinished, IsStuck}
 use Rattle.long_order.proofs.Orders.{listed-of_history}
 use Rattle.long_order.proofs.Passing.{passed-more}
 use Rattle.long_order.proofs.Placings.{next-operation, finished-placed, placement-placed, grown-placed, so_far-whole}

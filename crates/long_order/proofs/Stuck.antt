@@ -1,6 +1,6 @@
 -- Where each session that has a next operation waits, something leads to itself.
 use Rattle.std.specs.Prelude.{◌≡◌, ◌≢◌, ℕ, ◌-◌, ◌<◌, ◌≤◌, length}
-use Rattle.std.proofs.Common.{arith, refl, ap, subst, ⊎_elim}
+use Rattle.std.proofs.Common.{arith, refl, subst, ⊎_elim}
 use Rattle.std.proofs.lemmas.Bool.{cases_eq}
 use Rattle.history.specs.declared.op_id.OpId.{OpId}
 use Rattle.history.specs.History.{IsOp, many_before, number}
@@ -11,7 +11,7 @@ use Rattle.causal_order.proofs.WaitingCycles.{waiting-cycle}
 use Rattle.memory_order.specs.Memory.{MemoryHistory}
 use Rattle.long_history.specs.Steps.{IsStepWith, AreOfHistory}
 use Rattle.long_history.proofs.Steps.{program-steps, steps-with, step_with-of_history}
-use Rattle.long_order.specs.Placements.{IsPlaced, IsNextToPlace, IsWaiting}
+use Rattle.long_order.specs.Placements.{IsNextToPlace, IsWaiting}
 
 module _ (h : MemoryHistory) (also : OpId → OpId → Type 0) (named : AreOfHistory h also) (next : ℕ → ℕ)
     (from_start : (t : ℕ) → t < length h.1 → many_before h t ≤ next t)

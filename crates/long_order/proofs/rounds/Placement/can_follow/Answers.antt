@@ -1,5 +1,5 @@
 use Rattle.std.specs.Prelude.{◌≡◌, ◌⊎◌, ℕ, ◌<◌, true, Some, slice_get}
-use Rattle.std.proofs.Common.{arith, refl, sym, subst, inl, inr, ⊎_elim}
+use Rattle.std.proofs.Common.{arith, sym, subst, inl, ⊎_elim}
 use Rattle.std.proofs.lemmas.Bool.{cases_order}
 use Rattle.memory_order.specs.Relations.{ReadsFrom}
 use Rattle.long_history.specs.Steps.{IsListedEdge}

@@ -1,7 +1,6 @@
 use Rattle.std.specs.Prelude.{◌≡◌, ◌<◌, ◌+◌, true, length}
 use Rattle.std.proofs.Common.{arith, ap, ◌∙◌, subst}
 use Rattle.std.proofs.lemmas.List.{get_or-set_same}
-use Rattle.std.proofs.lemmas.Option.{same_Some}
 use Rattle.history.specs.History.{many_before}
 use Rattle.long_order.specs.declared.rounds.Unfinished.{Unfinished}
 use Rattle.long_order.specs.Placements.{next_of}
