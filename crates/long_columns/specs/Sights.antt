@@ -12,18 +12,18 @@ use Rattle.long_columns.specs.Visits.{IsGreater}
 abbrev pub WritesNumbered : MemoryHistory → List ℕ → ℕ → OpId → Type 0
 WritesNumbered h variables x a = ((y v : ℕ) × Writes h a y v) × (slice_index_or variables (number h a) 0 ≡ x)
 
--- the table of the last writes in the session t below at, by the numbers of variables
+-- a list has the last writes of the session t below at, by the numbers of their variables
 abbrev pub IsTable : MemoryHistory → List ℕ → ℕ → ℕ → List ℕ → Type 0
 IsTable h variables t at last = IsLastTable h (WritesNumbered h variables) t at (λ x. slice_index_or last x 0)
 
--- what the last write a and the source w show, by the end for w and the first for w
+-- what the last write a and the source w show, if end is the end for w and first the first for w
 abbrev pub IsComparison : (end first a w : ℕ) → Sight → Type 0
 IsComparison end first a w sights.Nothing = (a ≡ w) ⊎ ((a ≢ w) × (a < first) × (a < end))
 IsComparison end first a w sights.OverwrittenStart = ⊥
 IsComparison end first a w sights.OverwrittenRead = (a ≢ w) × (first ≤ a)
 IsComparison end first a w (sights.Conflict n m) = (a ≢ w) × (a < first) × (n ≡ a) × (m ≡ w)
 
--- the numbers that it has are below n, and fit the arrays
+-- the number of its source is below n, and the number after that of its write fits 32 bits
 abbrev pub IsSmall : Sight → ℕ → Type 0
 IsSmall sights.Nothing n = Unit {0}
 IsSmall sights.OverwrittenStart n = Unit {0}
@@ -46,7 +46,7 @@ pub record IsRaisedAt (late raised : ℕ → ℕ) (k m : ℕ) : Type 0 where
   pub here : IsGreater (late k) m (raised k)
   pub others : (n : ℕ) → n ≢ k → raised n ≡ late n
 
--- a sight sets a flag, or raises the place of the read's source to the number after that of the last write
+-- a sight changes nothing, or sets a flag, or raises the place of the read's source to the number after that of the last write
 abbrev pub IsNoted : Sight → (start read : Bool) → (ℕ → ℕ) → (start_now read_now : Bool) → (ℕ → ℕ) → Type 0
 IsNoted sights.Nothing start read late start_now read_now late_now =
     (start_now ≡ start) × (read_now ≡ read) × ((n : ℕ) → late_now n ≡ late n)
@@ -57,6 +57,6 @@ IsNoted sights.OverwrittenRead start read late start_now read_now late_now =
 IsNoted (sights.Conflict n m) start read late start_now read_now late_now =
     (start_now ≡ start) × (read_now ≡ read) × IsRaisedAt late late_now m (n + 1)
 
--- it is an operation with a number below n
+-- r is an operation with a number below n
 abbrev pub IsSeen : MemoryHistory → ℕ → OpId → Type 0
 IsSeen h n r = IsOp h r × (number h r < n)

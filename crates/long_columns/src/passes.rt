@@ -1,6 +1,6 @@
 //! The column of a session, by one pass along an order and one back.
 
-ghost use Rattle.std.specs.Prelude.{◌≡◌, ◌≢◌, ◌+◌, ◌<◌, ℕ, [], length, slice_index_or, slice_set, IfOk, IfSome, IsTrue};
+ghost use Rattle.std.specs.Prelude.{◌≡◌, ◌≢◌, ◌+◌, ◌<◌, ℕ, [], length, slice_index_or, slice_set, IfSome, IsTrue};
 ghost use Rattle.history.specs.declared.op_id.OpId.{OpId as Operation};
 ghost use Rattle.history.specs.History.{IsOp, number};
 ghost use Rattle.long_history.specs.Steps.{IsOrderBy, many};
@@ -19,8 +19,7 @@ pub(crate) fn find_past_ends(index: &LongIndex, order: &[u32], session: u32, end
     ensures ends { ArePastEnds index.now.history session (λ n. slice_index_or ends.new.items n 0) }
     ensures within { AreWithinSession index.now.history session (λ n. slice_index_or ends.new.items n 0) }
 {
-    for i in 0..order.len() {
-        let operation = order[i];
+    for &operation in order {
         let end = end_for(index, ends, session, operation);
         put(ends, operation, end);
     }

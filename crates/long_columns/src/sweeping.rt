@@ -1,6 +1,6 @@
 //! The sweep of a column: the last writes of its session, over all known reads.
 
-ghost use Rattle.std.specs.Prelude.{◌≡◌, ◌≢◌, ◌↔◌, ◌+◌, ◌^◌, ◌<◌, ◌≤◌, ℕ, length, slice_index_or, IsTrue};
+ghost use Rattle.std.specs.Prelude.{◌≡◌, ◌↔◌, ◌+◌, ◌^◌, ◌<◌, ◌≤◌, ℕ, length, slice_index_or, IsTrue};
 ghost use Rattle.history.specs.declared.op_id.OpId.{OpId as Operation};
 ghost use Rattle.history.specs.History.{IsOp, many_before, number};
 ghost use Rattle.memory_order.specs.SourceOrder.{IsCyclic};

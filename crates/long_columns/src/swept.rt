@@ -1,12 +1,10 @@
 //! The columns of all sessions, one after the other.
 
-ghost use Rattle.std.specs.Prelude.{◌≡◌, ◌⊎◌, ◌↔◌, ◌+◌, ◌^◌, ◌<◌, ℕ, List, [], Some, length, slice_get, slice_index_or, IfOk, IsTrue, OnOk};
+ghost use Rattle.std.specs.Prelude.{◌≡◌, ◌⊎◌, ◌↔◌, ◌+◌, ◌<◌, ℕ, List, [], Some, length, slice_get, slice_index_or, IfOk, IsTrue, OnOk};
 ghost use Rattle.history.specs.declared.op_id.OpId.{OpId as Operation};
-ghost use Rattle.history.specs.History.{IsOp, number};
 ghost use Rattle.memory_order.specs.Memory.{Writes};
 ghost use Rattle.memory_order.specs.OverwrittenReads.{HasOverwrittenRead, HasOverwrittenStart};
 ghost use Rattle.long_history.specs.Steps.{IsListedEdge, IsOrderBy, many};
-ghost use Rattle.long_columns.specs.Columns.{AreFirsts, ArePastEnds, AreWithinSession};
 ghost use Rattle.long_columns.specs.Conflicts.{IsReducedIn};
 ghost use Rattle.long_columns.specs.Swept.{AreEdgesOf, AreSwept, HasEdge};
 
@@ -46,8 +44,8 @@ pub fn sweep(alloc: Global, index: &LongIndex, order: &[u32]) -> Result<Swept, A
         has_overwritten_read: false,
         edges: Vec::new(alloc),
     };
-    for i in 0..sessions.len() {
-        sweep_session(index, order, sessions[i], &mut arrays, &mut swept)?;
+    for &session in &sessions {
+        sweep_session(index, order, session, &mut arrays, &mut swept)?;
     }
     Ok(swept)
 }
