@@ -1,0 +1,14 @@
+pub mod ByNumber
+pub mod ColumnSteps
+pub mod Columns
+pub mod EdgeLists
+pub mod Firsts
+pub mod LastWrites
+pub mod LateWrites
+pub mod Overwrites
+pub mod PassSteps
+pub mod SessionsSwept
+pub mod PushedEdges
+pub mod Sights
+pub mod Sweeps
+pub mod Visits

@@ -1,0 +1,7 @@
+pub mod Columns
+pub mod Conflicts
+pub mod LastWrites
+pub mod Sights
+pub mod Sweeps
+pub mod Swept
+pub mod Visits

@@ -1,2 +1,15 @@
-//! Which operations of a session are before and after each operation, and what that shows.
+//! Which operations of a session are before and after each operation in the causal order, and what that shows.
+//!
+//! [`sweep`] makes a column for each session that writes, two numbers an operation, and finds by it which writes overwrote what reads after
+//! them returned, and which writes conflict; [`is_convergent`] says whether the conflicts make a cycle. It stands on long_order. Both serve
+//! to decide causal consistency and causal convergence of long histories.
 #![tactic(auto)]
+
+mod convergence;
+mod passes;
+mod sight;
+mod sweeping;
+mod swept;
+
+pub use convergence::is_convergent;
+pub use swept::{Swept, sweep};

@@ -1,0 +1,19 @@
+-- What is raised or lowered by a number is so by the operation that has it.
+use Rattle.std.specs.Prelude.{ℕ, Option, None, Some}
+use Rattle.std.proofs.Common.{inl, inr, subst, sym}
+use Rattle.history.specs.declared.op_id.OpId.{OpId}
+use Rattle.memory_order.specs.Memory.{MemoryHistory}
+use Rattle.long_index.specs.Parts.{IsNumberOf}
+use Rattle.long_columns.specs.Visits.{IsGreater, IsLoweredAt, IsLoweredBy, IsLoweredTo, IsRaisedBy, IsRaisedTo}
+
+module _ (h : MemoryHistory) (related : OpId → OpId → Type 0) (o : OpId) where
+  pub raised-by : (e : Option ℕ) (ends : ℕ → ℕ) (a m : ℕ) → IsNumberOf h related o e → IsRaisedTo ends a e m
+      → IsRaisedBy h o related ends a m
+  raised-by None ends a m none same = inl (none, same)
+  raised-by (Some n) ends a m (p, is_op, is, at) raised = inr (p, is, subst (λ (k : ℕ). IsGreater a (ends k) m) (sym at) raised)
+
+  pub lowered-by : (e : Option ℕ) (firsts lowered : ℕ → ℕ) (m : ℕ) → IsNumberOf h related o e → IsLoweredTo firsts e m lowered
+      → IsLoweredBy h o related firsts lowered m
+  lowered-by None firsts lowered m none same = inl (none, same)
+  lowered-by (Some n) firsts lowered m (p, is_op, is, at) down =
+      inr (p, is, subst (λ (k : ℕ). IsLoweredAt firsts lowered k m) (sym at) down)

@@ -1,0 +1,52 @@
+-- Edges that are pushed to a list, one place of a table after the other.
+use Rattle.std.specs.Prelude.{◌≡◌, ◌⊎◌, ◌↔◌, ℕ, ◌+◌, ◌<◌, ◌≤◌, List, length, slice_index_or}
+use Rattle.std.proofs.Common.{arith, ap, sym, ◌∙◌, inl, inr, ⊎_elim}
+use Rattle.std.proofs.lemmas.Bool.{cases_eq, cases_lt}
+use Rattle.std.proofs.lemmas.List.{get_or_past}
+use Rattle.long_columns.specs.Swept.{HasEdge}
+
+abbrev Edges : Type 0
+Edges = List (ℕ × ℕ)
+
+-- the edge of one place of the table more
+pub edges-more : (late : List ℕ) (first edges pushed : Edges) (n after : ℕ) → after ≡ slice_index_or late n 0
+    → ((a b : ℕ) → HasEdge edges a b ↔ (HasEdge first a b ⊎ ((b < n) × (slice_index_or late b 0 ≡ a + 1))))
+    → ((a b : ℕ) → HasEdge pushed a b ↔ (HasEdge edges a b ⊎ ((b ≡ n) × (after ≡ a + 1))))
+    → (a b : ℕ) → HasEdge pushed a b ↔ (HasEdge first a b ⊎ ((b < n + 1) × (slice_index_or late b 0 ≡ a + 1)))
+edges-more late first edges pushed n after value was more a b = (
+  (λ has. ⊎_elim
+      (λ (old : HasEdge edges a b). ⊎_elim
+      (λ (of_first : HasEdge first a b). inl of_first)
+      (λ (before : (b < n) × (slice_index_or late b 0 ≡ a + 1)). let below = before.0 in inr (omega arith, before.1))
+      ((was a b).0 old))
+      (λ (new : (b ≡ n) × (after ≡ a + 1)).
+      let place = ap (λ (k : ℕ). slice_index_or late k 0) new.0 in
+      let here = new.0 in
+      inr (omega arith, place ∙ sym value ∙ new.1))
+      ((more a b).0 has)),
+  λ either. (more a b).1 (⊎_elim
+      (λ (of_first : HasEdge first a b). inl ((was a b).1 (inl of_first)))
+      (λ (listed : (b < n + 1) × (slice_index_or late b 0 ≡ a + 1)). ⊎_elim
+      (λ (here : b ≡ n). let place = ap (λ (k : ℕ). slice_index_or late k 0) here in inr (here, value ∙ sym place ∙ listed.1))
+      (λ (apart : b ≡ n → ⊥). let below = listed.0 in inl ((was a b).1 (inr (omega arith, listed.1))))
+      (cases_eq b n))
+      either),
+)
+
+-- the edges of the whole table
+pub edges-whole : (late : List ℕ) (first edges : Edges) (n : ℕ) → length late ≤ n
+    → ((a b : ℕ) → HasEdge edges a b ↔ (HasEdge first a b ⊎ ((b < n) × (slice_index_or late b 0 ≡ a + 1))))
+    → (a b : ℕ) → HasEdge edges a b ↔ (HasEdge first a b ⊎ (slice_index_or late b 0 ≡ a + 1))
+edges-whole late first edges n whole now a b = (
+  (λ has. ⊎_elim
+      (λ (of_first : HasEdge first a b). inl of_first)
+      (λ (listed : (b < n) × (slice_index_or late b 0 ≡ a + 1)). inr listed.1)
+      ((now a b).0 has)),
+  λ either. (now a b).1 (⊎_elim
+      (λ (of_first : HasEdge first a b). inl of_first)
+      (λ (listed : slice_index_or late b 0 ≡ a + 1). ⊎_elim
+      (λ (below : b < n). inr (below, listed))
+      (λ (past : n ≤ b). let none = get_or_past late b 0 (omega arith) in absurd (omega arith))
+      (cases_lt b n))
+      either),
+)

@@ -1,0 +1,44 @@
+//! Whether the conflicts of writes make a cycle.
+
+ghost use Rattle.std.specs.Prelude.{◌⊎◌, ◌↔◌, ℕ, IfOk, IsPermutation, IsTrue};
+ghost use Rattle.history.specs.declared.op_id.OpId.{OpId as Operation};
+ghost use Rattle.causal_order.specs.Orders.{Leads};
+ghost use Rattle.memory_order.specs.Relations.{CF, CO};
+ghost use Rattle.long_history.specs.Steps.{IsListedEdge};
+ghost use Rattle.long_order.specs.Edges.{AreSortedEdges};
+ghost use Rattle.long_columns.specs.Conflicts.{IsReducedIn};
+ghost use Rattle.long_columns.specs.Swept.{AreEdgesOf};
+
+use long_index::LongIndex;
+use long_order::order;
+use std::alloc::{AllocError, Global};
+
+/// Whether the causal order and the conflicts of writes have no cycle together.
+///
+/// The edges stand for all conflicts, as those of [`crate::sweep`] do. Fails for want of memory alone. O(e log e) for e edges, and the cost
+/// of [`order`].
+pub fn is_convergent(
+    alloc: Global,
+    index: &LongIndex,
+    edges: Vec<(u32, u32)>,
+) -> Result<bool, AllocError>
+    requires below { AreEdgesOf index.now.history edges.items }
+    requires reduced { (t : ℕ) → IsReducedIn index.now.history t (IsListedEdge index.now.history edges.items) }
+    ensures { IfOk result (λ yes. IsTrue yes
+        ↔ ((a : Operation) → ¬ Leads (λ b c. CO index.now.history b c ⊎ CF index.now.history b c) a a)) }
+{
+    let edges = sorted(edges);
+    match order(alloc, index, &edges)? {
+        Some(_) => Ok(true),
+        None => Ok(false),
+    }
+}
+
+/// The edges, sorted by where they lead.
+fn sorted(mut edges: Vec<(u32, u32)>) -> Vec<(u32, u32)>
+    ensures same { IsPermutation edges.items result.items }
+    ensures sorted { AreSortedEdges result.items }
+{
+    edges.sort_unstable_by_key(|edge| edge.1);
+    edges
+}

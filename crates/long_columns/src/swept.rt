@@ -1,0 +1,176 @@
+//! The columns of all sessions, one after the other.
+
+ghost use Rattle.std.specs.Prelude.{◌≡◌, ◌⊎◌, ◌↔◌, ◌+◌, ◌<◌, ℕ, List, [], Some, length, slice_get, slice_index_or, IfOk, IsTrue, OnOk};
+ghost use Rattle.history.specs.declared.op_id.OpId.{OpId as Operation};
+ghost use Rattle.memory_order.specs.Memory.{Writes};
+ghost use Rattle.memory_order.specs.OverwrittenReads.{HasOverwrittenRead, HasOverwrittenStart};
+ghost use Rattle.long_history.specs.Steps.{IsListedEdge, IsOrderBy, many};
+ghost use Rattle.long_columns.specs.Conflicts.{IsReducedIn};
+ghost use Rattle.long_columns.specs.Swept.{AreEdgesOf, AreSwept, HasEdge};
+
+use crate::passes::{fill, find_firsts, find_past_ends};
+use crate::sweeping::sweep_column;
+use long_index::{LongIndex, Part};
+use std::alloc::{AllocError, Global};
+
+/// What the columns of all sessions show of a history.
+#[derive(Drop)]
+pub struct Swept {
+    /// Some read returned an initial value that a write before it in the causal order had overwritten.
+    pub has_overwritten_start: bool,
+    /// Some read returned a value that another write before it in the causal order had overwritten.
+    pub has_overwritten_read: bool,
+    /// If no read did, conflicts that stand for all: each has the numbers of two writes, the one that comes first and the other.
+    pub edges: Vec<(u32, u32)>,
+}
+
+/// Finds whether writes overwrote what reads after them returned, and edges that stand for all conflicts of writes.
+///
+/// The order is one that [`long_order::causal_order`] gives. Fails for want of memory alone. O(n k) for n operations and k sessions that
+/// write. It takes 12 bytes an operation and 4 a variable, and 8 an edge: of these there is at most one for each write that is read and
+/// each session that writes.
+pub fn sweep(alloc: Global, index: &LongIndex, order: &[u32]) -> Result<Swept, AllocError>
+    requires { IsOrderBy index.now.history [] order.now }
+    ensures start { IfOk result (λ s. IsTrue s.has_overwritten_start ↔ HasOverwrittenStart index.now.history) }
+    ensures read { IfOk result (λ s. IsTrue s.has_overwritten_read ↔ HasOverwrittenRead index.now.history) }
+    ensures edges { IfOk result (λ s. ¬ IsTrue s.has_overwritten_read
+        → (t : ℕ) → IsReducedIn index.now.history t (IsListedEdge index.now.history s.edges.items)) }
+    ensures below { IfOk result (λ s. AreEdgesOf index.now.history s.edges.items) }
+{
+    let sessions = writing_sessions(alloc, index)?;
+    let mut arrays = Arrays::new(alloc, index)?;
+    let mut swept = Swept {
+        has_overwritten_start: false,
+        has_overwritten_read: false,
+        edges: Vec::new(alloc),
+    };
+    for &session in &sessions {
+        sweep_session(index, order, session, &mut arrays, &mut swept)?;
+    }
+    Ok(swept)
+}
+
+/// The sessions that write something, in order.
+fn writing_sessions(alloc: Global, index: &LongIndex) -> Result<Vec<u32>, AllocError>
+    ensures each { IfOk result (λ sessions. (w : Operation) (x v : ℕ) → Writes index.now.history w x v
+        → (k : ℕ) × (slice_get sessions.items k ≡ Some w.session)) }
+    ensures below { IfOk result (λ sessions. (k t : ℕ) → slice_get sessions.items k ≡ Some t → t < length index.now.history.1) }
+{
+    let mut sessions = Vec::new(alloc);
+    for operation in 0..index.operations() {
+        if let Part::Write = index.part(operation) {
+            add_session(&mut sessions, index.session_of(operation))?;
+        }
+    }
+    Ok(sessions)
+}
+
+/// Adds a session to a list, unless it stands there last.
+fn add_session(sessions: &mut Vec<u32>, session: u32) -> Result<(), AllocError>
+    ensures added { OnOk result ((k : ℕ) × (slice_get sessions.new.items k ≡ Some session)) }
+    ensures others { OnOk result ((k t : ℕ) → slice_get sessions.new.items k ≡ Some t
+        → (slice_get sessions.old.items k ≡ Some t) ⊎ (t ≡ session)) }
+    ensures kept { OnOk result ((k t : ℕ) → slice_get sessions.old.items k ≡ Some t → slice_get sessions.new.items k ≡ Some t) }
+{
+    if sessions.last() != Some(&session) {
+        sessions.push(session)?;
+    }
+    Ok(())
+}
+
+/// The numbers of one column and its sweep: the arrays are made once and filled again for each session.
+#[derive(Drop)]
+struct Arrays {
+    /// By operation: where its past ends in the session.
+    ends: Vec<u32>,
+    /// By operation: the first operation of the session that has it in its past.
+    firsts: Vec<u32>,
+    /// By variable: the number after that of its last write in the session, or 0.
+    last: Vec<u32>,
+    /// By write: the number after that of the last write of the session that conflicts with it, or 0.
+    late: Vec<u32>,
+}
+
+impl Arrays {
+    fn new(alloc: Global, index: &LongIndex) -> Result<Arrays, AllocError>
+        ensures ends { IfOk result (λ a. length a.ends.items ≡ many index.now.history) }
+        ensures firsts { IfOk result (λ a. length a.firsts.items ≡ many index.now.history) }
+        ensures last { IfOk result (λ a. length a.last.items ≡ index.now.bound) }
+        ensures late { IfOk result (λ a. length a.late.items ≡ many index.now.history) }
+    {
+        let operations = index.operations() as usize;
+        Ok(Arrays {
+            ends: vec![in alloc; 0; operations]?,
+            firsts: vec![in alloc; 0; operations]?,
+            last: vec![in alloc; 0; index.variables() as usize]?,
+            late: vec![in alloc; 0; operations]?,
+        })
+    }
+}
+
+/// Adds what the column of one session shows.
+fn sweep_session(
+    index: &LongIndex,
+    order: &[u32],
+    session: u32,
+    arrays: &mut Arrays,
+    swept: &mut Swept,
+) -> Result<(), AllocError>
+    requires session { session < length index.now.history.1 }
+    requires order { IsOrderBy index.now.history [] order.now }
+    requires ends { length arrays.old.ends.items ≡ many index.now.history }
+    requires firsts { length arrays.old.firsts.items ≡ many index.now.history }
+    requires last { length arrays.old.last.items ≡ index.now.bound }
+    requires late { length arrays.old.late.items ≡ many index.now.history }
+    ensures ends { length arrays.new.ends.items ≡ many index.now.history }
+    ensures firsts { length arrays.new.firsts.items ≡ many index.now.history }
+    ensures last { length arrays.new.last.items ≡ index.now.bound }
+    ensures late { length arrays.new.late.items ≡ many index.now.history }
+    ensures swept { OnOk result ((sessions : List ℕ) (i : ℕ) → slice_get sessions i ≡ Some session
+        → AreSwept index.now.history sessions i swept.old.has_overwritten_start swept.old.has_overwritten_read swept.old.edges.items
+        → AreSwept index.now.history sessions (i + 1) swept.new.has_overwritten_start swept.new.has_overwritten_read
+        swept.new.edges.items) }
+{
+    find_past_ends(index, order, session, &mut arrays.ends);
+    find_firsts(index, order, session, &mut arrays.firsts);
+    fill(&mut arrays.last, 0);
+    fill(&mut arrays.late, 0);
+    let overwritten = sweep_column(
+        index,
+        session,
+        &arrays.ends,
+        &arrays.firsts,
+        &mut arrays.last,
+        &mut arrays.late,
+    );
+    push_edges(index, &arrays.late, &mut swept.edges)?;
+    swept.has_overwritten_start |= overwritten.start;
+    swept.has_overwritten_read |= overwritten.read;
+    Ok(())
+}
+
+/// Pushes the edges of the table of late writes.
+fn push_edges(
+    index: &LongIndex,
+    late: &[u32],
+    edges: &mut Vec<(u32, u32)>,
+) -> Result<(), AllocError>
+    requires { length late.now ≡ many index.now.history }
+    ensures { OnOk result ((from to : ℕ) → HasEdge edges.new.items from to
+        ↔ (HasEdge edges.old.items from to ⊎ (slice_index_or late.now to 0 ≡ from + 1))) }
+{
+    for to in 0..index.operations() {
+        push_edge(late[to as usize], to, edges)?;
+    }
+    Ok(())
+}
+
+/// Pushes an edge from the operation before a number, unless that is 0.
+fn push_edge(after: u32, to: u32, edges: &mut Vec<(u32, u32)>) -> Result<(), AllocError>
+    ensures { OnOk result ((a b : ℕ) → HasEdge edges.new.items a b ↔ (HasEdge edges.old.items a b ⊎ ((b ≡ to) × (after ≡ a + 1)))) }
+{
+    if after > 0 {
+        edges.push((after - 1, to))?;
+    }
+    Ok(())
+}
