@@ -1,7 +1,8 @@
 -- Edges that stand for the conflicts of writes.
-use Rattle.std.specs.Prelude.{◌≡◌, ◌⊎◌, ℕ, ◌+◌, ◌<◌, ◌≤◌}
+use Rattle.std.specs.Prelude.{◌≡◌, ◌⊎◌, ℕ, ◌+◌, ◌<◌, ◌≤◌, Bool, IsTrue}
 use Rattle.history.specs.declared.op_id.OpId.{OpId}
 use Rattle.history.specs.History.{IsOp, Precedes, number}
+use Rattle.causal_order.specs.Orders.{Leads}
 use Rattle.memory_order.specs.Memory.{MemoryHistory}
 use Rattle.memory_order.specs.Relations.{CO, CF}
 use Rattle.long_columns.specs.LastWrites.{IsLastBeside}
@@ -23,3 +24,8 @@ module _ (h : MemoryHistory) (t : ℕ) where
 -- the edges of a table of late writes
 abbrev pub IsLateEdge : MemoryHistory → (ℕ → ℕ) → OpId → OpId → Type 0
 IsLateEdge h late a w = IsOp h a × IsOp h w × (late (number h w) ≡ number h a + 1)
+
+-- yes says that CO and the conflicts of writes have no cycle together, and no that they have one
+pub record IsConvergence (h : MemoryHistory) (yes : Bool) : Type 0 where
+  pub acyclic : IsTrue yes → (a : OpId) → ¬ Leads (λ b c. CO h b c ⊎ CF h b c) a a
+  pub cyclic : ¬ IsTrue yes → (a : OpId) × Leads (λ b c. CO h b c ⊎ CF h b c) a a

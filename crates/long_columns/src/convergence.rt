@@ -1,12 +1,9 @@
 //! Whether the conflicts of writes make a cycle.
 
-ghost use Rattle.std.specs.Prelude.{◌⊎◌, ◌↔◌, ℕ, IfOk, IsPermutation, IsTrue};
-ghost use Rattle.history.specs.declared.op_id.OpId.{OpId as Operation};
-ghost use Rattle.causal_order.specs.Orders.{Leads};
-ghost use Rattle.memory_order.specs.Relations.{CF, CO};
+ghost use Rattle.std.specs.Prelude.{ℕ, IfOk, IsPermutation};
 ghost use Rattle.long_history.specs.Steps.{IsListedEdge};
 ghost use Rattle.long_order.specs.Edges.{AreSortedEdges};
-ghost use Rattle.long_columns.specs.Conflicts.{IsReducedIn};
+ghost use Rattle.long_columns.specs.Conflicts.{IsConvergence, IsReducedIn};
 ghost use Rattle.long_columns.specs.Swept.{AreEdgesOf};
 
 use long_index::LongIndex;
@@ -24,8 +21,7 @@ pub fn is_convergent(
 ) -> Result<bool, AllocError>
     requires below { AreEdgesOf index.now.history edges.items }
     requires reduced { (t : ℕ) → IsReducedIn index.now.history t (IsListedEdge index.now.history edges.items) }
-    ensures { IfOk result (λ yes. IsTrue yes
-        ↔ ((a : Operation) → ¬ Leads (λ b c. CO index.now.history b c ⊎ CF index.now.history b c) a a)) }
+    ensures { IfOk result (IsConvergence index.now.history) }
 {
     let edges = sorted(edges);
     match order(alloc, index, &edges)? {

@@ -14,13 +14,13 @@ order-requires-clause-from_operations c =
 pub returns-in-Some : goal.returns-in-Some
 returns-in-Some c =
     let h = c.args.index.now.history in
-    let ordered = rw c.in-Some.is at c.in_ok-order.ensures in (
-      (λ _.
-          moved-acyclic h c.args.edges.items c.sorted-edges.result.items c.sorted-edges.ensures.same c.requires.reduced
-          c.in-Some.field-0.items
-          (subst (λ (xs : List (ℕ × ℕ)). IsOrderBy h xs c.in-Some.field-0.items) c.deref.ensures.value ordered)),
-      λ _. refl,
-    )
+    let ordered = rw c.in-Some.is at c.in_ok-order.ensures in
+    record {
+      acyclic = λ _.
+          moved-acyclic h c.args.edges.items c.sorted-edges.result.items c.sorted-edges.ensures.same c.requires.reduced c.in-Some.field-0.items
+          (subst (λ (xs : List (ℕ × ℕ)). IsOrderBy h xs c.in-Some.field-0.items) c.deref.ensures.value ordered);
+      cyclic = λ no. absurd (no refl);
+    }
 
 pub returns : goal.returns
 returns c =
@@ -28,4 +28,7 @@ returns c =
     let cycle = rw c.in-None.is at c.in_ok-order.ensures in
     let leads = moved-cyclic h c.args.edges.items c.sorted-edges.result.items c.sorted-edges.ensures.same c.requires.reduced cycle.0
     (subst (λ (xs : List (ℕ × ℕ)). Leads (IsStepWith h (IsListedEdge h xs)) cycle.0 cycle.0) c.deref.ensures.value cycle.1) in
-    ((λ bad. absurd cc), λ none. absurd (none cycle.0 leads))
+    record {
+      acyclic = λ bad. absurd cc;
+      cyclic = λ _. (cycle.0, leads);
+    }

@@ -2,7 +2,7 @@ use Rattle.std.proofs.Common.{refl, subst}
 use Rattle.bad_patterns.specs.Kinds.{IsPresent}
 use Rattle.bad_patterns.specs.declared.kind.Kind.TheVariants.{CyclicHB, WriteHBInitRead}
 use Rattle.cert_check.specs.declared.criterion.Criterion.TheVariants.{Cm}
-use Rattle.session_orders.specs.OnItsWay.{AreOrdered}
+use Rattle.session_orders.specs.SessionOrders.{AreOrdered}
 use Rattle.session_orders.specs.declared.ordering.SessionOrder.{SessionOrder}
 use Rattle.long_decision.proofs.Firsts.{first_overwritten}
 use Rattle.long_decision.proofs.deciding.decide_memory.Goals as goal
