@@ -6,10 +6,11 @@ use Rattle.command_line.specs.declared.length.Length.{Length}
 use Rattle.lines.specs.declared.fault.Fault.{Fault}
 use Rattle.lines.specs.declared.fault.Fault.TheVariants as faults
 use Rattle.lines.specs.declared.outcome.Outcome.{Outcome}
-use Rattle.lines.specs.Clerks.{AppendsAnswer}
+use Rattle.lines.specs.Clerks.{AppendsAnswer, SaysOfLonger}
 use Rattle.lines.specs.Lines.{AnswersAs, AreAnswered, lines_of}
 use Rattle.engine.specs.declared.failure.RunError.{RunError}
-use Rattle.engine.specs.declared.failure.RunError.TheVariants.{WriteFault}
+use Rattle.engine.specs.declared.failure.RunError.TheVariants.{TooLong, WriteFault}
+use Rattle.engine.specs.declared.input.TheConstants.{MAX_INPUT_BYTES}
 use Rattle.engine.specs.Failure.{stream_failure}
 use Rattle.engine.specs.LineAnswers.{IsLineAnswer, IsLineError}
 use Rattle.engine.specs.Steps.LineRefusals.{IsRefusalBy}
@@ -19,6 +20,13 @@ pub refusal_answers : (long : Length) (expected : Expected) (line before after :
     → IfOk r (AppendsAnswer (IsRefusalBy error) before after) → IfOk r (AppendsAnswer (IsLineAnswer long expected line) before after)
 refusal_answers long expected line before after error (Ok outcome) is told = (told.0, inr (told.1 long line is), told.2)
 refusal_answers long expected line before after error (Err fault) is told = tt
+
+-- a line that is too long is refused as such
+pub longer_answers : (long : Length) (expected : Expected) (before after : List ℕ) (r : Result Outcome Fault)
+    → IfOk r (AppendsAnswer (IsRefusalBy TooLong) before after)
+    → IfOk r (AppendsAnswer (SaysOfLonger (IsLineAnswer long expected) MAX_INPUT_BYTES) before after)
+longer_answers long expected before after (Ok outcome) told = (told.0, (λ line longer. inr (told.1 long line longer)), told.2)
+longer_answers long expected before after (Err fault) told = tt
 
 -- what is made of all lines without a fault answers them
 pub lines_answered : (long : Length) (expected : Expected) (input text said : List ℕ) (outcome : Result Outcome Fault) (one : Outcome) → outcome ≡ Ok one → said ≡ text

@@ -206,7 +206,7 @@ judge_once judging text e ReadFault is_e is_f one two = absurd is_f
 judge_once judging text e WriteFault is_e is_f one two = absurd is_f
 
 -- how `judge` judges where nothing is asked for
-plain : Judging
+abbrev plain : Judging
 plain = record { workers = 1; expected = expecting_nothing; length = Limited }
 
 -- a history is refused as `judge` refuses it

@@ -87,12 +87,12 @@ fn report_on_limited_input<T: Threads + Wait + Sync>(
 pub(crate) fn report_on_input_alone(
     alloc: Global,
     input: &[u8],
-    length: Length,
+    allowed: Length,
 ) -> Result<Report, RunError>
-    ensures report { IfOk result (IsReportOnAt length input.now) }
-    ensures error { IfErr result (IsReportError length input.now) }
+    ensures report { IfOk result (IsReportOnAt allowed input.now) }
+    ensures error { IfErr result (IsReportError allowed input.now) }
 {
-    match length {
+    match allowed {
         Length::Limited => report_on_limited_input_alone(alloc, input),
         Length::Any => report_on_long_input(alloc, input),
     }

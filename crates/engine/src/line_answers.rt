@@ -11,7 +11,7 @@ use crate::failure::{RunError, fault_line, status_of};
 use crate::input::MAX_INPUT_BYTES;
 use crate::report::{Report, report_line};
 use cert_check::Criterion;
-use command_line::{Judging, Length};
+use command_line::{Expected, Length};
 use lines::{Fault, Outcome};
 use std::alloc::{AllocError, Global};
 
@@ -22,16 +22,17 @@ use std::alloc::{AllocError, Global};
 pub(crate) fn append_answer(
     alloc: Global,
     line: &[u8],
-    judging: Judging,
+    allowed: Length,
+    expected: Expected,
     text: &mut Vec<u8>,
 ) -> Result<Outcome, Fault>
-    ensures answered { IfOk result (AppendsAnswer (IsLineAnswer judging.length judging.expected line.now) text.old.items text.new.items) }
+    ensures answered { IfOk result (AppendsAnswer (IsLineAnswer allowed expected line.now) text.old.items text.new.items) }
     ensures unchanged { OnErr result (text.new.items ≡ text.old.items) }
 {
-    match report_on_line(alloc, line, judging.length) {
+    match report_on_line(alloc, line, allowed) {
         Ok(report) => {
             append_report(alloc, &report, text)?;
-            Ok(outcome_of(&report, judging.expected))
+            Ok(outcome_of(&report, expected))
         }
         Err(error) => append_refusal(alloc, &error, text),
     }
@@ -39,15 +40,15 @@ pub(crate) fn append_answer(
 
 // The report on the history in a line.
 #[tactic(auto, using(crate::proofs::Reported::error_of_line))]
-fn report_on_line(alloc: Global, line: &[u8], length: Length) -> Result<Report, RunError>
+fn report_on_line(alloc: Global, line: &[u8], allowed: Length) -> Result<Report, RunError>
     ensures within { OnOk result (length line.now ≤ MAX_INPUT_BYTES) }
-    ensures report { IfOk result (IsReportOnAt length line.now) }
-    ensures error { IfErr result (IsLineError length line.now) }
+    ensures report { IfOk result (IsReportOnAt allowed line.now) }
+    ensures error { IfErr result (IsLineError allowed line.now) }
 {
     if line.len() > MAX_INPUT_BYTES {
         return Err(RunError::TooLong);
     }
-    report_on_input_alone(alloc, line, length)
+    report_on_input_alone(alloc, line, allowed)
 }
 
 // Appends the lines of a report, joined to one, and a line feed.

@@ -8,7 +8,7 @@ ghost use Rattle.engine.specs.Running.{IsOutput, IsOutputError};
 use crate::failure::RunError;
 use crate::input::MAX_INPUT_BYTES;
 use crate::line_answers::{append_answer, append_refusal};
-use command_line::{Judging, Order};
+use command_line::{Expected, Judging, Length, Order};
 use lines::{Clerk, Fault, Outcome, Source, answer_by, answer_lines};
 use std::alloc::Global;
 use std::io::Write;
@@ -40,7 +40,8 @@ pub fn judge_lines<P: Threads + Wait + Sync + AllocGlobal, R: Source, W: Write>(
 {
     let judge = LineJudge {
         alloc: rt.alloc(),
-        judging,
+        allowed: judging.length,
+        expected: judging.expected,
     };
     let outcome = answer_lines(
         rt,
@@ -67,7 +68,8 @@ pub(crate) fn judge_each<T: Threads + Wait + Sync>(
 {
     let judge = LineJudge {
         alloc,
-        judging,
+        allowed: judging.length,
+        expected: judging.expected,
     };
     let part = answer_by(rt, alloc, &judge, input, judging.workers.count());
     match (part.outcome, String::from_utf8(part.text)) {
@@ -80,14 +82,16 @@ pub(crate) fn judge_each<T: Threads + Wait + Sync>(
 #[derive(Drop)]
 struct LineJudge {
     alloc: Global,
-    judging: Judging,
+    /// How long a history may be.
+    allowed: Length,
+    expected: Expected,
 }
 
 impl Clerk for LineJudge {
     ghost use Rattle.engine.specs.LineAnswers.{IsLineAnswer};
     ghost use Rattle.engine.specs.declared.input.TheConstants.{MAX_INPUT_BYTES as LIMIT};
 
-    ghost says = { λ judge line text outcome. IsLineAnswer judge.judging.length judge.judging.expected line text outcome };
+    ghost says = { λ judge line text outcome. IsLineAnswer judge.allowed judge.expected line text outcome };
 
     ghost most = { λ _. LIMIT };
 
@@ -96,7 +100,7 @@ impl Clerk for LineJudge {
     }
 
     fn answer(&self, line: &[u8], text: &mut Vec<u8>) -> Result<Outcome, Fault> {
-        append_answer(self.alloc, line, self.judging, text)
+        append_answer(self.alloc, line, self.allowed, self.expected, text)
     }
 
     fn answer_long(&self, text: &mut Vec<u8>) -> Result<Outcome, Fault> {

@@ -2,6 +2,7 @@
 
 ghost use Rattle.std.specs.Prelude.{◌≡◌, IfErr, IfOk};
 ghost use Rattle.command_line.specs.declared.length.Length.TheVariants.{Any};
+ghost use Rattle.operations.specs.AnyForm.{IsAnyHistory};
 ghost use Rattle.engine.specs.Report.{EachIsKnownOnDistinctValues, EachIsTrueAt, EachNamesUnexplained, IsReportOnAt};
 ghost use Rattle.engine.specs.Steps.ReportErrors.{IsReportError};
 ghost use Rattle.long_decision.specs.LongDecisions.{IsLongDecided};
