@@ -6,9 +6,9 @@
 It writes the three lines of `judge --long` for a history that `judge` does not take, or on standard error the line of a refusal, with
 status 1. Of a history within the limits of `judge` whose values are not distinct it knows no line: there `judge` makes certificates.
 
-It knows nothing of the program, and follows docs/definitions.md: the parts "The form of a history" (reading.py) and "Patterns", with the
-theorem of "When a criterion is met", which says that a history of distinct values meets a criterion exactly where no kind against it is
-present. Each relation is that of the paths of a graph, whose edges are all written down, and is searched breadth first:
+It knows nothing of the program, and follows docs/definitions.md: the parts "The form of a history" (reading.py) and "Patterns" (with
+patterns.py), and the theorem of "When a criterion is met", by which a history of distinct values meets a criterion exactly where no kind
+against it is present. Each relation is that of the paths of a graph, whose edges are all written down, and is searched breadth first:
 
     CO          from an operation to the next of its session, and from a write to each read that reads from it
     CO and CF   and from a write to another one of its variable that is read from by a read which the first is before in CO
@@ -102,12 +102,13 @@ def kind_against_all(graph, past):
 
 
 def has_cyclic_conflict(graph, past):
-    """Whether CyclicCF is present."""
-    edges = list(graph.edges)
+    """Whether CyclicCF is present. CO has no cycle, so each cycle has an edge to the source of a read."""
+    edges, sources = list(graph.edges), set()
     for read in graph.reads:
         if graph.source[read] is not None:
             edges[graph.source[read]] |= graph.writes_among(past[read], read)
-    return is_cyclic(edges, range(len(edges)))
+            sources.add(graph.source[read])
+    return is_cyclic(edges, sources)
 
 
 def happened_before(graph, o, past):

@@ -1,7 +1,7 @@
 #!/usr/bin/env python3
 """Makes a memory history of any length on standard output, the same one each time.
 
-    python3 bench/long_histories.py [--fault KIND] [--width N] [--writes PERCENT] [--gap N] STORE SESSIONS OPERATIONS KEYS SEED > HISTORY
+    python3 bench/long_runs.py [--fault KIND] [--width N] [--writes PERCENT] [--gap N] STORE SESSIONS OPERATIONS KEYS SEED > HISTORY
 
 Each history is a run of a replicated store. Every session has a replica, and now and then, each N of its own operations on average (8
 unless given), it takes in all that another replica has and it has not, in the order in which this was written: so it takes in a write
