@@ -314,6 +314,7 @@ TABLES = (
     ["memory", [[["w", 4_999, 5_001]], INITIAL], TABLE],
     ["memory", [[["w", 4_999, 0]], [["r", 4_999, 0], ["r", 5_000, 0]]], TABLE],
     ["memory", [[["r", 4_999, 0]]], TABLE],
+    ["memory", [[["w", 4_999, 1], ["w", 4_999, 1]]], TABLE],
 )
 DIVERGING = ["memory", many([["w", 99, 1], ["r", 99, 2]]) + [[["w", 99, 2], ["r", 99, 1]]]]
 TWICE = ["memory", many([["w", 0, 1]])]
