@@ -16,6 +16,7 @@ import planted  # noqa: E402
 
 THIN = 10**6
 RECENT = 12
+MOST_WILD = 20
 
 
 class Shape(NamedTuple):
@@ -208,10 +209,10 @@ def double(rng, sessions):
 def memory(rng, shape, widest=1):
     """The form of a memory, and the faults that were planted."""
     how = rng.random()
-    if how < 0.1:
+    if how < 0.1 and shape.operations <= MOST_WILD:
         sessions = wild(rng, shape)
     elif how < 0.6:
-        sessions = weak(rng, shape, rng.choice((0, 0, 0.01, 0.1)))
+        sessions = weak(rng, shape, rng.choice((0, 0, 1, 4)) / (shape.sessions * shape.operations))
     else:
         sessions = of_store(rng, shape)
     faults = plant(rng, sessions, shape.keys, widest) if rng.random() < 0.4 else []
