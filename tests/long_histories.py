@@ -13,7 +13,8 @@
 - HISTORIES random histories of up to 40 sessions, or with sessions of 257 to some 400 operations, get the lines of the plain judge. Each of
   the seven kinds is named among all these by each line that it is against, and each line says `yes` and `unknown` somewhere.
 - Refusals, long tables, `--expect`, `--lines` with long lines, and words that are no command line.
-- With `--long`: histories of a million operations, and 22 million empty sessions, each within a time.
+- With `--long`: histories of a million operations, each within 300 seconds, and 22 million empty sessions, within 60; ten times as long for
+  a program that `rt try` built.
 
 It prints each case that has another outcome, with the file in which its input is kept, and how often each line came.
 """
@@ -23,6 +24,7 @@ import itertools
 import json
 import random
 import subprocess
+import sys
 import tempfile
 from collections import Counter
 from typing import NamedTuple
@@ -34,14 +36,16 @@ import reading
 import tables
 from command_words import order_of, with_program
 from counting import end
-from objects import MOST_ENTRIES, OBJECTS
+from objects import MOST_ENTRIES, MOST_KEY, OBJECTS
 from patterns import AGAINST, CRITERIA
 from random_memories import Shape, long_runs, planted
+from streams import is_unproved
 
 LEAST_LONG = 17
 MILLION = 1_000_000
 EMPTY_SESSIONS = 22_000_000
-SECONDS, READING_SECONDS, MILLION_SECONDS = 120, 120, 600
+SECONDS, READING_SECONDS, MILLION_SECONDS = 120, 60, 300
+UNPROVED_TIMES = 10
 MEMORY = b'["memory"'
 LONG_LINE = 60_000
 FEW = 600
@@ -204,11 +208,13 @@ def decided_padded(program, rng, count):
     lines, longer, dues = [], [], []
     while len(lines) < count:
         form = random_memories.memory(rng, Shape(rng.randint(1, 8), rng.randint(1, 8), rng.randint(1, 4)), 2)[0]
-        if max((operation[1] for session in form[1] for operation in session), default=0) < 2**31:
-            many = text_of([form[0], padded(rng, form[1]), *form[2:]])
-            due = joined(due_by_plain(many))
+        if max((operation[1] for session in form[1] for operation in session), default=0) < MOST_KEY - LEAST_LONG:
+            many_sessions = text_of([form[0], padded(rng, form[1]), *form[2:]])
+            due = joined(due_by_plain(many_sessions))
             if "unknown" not in due:
-                lines, longer, dues = [*lines, text_of(form)], [*longer, many], [*dues, due]
+                lines.append(text_of(form))
+                longer.append(many_sessions)
+                dues.append(due)
     short, words = answers(program, ["judge"], lines), ["judge", "--long"]
     for data, found, before, due in zip(longer, answers(program, words, longer), short, dues):
         yield Case([*words, "--lines"], data, without_kind(found), without_kind(before))
@@ -374,13 +380,14 @@ def together(program):
 
 def of_full_size(program):
     """A million operations, with what is sure of them, and as many empty sessions as an input has room for."""
-    words = ["judge", "--long"]
+    words, times = ["judge", "--long"], UNPROVED_TIMES if is_unproved(program) else 1
     data = b'["memory",[' + b"[]," * (EMPTY_SESSIONS - 1) + b"[]]]"
-    yield Case(words, data, outcome(program, words, data, READING_SECONDS), (0, MET, ""))
+    yield Case(words, data, outcome(program, words, data, times * READING_SECONDS), (0, MET, ""))
     for store, sessions, keys, fault, width in MILLIONS:
-        run = long_runs.history(store, sessions, MILLION, keys, 1, fault, width)
-        data = "".join(long_runs.pieces(run)).encode()
-        found, lines = outcome(program, words, data, MILLION_SECONDS), long_runs.sure_lines(store, fault)
+        options = ["--fault", fault, "--width", str(width)] if fault else []
+        made = [sys.executable, long_runs.__file__, *options, store, *map(str, (sessions, MILLION, keys, 1))]
+        data = subprocess.run(made, stdout=subprocess.PIPE, check=True).stdout
+        found, lines = outcome(program, words, data, times * MILLION_SECONDS), long_runs.sure_lines(store, fault)
         yield Case(words, data, sure_of(found, lines), (lines, True))
 
 
