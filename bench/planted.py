@@ -1,11 +1,11 @@
-"""Operations that show a kind of pattern in a memory history to which they are added, whatever else is there.
+"""Faults: operations that show a kind of pattern in whatever memory history they are added to.
 
-A fault is a width and operations for some sessions, all of new keys: some at the beginning of a session, before all else, and some at its
-end. What is read at a beginning is written at one. So, where the history has no cyclic causal order, only CyclicCO makes one, and
-nothing of the history is between two operations of a beginning and before one of them. Wide faults go through many sessions, or
-take as many steps to derive.
+A fault adds operations of new keys to some sessions, at the beginning of a session, before all else, or at its end. What is read at a
+beginning is written at one, but for CyclicCO. So these operations make no other cycle of causal order, and nothing else in the history
+comes before an operation at a beginning. A wide fault goes through that many sessions, or takes that many steps to derive.
 
-An operation is a word, a key and a value; a fault is two lists, of what is added at the beginnings and at the ends of sessions.
+An operation is a word, a key and a value. A function below gives two lists: what some sessions have at their beginnings, and what they
+have at their ends.
 """
 
 CRITERIA = ("cc", "cm", "ccv")
@@ -29,11 +29,12 @@ def thin_air_read(_):
 
 
 def passed_on(width):
-    """So many sessions each read what the one before wrote, the first one a write that follows that of key 0, and write it on."""
+    """The first session writes key 0, and then key 1. Each of the next ones reads what the one before wrote last, and writes the next key."""
     return [[w(0), w(1)]], [[]] + [[r(i), w(i + 1)] for i in range(1, width + 1)]
 
 
 def write_co_init_read(width):
+    """The last session reads the initial value of key 0."""
     beginnings, ends = passed_on(width)
     return beginnings, [*ends, [r(width + 1), r(0, 0)]]
 
@@ -46,9 +47,10 @@ def write_co_read(width):
 
 
 def ladder(width, early, late):
-    """Two sessions write the keys 1, 2 and so on with 1 and with 2. A third reads 2 of each but the last; before that it reads a mark behind
-    the 2 of the next key. At its end it sees all that the first session wrote, and reads the 2 of the last key: so the 1 of the last
-    key comes before the 2, hence the same of the key before it, and so on to key 1. `early` is read behind what shows the 2 of key 1."""
+    """One session writes 1 to the keys 1, 2 and so on, and another one 2. A third reads the 2 of each key but the last, and before each of
+    these reads a mark that the second session wrote after the 2 of the next key. At its end the third sees all that the first wrote, and
+    reads the 2 of the last key. So the 1 of the last key comes before its 2, hence that of the key before it, and so on down to key 1.
+    `early` is read once the 2 of key 1 has been seen, and `late` at the end."""
     first = [w(0), *(w(i) for i in range(1, width + 1)), w(width + 1)]
     second = [w(1, 2)] + [step for i in range(2, width + 1) for step in (w(i, 2), w(width + i))]
     steps = [step for i in range(1, width) for step in (r(width + i + 1), r(i, 2))] or [r(1, 2)]
@@ -67,19 +69,19 @@ def cyclic_hb(width):
 
 
 def ring(width):
-    """Sessions that each write 2 under a key, and then 1 under the next one and a mark."""
+    """Each session writes 2 to a key, then 1 to the next key, and then a mark."""
     return [[w(i, 2), w((i + 1) % width), w(width + i)] for i in range(width)]
 
 
 def cyclic_both(width):
-    """One session sees all, and reads the 2 of each key."""
+    """One session sees all marks, and then reads the 2 of each key."""
     if width == 1:
         return [[w(0)], [w(0, 2)]], [[], [], [r(0), r(0, 2), r(0)]]
     return ring(width), [[]] * width + [[r(width + i) for i in range(width)] + [r(i, 2) for i in range(width)]]
 
 
 def cyclic_cf(width):
-    """For each key a session reads the 2, behind what shows the 1."""
+    """For each key a session reads the 2, after a mark that shows the 1."""
     if width == 1:
         return [[w(0), w(1)], [w(0, 2), w(2)]], [[], [], [r(1), r(0, 2)], [r(2), r(0)]]
     return ring(width), [[]] * width + [[r(width + i), r((i + 1) % width, 2)] for i in range(width)]
