@@ -8,7 +8,7 @@ RANGES = {"--workers": range(1, 17), "--seals": range(9), "--stop": range(16)}
 WITH_VALUE = (*RANGES, "--expect")
 FORMS = ((), ("--json",), ("--certificates", "--json"), ("--svg",))
 OPTIONS = {
-    "judge": ("--workers", "--expect"),
+    "judge": ("--workers", "--expect", "--long"),
     "check": ("--workers",),
     "explain": ("--json", "--certificates", "--svg"),
     "refute": (),

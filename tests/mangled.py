@@ -202,6 +202,8 @@ def answer_due(order, data):
         return reading.line_of_refute(data)
     if order["command"] == "drive":
         reading.read_driven(data, order.get("--stop"))
+    elif "--long" in order:
+        reading.read_long(data)
     else:
         reading.read_history(reading.read_text(data))
     return None

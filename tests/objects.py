@@ -143,11 +143,11 @@ def fits(call, ret):
     return (call[0] in UPDATES) == (type(ret) is str)
 
 
-def is_start(name, value):
-    """Whether the value is a table of initial values: of a memory, with rising keys, and none of them 0."""
+def is_start(name, value, most=MOST_ENTRIES):
+    """Whether the value is a table of initial values: of a memory, with rising keys, none of them 0, and so many entries at most."""
     return (
         name == "memory"
-        and 1 <= len(value) <= MOST_ENTRIES
+        and 1 <= len(value) <= most
         and all(type(entry) is list and len(entry) == 2 for entry in value)
         and all(is_number(key, MOST_KEY) and is_number(initial) and initial != 0 for key, initial in value)
         and all(before[0] < after[0] for before, after in zip(value, value[1:]))

@@ -1,17 +1,29 @@
 """Reads the inputs of `judge`, `check`, `refute` and `drive` in a plain way, and refuses them in the order in which they are read.
 
 It knows the form of a report too, and nothing of the program: what it says follows docs/definitions.md and the table of refusals in
-docs/guide.md.
+docs/guide.md. `judge --long` reads a memory alone, without a limit on sessions, on operations and on the entries of a table.
 """
 
+import math
 import re
+from typing import NamedTuple
 
 import recheck
-from objects import KEYED, OBJECTS, UNKNOWN, State, is_call, is_return, is_start, fits, split
+from objects import KEYED, MOST_ENTRIES, OBJECTS, UNKNOWN, State, is_call, is_return, is_start, fits, split
 from patterns import AGAINST, CRITERIA, MemoryHistory, is_pattern, shows
 from replay import MOST_BYTES, PLACES, Refused, is_certificate, read_json
 
-MOST_SESSIONS = 16
+
+class Limits(NamedTuple):
+    """How many sessions a history has at most, operations each of them, and entries its table."""
+
+    sessions: float
+    operations: float
+    entries: float
+
+
+SMALL = Limits(16, PLACES, MOST_ENTRIES)
+LONG = Limits(math.inf, math.inf, math.inf)
 ANSWER = rf"(yes|no ({'|'.join(AGAINST)})|unknown( \d+\.\d+)?)"
 REPORT = re.compile(rf"cc {ANSWER}\ncm {ANSWER}\nccv {ANSWER}\n")
 
@@ -29,11 +41,11 @@ def is_operation(name, form):
     return is_return(name, ret) and fits(call, ret)
 
 
-def read_session(name, s, forms):
-    """The calls of a session with their returns."""
+def read_session(name, s, forms, most):
+    """The calls of a session with their returns: so many at most."""
     if type(forms) is not list:
         raise Refused(2)
-    if len(forms) > PLACES:
+    if len(forms) > most:
         raise Refused(7)
     operations = []
     for i, form in enumerate(forms):
@@ -46,21 +58,33 @@ def read_session(name, s, forms):
     return operations
 
 
-def read_history(value):
-    """The object, the table of initial values and the sessions of a history."""
+def read_history(value, objects=OBJECTS, limits=SMALL):
+    """The object, which is one of these, the table of initial values and the sessions of a history within limits."""
     if type(value) is not list or len(value) not in (2, 3):
         raise Refused(2)
     name, *lists = value
     if type(name) is not str or not all(type(part) is list for part in lists):
         raise Refused(2)
-    if name not in OBJECTS:
+    if name not in objects:
         raise Refused(3)
-    if len(lists[0]) > MOST_SESSIONS:
+    if len(lists[0]) > limits.sessions:
         raise Refused(6)
-    sessions = [read_session(name, s, forms) for s, forms in enumerate(lists[0])]
-    if lists[1:] and not is_start(name, lists[1]):
+    sessions = [read_session(name, s, forms, limits.operations) for s, forms in enumerate(lists[0])]
+    if lists[1:] and not is_start(name, lists[1], limits.entries):
         raise Refused(29)
     return name, lists[1] if lists[1:] else [], sessions
+
+
+def read_long(data):
+    """The table of initial values and the sessions of a memory, as `judge --long` reads it."""
+    _, start, sessions = read_history(read_text(data), ("memory",), LONG)
+    return start, sessions
+
+
+def is_small(start, sessions):
+    """Whether a history is within the limits of `judge`."""
+    most = max(map(len, sessions), default=0)
+    return len(sessions) <= SMALL.sessions and most <= SMALL.operations and len(start) <= SMALL.entries
 
 
 def read_text(data):

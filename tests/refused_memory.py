@@ -46,6 +46,13 @@ REPEATED = '["memory",[[["w",0,1],["r",0,0]],[["w",3,1]],[["w",3,1]]]]'
 POPS = '["queue",[[["push",5]],[["pop",5],["pop",null]]]]'
 LOGGED = "\n".join((PLAIN, "[]", STALE, '["memory"', POPS, AGAINST_CM, ""))
 
+
+def long(text):
+    """A history with more sessions than `judge` takes."""
+    return text.removesuffix("]]") + ",[]" * 16 + "]]"
+
+
+
 # A command, an input, and a text in its usual answer.
 INPUTS = (
     ("judge", PLAIN, YES),
@@ -65,6 +72,15 @@ INPUTS = (
     ("judge", '["queues",[[["push",1,5],["pop",1,5]],[["pop",1,null]]]]', YES),
     ("judge --expect cc,ccv", AGAINST_CCV, "cc yes\ncm yes\nccv no CyclicCF\n"),
     ("judge --lines", LOGGED, "cc yes; cm yes; ccv yes\nrefused 2\ncc no WriteCORead"),
+    ("judge --long", PLAIN, YES),
+    ("judge --long", long(PLAIN), YES),
+    ("judge --long", long(STALE), "cc no WriteCORead\ncm no WriteCORead\nccv no WriteCORead\n"),
+    ("judge --long", long(AGAINST_CM), "cc yes\ncm no WriteHBInitRead\nccv yes\n"),
+    ("judge --long", long(AGAINST_CCV), "cc yes\ncm yes\nccv no CyclicCF\n"),
+    ("judge --long", long(CYCLIC), "cc yes\ncm no CyclicHB\nccv no CyclicCF\n"),
+    ("judge --long", long(REPEATED), "cc unknown\ncm unknown\nccv unknown\n"),
+    ("judge --long", long('["memory",[[["r",0,5],["w",0,1]],[["r",0,1]]]]').removesuffix("]") + ",[[0,5]]]", YES),
+    ("judge --long --lines", "\n".join((LOGGED, long(PLAIN), long(CYCLIC))), "ccv no WriteCORead\nrefused 1\nrefused 3\ncc yes; cm no WriteHBInitRead"),
     (
         "check",
         '[["queue",[[["push",5]],[["pop",5]],[["pop",5]]]],["cc",[[[1,0,0]],[[1,1,0]],[[1,0,1]]],[[[0]],[[0,1]],[[0,2]]]]]',

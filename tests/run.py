@@ -100,6 +100,10 @@ PARTS = (
     Part("full_drives_of_all", lambda given: given.of("driven", "3", given.many(0, 40), "--full"), is_long=True),
     Part("explained", lambda given: given.of("explained", "1", given.many(200, 4_000))),
     Part("lines", lambda given: given.of("lines", "1", given.many(120, 1_000))),
+    Part(
+        "long_histories",
+        lambda given: given.of("long_histories", "1", given.many(400, 20_000), given.many(60, 2_000), *given.longer()),
+    ),
     Part("million_operations", lambda given: given.of("lines", "2", "1", "--operations", given.many(0, 1_000_000)), is_long=True),
     Part("streams", lambda given: given.of("streams", "--steps", given.many(20, 50))),
     Part("refused_memory", lambda given: given.of("refused_memory"), ("cc",), is_long_unproved=True),
