@@ -7,6 +7,7 @@ pub mod Founded
 pub mod EachAnswer
 pub mod JudgeErrors
 pub mod LineAnswerLaws
+pub mod LongTruth
 pub mod ReadCallLaws
 pub mod NotRefused
 pub mod ScriptOutcomes
