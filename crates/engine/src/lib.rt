@@ -47,7 +47,8 @@ pub use checking::answer_of_certificate;
 pub use checking_alone::answer_of_certificate_alone;
 pub use collector::{Answer, Gate, OpenGate};
 pub use command_line::{
-    Delivery, Drive, Expected, Form, Judging, Length, MAX_SEALS, Order, Store, Usage, Workers, command_of,
+    Delivery, Drive, Expected, Form, Judging, Length, MAX_SEALS, Order, Store, Usage, Workers,
+    command_of,
 };
 pub use drivable::Drivable;
 pub use driving::drive_with;
@@ -60,8 +61,8 @@ pub use input::{MAX_INPUT_BYTES, read_input};
 pub use judging::report_on;
 pub use judging_alone::report_alone;
 pub use line_judge::judge_lines;
-pub use long_judging::report_on_long;
 pub use lines::{MAX_READ_CALLS, Outcome, Source};
+pub use long_judging::report_on_long;
 pub use output::write_output;
 pub use picturing::explain_as_picture;
 pub use program::status_of_process;
