@@ -7,7 +7,8 @@ PROTOTYPE is the program of the prototype, or the folder of its source: a Cargo 
 with the packages beside it that it names. The histories are those of RUNS below, by long_runs.py, of 100,000 and of a million
 operations in 16 and in 100 sessions unless others are named. They are kept in the folder that is named, and made where they are not there.
 
-Both programs read each history by one thread, in turn, N times each (3 unless given, and fewer where it takes long). The first table has of each:
+Both programs read each history by one thread, in turn, N times each (3 unless given, and fewer where it takes long). The first table has of
+each history:
 
 - the processor time of the whole process, user and system, the least of the rounds, and by how many times the program takes longer;
 - the most memory that was resident, in megabytes, and what of it is left for an operation, in bytes. The program holds its text, which is

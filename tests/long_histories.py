@@ -167,9 +167,12 @@ def same_answers(program, rng, count):
 
 
 def memories_of_cases():
-    """Each text in the tables of cases that is a memory, or what `judge` refuses instead, and each memory that stands before a claim."""
+    """Each text in the tables of cases that is a memory, or what `judge` refuses instead, and each memory that stands before a claim. The
+    cases of `--long` say themselves what is wanted."""
     for case in tables.read_tables(tables.DATA):
         words = case.commands[0]
+        if "--long" in words:
+            continue
         if words[:1] == ["judge"]:
             yield from case.input.split(b"\n") if "--lines" in words else [case.input]
         try:
@@ -309,7 +312,6 @@ REFUSED = (
     (text_of(["memory", many(["N"])]).replace(b'"N"', b"1e400"), "1"),
     (text_of(["memory", many([["w", 0, "N"]])]).replace(b'"N"', b"[" * 124 + b"]" * 124), "1"),
     (text_of(["memory", many([["w", 0, "N"]])]).replace(b'"N"', b"[" * 123 + b"]" * 123), "4 19.0"),
-    (text_of(["memory", many([])]).ljust(reading.MOST_BYTES + 1), "9"),
 )
 TABLE = [[key, key + 2] for key in range(MOST_ENTRIES + 904)]
 INITIAL = [["r", key, value] for key, value in TABLE[-3:]]
@@ -350,10 +352,16 @@ NO_COMMAND_LINE = (
 )
 
 
+def refused_inputs():
+    """Each refused input with what its line says, and one that is a byte too long."""
+    yield from REFUSED
+    yield text_of(["memory", many([])]).ljust(reading.MOST_BYTES + 1), "9"
+
+
 def single(program):
     """Refusals, long tables, statuses, and words that are no command line."""
     words = ["judge", "--long"]
-    for data, place in REFUSED:
+    for data, place in refused_inputs():
         yield Case(words, data, outcome(program, words, data), (1, "", f"refused {place}\n"))
     for form in TABLES:
         yield Case(words, text_of(form), outcome(program, words, text_of(form)), due_by_plain(text_of(form)))
@@ -369,7 +377,7 @@ def together(program):
     """Lines of all lengths, answered and refused, with the status that follows from them."""
     long_line = text_of(["memory", [[["w", key, 1] for key in range(LONG_LINE)]]])
     answered_lines = [(text_of(form), answered(text)) for form, _, _, text in STATUSES] + [(long_line, answered(MET))]
-    refused_lines = [(data, (1, "", f"refused {place}\n")) for data, place in REFUSED] + [(b"", (1, "", "refused 1\n"))]
+    refused_lines = [(data, (1, "", f"refused {place}\n")) for data, place in refused_inputs()] + [(b"", (1, "", "refused 1\n"))]
     for lines, is_refused in ((answered_lines, False), (answered_lines + refused_lines, True)):
         data = b"".join(line + b"\n" for line, _ in lines)
         due = "".join(f"{joined(answer)}\n" for _, answer in lines)
