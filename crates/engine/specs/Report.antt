@@ -107,7 +107,7 @@ abbrev pub IsLongTrueOf : AnyHistory → Criterion → Answer → Type 0
 IsLongTrueOf (histories.Memory h) criterion (No kind) = IsLongNo h criterion kind
 IsLongTrueOf history criterion answer = IsTrueOf history criterion answer
 
--- each answer is: within the limits of a history, and at any length, where a report on a history within the limits is as one on it there
+-- each answer is true; of a history within the limits it is what `judge` may say
 pub record EachIsLongTrueOf (history : AnyHistory) (report : Report) : Type 0 where
   pub each : (criterion : Criterion) → IsLongTrueOf history criterion (answer_for report criterion)
   pub within : IsAnyHistory history → EachIsTrueOf history report

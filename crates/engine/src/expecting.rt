@@ -33,7 +33,8 @@ pub fn judge_expecting<P: Threads + Wait + Sync + AllocGlobal, R: Source, W: Wri
     writer: &mut W,
     judging: Judging,
 ) -> Result<Outcome, RunError>
-    ensures judged { IfOk result (Judges judging.length judging.expected (R.remaining reader.old) (W.contents writer.old) (W.contents writer.new)) }
+    ensures judged { IfOk result (Judges judging.length judging.expected (R.remaining reader.old)
+        (W.contents writer.old) (W.contents writer.new)) }
     ensures end { OnOk result (IsAtEnd (R.remaining reader.new)) }
 
     ensures failed { IfErr result (Fails (Order.Judge judging) (R.remaining reader.old)) }

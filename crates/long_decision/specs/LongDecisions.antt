@@ -1,22 +1,23 @@
 -- What a decision says of a memory history of any length and a criterion. (This project's profile.)
-use Rattle.std.specs.Prelude.{◌≢◌}
+use Rattle.std.specs.Prelude.{◌≡◌, ◌≢◌}
 use Rattle.cert_check.specs.declared.criterion.Criterion.{Criterion}
 use Rattle.cert_check.specs.declared.criterion.Criterion.TheVariants.{Cc, Cm, Ccv}
 use Rattle.cert_check.specs.Criteria.{Meets}
 use Rattle.memory_order.specs.Memory.{MemoryHistory, IsDifferentiated, memory_answer}
 use Rattle.bad_patterns.specs.declared.kind.Kind.{Kind}
 use Rattle.bad_patterns.specs.declared.kind.Kind.TheVariants.{CyclicHB}
-use Rattle.bad_patterns.specs.Kinds.{IsTrueNo}
+use Rattle.bad_patterns.specs.Kinds.{IsFreeOf, IsTrueNo}
 use Rattle.pattern_search.specs.FirstKinds.{ComesFirst}
 use Rattle.long_decision.specs.declared.decisions.LongDecision.{LongDecision}
 use Rattle.long_decision.specs.declared.decisions.LongDecision.TheVariants as decisions
 use Rattle.long_decision.specs.declared.decisions.LongDecisions.{LongDecisions}
 
--- a no names a kind that is present; it is the first that is against the criterion and present, but that a cycle of happened-before may
--- be named where a read of an initial value that was overwritten in happened-before is present too
+-- a no names the first kind that is against the criterion and present; one exception: CyclicHB may be named although WriteHBInitRead is
+-- present too
 pub record IsLongNo (h : MemoryHistory) (criterion : Criterion) (kind : Kind) : Type 0 where
   pub excluded : IsTrueNo h criterion kind
   pub first : kind ≢ CyclicHB → ComesFirst h criterion kind
+  pub consistent : kind ≡ CyclicHB → IsFreeOf h Cc
 
 -- the history meets the criterion, or a kind excludes it, or values are not distinct
 abbrev pub IsLongDecided : MemoryHistory → Criterion → LongDecision → Type 0

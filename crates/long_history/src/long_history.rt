@@ -1,6 +1,6 @@
 //! The type of a long history.
 
-ghost use Rattle.std.specs.Prelude.{◌≡◌, ◌<◌, ◌≤◌, length, IfOk};
+ghost use Rattle.std.specs.Prelude.{◌≡◌, ◌⊎◌, ◌<◌, ◌≤◌, length, IfOk, IfErr};
 ghost use Rattle.history.specs.History.{session as operations_of};
 ghost use Rattle.long_history.specs.LongHistories.{IsLongHistory};
 ghost use Rattle.long_history.specs.Steps.{many};
@@ -44,7 +44,8 @@ impl LongHistory {
     #[tactic(auto, using(crate::proofs::Numbers::one_more))]
     pub fn of(start: Table<u64>, sessions: Rows<LongEntry>) -> Result<LongHistory, AllocError>
         requires { IsLongHistory (start, sessions) }
-        ensures { IfOk result (λ h. h ≡ (start, sessions)) }
+        ensures history { IfOk result (λ h. h ≡ (start, sessions)) }
+        ensures large { IfErr result (λ _. MAX_NUMBERS < length sessions ⊎ MAX_NUMBERS < many (start, sessions)) }
     {
         if sessions.len() > MAX_NUMBERS {
             return Err(AllocError);

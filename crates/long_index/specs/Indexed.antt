@@ -1,5 +1,5 @@
 -- The value of an index, and what its type keeps.
-use Rattle.std.specs.Prelude.{◌≡◌, ℕ, ◌<◌, List, length, Some, slice_get}
+use Rattle.std.specs.Prelude.{◌≡◌, ℕ, ◌<◌, ◌≤◌, List, length, Some, slice_get}
 use Rattle.memory_order.specs.Memory.{MemoryHistory, IsDifferentiated}
 use Rattle.long_history.specs.Steps.{many}
 use Rattle.long_index.specs.declared.part.Part.{Part}
@@ -21,3 +21,4 @@ pub record IsIndex (h : MemoryHistory) (starts sessions variables : List ℕ) (p
   pub by_key : AreVariables h variables
   pub count : length variables ≡ many h
   pub below_bound : (n x : ℕ) → slice_get variables n ≡ Some x → x < bound
+  pub few : bound ≤ many h

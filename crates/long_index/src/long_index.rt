@@ -104,14 +104,15 @@ impl<'a> LongIndex<'a> {
         self.history.operations() as u32
     }
 
-    /// Above the number of each variable.
+    /// Each variable's number is below this.
     pub fn variables(&self) -> u32
-        ensures { result ≡ self.now.bound }
+        ensures bound { result ≡ self.now.bound }
+        ensures few { result ≤ many self.now.history }
     {
         self.bound
     }
 
-    /// The number of the first operation of a session; that of the first one after it, where it has none. O(1).
+    /// The number of the session's first operation; if it has none, that of the next session's. O(1).
     pub fn start(&self, session: u32) -> u32
         requires { session < length self.now.history.1 }
         ensures number { result ≡ many_before self.now.history session }

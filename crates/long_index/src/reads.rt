@@ -43,7 +43,7 @@ pub(crate) fn parts(
     Ok(parts)
 }
 
-/// Puts what is known of the operations of a session behind that of the sessions before it.
+/// Puts what is known of the operations of a session after that of the sessions before it.
 fn push_parts(
     h: &LongHistory,
     starts: &[u32],

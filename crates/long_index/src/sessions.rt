@@ -39,7 +39,7 @@ pub(crate) fn sessions(alloc: Global, h: &LongHistory) -> Result<Vec<u32>, Alloc
     Ok(sessions)
 }
 
-/// Puts a session behind those before it, once for each of its operations.
+/// Puts a session after those before it, once for each of its operations.
 fn push_session(h: &LongHistory, session: u32, sessions: &mut Vec<u32>) -> Result<(), AllocError>
     requires exists { session < length h.now.1 }
     requires so_far { ListsEach h.now IsSessionOf (many_before h.now session) sessions.old.items }

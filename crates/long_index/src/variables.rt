@@ -26,6 +26,7 @@ impl Variables {
     pub(crate) fn of(alloc: Global, h: &LongHistory) -> Result<Variables, AllocError>
         ensures variables { IfOk result (λ found. AreVariables h.now found.by_number.items) }
         ensures count { IfOk result (λ found. length found.by_number.items ≡ many h.now) }
+        ensures few { IfOk result (λ found. found.bound ≤ many h.now) }
         ensures below { IfOk result (λ found. (n x : ℕ) → slice_get found.by_number.items n ≡ Some x → x < found.bound) }
     {
         let keys = keys(alloc, h)?;
@@ -50,7 +51,7 @@ fn keys(alloc: Global, h: &LongHistory) -> Result<Vec<u32>, AllocError>
     Ok(keys)
 }
 
-/// Puts the keys of a session behind those of the sessions before it.
+/// Puts the keys of a session after those of the sessions before it.
 fn push_keys(h: &LongHistory, session: usize, keys: &mut Vec<u32>) -> Result<(), AllocError>
     requires exists { session < length h.now.1 }
     requires so_far { ListsEach h.now (IsKeyOf h.now) (many_before h.now session) keys.old.items }

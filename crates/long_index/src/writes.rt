@@ -27,7 +27,7 @@ pub(crate) fn sorted_writes(alloc: Global, h: &LongHistory) -> Result<Vec<Write>
     Ok(writes)
 }
 
-/// Puts the writes of a session behind those of the sessions before it.
+/// Puts the writes of a session after those of the sessions before it.
 fn push_writes(h: &LongHistory, session: usize, writes: &mut Vec<Write>) -> Result<(), AllocError>
     requires exists { session < length h.now.1 }
     requires so_far { ListsWritesBefore h.now (op session 0) writes.old.items }

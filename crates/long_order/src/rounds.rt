@@ -9,7 +9,8 @@ ghost use Rattle.memory_order.specs.Relations.{ReadsFrom};
 ghost use Rattle.memory_order.specs.SourceOrder.{IsCyclic};
 ghost use Rattle.long_history.specs.Steps.{many, IsListedEdge, IsOrderBy, IsStepWith};
 ghost use Rattle.long_order.specs.Edges.{AreFromOperations, AreSortedEdges};
-ghost use Rattle.long_order.specs.Placements.{ArePassed, IsGrownFrom, IsNumberPlaced, IsPassed, IsPlaced, IsPlacement, IsReady, IsUnfinished, IsWaiting, next_of};
+ghost use Rattle.long_order.specs.Placements.{ArePassed, IsGrownFrom, IsNumberPlaced, IsPassed, IsPlaced, IsPlacement, IsReady};
+ghost use Rattle.long_order.specs.Placements.{IsUnfinished, IsWaiting, next_of};
 ghost use Rattle.long_order.specs.Sessions.{AreStuck, AreUnfinished, IsGoneThrough, IsStuck};
 
 use long_index::LongIndex;

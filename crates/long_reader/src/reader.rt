@@ -48,9 +48,9 @@ fn read_bytes(alloc: Global, text: &[u8]) -> Result<Parts, ReadError>
 
 /// The memory history whose form the text is, as JSON: any number of sessions, each with any number of operations.
 ///
-/// `NotJson` where `serde_json` refuses the text, else the first refusal of its value: of its shape, of its name, which is `memory`, of each
-/// session in order, and of the start at last. `Memory` where an allocation was refused, or where there are more operations or sessions than
-/// [`long_history::MAX_NUMBERS`]. O(n) for a text of n bytes, and beside the text it takes memory for the operations alone.
+/// `NotJson` where `serde_json` refuses the text, else the first refusal of its value: of its shape, of its name, which is `memory`, of
+/// each session in order, and of the start at last. `Memory` where an allocation was refused, or where there are more operations or
+/// sessions than [`long_history::MAX_NUMBERS`]. O(n) for a text of n bytes, and beside the text it takes memory for the operations alone.
 pub fn read_long(alloc: Global, text: &[u8]) -> Result<LongHistory, ReadError>
     ensures is_history { IfOk result IsLongHistory }
     ensures form { IfOk result (λ h. IsJson text.now (form_of (AnyHistory.Memory h))) }

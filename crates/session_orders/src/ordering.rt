@@ -26,7 +26,7 @@ pub enum SessionOrder {
 }
 
 /// Whether each session has an order of what is before its last operation, in which each of its known reads reads what was last
-/// written to its variable; else why the first session that has none has none.
+/// written to its variable; otherwise, which kind shows that some session has none.
 ///
 /// `order` is an order of all operations that program order and the sources make, and no known read lacks its source. Fails for want of
 /// memory alone. O(n k) for n operations in k sessions with operations, and O(n + k) numbers of memory for k sessions in all.
@@ -53,7 +53,7 @@ pub fn order_sessions(
     Ok(SessionOrder::Explained)
 }
 
-/// The same of one session, where nothing is left; if it is explained, nothing is left then.
+/// Orders one session. Nothing is left before, nor after if it is explained.
 fn order_session(
     index: &LongIndex,
     order: &[u32],

@@ -50,7 +50,7 @@ impl Turns {
     }
 }
 
-/// Lists a session behind those before it, if it has operations.
+/// Lists a session after those before it, if it has operations.
 fn list_session(index: &LongIndex, session: u32, sessions: &mut Vec<u32>) -> Result<(), AllocError>
     requires exists { session < length index.now.history.1 }
     requires before { ListsSessions index.now.history session sessions.old.items }

@@ -3,7 +3,7 @@ use Rattle.std.proofs.Common.{refl}
 use Rattle.bad_patterns.specs.Kinds.{IsPresent}
 use Rattle.bad_patterns.specs.declared.kind.Kind.TheVariants.{CyclicCF}
 use Rattle.cert_check.specs.declared.criterion.Criterion.TheVariants.{Ccv}
-use Rattle.long_decision.proofs.Consistent.{convergent_meets}
+use Rattle.long_decision.proofs.Consistent.{convergent_meets, free-consistent}
 use Rattle.long_decision.proofs.Firsts.{first_conflict}
 use Rattle.long_decision.proofs.deciding.decide_convergence.Goals as goal
 
@@ -24,4 +24,5 @@ returns-else-branch c =
         not_met = c.present_kinds_exclude_criteria.ensures h Ccv CyclicCF refl present;
       };
       first = λ _. first_conflict h c.requires.consistent;
+      consistent = λ _. free-consistent h c.requires.consistent;
     }

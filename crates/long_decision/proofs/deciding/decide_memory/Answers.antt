@@ -4,6 +4,7 @@ use Rattle.bad_patterns.specs.declared.kind.Kind.TheVariants.{CyclicHB, WriteHBI
 use Rattle.cert_check.specs.declared.criterion.Criterion.TheVariants.{Cm}
 use Rattle.session_orders.specs.SessionOrders.{AreOrdered}
 use Rattle.session_orders.specs.declared.ordering.SessionOrder.{SessionOrder}
+use Rattle.long_decision.proofs.Consistent.{free-consistent}
 use Rattle.long_decision.proofs.Firsts.{first_overwritten}
 use Rattle.long_decision.proofs.deciding.decide_memory.Goals as goal
 
@@ -19,6 +20,7 @@ returns-in-StartOverwritten c =
         not_met = c.present_kinds_exclude_criteria.ensures h Cm WriteHBInitRead refl present;
       };
       first = λ _. first_overwritten h c.requires.consistent;
+      consistent = λ _. free-consistent h c.requires.consistent;
     }
 
 pub returns-in-Cyclic : goal.returns-in-Cyclic
@@ -33,4 +35,5 @@ returns-in-Cyclic c =
         not_met = c.present_kinds_exclude_criteria.ensures h Cm CyclicHB refl present;
       };
       first = λ other. absurd (other refl);
+      consistent = λ _. free-consistent h c.requires.consistent;
     }

@@ -19,7 +19,7 @@ of-requires c =
     parts_are_history found.0 (c.in_ok-start.start, c.in_ok-start.sessions) found.2
 
 pub returns-clause-form : goal.returns-clause-form
-returns-clause-form c = json_form c.args.text.now (c.in_ok-start.start, c.in_ok-start.sessions) c.in_ok-of.field-0 c.in_ok-start.ensures.read c.in_ok-of.ensures
+returns-clause-form c = json_form c.args.text.now (c.in_ok-start.start, c.in_ok-start.sessions) c.in_ok-of.field-0 c.in_ok-start.ensures.read c.in_ok-of.ensures.history
 
 pub returns-clause-only : goal.returns-clause-only
-returns-clause-only c = λ h is json. c.in_ok-of.ensures ∙ only_history c.args.text.now h is json (c.in_ok-start.start, c.in_ok-start.sessions) c.in_ok-start.ensures.read
+returns-clause-only c = λ h is json. c.in_ok-of.ensures.history ∙ only_history c.args.text.now h is json (c.in_ok-start.start, c.in_ok-start.sessions) c.in_ok-start.ensures.read

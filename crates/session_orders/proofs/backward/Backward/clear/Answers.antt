@@ -32,8 +32,8 @@ returns c =
       sizes = record {
         ends = ap (λ (xs : List ℕ). length xs) ends ∙ length-replicate {A = ℕ} c.sessions.result 0 ∙ c.sessions.ensures.count;
         readers = ap (λ (xs : List ℕ). length xs) readers ∙ length-replicate {A = ℕ} c.operations.result 0 ∙ c.operations.ensures.count;
-        writes = ap (λ (xs : List ℕ). length xs) writes ∙ length-replicate {A = ℕ} c.variables.result 0 ∙ c.variables.ensures;
-        locks = size_locks ∙ c.variables-2.ensures;
+        writes = ap (λ (xs : List ℕ). length xs) writes ∙ length-replicate {A = ℕ} c.variables.result 0 ∙ c.variables.ensures.bound;
+        locks = size_locks ∙ c.variables-2.ensures.bound;
       };
       none = λ t is_open. (let zero = of_ends t in omega arith);
       zero = record {
