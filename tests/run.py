@@ -102,7 +102,7 @@ PARTS = (
     Part("lines", lambda given: given.of("lines", "1", given.many(120, 1_000))),
     Part(
         "long_histories",
-        lambda given: given.of("long_histories", "1", given.many(400, 20_000), given.many(60, 2_000), *given.longer()),
+        lambda given: given.of("long_histories", "1", given.many(4_000, 20_000), given.many(400, 2_000), *given.longer()),
     ),
     Part("million_operations", lambda given: given.of("lines", "2", "1", "--operations", given.many(0, 1_000_000)), is_long=True),
     Part("streams", lambda given: given.of("streams", "--steps", given.many(20, 50))),
