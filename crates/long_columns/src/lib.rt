@@ -1,8 +1,8 @@
 //! Which operations of a session are before and after each operation in the causal order, and what that shows.
 //!
 //! [`sweep`] makes a column for each session that writes, two numbers an operation, and finds by it which writes overwrote what reads after
-//! them returned, and which writes conflict; [`is_convergent`] says whether the conflicts make a cycle. It stands on long_order. Both serve
-//! to decide causal consistency and causal convergence of long histories.
+//! them returned, and which writes conflict; [`is_convergent`] says whether the conflicts make a cycle. Both serve to decide causal
+//! consistency and causal convergence of long histories. The crate uses long_order.
 #![tactic(auto)]
 
 mod convergence;

@@ -75,8 +75,8 @@ pub(crate) fn sweep_column(
     overwritten
 }
 
-/// Brings the table of last writes from one place of the session to another: on from there, or from the session's start if that place is
-/// behind it.
+/// Moves the table of last writes from one place of the session to another. It goes on from the first place, or from the session's
+/// start when the other place comes earlier.
 fn advance(index: &LongIndex, start: u32, at: u32, to: u32, last: &mut Vec<u32>)
     requires from { start ≤ to }
     requires within { to ≤ many index.now.history }

@@ -65,7 +65,7 @@ fn writing_sessions(alloc: Global, index: &LongIndex) -> Result<Vec<u32>, AllocE
     Ok(sessions)
 }
 
-/// Adds a session to a list, unless it stands there last.
+/// Adds a session to a list, unless the list ends with it.
 fn add_session(sessions: &mut Vec<u32>, session: u32) -> Result<(), AllocError>
     ensures added { OnOk result ((k : ℕ) × (slice_get sessions.new.items k ≡ Some session)) }
     ensures others { OnOk result ((k t : ℕ) → slice_get sessions.new.items k ≡ Some t
