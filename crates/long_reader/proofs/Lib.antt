@@ -1,5 +1,6 @@
 mod CutEntries
 mod Elements
+mod FirstForms
 pub mod LongForms
 mod LongTables
 mod OperationsRead

@@ -210,7 +210,7 @@ start_not None is = absurd cc
 start_not (Some start) is = absurd cc
 
 -- a value is JSON
-value_not : (found : Option (List ℕ × List Data × List Data)) → parts_refusal found ≢ Some errors.NotJson
+pub value_not : (found : Option (List ℕ × List Data × List Data)) → parts_refusal found ≢ Some errors.NotJson
 value_not None is = absurd cc
 value_not (Some p) is =
     or_not (name_refusal p.0) (option_or (sessions_refusal p.1) (start_refusal (start_of p.2))) (name_not _)

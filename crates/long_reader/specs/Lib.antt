@@ -1,3 +1,4 @@
+pub mod FirstOfList
 pub mod LongRefusals
 pub mod Small
 pub mod Steps

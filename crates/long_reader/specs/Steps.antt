@@ -124,3 +124,22 @@ IsWhole text result = (d : Data) × (read text ≡ Some d) × AreParts (parts_of
 -- it is JSON with these parts
 abbrev pub IsJsonOf : List ℕ → List (ℕ × ℕ) × List (List Entry) → Type 0
 IsJsonOf text p = (d : Data) × IsJson text d × ArePartsOf (parts_of d) p
+
+-- ---- a history that is the first element of a list
+
+-- the first of these elements has these parts, or there is none
+abbrev pub IsFirst : List Data → Result (List (ℕ × ℕ) × List (List Entry)) ReadError → Type 0
+IsFirst [] result = result ≡ Err BadShape
+IsFirst (d ∷ ds) result = AreParts (parts_of d) result
+
+abbrev pub IsFirstIn : Option (List Data) → Result (List (ℕ × ℕ) × List (List Entry)) ReadError → Type 0
+IsFirstIn None result = result ≡ Err BadShape
+IsFirstIn (Some ds) result = IsFirst ds result
+
+-- a text is a list whose first element has these parts
+abbrev pub IsWholeList : List ℕ → Result (List (ℕ × ℕ) × List (List Entry)) ReadError → Type 0
+IsWholeList text result = (d : Data) × (read text ≡ Some d) × IsFirstIn (elements d) result
+
+-- it is JSON of such a list
+abbrev pub IsJsonList : List ℕ → List (ℕ × ℕ) × List (List Entry) → Type 0
+IsJsonList text p = (d : Data) × IsJson text d × IsFirstIn (elements d) (Ok p)

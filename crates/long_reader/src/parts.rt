@@ -95,6 +95,7 @@ pub(crate) fn read_history(
     requires { 2 < depth }
     ensures read { IfOk result
         (λ r. IsList (λ ds. AreParts (parts_in ds) r) depth (token_of token.entry ∷ reader.old) reader.new) }
+    ensures shorter { OnOk result (length reader.new ≤ length reader.old) }
     ensures refused { IfErr result (IsRefused depth (token_of token.entry ∷ reader.old)) }
 {
     if let Token::BeginArray = token {
