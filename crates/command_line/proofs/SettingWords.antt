@@ -15,7 +15,7 @@ use Rattle.command_line.specs.declared.settings.CommandName.TheVariants as comma
 use Rattle.command_line.specs.declared.settings.Setting.{Setting}
 use Rattle.command_line.specs.declared.settings.Setting.TheVariants as settings
 use Rattle.command_line.specs.Expected.{Lists}
-use Rattle.command_line.specs.Numerals.{Writes}
+use Rattle.command_line.specs.Numerals.{IsListed, Writes}
 use Rattle.command_line.specs.Options.{SaysAlone, SaysTogether, command_word}
 use Rattle.command_line.specs.Steps.BareWords.{IsNoBareWord}
 use Rattle.command_line.proofs.Names.{list-read, listed}
@@ -42,6 +42,7 @@ setting_of word value =
     if mark word == 101115045 then settings.Seals (number_in value) else
     if mark word == 111119045 then settings.Workers (number_in value) else
     if mark word == 116115045 then settings.Stop (number_in value) else
+    if mark word == 108097045 then settings.All (number_in value) else
     settings.Expect (listed value)
 
 abbrev value_of : Text → Text
@@ -59,12 +60,14 @@ alone-read settings.Svg w says = ap (λ v. setting_of v (value_of v)) says
 alone-read (settings.Seals n) w says = ap (λ v. setting_of v (value_of v)) says.1 ∙ ap settings.Seals says.2.1
 alone-read (settings.Workers n) w says = ap (λ v. setting_of v (value_of v)) says.1 ∙ ap settings.Workers says.2.1
 alone-read (settings.Stop n) w says = ap (λ v. setting_of v (value_of v)) says.1 ∙ ap settings.Stop says.2.1
+alone-read (settings.All n) w says = ap (λ v. setting_of v (value_of v)) says.1 ∙ ap settings.All says.2.1
 alone-read (settings.Expect e) w says = ap (λ v. setting_of v (value_of v)) says.1 ∙ ap settings.Expect (sym (list-read says.0 e says.2))
 
 together-read : (s : Setting) (w value : Text) → SaysTogether s w value → setting_of w value ≡ s
 together-read (settings.Seals n) w value says = ap (λ v. setting_of v value) says.0 ∙ ap settings.Seals says.1.1
 together-read (settings.Workers n) w value says = ap (λ v. setting_of v value) says.0 ∙ ap settings.Workers says.1.1
 together-read (settings.Stop n) w value says = ap (λ v. setting_of v value) says.0 ∙ ap settings.Stop says.1.1
+together-read (settings.All n) w value says = ap (λ v. setting_of v value) says.0 ∙ ap settings.All says.1.1
 together-read (settings.Expect e) w value says = ap (λ v. setting_of v value) says.0 ∙ ap settings.Expect (sym (list-read value e says.1))
 together-read (settings.Store store) w value says = absurd says
 together-read settings.Eager w value says = absurd says
@@ -84,7 +87,8 @@ together_once s t w value says also = sym (together-read s w value says) ∙ tog
 -- what one word says, no two words say
 abbrev names_option : Text → Bool
 names_option word =
-    pointwise nat_eq (codes "--seals") word || (pointwise nat_eq (codes "--workers") word || (pointwise nat_eq (codes "--stop") word || pointwise nat_eq (codes "--expect") word))
+    pointwise nat_eq (codes "--seals") word || (pointwise nat_eq (codes "--workers") word || (pointwise nat_eq (codes "--stop") word
+    || (pointwise nat_eq (codes "--expect") word || pointwise nat_eq (codes "--all") word)))
 
 alone-no-option : (s : Setting) (w : Text) → SaysAlone s w → names_option w ≡ false
 alone-no-option (settings.Store Causal) w says = ap names_option says
@@ -99,12 +103,14 @@ alone-no-option (settings.Seals n) w says = ap names_option says.1
 alone-no-option (settings.Workers n) w says = ap names_option says.1
 alone-no-option (settings.Stop n) w says = ap names_option says.1
 alone-no-option (settings.Expect n) w says = ap names_option says.1
+alone-no-option (settings.All n) w says = ap names_option says.1
 
 together-option : (s : Setting) (w value : Text) → SaysTogether s w value → names_option w ≡ true
 together-option (settings.Seals n) w value says = ap names_option says.0
 together-option (settings.Workers n) w value says = ap names_option says.0
 together-option (settings.Stop n) w value says = ap names_option says.0
 together-option (settings.Expect n) w value says = ap names_option says.0
+together-option (settings.All n) w value says = ap names_option says.0
 together-option (settings.Store store) w value says = absurd says
 together-option settings.Eager w value says = absurd says
 together-option settings.Lines w value says = absurd says
@@ -146,6 +152,11 @@ no_expect w list is none s says =
     let so : SaysAlone (settings.Expect (listed list)) w = alone_as w (codes "--expect=" ++ list) s is says in
     none (listed list) (subst (λ (t : Text). Lists t (listed list)) (ap value_of (sym so.1 ∙ is)) so.2)
 
+pub no_all : (w number : Text) → w ≡ codes "--all=" ++ number → ((n : ℕ) → IsListed n → ¬ Writes number n) → (s : Setting) → ¬ SaysAlone s w
+no_all w number is none s says =
+    let so : SaysAlone (settings.All (number_in number)) w = alone_as w (codes "--all=" ++ number) s is says in
+    none (number_in number) so.3 (same_numeral so.0 number (number_in number) (ap value_of (sym so.1 ∙ is)) so.2)
+
 -- the name of an option says nothing with a value that the option does not take
 pub no_seals_behind : (w number : Text) → w ≡ codes "--seals" → ((n : ℕ) → n ≤ MAX_SEALS → ¬ Writes number n) → (s : Setting) → ¬ SaysTogether s w number
 no_seals_behind w number is none s says =
@@ -163,39 +174,47 @@ pub no_expect_behind : (w list : Text) → w ≡ codes "--expect" → ((e : Expe
 no_expect_behind w list is none s says =
     let so : SaysTogether (settings.Expect (listed list)) w list = together_as w (codes "--expect") list s is says in none (listed list) so.1
 
+pub no_all_behind : (w number : Text) → w ≡ codes "--all" → ((n : ℕ) → IsListed n → ¬ Writes number n) → (s : Setting) → ¬ SaysTogether s w number
+no_all_behind w number is none s says =
+    let so : SaysTogether (settings.All (number_in number)) w number = together_as w (codes "--all") number s is says in none (number_in number) so.2 so.1
+
 -- a word that is none of those that say something, says nothing
 pub no_alone : (w : Text) → IsNoBareWord w → ((number : Text) → w ≢ codes "--seals=" ++ number) → ((number : Text) → w ≢ codes "--workers=" ++ number)
-    → ((list : Text) → w ≢ codes "--expect=" ++ list) → ((number : Text) → w ≢ codes "--stop=" ++ number) → (s : Setting) → ¬ SaysAlone s w
-no_alone w bare _ _ _ _ (settings.Store Causal) says = bare.causal says
-no_alone w bare _ _ _ _ (settings.Store Lamport) says = bare.lamport says
-no_alone w bare _ _ _ _ settings.Eager says = bare.eager says
-no_alone w bare _ _ _ _ settings.Lines says = bare.lines says
-no_alone w bare _ _ _ _ settings.Long says = bare.long says
-no_alone w bare _ _ _ _ settings.Json says = bare.json says
-no_alone w bare _ _ _ _ settings.Certificates says = bare.certificates says
-no_alone w bare _ _ _ _ settings.Svg says = bare.svg says
-no_alone w bare is_no _ _ _ (settings.Seals n) says = is_no says.0 says.1
-no_alone w bare _ is_no _ _ (settings.Workers n) says = is_no says.0 says.1
-no_alone w bare _ _ _ is_no (settings.Stop n) says = is_no says.0 says.1
-no_alone w bare _ _ is_no _ (settings.Expect n) says = is_no says.0 says.1
+    → ((list : Text) → w ≢ codes "--expect=" ++ list) → ((number : Text) → w ≢ codes "--all=" ++ number)
+    → ((number : Text) → w ≢ codes "--stop=" ++ number) → (s : Setting) → ¬ SaysAlone s w
+no_alone w bare _ _ _ _ _ (settings.Store Causal) says = bare.causal says
+no_alone w bare _ _ _ _ _ (settings.Store Lamport) says = bare.lamport says
+no_alone w bare _ _ _ _ _ settings.Eager says = bare.eager says
+no_alone w bare _ _ _ _ _ settings.Lines says = bare.lines says
+no_alone w bare _ _ _ _ _ settings.Long says = bare.long says
+no_alone w bare _ _ _ _ _ settings.Json says = bare.json says
+no_alone w bare _ _ _ _ _ settings.Certificates says = bare.certificates says
+no_alone w bare _ _ _ _ _ settings.Svg says = bare.svg says
+no_alone w bare is_no _ _ _ _ (settings.Seals n) says = is_no says.0 says.1
+no_alone w bare _ is_no _ _ _ (settings.Workers n) says = is_no says.0 says.1
+no_alone w bare _ _ _ _ is_no (settings.Stop n) says = is_no says.0 says.1
+no_alone w bare _ _ is_no _ _ (settings.Expect n) says = is_no says.0 says.1
+no_alone w bare _ _ _ is_no _ (settings.All n) says = is_no says.0 says.1
 
-pub no_together : (w value : Text) → w ≢ codes "--seals" → w ≢ codes "--workers" → w ≢ codes "--expect" → w ≢ codes "--stop" → (s : Setting) → ¬ SaysTogether s w value
-no_together w value is_no _ _ _ (settings.Seals n) says = is_no says.0
-no_together w value _ is_no _ _ (settings.Workers n) says = is_no says.0
-no_together w value _ _ _ is_no (settings.Stop n) says = is_no says.0
-no_together w value _ _ is_no _ (settings.Expect n) says = is_no says.0
-no_together w value _ _ _ _ (settings.Store store) says = says
-no_together w value _ _ _ _ settings.Eager says = says
-no_together w value _ _ _ _ settings.Lines says = says
-no_together w value _ _ _ _ settings.Long says = says
-no_together w value _ _ _ _ settings.Json says = says
-no_together w value _ _ _ _ settings.Certificates says = says
-no_together w value _ _ _ _ settings.Svg says = says
+pub no_together : (w value : Text) → w ≢ codes "--seals" → w ≢ codes "--workers" → w ≢ codes "--expect" → w ≢ codes "--stop" → w ≢ codes "--all"
+    → (s : Setting) → ¬ SaysTogether s w value
+no_together w value is_no _ _ _ _ (settings.Seals n) says = is_no says.0
+no_together w value _ is_no _ _ _ (settings.Workers n) says = is_no says.0
+no_together w value _ _ _ is_no _ (settings.Stop n) says = is_no says.0
+no_together w value _ _ is_no _ _ (settings.Expect n) says = is_no says.0
+no_together w value _ _ _ _ is_no (settings.All n) says = is_no says.0
+no_together w value _ _ _ _ _ (settings.Store store) says = says
+no_together w value _ _ _ _ _ settings.Eager says = says
+no_together w value _ _ _ _ _ settings.Lines says = says
+no_together w value _ _ _ _ _ settings.Long says = says
+no_together w value _ _ _ _ _ settings.Json says = says
+no_together w value _ _ _ _ _ settings.Certificates says = says
+no_together w value _ _ _ _ _ settings.Svg says = says
 
 -- why a word says nothing alone, and why it says nothing with the value after it
-pub ruleset nothing_alone = (no_alone, no_seals, no_workers, no_expect, no_stop)
+pub ruleset nothing_alone = (no_alone, no_seals, no_workers, no_expect, no_all, no_stop)
 
-pub ruleset nothing_together = (no_together, no_seals_behind, no_workers_behind, no_expect_behind, no_stop_behind)
+pub ruleset nothing_together = (no_together, no_seals_behind, no_workers_behind, no_expect_behind, no_all_behind, no_stop_behind)
 
 -- a word names one command
 abbrev command_of : Text → CommandName

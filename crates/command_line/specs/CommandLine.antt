@@ -9,6 +9,7 @@ use Rattle.clap.specs.declared.error.kind.ErrorKind.TheVariants.{DisplayHelp, Di
 use Rattle.history.specs.declared.limits.TheConstants.{MAX_WORKERS}
 use Rattle.command_line.specs.Options.{IsOrder}
 use Rattle.command_line.specs.declared.drive.TheConstants.{MAX_SEALS}
+use Rattle.command_line.specs.declared.listing.TheConstants.{MAX_LISTED}
 use Rattle.history.specs.declared.limits.TheConstants.{MAX_SESSIONS}
 use Rattle.command_line.specs.declared.order.Order.{Order}
 use Rattle.command_line.specs.declared.order.Usage.{Usage}
@@ -31,7 +32,8 @@ top =
     record app { top = record app.top { subcommand_required = true; has_version = true } }
 
 -- the command `judge` takes the options `--workers N`, `--expect LIST`, `--lines` and `--long`, `check` takes `--workers N`, `explain`
--- takes `--json`, `--certificates` and `--svg`, `refute` and `replay` take none, and `drive` takes the name of a store and four options
+-- takes `--json`, `--certificates`, `--svg`, `--long` and `--all N`, `refute` takes `--long`, `replay` takes none, and `drive` takes the
+-- name of a store and four options
 abbrev pub workers : Rule
 workers = record (new_rule (codes "workers")) {
   long = Some (codes "workers");
@@ -56,15 +58,26 @@ judge = with_rule (with_rule expecting (flag (codes "lines"))) (flag (codes "lon
 abbrev pub check : App
 check = with_rule (new_app (codes "check")) workers
 
--- the command `explain` without `--svg`; and whole
+-- the command `explain` with two of its options; with four; and whole
 abbrev pub certifying : App
 certifying = with_rule (with_rule (new_app (codes "explain")) (flag (codes "json"))) (flag (codes "certificates"))
 
+abbrev pub drawing : App
+drawing = with_rule (with_rule certifying (flag (codes "svg"))) (flag (codes "long"))
+
+abbrev pub all : Rule
+all = record (new_rule (codes "all")) {
+  long = Some (codes "all");
+  action = Some Set;
+  parser = Some (Unsigned 1 MAX_LISTED);
+  value_names = 1;
+}
+
 abbrev pub explain : App
-explain = with_rule certifying (flag (codes "svg"))
+explain = with_rule drawing all
 
 abbrev pub refute : App
-refute = new_app (codes "refute")
+refute = with_rule (new_app (codes "refute")) (flag (codes "long"))
 
 abbrev pub replay : App
 replay = new_app (codes "replay")

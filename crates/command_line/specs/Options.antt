@@ -12,6 +12,11 @@ use Rattle.command_line.specs.declared.drive.Store.TheVariants.{Causal, Lamport}
 use Rattle.command_line.specs.declared.drive.TheConstants.{MAX_SEALS}
 use Rattle.command_line.specs.declared.form.Form.{Form}
 use Rattle.command_line.specs.declared.form.Form.TheVariants as forms
+use Rattle.command_line.specs.declared.form.LongForm.{LongForm}
+use Rattle.command_line.specs.declared.form.LongForm.TheVariants as long_forms
+use Rattle.command_line.specs.declared.form.ListForm.{ListForm}
+use Rattle.command_line.specs.declared.form.ListForm.TheVariants as list_forms
+use Rattle.command_line.specs.declared.listing.Listing.{Listing}
 use Rattle.command_line.specs.declared.judging.Judging.{Judging}
 use Rattle.command_line.specs.declared.length.Length.{Length}
 use Rattle.command_line.specs.declared.length.Length.TheVariants as lengths
@@ -23,7 +28,7 @@ use Rattle.command_line.specs.declared.settings.CommandName.TheVariants as comma
 use Rattle.command_line.specs.declared.settings.Setting.{Setting}
 use Rattle.command_line.specs.declared.settings.Setting.TheVariants as settings
 use Rattle.command_line.specs.Expected.{Lists, expecting_nothing}
-use Rattle.command_line.specs.Numerals.{Writes}
+use Rattle.command_line.specs.Numerals.{IsListed, Writes}
 
 -- the word that names a command
 abbrev pub command_word : CommandName → Text
@@ -44,6 +49,9 @@ takes commands.Check (settings.Workers n) = true
 takes commands.Explain settings.Json = true
 takes commands.Explain settings.Certificates = true
 takes commands.Explain settings.Svg = true
+takes commands.Explain settings.Long = true
+takes commands.Explain (settings.All n) = true
+takes commands.Refute settings.Long = true
 takes commands.Drive (settings.Store store) = true
 takes commands.Drive settings.Eager = true
 takes commands.Drive (settings.Seals n) = true
@@ -68,6 +76,7 @@ SaysAlone settings.Svg word = word ≡ codes "--svg"
 SaysAlone (settings.Seals n) word = (number : Text) × (word ≡ codes "--seals=" ++ number) × Writes number n × (n ≤ MAX_SEALS)
 SaysAlone (settings.Workers n) word = (number : Text) × (word ≡ codes "--workers=" ++ number) × Writes number n × AreWorkers n
 SaysAlone (settings.Stop s) word = (number : Text) × (word ≡ codes "--stop=" ++ number) × Writes number s × (s < MAX_SESSIONS)
+SaysAlone (settings.All n) word = (number : Text) × (word ≡ codes "--all=" ++ number) × Writes number n × IsListed n
 SaysAlone (settings.Expect expected) word = (list : Text) × (word ≡ codes "--expect=" ++ list) × Lists list expected
 
 -- two words say something
@@ -75,6 +84,7 @@ abbrev pub SaysTogether : Setting → Text → Text → Type 0
 SaysTogether (settings.Seals n) word number = (word ≡ codes "--seals") × Writes number n × (n ≤ MAX_SEALS)
 SaysTogether (settings.Workers n) word number = (word ≡ codes "--workers") × Writes number n × AreWorkers n
 SaysTogether (settings.Stop s) word number = (word ≡ codes "--stop") × Writes number s × (s < MAX_SESSIONS)
+SaysTogether (settings.All n) word number = (word ≡ codes "--all") × Writes number n × IsListed n
 SaysTogether (settings.Expect expected) word list = (word ≡ codes "--expect") × Lists list expected
 SaysTogether _ word value = ⊥
 
@@ -88,6 +98,7 @@ says said (settings.Stop s) = is_some said.stop
 says said (settings.Expect expected) = is_some said.expected
 says said settings.Lines = said.lines
 says said settings.Long = said.long
+says said (settings.All n) = is_some said.all
 says said settings.Json = said.json
 says said settings.Certificates = said.certificates
 says said settings.Svg = said.svg
@@ -101,6 +112,7 @@ with_setting said (settings.Stop s) = record said { stop = Some s }
 with_setting said (settings.Expect expected) = record said { expected = Some expected }
 with_setting said settings.Lines = record said { lines = true }
 with_setting said settings.Long = record said { long = true }
+with_setting said (settings.All n) = record said { all = Some n }
 with_setting said settings.Json = record said { json = true }
 with_setting said settings.Certificates = record said { certificates = true }
 with_setting said settings.Svg = record said { svg = true }
@@ -121,6 +133,7 @@ unsaid command = record {
   expected = None;
   lines = false;
   long = false;
+  all = None;
   json = false;
   certificates = false;
   svg = false;
@@ -172,6 +185,37 @@ form_of _ _ _ = None
 abbrev pub form_for : Said → Option Form
 form_for said = form_of said.json said.certificates said.svg
 
+-- the form of a reason on a history of any length: it has no certificates
+abbrev pub long_form_of : Bool → Bool → Bool → Option LongForm
+long_form_of false false false = Some long_forms.Words
+long_form_of true false false = Some long_forms.Json
+long_form_of false false true = Some long_forms.Picture
+long_form_of _ _ _ = None
+
+abbrev pub long_form_for : Said → Option LongForm
+long_form_for said = long_form_of said.json said.certificates said.svg
+
+-- the form of a list
+abbrev pub list_form_of : Bool → Bool → Bool → Option ListForm
+list_form_of false false false = Some list_forms.Words
+list_form_of true false false = Some list_forms.Json
+list_form_of _ _ _ = None
+
+abbrev pub list_form_for : Said → Option ListForm
+list_form_for said = list_form_of said.json said.certificates said.svg
+
+abbrev pub listing_of : Said → ℕ → ListForm → Listing
+listing_of said most form = record { most = most; length = length_for said; form = form }
+
+-- reads are listed where a number of them was said; else reasons are given, on a history of any length where that was said
+abbrev pub explain_of : Option ℕ → Bool → Said → Option Order
+explain_of (Some most) long said = option_map (λ form. orders.ListFaults (listing_of said most form)) (list_form_for said)
+explain_of None true said = option_map orders.ExplainLong (long_form_for said)
+explain_of None false said = option_map orders.Explain (form_for said)
+
+abbrev pub explain_for : Said → Option Order
+explain_for said = explain_of said.all said.long said
+
 -- the drive that is asked for, where a store is named: with no seal while clients run, where nothing is said
 abbrev pub delivery_for : Said → Delivery
 delivery_for said = if said.eager then deliveries.Eager else deliveries.Causal
@@ -192,8 +236,8 @@ drive_for said = option_map (drive_of said) said.store
 abbrev pub order_to : CommandName → Said → Option Order
 order_to commands.Judge said = Some (judge_for said)
 order_to commands.Check said = Some (orders.Check (workers_for said))
-order_to commands.Explain said = option_map orders.Explain (form_for said)
-order_to commands.Refute said = Some orders.Refute
+order_to commands.Explain said = explain_for said
+order_to commands.Refute said = Some (orders.Refute (length_for said))
 order_to commands.Replay said = Some orders.Replay
 order_to commands.Drive said = option_map orders.Drive (drive_for said)
 

@@ -1,9 +1,10 @@
 //! The options of commands, as `clap` is told of them.
 ghost use Rattle.std.specs.Prelude.{◌≡◌, ◌-◌, codes, false};
 ghost use Rattle.clap.specs.Words.{rule_of};
-ghost use Rattle.command_line.specs.CommandLine.{expect, flag, number_option, store, workers};
+ghost use Rattle.command_line.specs.CommandLine.{all, expect, flag, number_option, store, workers};
 
 use crate::drive::MAX_SEALS;
+use crate::listing::MAX_LISTED;
 use clap::builder::ValueParser;
 use clap::{Arg, ArgAction};
 use history::{MAX_SESSIONS, MAX_WORKERS};
@@ -88,5 +89,20 @@ pub fn stop_option<'a>(alloc: Global) -> Arg<'a>
         .value_parser(ValueParser::unsigned(0, MAX_SESSIONS as u64 - 1))
         .help(
             "The session whose client never ends its last call, from 0 to 15; none where none is given",
+        )
+}
+
+/// How many reads that show a fault are listed.
+pub fn all_option<'a>(alloc: Global) -> Arg<'a>
+    ensures rule { rule_of result ≡ all }
+    ensures local { result.global ≡ false }
+{
+    Arg::new(alloc, "all")
+        .long("all")
+        .value_name("N")
+        .action(ArgAction::Set)
+        .value_parser(ValueParser::unsigned(1, MAX_LISTED as u64))
+        .help(
+            "Lists up to N reads that show a fault, from 1 to 1000000, and counts them by kind and by session",
         )
 }

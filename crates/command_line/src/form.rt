@@ -12,3 +12,23 @@ pub enum Form {
     /// As a picture in SVG.
     Picture,
 }
+
+/// In which form a reason on a history of any length is given.
+#[derive(Clone, Copy, Debug, PartialEq, Eq)]
+pub enum LongForm {
+    /// In words.
+    Words,
+    /// As JSON.
+    Json,
+    /// As a picture in SVG.
+    Picture,
+}
+
+/// In which form reads that show a fault are listed.
+#[derive(Clone, Copy, Debug, PartialEq, Eq)]
+pub enum ListForm {
+    /// In words.
+    Words,
+    /// As JSON.
+    Json,
+}

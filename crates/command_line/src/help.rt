@@ -1,7 +1,7 @@
 //! What the help says beside the commands and their options.
 
 /// The version of the program, as in the file VERSION, and the kit that proves it.
-pub const VERSION: &str = "0.1.0 (rattle-kit-13f logic dac8208d650f15bf)";
+pub const VERSION: &str = "0.1.0 (rattle-kit-13b logic dac8208d650f15bf)";
 
 /// What the program is for.
 pub const ABOUT: &str =
@@ -10,6 +10,14 @@ pub const ABOUT: &str =
 /// What `--long` lets `judge` take.
 pub const LONG: &str =
     "Judges a memory, and no other object, with any number of sessions and operations, in the same three lines; made for 10 to 1,000 sessions";
+
+/// What `--long` lets `explain` take.
+pub const LONG_REASON: &str =
+    "Explains a memory, and no other object, with any number of sessions and operations";
+
+/// What `--long` lets `refute` take.
+pub const LONG_PATTERN: &str =
+    "Checks the pattern in a memory, and no other object, with any number of sessions and operations";
 
 /// What is read and written, with an example, and what statuses and refusals mean.
 pub const MANUAL: &str =
@@ -35,8 +43,8 @@ list of its operations in order: each is a call with what it returned.
 "?" stands for an unknown return: ["r",X,"?"], ["w",X,V,"?"]. After a call with
 an unknown return, a session may hold only more such calls. X is below 2^32, V,
 N and E are below 2^64, and there are at most 16 sessions of at most 256
-operations; judge --long has no limit on sessions and operations, and takes a
-memory only. A memory with other values at first:
+operations; judge, explain and refute with --long have no limit on sessions and
+operations, and take a memory only. A memory with other values at first:
 ["memory",SESSIONS,[[X,V],..]], X rising and V not 0.
 Write no value twice to a key: else a line is yes or unknown, and never no.
 
@@ -60,5 +68,5 @@ a line was refused, else with --expect as above for the worst of all lines.
   1 no JSON   2 no list of a name and sessions   3 unknown NAME   4 no such
   operation   5 a known return after an unknown one   6 too many sessions
   7 too many operations   9 over 64 MiB   29 bad first values
-With judge --long 6 and 7 never come, and 3 comes for any NAME but memory.
+With --long 6 and 7 never come, and 3 comes for any NAME but memory.
 The other commands have more of them: docs/guide.md tells of all."#;

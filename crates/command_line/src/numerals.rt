@@ -2,9 +2,10 @@
 
 ghost use Rattle.std.specs.Prelude.{◌<◌, ◌≤◌, ℕ, MatchOption};
 ghost use Rattle.history.specs.Workers.{AreWorkers};
-ghost use Rattle.command_line.specs.Numerals.{Writes};
+ghost use Rattle.command_line.specs.Numerals.{IsListed, Writes};
 
 use crate::drive::MAX_SEALS;
+use crate::listing::MAX_LISTED;
 use crate::workers::Workers;
 use history::MAX_SESSIONS;
 
@@ -34,6 +35,16 @@ pub fn session_in(text: &str) -> Option<usize>
 {
     match text.parse::<usize>() {
         Ok(session) if session < MAX_SESSIONS => Some(session),
+        _ => None,
+    }
+}
+
+/// The number of reads to list that a text writes.
+pub fn listed_in(text: &str) -> Option<u32>
+    ensures { MatchOption result ((n : ℕ) → IsListed n → ¬ Writes text.now n) (λ n. Writes text.now n × IsListed n) }
+{
+    match text.parse::<u32>() {
+        Ok(most) if 1 <= most && most <= MAX_LISTED => Some(most),
         _ => None,
     }
 }

@@ -4,8 +4,10 @@ ghost use Rattle.clap.specs.Words.{HasKind, fault_of, kind_of};
 ghost use Rattle.command_line.specs.CommandLine.{GivesNoOrder, IsCommandLine, IsUsageFor, IsUsageOf, command_line};
 
 use crate::drive::Drive;
-use crate::form::Form;
+use crate::form::{Form, LongForm};
 use crate::judging::Judging;
+use crate::length::Length;
+use crate::listing::Listing;
 use crate::options::order_of;
 use crate::program::program;
 use crate::workers::Workers;
@@ -25,8 +27,12 @@ pub enum Order {
     Check(Workers),
     /// Says in this form why each criterion is met or not met by the history in the input, or why that is unknown.
     Explain(Form),
-    /// Checks that the pattern in the input shows that the history in it does not meet a criterion.
-    Refute,
+    /// Says the same of the memory history in the input, which may have any length.
+    ExplainLong(LongForm),
+    /// Says it too, and lists reads of the history in the input that show a fault.
+    ListFaults(Listing),
+    /// Checks that the pattern in the input shows that the history in it, which may be that long, does not meet a criterion.
+    Refute(Length),
     /// Runs the script in the input.
     Replay,
     /// Drives a store with the calls of the history in the input.
@@ -50,8 +56,9 @@ pub enum Usage {
 /// - `judge` takes `--workers N` for a number from 1 to 16, or nothing for 2; and `--expect LIST`, where the list is one or more of
 ///   `cc`, `cm` and `ccv`, each at most once, joined by commas; and `--lines`; and `--long`.
 /// - `check` takes `--workers N`.
-/// - `explain` takes nothing, `--json`, `--json` and `--certificates`, or `--svg`.
-/// - `refute` and `replay` take nothing.
+/// - `explain` takes nothing, `--json`, `--json` and `--certificates`, or `--svg`; with `--long` besides, `--certificates` is left out;
+///   and with `--all N`, for a number from 1 to 1,000,000, `--svg` too.
+/// - `refute` takes `--long`, and `replay` takes nothing.
 /// - `drive` takes `causal` or `lamport`, which can't be left out, `--eager`, `--seals N` for a number from 0 to 8, or nothing for 0,
 ///   `--workers N`, and `--stop S` for a number from 0 to 15.
 ///

@@ -2,14 +2,15 @@
 ghost use Rattle.std.specs.Prelude.{◌≡◌, false, IfOk};
 ghost use Rattle.clap.specs.Words.{app_of};
 ghost use Rattle.clap.specs.declared.builder.Command.TheViews.{out-Command};
-ghost use Rattle.command_line.specs.CommandLine.{certifying, check, command_line, drive, explain, explaining};
+ghost use Rattle.command_line.specs.CommandLine.{certifying, check, command_line, drawing, drive, explain, explaining};
 ghost use Rattle.command_line.specs.CommandLine.{judge, judging, refute, replay};
 ghost use Rattle.command_line.specs.CommandLine.{expecting, sealing, storing};
 
 use crate::arguments::{
-    expect_option, flag_option, seals_option, stop_option, store_argument, workers_option,
+    all_option, expect_option, flag_option, seals_option, stop_option, store_argument,
+    workers_option,
 };
-use crate::help::{ABOUT, LONG, MANUAL, VERSION};
+use crate::help::{ABOUT, LONG, LONG_PATTERN, LONG_REASON, MANUAL, VERSION};
 use clap::Command;
 use std::alloc::{AllocError, Global};
 
@@ -81,10 +82,20 @@ fn explain_command<'a>(alloc: Global) -> Result<Command<'a>, AllocError>
     ensures app { IfOk result (λ command. app_of command ≡ explain) }
     ensures local { IfOk result (λ command. (out-Command command).has_globals ≡ false) }
 {
-    certifying_command(alloc)?.arg(flag_option(alloc, "svg", "Draws it as one picture"))
+    drawing_command(alloc)?.arg(all_option(alloc))
 }
 
-// The same without `--svg`.
+// The same without `--all`.
+fn drawing_command<'a>(alloc: Global) -> Result<Command<'a>, AllocError>
+    ensures app { IfOk result (λ command. app_of command ≡ drawing) }
+    ensures local { IfOk result (λ command. (out-Command command).has_globals ≡ false) }
+{
+    certifying_command(alloc)?
+        .arg(flag_option(alloc, "svg", "Draws it as one picture"))?
+        .arg(flag_option(alloc, "long", LONG_REASON))
+}
+
+// The same without `--svg` and `--long`.
 fn certifying_command<'a>(alloc: Global) -> Result<Command<'a>, AllocError>
     ensures app { IfOk result (λ command. app_of command ≡ certifying) }
     ensures local { IfOk result (λ command. (out-Command command).has_globals ≡ false) }
@@ -103,9 +114,9 @@ fn refute_command<'a>(alloc: Global) -> Result<Command<'a>, AllocError>
     ensures app { IfOk result (λ command. app_of command ≡ refute) }
     ensures local { IfOk result (λ command. (out-Command command).has_globals ≡ false) }
 {
-    Ok(Command::new(alloc, "refute").about(
-        "Reads a history, the name of a criterion and a pattern, and checks it",
-    ))
+    Command::new(alloc, "refute")
+        .about("Reads a history, the name of a criterion and a pattern, and checks it")
+        .arg(flag_option(alloc, "long", LONG_PATTERN))
 }
 
 fn replay_command<'a>(alloc: Global) -> Result<Command<'a>, AllocError>

@@ -1,14 +1,16 @@
 //! All that the words after a command say, and the order that they give.
 
 ghost use Rattle.std.specs.Prelude.{◌≡◌};
-ghost use Rattle.command_line.specs.Options.{and_also, delivery_for, drive_for, drive_of, form_for, judge_for};
-ghost use Rattle.command_line.specs.Options.{judging_for, length_for, order_for, says, unsaid, with_setting, workers_for};
+ghost use Rattle.command_line.specs.Options.{and_also, delivery_for, drive_for, drive_of, explain_for, form_for, judge_for};
+ghost use Rattle.command_line.specs.Options.{judging_for, length_for, list_form_for, listing_of, long_form_for};
+ghost use Rattle.command_line.specs.Options.{order_for, says, unsaid, with_setting, workers_for};
 
 use crate::drive::{Drive, Store};
 use crate::expected::Expected;
-use crate::form::Form;
+use crate::form::{Form, ListForm, LongForm};
 use crate::judging::Judging;
 use crate::length::Length;
+use crate::listing::Listing;
 use crate::order::Order;
 use crate::settings::{CommandName, Setting};
 use crate::workers::Workers;
@@ -26,6 +28,7 @@ pub struct Said {
     expected: Option<Expected>,
     lines: bool,
     long: bool,
+    all: Option<u32>,
     json: bool,
     certificates: bool,
     svg: bool,
@@ -46,6 +49,7 @@ impl Said {
             expected: None,
             lines: false,
             long: false,
+            all: None,
             json: false,
             certificates: false,
             svg: false,
@@ -76,6 +80,7 @@ impl Said {
             Setting::Expect(_) => self.expected.is_some(),
             Setting::Lines => self.lines,
             Setting::Long => self.long,
+            Setting::All(_) => self.all.is_some(),
             Setting::Json => self.json,
             Setting::Certificates => self.certificates,
             Setting::Svg => self.svg,
@@ -119,6 +124,10 @@ impl Said {
                 long: true,
                 ..*self
             },
+            Setting::All(most) => Said {
+                all: Some(*most),
+                ..*self
+            },
             Setting::Json => Said {
                 json: true,
                 ..*self
@@ -138,8 +147,8 @@ impl Said {
         match self.command {
             CommandName::Judge => Some(self.judge()),
             CommandName::Check => Some(Order::Check(self.workers())),
-            CommandName::Explain => Some(Order::Explain(self.form()?)),
-            CommandName::Refute => Some(Order::Refute),
+            CommandName::Explain => self.explain(),
+            CommandName::Refute => Some(Order::Refute(self.length())),
             CommandName::Replay => Some(Order::Replay),
             CommandName::Drive => Some(Order::Drive(self.drive()?)),
         }
@@ -180,6 +189,50 @@ impl Said {
         ensures { result ≡ workers_for self.now }
     {
         self.workers.unwrap_or(Workers::usual())
+    }
+
+    // The order to explain; none where what was said doesn't go together.
+    fn explain(&self) -> Option<Order>
+        ensures { result ≡ explain_for self.now }
+    {
+        match (self.all, self.long) {
+            (Some(most), _) => Some(Order::ListFaults(self.listing_of(most, self.list_form()?))),
+            (None, true) => Some(Order::ExplainLong(self.long_form()?)),
+            (None, false) => Some(Order::Explain(self.form()?)),
+        }
+    }
+
+    fn listing_of(&self, most: u32, form: ListForm) -> Listing
+        ensures { result ≡ listing_of self.now most form }
+    {
+        Listing {
+            most,
+            length: self.length(),
+            form,
+        }
+    }
+
+    // The form of a list; none where what was said doesn't go together.
+    fn list_form(&self) -> Option<ListForm>
+        ensures { result ≡ list_form_for self.now }
+    {
+        match (self.json, self.certificates, self.svg) {
+            (false, false, false) => Some(ListForm::Words),
+            (true, false, false) => Some(ListForm::Json),
+            _ => None,
+        }
+    }
+
+    // The form of a reason on a long history; none where what was said doesn't go together.
+    fn long_form(&self) -> Option<LongForm>
+        ensures { result ≡ long_form_for self.now }
+    {
+        match (self.json, self.certificates, self.svg) {
+            (false, false, false) => Some(LongForm::Words),
+            (true, false, false) => Some(LongForm::Json),
+            (false, false, true) => Some(LongForm::Picture),
+            _ => None,
+        }
     }
 
     // The form of a reason; none where what was said doesn't go together.

@@ -6,7 +6,7 @@ ghost use Rattle.command_line.specs.Steps.BareWords.{IsNoBareWord};
 
 use crate::drive::Store;
 use crate::expected::{Expected, expected_in};
-use crate::numerals::{seals_in, session_in, workers_in};
+use crate::numerals::{listed_in, seals_in, session_in, workers_in};
 use crate::workers::Workers;
 
 /// The name of a command.
@@ -45,6 +45,8 @@ pub enum Setting {
     Lines,
     /// A history may have any length.
     Long,
+    /// At most so many reads that show a fault are listed.
+    All(u32),
     /// A reason is given as JSON.
     Json,
     /// Certificates stand with it.
@@ -92,7 +94,20 @@ impl Setting {
         ensures { result ≡ takes CommandName.Explain self.now }
     {
         match self {
-            Setting::Json | Setting::Certificates | Setting::Svg => true,
+            Setting::Json
+            | Setting::Certificates
+            | Setting::Svg
+            | Setting::Long
+            | Setting::All(_) => true,
+            _ => false,
+        }
+    }
+
+    fn is_of_refute(&self) -> bool
+        ensures { result ≡ takes CommandName.Refute self.now }
+    {
+        match self {
+            Setting::Long => true,
             _ => false,
         }
     }
@@ -120,7 +135,8 @@ impl CommandName {
             CommandName::Judge => setting.is_of_judge(),
             CommandName::Check => setting.is_of_check(),
             CommandName::Explain => setting.is_of_explain(),
-            CommandName::Refute | CommandName::Replay => false,
+            CommandName::Refute => setting.is_of_refute(),
+            CommandName::Replay => false,
             CommandName::Drive => setting.is_of_drive(),
         }
     }
@@ -158,6 +174,9 @@ fn value_alone(word: &str) -> Option<Setting>
     if let Some(list) = word.strip_prefix("--expect=") {
         return Some(Setting::Expect(expected_in(list)?));
     }
+    if let Some(number) = word.strip_prefix("--all=") {
+        return Some(Setting::All(listed_in(number)?));
+    }
     match word.strip_prefix("--stop=") {
         Some(number) => Some(Setting::Stop(session_in(number)?)),
         None => None,
@@ -174,6 +193,7 @@ pub fn setting_together(word: &str, value: &str) -> Option<Setting>
         "--seals" => Some(Setting::Seals(seals_in(value)?)),
         "--workers" => Some(Setting::Workers(workers_in(value)?)),
         "--expect" => Some(Setting::Expect(expected_in(value)?)),
+        "--all" => Some(Setting::All(listed_in(value)?)),
         "--stop" => Some(Setting::Stop(session_in(value)?)),
         _ => None,
     }
