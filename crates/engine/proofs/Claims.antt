@@ -16,14 +16,17 @@ use Rattle.bad_patterns.specs.PatternForm.{form_of as pattern_form}
 use Rattle.cert_check.proofs.CriterionNames.{one_name}
 use Rattle.engine.proofs.PatternForms.{one_pattern}
 use Rattle.engine.specs.Failure.{failure_of}
-use Rattle.engine.specs.Refuting.{claim_form, claim_refusal, first_of_claim, HasNoSuchPattern, IsClaimErrorOf, IsPatternOf}
+use Rattle.command_line.specs.declared.length.Length.{Length}
+use Rattle.command_line.specs.declared.length.Length.TheVariants.{Limited}
+use Rattle.engine.specs.Lengths.{first_refusal_of}
+use Rattle.engine.specs.Refuting.{claim_form, claim_refusal, claim_refusal_at, first_of_claim, HasNoSuchPattern, IsClaimErrorOf, IsPatternOf}
 
 -- the first refusal of a list of three is that of its history
-pub refusal-claim : (d h c p : Data) → d ≡ list (h ∷ c ∷ p ∷ []) → claim_refusal (elements d) ≡ first_refusal h
-refusal-claim d h c p is = ap (λ (x : Data). claim_refusal (elements x)) is
+pub refusal-claim : (long : Length) (d h c p : Data) → d ≡ list (h ∷ c ∷ p ∷ []) → claim_refusal_at long (elements d) ≡ first_refusal_of long h
+refusal-claim long d h c p is = ap (λ (x : Data). claim_refusal_at long (elements x)) is
 
 first-of_claim : (d h c p : Data) (e : ReadError) → d ≡ list (h ∷ c ∷ p ∷ []) → IsFirst (first_refusal h) e → IsFirst (claim_refusal (elements d)) e
-first-of_claim d h c p e is first = subst (λ (o : Option ReadError). IsFirst o e) (sym (refusal-claim d h c p is)) first
+first-of_claim d h c p e is first = subst (λ (o : Option ReadError). IsFirst o e) (sym (refusal-claim Limited d h c p is)) first
 
 pub claim_refused : (d h c p : Data) (e : ReadError) → d ≡ list (h ∷ c ∷ p ∷ []) → IsFirst (first_refusal h) e → IsClaimErrorOf d (failure_of e)
 claim_refused d h c p errors.NotJson is first = absurd first

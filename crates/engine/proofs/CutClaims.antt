@@ -44,7 +44,7 @@ history_kept : (h : AnyHistory) → IsAnyHistory h → IsWholeAt (InHistory hist
 history_kept h is =
     kept_in history_places.limit_of history_places.inside_of limit_of inside_of InHistory (λ place. refl) (λ place index. refl) histories.Whole (form_of h) (any_form_is_kept h is)
 
-pattern_kept : (pattern : Pattern) → IsWholeAt (InPattern patterns.Whole) (pattern_form pattern)
+pub pattern_kept : (pattern : Pattern) → IsWholeAt (InPattern patterns.Whole) (pattern_form pattern)
 pattern_kept pattern =
     kept_in pattern_places.limit_of pattern_places.inside_of limit_of inside_of InPattern (λ place. refl) (λ place index. refl) patterns.Whole (pattern_form pattern) (form_is_kept pattern)
 

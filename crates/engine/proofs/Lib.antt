@@ -2,6 +2,7 @@ pub mod Pairs
 pub mod PatternForms
 pub mod Claims
 pub mod CutClaims
+pub mod CutLongClaims
 pub mod CutPairs
 pub mod Founded
 pub mod EachAnswer

@@ -21,12 +21,17 @@ use Rattle.cert_check.proofs.CertificateForms.{one_certificate}
 use Rattle.cert_check.specs.CriterionNames.{name_of}
 use Rattle.bad_patterns.specs.PatternForm.{form_of as pattern_form}
 use Rattle.command_line.specs.declared.order.Order.{Order}
-use Rattle.command_line.specs.declared.order.Order.TheVariants.{Judge, JudgeLines, Check, Explain, Refute, Replay, Drive}
+use Rattle.command_line.specs.declared.order.Order.TheVariants.{Judge, JudgeLines, Check, Explain, ExplainLong, ListFaults, Refute, Replay, Drive}
 use Rattle.command_line.specs.declared.drive.Drive.{Drive as Drives}
 use Rattle.command_line.specs.declared.form.Form.{Form}
 use Rattle.command_line.specs.declared.form.Form.TheVariants.{Words, Json, Certificates, Picture}
+use Rattle.command_line.specs.declared.form.LongForm.{LongForm}
+use Rattle.command_line.specs.declared.form.LongForm.TheVariants as long_forms
+use Rattle.command_line.specs.declared.form.ListForm.{ListForm}
+use Rattle.command_line.specs.declared.form.ListForm.TheVariants as list_forms
 use Rattle.command_line.specs.declared.judging.Judging.{Judging}
 use Rattle.command_line.specs.declared.length.Length.{Length}
+use Rattle.command_line.specs.declared.listing.Listing.{Listing}
 use Rattle.command_line.specs.declared.length.Length.TheVariants.{Limited, Any}
 use Rattle.command_line.specs.Expected.{expecting_nothing}
 use Rattle.engine.specs.Driving.{IsDriveError, IsDriveReport, IsUndriven, sessions_in}
@@ -34,7 +39,8 @@ use Rattle.engine.specs.declared.failure.RunError.{RunError}
 use Rattle.engine.specs.declared.failure.RunError.TheVariants.{History, Script, BadCertificate, ShapeMismatch, NotThatPattern, BadLimits, NoSuch, TooLong, Memory, ReadFault, WriteFault}
 use Rattle.engine.specs.declared.input.TheConstants.{MAX_INPUT_BYTES}
 use Rattle.engine.specs.Checking.{HasOtherShape, HasShape, IsCheckReport, IsPair, IsPairError, pair_form, pair_refusal}
-use Rattle.engine.specs.Refuting.{claim_form, claim_refusal, IsClaimError, IsPatternOf, IsRefutation}
+use Rattle.engine.specs.ListingFaults.{IsListedAs}
+use Rattle.engine.specs.Refuting.{claim_form, claim_refusal_at, IsClaimErrorAt, IsPatternOf, IsRefutationAt}
 use Rattle.engine.specs.Failure.{failure_status, refusal_status, script_status}
 use Rattle.engine.specs.Lengths.{IsHistoryOf, IsRefusedAs, first_refusal_of}
 use Rattle.engine.specs.Report.{IsReport, IsReportAt}
@@ -62,6 +68,25 @@ one_long text (histories.Queue g) h is_g is_h first second = absurd is_g
 one_long text (histories.Counters g) h is_g is_h first second = absurd is_g
 one_long text (histories.Sets g) h is_g is_h first second = absurd is_g
 one_long text (histories.Queues g) h is_g is_h first second = absurd is_g
+
+-- a value is the form of one history, of either length
+one_form : (long : Length) (g h : AnyHistory) → IsHistoryOf long g → IsHistoryOf long h → form_of g ≡ form_of h → g ≡ h
+one_form Limited g h is_g is_h same = any_forms_are_distinct g h is_g is_h same
+one_form Any (histories.Memory g) (histories.Memory h) is_g is_h same = ap histories.Memory (long.forms_are_distinct g h is_g is_h same)
+one_form Any (histories.Memory g) (histories.Register h) is_g is_h same = absurd is_h
+one_form Any (histories.Memory g) (histories.Counter h) is_g is_h same = absurd is_h
+one_form Any (histories.Memory g) (histories.Set h) is_g is_h same = absurd is_h
+one_form Any (histories.Memory g) (histories.Queue h) is_g is_h same = absurd is_h
+one_form Any (histories.Memory g) (histories.Counters h) is_g is_h same = absurd is_h
+one_form Any (histories.Memory g) (histories.Sets h) is_g is_h same = absurd is_h
+one_form Any (histories.Memory g) (histories.Queues h) is_g is_h same = absurd is_h
+one_form Any (histories.Register g) h is_g is_h same = absurd is_g
+one_form Any (histories.Counter g) h is_g is_h same = absurd is_g
+one_form Any (histories.Set g) h is_g is_h same = absurd is_g
+one_form Any (histories.Queue g) h is_g is_h same = absurd is_g
+one_form Any (histories.Counters g) h is_g is_h same = absurd is_g
+one_form Any (histories.Sets g) h is_g is_h same = absurd is_g
+one_form Any (histories.Queues g) h is_g is_h same = absurd is_g
 
 two_elements : (a b x y : Data) → a ∷ x ∷ [] ≡ b ∷ y ∷ [] → (a ≡ b) × (x ≡ y)
 two_elements a b x y same = let first : a ≡ b = cc in let second : x ≡ y = cc in (first, second)
@@ -206,8 +231,11 @@ judge_once judging text e ReadFault is_e is_f one two = absurd is_f
 judge_once judging text e WriteFault is_e is_f one two = absurd is_f
 
 -- how `judge` judges where nothing is asked for
+abbrev plain_at : Length → Judging
+plain_at long = record { workers = 1; expected = expecting_nothing; length = long }
+
 abbrev plain : Judging
-plain = record { workers = 1; expected = expecting_nothing; length = Limited }
+plain = plain_at Limited
 
 -- a history is refused as `judge` refuses it
 explained_as_judged : (form : Form) (text : List ℕ) (e : RunError) → IsOutputError (Explain form) text e → IsOutputError (Judge plain) text e
@@ -222,6 +250,33 @@ explained_as_judged form text BadLimits is_e = absurd is_e
 explained_as_judged form text NoSuch is_e = absurd is_e
 explained_as_judged form text ReadFault is_e = absurd is_e
 explained_as_judged form text WriteFault is_e = absurd is_e
+
+long_as_judged : (form : LongForm) (text : List ℕ) (e : RunError) → IsOutputError (ExplainLong form) text e → IsOutputError (Judge (plain_at Any)) text e
+long_as_judged form text (History p) is_e = is_e
+long_as_judged form text Memory is_e = is_e
+long_as_judged form text BadCertificate is_e = absurd is_e
+long_as_judged form text ShapeMismatch is_e = absurd is_e
+long_as_judged form text (Script p) is_e = absurd is_e
+long_as_judged form text TooLong is_e = absurd is_e
+long_as_judged form text NotThatPattern is_e = absurd is_e
+long_as_judged form text BadLimits is_e = absurd is_e
+long_as_judged form text NoSuch is_e = absurd is_e
+long_as_judged form text ReadFault is_e = absurd is_e
+long_as_judged form text WriteFault is_e = absurd is_e
+
+listed_as_judged : (listing : Listing) (text : List ℕ) (e : RunError) → IsOutputError (ListFaults listing) text e
+    → IsOutputError (Judge (plain_at listing.length)) text e
+listed_as_judged listing text (History p) is_e = is_e
+listed_as_judged listing text Memory is_e = is_e
+listed_as_judged listing text BadCertificate is_e = absurd is_e
+listed_as_judged listing text ShapeMismatch is_e = absurd is_e
+listed_as_judged listing text (Script p) is_e = absurd is_e
+listed_as_judged listing text TooLong is_e = absurd is_e
+listed_as_judged listing text NotThatPattern is_e = absurd is_e
+listed_as_judged listing text BadLimits is_e = absurd is_e
+listed_as_judged listing text NoSuch is_e = absurd is_e
+listed_as_judged listing text ReadFault is_e = absurd is_e
+listed_as_judged listing text WriteFault is_e = absurd is_e
 
 check_once : (workers : ℕ) (text : List ℕ) (e f : RunError) → IsOutputError (Check workers) text e → IsOutputError (Check workers) text f → failure_status e ≡ 1 → failure_status f ≡ 1 → e ≡ f
 check_once workers text (History p) (History q) is_e is_f one two =
@@ -252,42 +307,46 @@ check_once workers text e ReadFault is_e is_f one two = absurd is_f
 check_once workers text e WriteFault is_e is_f one two = absurd is_f
 
 -- a claim that is refused for its history has no refused pattern
-claim_refused_as : (text : List ℕ) (e : ReadError) → IsClaimError text (History e) → refusal_status e ≡ 1 → Refused (λ d. claim_refusal (elements d)) text e
-claim_refused_as text e (inl is) one = inl is
-claim_refused_as text e (inr is) one = inr (is.0, is.1, first_is (claim_refusal (elements is.0)) e is.2 one)
+claim_refused_as : (long : Length) (text : List ℕ) (e : ReadError) → IsClaimErrorAt long text (History e) → refusal_status e ≡ 1
+    → Refused (λ d. claim_refusal_at long (elements d)) text e
+claim_refused_as long text e (inl is) one = inl is
+claim_refused_as long text e (inr is) one = inr (is.0, is.1, first_is (claim_refusal_at long (elements is.0)) e is.2 one)
 
-claim_is_fine : (d c p : Data) (h : AnyHistory) → IsAnyHistory h → d ≡ list (form_of h ∷ c ∷ p ∷ []) → claim_refusal (elements d) ≡ None
-claim_is_fine d c p h is same = refusal-claim d (form_of h) c p same ∙ form_is_fine h is
+claim_is_fine : (long : Length) (d c p : Data) (h : AnyHistory) → IsHistoryOf long h → d ≡ list (form_of h ∷ c ∷ p ∷ [])
+    → claim_refusal_at long (elements d) ≡ None
+claim_is_fine long d c p h is same = refusal-claim long d (form_of h) c p same ∙ fine_as long h is
 
-no_refused_pattern : (text : List ℕ) (e : ReadError) → IsClaimError text (History e) → IsClaimError text NotThatPattern → refusal_status e ≡ 1 → ⊥
-no_refused_pattern text e refused bad one =
-    not_refused (λ d. claim_refusal (elements d)) text e bad.0 (claim_refused_as text e refused one) bad.1
-    (claim_is_fine bad.0 bad.2.1 bad.2.2 bad.2.0 bad.2.3 bad.2.4)
+no_refused_pattern : (long : Length) (text : List ℕ) (e : ReadError) → IsClaimErrorAt long text (History e)
+    → IsClaimErrorAt long text NotThatPattern → refusal_status e ≡ 1 → ⊥
+no_refused_pattern long text e refused bad one =
+    not_refused (λ d. claim_refusal_at long (elements d)) text e bad.0 (claim_refused_as long text e refused one) bad.1
+    (claim_is_fine long bad.0 bad.2.1 bad.2.2 bad.2.0 bad.2.3 bad.2.4)
 
-refute_once : (text : List ℕ) (e f : RunError) → IsOutputError Refute text e → IsOutputError Refute text f → failure_status e ≡ 1 → failure_status f ≡ 1 → e ≡ f
-refute_once text (History p) (History q) is_e is_f one two =
-    ap History (one_refusal (λ d. claim_refusal (elements d)) text p q (claim_refused_as text p is_e one) (claim_refused_as text q is_f two))
-refute_once text (History p) NotThatPattern is_e is_f one two = absurd (no_refused_pattern text p is_e is_f one)
-refute_once text NotThatPattern (History q) is_e is_f one two = absurd (no_refused_pattern text q is_f is_e two)
-refute_once text NotThatPattern NotThatPattern is_e is_f one two = refl
-refute_once text (Script p) f is_e is_f one two = absurd is_e
-refute_once text BadCertificate f is_e is_f one two = absurd is_e
-refute_once text ShapeMismatch f is_e is_f one two = absurd is_e
-refute_once text TooLong f is_e is_f one two = absurd is_e
-refute_once text BadLimits f is_e is_f one two = absurd is_e
-refute_once text NoSuch f is_e is_f one two = absurd is_e
-refute_once text Memory f is_e is_f one two = absurd (omega arith)
-refute_once text ReadFault f is_e is_f one two = absurd is_e
-refute_once text WriteFault f is_e is_f one two = absurd is_e
-refute_once text e (Script q) is_e is_f one two = absurd is_f
-refute_once text e BadCertificate is_e is_f one two = absurd is_f
-refute_once text e ShapeMismatch is_e is_f one two = absurd is_f
-refute_once text e TooLong is_e is_f one two = absurd is_f
-refute_once text e BadLimits is_e is_f one two = absurd is_f
-refute_once text e NoSuch is_e is_f one two = absurd is_f
-refute_once text e Memory is_e is_f one two = absurd (omega arith)
-refute_once text e ReadFault is_e is_f one two = absurd is_f
-refute_once text e WriteFault is_e is_f one two = absurd is_f
+refute_once : (long : Length) (text : List ℕ) (e f : RunError) → IsOutputError (Refute long) text e → IsOutputError (Refute long) text f
+    → failure_status e ≡ 1 → failure_status f ≡ 1 → e ≡ f
+refute_once long text (History p) (History q) is_e is_f one two =
+    ap History (one_refusal (λ d. claim_refusal_at long (elements d)) text p q (claim_refused_as long text p is_e one) (claim_refused_as long text q is_f two))
+refute_once long text (History p) NotThatPattern is_e is_f one two = absurd (no_refused_pattern long text p is_e is_f one)
+refute_once long text NotThatPattern (History q) is_e is_f one two = absurd (no_refused_pattern long text q is_f is_e two)
+refute_once long text NotThatPattern NotThatPattern is_e is_f one two = refl
+refute_once long text (Script p) f is_e is_f one two = absurd is_e
+refute_once long text BadCertificate f is_e is_f one two = absurd is_e
+refute_once long text ShapeMismatch f is_e is_f one two = absurd is_e
+refute_once long text TooLong f is_e is_f one two = absurd is_e
+refute_once long text BadLimits f is_e is_f one two = absurd is_e
+refute_once long text NoSuch f is_e is_f one two = absurd is_e
+refute_once long text Memory f is_e is_f one two = absurd (omega arith)
+refute_once long text ReadFault f is_e is_f one two = absurd is_e
+refute_once long text WriteFault f is_e is_f one two = absurd is_e
+refute_once long text e (Script q) is_e is_f one two = absurd is_f
+refute_once long text e BadCertificate is_e is_f one two = absurd is_f
+refute_once long text e ShapeMismatch is_e is_f one two = absurd is_f
+refute_once long text e TooLong is_e is_f one two = absurd is_f
+refute_once long text e BadLimits is_e is_f one two = absurd is_f
+refute_once long text e NoSuch is_e is_f one two = absurd is_f
+refute_once long text e Memory is_e is_f one two = absurd (omega arith)
+refute_once long text e ReadFault is_e is_f one two = absurd is_f
+refute_once long text e WriteFault is_e is_f one two = absurd is_f
 
 replay_once : (text : List ℕ) (e f : RunError) → IsOutputError Replay text e → IsOutputError Replay text f → failure_status e ≡ 1 → failure_status f ≡ 1 → e ≡ f
 replay_once text (Script p) (Script q) is_e is_f one two = ap Script (script_refused_once text p q is_e is_f one two)
@@ -372,7 +431,11 @@ refused_in_one_way (JudgeLines judging) text e f is_e is_f one two =
 refused_in_one_way (Check workers) text e f is_e is_f one two = check_once workers text e f is_e is_f one two
 refused_in_one_way (Explain form) text e f is_e is_f one two =
     judge_once plain text e f (explained_as_judged form text e is_e) (explained_as_judged form text f is_f) one two
-refused_in_one_way Refute text e f is_e is_f one two = refute_once text e f is_e is_f one two
+refused_in_one_way (ExplainLong form) text e f is_e is_f one two =
+    judge_once (plain_at Any) text e f (long_as_judged form text e is_e) (long_as_judged form text f is_f) one two
+refused_in_one_way (ListFaults listing) text e f is_e is_f one two =
+    judge_once (plain_at listing.length) text e f (listed_as_judged listing text e is_e) (listed_as_judged listing text f is_f) one two
+refused_in_one_way (Refute long) text e f is_e is_f one two = refute_once long text e f is_e is_f one two
 refused_in_one_way Replay text e f is_e is_f one two = replay_once text e f is_e is_f one two
 refused_in_one_way (Drive drive) text e f is_e is_f one two = drive_once drive text e f is_e is_f one two
 
@@ -418,28 +481,29 @@ check_not_refused workers text answer ReadFault report is_e = absurd is_e
 check_not_refused workers text answer WriteFault report is_e = absurd is_e
 
 -- a claim that is answered has a history, and behind it what shows that it does not meet the criterion
-refute_not_refused : (text answer : List ℕ) (e : RunError) → IsRefutation text answer → IsOutputError Refute text e → failure_status e ≡ 4
-refute_not_refused text answer (History p) report is_e =
+refute_not_refused : (long : Length) (text answer : List ℕ) (e : RunError) → IsRefutationAt long text answer → IsOutputError (Refute long) text e
+    → failure_status e ≡ 4
+refute_not_refused long text answer (History p) report is_e =
     ⊎_elim (λ (four : refusal_status p ≡ 4). four)
-    (λ (one : refusal_status p ≡ 1). absurd (not_refused (λ d. claim_refusal (elements d)) text p (claim_form report.history report.criterion report.pattern)
-    (claim_refused_as text p is_e one) report.read
-    (claim_is_fine _ (string (name_of report.criterion)) (pattern_form report.pattern) report.history report.is_history refl)))
+    (λ (one : refusal_status p ≡ 1). absurd (not_refused (λ d. claim_refusal_at long (elements d)) text p
+    (claim_form report.history report.criterion report.pattern) (claim_refused_as long text p is_e one) report.read
+    (claim_is_fine long _ (string (name_of report.criterion)) (pattern_form report.pattern) report.history report.is_history refl)))
     (statuses p)
-refute_not_refused text answer NotThatPattern report is_e =
+refute_not_refused long text answer NotThatPattern report is_e =
     let same =
     three_elements (form_of is_e.2.0) (form_of report.history) is_e.2.1 (string (name_of report.criterion)) is_e.2.2 (pattern_form report.pattern)
     (sym is_e.2.4 ∙ one_value text is_e.0 (claim_form report.history report.criterion report.pattern) is_e.1 report.read) in
-    let history : report.history ≡ is_e.2.0 = sym (any_forms_are_distinct is_e.2.0 report.history is_e.2.3 report.is_history same.0) in
+    let history : report.history ≡ is_e.2.0 = sym (one_form long is_e.2.0 report.history is_e.2.3 report.is_history same.0) in
     absurd (is_e.2.5 report.criterion report.pattern same.1 same.2 (subst (λ (h : AnyHistory). IsPatternOf h report.criterion report.pattern) history report.shown))
-refute_not_refused text answer (Script p) report is_e = absurd is_e
-refute_not_refused text answer BadCertificate report is_e = absurd is_e
-refute_not_refused text answer ShapeMismatch report is_e = absurd is_e
-refute_not_refused text answer TooLong report is_e = absurd is_e
-refute_not_refused text answer BadLimits report is_e = absurd is_e
-refute_not_refused text answer NoSuch report is_e = absurd is_e
-refute_not_refused text answer Memory report is_e = refl
-refute_not_refused text answer ReadFault report is_e = absurd is_e
-refute_not_refused text answer WriteFault report is_e = absurd is_e
+refute_not_refused long text answer (Script p) report is_e = absurd is_e
+refute_not_refused long text answer BadCertificate report is_e = absurd is_e
+refute_not_refused long text answer ShapeMismatch report is_e = absurd is_e
+refute_not_refused long text answer TooLong report is_e = absurd is_e
+refute_not_refused long text answer BadLimits report is_e = absurd is_e
+refute_not_refused long text answer NoSuch report is_e = absurd is_e
+refute_not_refused long text answer Memory report is_e = refl
+refute_not_refused long text answer ReadFault report is_e = absurd is_e
+refute_not_refused long text answer WriteFault report is_e = absurd is_e
 
 replay_not_refused : (text answer : List ℕ) (e : RunError) → IsReplayReport text answer → IsOutputError Replay text e → failure_status e ≡ 4
 replay_not_refused text answer (Script p) report is_e =
@@ -484,6 +548,11 @@ drive_not_refused drive text answer Memory report is_e = refl
 drive_not_refused drive text answer ReadFault report is_e = absurd is_e
 drive_not_refused drive text answer WriteFault report is_e = absurd is_e
 
+listed_history : (form : ListForm) (long : Length) (most : ℕ) (text answer : List ℕ) → IsListedAs form long most text answer
+    → (h : AnyHistory) × IsHistoryOf long h × IsJson text (form_of h)
+listed_history list_forms.Words long most text answer report = (report.history, report.is_history, report.read)
+listed_history list_forms.Json long most text answer report = (report.history, report.is_history, report.read)
+
 pub answered_is_not_refused : (order : Order) (text answer : List ℕ) (e : RunError) → IsOutput order text answer → IsOutputError order text e → failure_status e ≡ 4
 answered_is_not_refused (Judge judging) text answer e report is_e = judge_not_refused judging text e report.history report.is_history report.read is_e
 answered_is_not_refused (JudgeLines judging) text answer e report is_e = lines_fail judging text e is_e
@@ -496,7 +565,16 @@ answered_is_not_refused (Explain Certificates) text answer e report is_e =
     judge_not_refused plain text e report.history report.is_history report.read (explained_as_judged Certificates text e is_e)
 answered_is_not_refused (Explain Picture) text answer e report is_e =
     judge_not_refused plain text e report.history report.is_history report.read (explained_as_judged Picture text e is_e)
-answered_is_not_refused Refute text answer e report is_e = refute_not_refused text answer e report is_e
+answered_is_not_refused (ExplainLong long_forms.Words) text answer e report is_e =
+    judge_not_refused (plain_at Any) text e report.history report.is_history report.read (long_as_judged long_forms.Words text e is_e)
+answered_is_not_refused (ExplainLong long_forms.Json) text answer e report is_e =
+    judge_not_refused (plain_at Any) text e report.history report.is_history report.read (long_as_judged long_forms.Json text e is_e)
+answered_is_not_refused (ExplainLong long_forms.Picture) text answer e report is_e =
+    judge_not_refused (plain_at Any) text e report.history report.is_history report.read (long_as_judged long_forms.Picture text e is_e)
+answered_is_not_refused (ListFaults listing) text answer e report is_e =
+    let of = listed_history listing.form listing.length listing.most text answer report in
+    judge_not_refused (plain_at listing.length) text e of.0 of.1 of.2 (listed_as_judged listing text e is_e)
+answered_is_not_refused (Refute long) text answer e report is_e = refute_not_refused long text answer e report is_e
 answered_is_not_refused Replay text answer e report is_e = replay_not_refused text answer e report is_e
 answered_is_not_refused (Drive drive) text answer e report is_e = drive_not_refused drive text answer e report is_e
 

@@ -11,6 +11,7 @@ use Rattle.cert_check.specs.declared.criterion.Criterion.TheVariants.{Cc, Cm, Cc
 use Rattle.cert_check.specs.CertificateForm.{form_of as certificate_form, IsCertificate}
 use Rattle.cert_check.specs.Certificates.{Certifies}
 use Rattle.cert_check.specs.CriterionNames.{name_of}
+use Rattle.command_line.specs.declared.length.Length.TheVariants.{Limited}
 use Rattle.engine.specs.declared.certified.CertifiedExplanation.{CertifiedExplanation}
 use Rattle.engine.specs.declared.certified.Evidence.{Evidence}
 use Rattle.engine.specs.declared.certified.Evidence.TheVariants.{Certified, Reasoned}
@@ -63,4 +64,4 @@ certified_form explanation =
 
 -- the text explains the history in the input with certificates, by the evidence, each of which is of that history
 abbrev pub IsCertifiedExplanation : List ℕ → List ℕ → Type 0
-IsCertifiedExplanation = IsToldOf certified_form EachIsEvidence
+IsCertifiedExplanation = IsToldOf Limited certified_form EachIsEvidence

@@ -3,7 +3,7 @@ use Rattle.std.specs.Prelude.{◌≡◌, ℕ, List, [], ◌∷◌, ◌++◌, cod
 use Rattle.serde_json.specs.Data.{Data, null, string}
 use Rattle.serde_json.specs.Written.{compact_text}
 use Rattle.operations.specs.declared.any_history.AnyHistory.{AnyHistory}
-use Rattle.operations.specs.AnyForm.{form_of, IsAnyHistory, IsJson}
+use Rattle.operations.specs.AnyForm.{form_of, IsJson}
 use Rattle.operations.specs.Json.{list}
 use Rattle.operations.specs.Reads.{worded}
 use Rattle.cert_check.specs.declared.criterion.Criterion.{Criterion}
@@ -12,6 +12,9 @@ use Rattle.cert_check.specs.CriterionNames.{name_of}
 use Rattle.bad_patterns.specs.KindNames.{kind_name}
 use Rattle.bad_patterns.specs.PatternForm.{form_of as pattern_form, op_form}
 use Rattle.board.specs.declared.answer.Answer.TheVariants.{Unknown}
+use Rattle.command_line.specs.declared.length.Length.{Length}
+use Rattle.command_line.specs.declared.length.Length.TheVariants.{Limited}
+use Rattle.engine.specs.Lengths.{IsHistoryOf}
 use Rattle.engine.specs.declared.reason.Explanation.{Explanation}
 use Rattle.engine.specs.declared.reason.Reason.{Reason}
 use Rattle.engine.specs.declared.reason.Reason.TheVariants.{Explained, Shown, Present, Unexplained}
@@ -61,16 +64,19 @@ abbrev pub explanation_form : Explanation → Data
 explanation_form explanation =
     list (reason_form Cc explanation.cc ∷ reason_form Cm explanation.cm ∷ reason_form Ccv explanation.ccv ∷ [])
 
--- the text tells of the history in the input: it is the JSON text of what is said, which is so of that history, and a line feed
-pub record IsToldOf {T : Type 0} (form : T → Data) (is_so : AnyHistory → T → Type 0) (input text : List ℕ) : Type 0 where
+-- the text says what is true of the history in the input, which may be that long: it is the JSON text of what is said, and a line feed
+pub record IsToldOf {T : Type 0} (long : Length) (form : T → Data) (is_so : AnyHistory → T → Type 0) (input text : List ℕ) : Type 0 where
   pub history : AnyHistory
   pub said : T
-  pub is_history : IsAnyHistory history
+  pub is_history : IsHistoryOf long history
   pub read : IsJson input (form_of history)
   pub true_of : is_so history said
   pub json : IsJson (compact_text (form said)) (form said)
   pub whole : text ≡ compact_text (form said) ++ codes "\n"
 
--- the text explains the history in the input by the reasons, each of which is one of that history
+-- the text explains the history in the input, which may be that long, by the reasons, each of which is one of that history
+abbrev pub IsExplanationAt : Length → List ℕ → List ℕ → Type 0
+IsExplanationAt long = IsToldOf long explanation_form EachIsReason
+
 abbrev pub IsExplanation : List ℕ → List ℕ → Type 0
-IsExplanation = IsToldOf explanation_form EachIsReason
+IsExplanation = IsExplanationAt Limited

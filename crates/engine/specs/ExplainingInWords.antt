@@ -4,12 +4,15 @@ use Rattle.std.specs.Prelude.{◌≡◌, ℕ, List, ◌++◌, codes}
 use Rattle.std.specs.List.{All, flat_map}
 use Rattle.std.specs.Str.Iter.{LacksByte}
 use Rattle.operations.specs.declared.any_history.AnyHistory.{AnyHistory}
-use Rattle.operations.specs.AnyForm.{form_of, IsAnyHistory, IsJson}
+use Rattle.operations.specs.AnyForm.{form_of, IsJson}
 use Rattle.cert_check.specs.declared.criterion.Criterion.{Criterion}
 use Rattle.cert_check.specs.declared.criterion.Criterion.TheVariants.{Cc, Cm, Ccv}
 use Rattle.bad_patterns.specs.Patterns.{kind_of}
 use Rattle.board.specs.declared.answer.Answer.{Answer}
 use Rattle.board.specs.declared.answer.Answer.TheVariants.{Yes, No, Unknown}
+use Rattle.command_line.specs.declared.length.Length.{Length}
+use Rattle.command_line.specs.declared.length.Length.TheVariants.{Limited}
+use Rattle.engine.specs.Lengths.{IsHistoryOf}
 use Rattle.engine.specs.declared.reason.Explanation.{Explanation}
 use Rattle.engine.specs.declared.reason.Reason.{Reason}
 use Rattle.engine.specs.declared.reason.Reason.TheVariants.{Explained, Shown, Present, Unexplained}
@@ -41,11 +44,14 @@ TellsEach explanation text =
     (cc cm ccv : List ℕ) × Tells Cc explanation.cc cc × Tells Cm explanation.cm cm × Tells Ccv explanation.ccv ccv
     × (text ≡ cc ++ (cm ++ ccv))
 
--- the text explains the history in the input in words: it tells reasons, each of which is one of that history
-pub record IsWorded (input text : List ℕ) : Type 0 where
+-- the text explains the history in the input, which may be that long, in words: it tells reasons, each of which is one of that history
+pub record IsWordedAt (long : Length) (input text : List ℕ) : Type 0 where
   pub history : AnyHistory
   pub explanation : Explanation
-  pub is_history : IsAnyHistory history
+  pub is_history : IsHistoryOf long history
   pub read : IsJson input (form_of history)
   pub reasons : EachIsReason history explanation
   pub told : TellsEach explanation text
+
+abbrev pub IsWorded : List ℕ → List ℕ → Type 0
+IsWorded = IsWordedAt Limited

@@ -13,6 +13,7 @@ pub mod Driving
 pub mod Alone
 pub mod Expecting
 pub mod Lengths
+pub mod ListingFaults
 pub mod LineAnswers
 pub mod Running
 pub mod ReadCalls

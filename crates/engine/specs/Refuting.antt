@@ -6,7 +6,7 @@ use Rattle.operations.specs.declared.read_error.ReadError.TheVariants as errors
 use Rattle.operations.specs.declared.any_history.AnyHistory.{AnyHistory}
 use Rattle.operations.specs.declared.any_history.AnyHistory.TheVariants as histories
 use Rattle.operations.specs.Json.{list}
-use Rattle.operations.specs.AnyForm.{first_refusal, form_of, IsAnyHistory, IsJson}
+use Rattle.operations.specs.AnyForm.{form_of, IsJson}
 use Rattle.cert_check.specs.declared.criterion.Criterion.{Criterion}
 use Rattle.cert_check.specs.CriterionNames.{name_of}
 use Rattle.bad_patterns.specs.declared.pattern.Pattern.{Pattern}
@@ -15,56 +15,78 @@ use Rattle.bad_patterns.specs.Patterns.{IsBadPattern, kind_of}
 use Rattle.board.specs.declared.answer.Answer.TheVariants.{No}
 use Rattle.engine.specs.declared.failure.RunError.{RunError}
 use Rattle.engine.specs.declared.failure.RunError.TheVariants.{NotThatPattern}
+use Rattle.command_line.specs.declared.length.Length.{Length}
+use Rattle.command_line.specs.declared.length.Length.TheVariants.{Limited}
 use Rattle.engine.specs.InputErrors.{IsErrorOf, IsTextError}
+use Rattle.engine.specs.Lengths.{IsHistoryOf, first_refusal_of}
 use Rattle.engine.specs.Report.{IsExcluded, line_for}
 
 -- the form of a claim that a pattern shows that a history does not meet a criterion: the three in one JSON list
 abbrev pub claim_form : AnyHistory → Criterion → Pattern → Data
 claim_form history criterion pattern = list (form_of history ∷ string (name_of criterion) ∷ pattern_form pattern ∷ [])
 
--- the first refusal of a claim: it is no list of three elements, or its history has this first refusal
+-- the first refusal of a claim: it is no list of three elements, or its history, which may be that long, has this first refusal
+abbrev pub first_of_claim_at : Length → List Data → Option ReadError
+first_of_claim_at long [] = Some errors.BadShape
+first_of_claim_at long (h ∷ []) = Some errors.BadShape
+first_of_claim_at long (h ∷ c ∷ []) = Some errors.BadShape
+first_of_claim_at long (h ∷ c ∷ p ∷ []) = first_refusal_of long h
+first_of_claim_at long (h ∷ c ∷ p ∷ d ∷ ds) = Some errors.BadShape
+
+abbrev pub claim_refusal_at : Length → Option (List Data) → Option ReadError
+claim_refusal_at long None = Some errors.BadShape
+claim_refusal_at long (Some ds) = first_of_claim_at long ds
+
 abbrev pub first_of_claim : List Data → Option ReadError
-first_of_claim [] = Some errors.BadShape
-first_of_claim (h ∷ []) = Some errors.BadShape
-first_of_claim (h ∷ c ∷ []) = Some errors.BadShape
-first_of_claim (h ∷ c ∷ p ∷ []) = first_refusal h
-first_of_claim (h ∷ c ∷ p ∷ d ∷ ds) = Some errors.BadShape
+first_of_claim = first_of_claim_at Limited
 
 abbrev pub claim_refusal : Option (List Data) → Option ReadError
-claim_refusal None = Some errors.BadShape
-claim_refusal (Some ds) = first_of_claim ds
+claim_refusal = claim_refusal_at Limited
 
 -- a pattern shows that a history does not meet a criterion: patterns are known for memories alone
 abbrev pub IsPatternOf : AnyHistory → Criterion → Pattern → Type 0
 IsPatternOf (histories.Memory h) criterion pattern = IsBadPattern h criterion pattern
 IsPatternOf _ criterion pattern = ⊥
 
--- a list of three begins with the form of a history, and behind it stand not the name of a criterion and the form of a pattern
--- that shows that the history does not meet it
-abbrev pub HasNoSuchPattern : Data → Type 0
-HasNoSuchPattern claim =
-    (h : AnyHistory) × (c : Data) × (p : Data) × IsAnyHistory h × (claim ≡ list (form_of h ∷ c ∷ p ∷ []))
+-- a list of three begins with the form of a history, which may be that long, and after it come not the name of a criterion and the form
+-- of a pattern that shows that the history does not meet it
+abbrev pub HasNoSuchPatternAt : Length → Data → Type 0
+HasNoSuchPatternAt long claim =
+    (h : AnyHistory) × (c : Data) × (p : Data) × IsHistoryOf long h × (claim ≡ list (form_of h ∷ c ∷ p ∷ []))
     × ((criterion : Criterion) (pattern : Pattern) → c ≡ string (name_of criterion) → p ≡ pattern_form pattern → ¬ IsPatternOf h criterion pattern)
 
--- behind the history of a claim stands nothing that shows it
-abbrev pub IsWrongClaim : RunError → Data → Type 0
-IsWrongClaim NotThatPattern claim = HasNoSuchPattern claim
-IsWrongClaim _ claim = ⊥
+abbrev pub HasNoSuchPattern : Data → Type 0
+HasNoSuchPattern = HasNoSuchPatternAt Limited
+
+-- after the history of a claim comes nothing that shows it
+abbrev pub IsWrongClaimAt : Length → RunError → Data → Type 0
+IsWrongClaimAt long NotThatPattern claim = HasNoSuchPatternAt long claim
+IsWrongClaimAt long _ claim = ⊥
 
 -- why a value, or a text, is refused as a claim
+abbrev pub IsClaimErrorOfAt : Length → Data → RunError → Type 0
+IsClaimErrorOfAt long claim error = IsErrorOf (claim_refusal_at long) (IsWrongClaimAt long) claim error
+
+abbrev pub IsClaimErrorAt : Length → List ℕ → RunError → Type 0
+IsClaimErrorAt long text error = IsTextError (claim_refusal_at long) (IsWrongClaimAt long) text error
+
 abbrev pub IsClaimErrorOf : Data → RunError → Type 0
-IsClaimErrorOf claim error = IsErrorOf claim_refusal IsWrongClaim claim error
+IsClaimErrorOf = IsClaimErrorOfAt Limited
 
 abbrev pub IsClaimError : List ℕ → RunError → Type 0
-IsClaimError text error = IsTextError claim_refusal IsWrongClaim text error
+IsClaimError = IsClaimErrorAt Limited
 
--- the text answers the claim in the input: its pattern shows that its history does not meet its criterion, and the line says so
-pub record IsRefutation (input text : List ℕ) : Type 0 where
+-- the text answers the claim in the input: its pattern shows that its history, which may be that long, does not meet its criterion, and
+-- the line says so
+pub record IsRefutationAt (long : Length) (input text : List ℕ) : Type 0 where
   pub history : AnyHistory
   pub criterion : Criterion
   pub pattern : Pattern
-  pub is_history : IsAnyHistory history
+  pub is_history : IsHistoryOf long history
   pub read : IsJson input (claim_form history criterion pattern)
   pub shown : IsPatternOf history criterion pattern
   pub excluded : IsExcluded history criterion (kind_of pattern)
   pub line : text ≡ line_for criterion (No (kind_of pattern))
+
+abbrev pub IsRefutation : List ℕ → List ℕ → Type 0
+IsRefutation = IsRefutationAt Limited

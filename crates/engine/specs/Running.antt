@@ -6,16 +6,19 @@ use Rattle.engine.specs.declared.failure.RunError.{RunError}
 use Rattle.engine.specs.declared.failure.RunError.TheVariants.{History, Script, BadCertificate, ShapeMismatch, NotThatPattern, BadLimits, NoSuch, TooLong, Memory, ReadFault, WriteFault}
 use Rattle.operations.specs.AnyForm.{IsJson, IsRefusedFor}
 use Rattle.command_line.specs.declared.form.Form.TheVariants.{Words, Json, Certificates, Picture}
-use Rattle.command_line.specs.declared.order.Order.TheVariants.{Judge, JudgeLines, Check, Explain, Refute, Replay, Drive}
+use Rattle.command_line.specs.declared.form.LongForm.TheVariants as long_forms
+use Rattle.command_line.specs.declared.length.Length.TheVariants.{Any}
+use Rattle.command_line.specs.declared.order.Order.TheVariants.{Judge, JudgeLines, Check, Explain, ExplainLong, ListFaults, Refute, Replay, Drive}
 use Rattle.engine.specs.Lengths.{IsRefusedAs}
 use Rattle.engine.specs.Report.{IsReportAt}
 use Rattle.engine.specs.LineAnswers.{IsLinesAnswer}
 use Rattle.engine.specs.Checking.{IsCheckReport, IsPairError, HasOtherShape}
-use Rattle.engine.specs.Refuting.{IsClaimError, IsRefutation}
+use Rattle.engine.specs.Refuting.{IsClaimErrorAt, IsRefutationAt}
 use Rattle.engine.specs.Certifying.{IsCertifiedExplanation}
-use Rattle.engine.specs.Explaining.{IsExplanation}
-use Rattle.engine.specs.ExplainingInWords.{IsWorded}
-use Rattle.engine.specs.Picturing.{IsPicture}
+use Rattle.engine.specs.Explaining.{IsExplanation, IsExplanationAt}
+use Rattle.engine.specs.ListingFaults.{IsFaultReport}
+use Rattle.engine.specs.ExplainingInWords.{IsWorded, IsWordedAt}
+use Rattle.engine.specs.Picturing.{IsPicture, IsPictureAt}
 use Rattle.engine.specs.Driving.{IsDriveReport, IsUndriven}
 use Rattle.engine.specs.declared.input.TheConstants.{MAX_INPUT_BYTES}
 use Rattle.script.specs.declared.any_script.AnyScript.{AnyScript}
@@ -38,7 +41,11 @@ IsOutput (Explain Words) input text = IsWorded input text
 IsOutput (Explain Json) input text = IsExplanation input text
 IsOutput (Explain Certificates) input text = IsCertifiedExplanation input text
 IsOutput (Explain Picture) input text = IsPicture input text
-IsOutput Refute input text = IsRefutation input text
+IsOutput (ExplainLong long_forms.Words) input text = IsWordedAt Any input text
+IsOutput (ExplainLong long_forms.Json) input text = IsExplanationAt Any input text
+IsOutput (ExplainLong long_forms.Picture) input text = IsPictureAt Any input text
+IsOutput (ListFaults listing) input text = IsFaultReport listing input text
+IsOutput (Refute long) input text = IsRefutationAt long input text
 IsOutput Replay input text = IsReplayReport input text
 IsOutput (Drive drive) input text = IsDriveReport drive input text
 
@@ -50,8 +57,10 @@ IsOutputError (Check workers) input (History refusal) = IsPairError input (Histo
 IsOutputError (Check workers) input BadCertificate = IsPairError input BadCertificate
 IsOutputError (Check workers) input ShapeMismatch = HasOtherShape input
 IsOutputError (Explain form) input (History refusal) = IsRefusedFor input refusal
-IsOutputError Refute input (History refusal) = IsClaimError input (History refusal)
-IsOutputError Refute input NotThatPattern = IsClaimError input NotThatPattern
+IsOutputError (ExplainLong form) input (History refusal) = IsRefusedAs Any input refusal
+IsOutputError (ListFaults listing) input (History refusal) = IsRefusedAs listing.length input refusal
+IsOutputError (Refute long) input (History refusal) = IsClaimErrorAt long input (History refusal)
+IsOutputError (Refute long) input NotThatPattern = IsClaimErrorAt long input NotThatPattern
 IsOutputError Replay input (Script refusal) = IsScriptRefusedFor input refusal
 IsOutputError (Drive drive) input (History refusal) = IsRefusedFor input refusal
 IsOutputError (Drive drive) input BadLimits = IsUndriven drive input BadLimits

@@ -7,3 +7,6 @@ pub mod Unshown
 pub mod FoundedEvidence
 pub mod LineRefusals
 pub mod ReportErrors
+pub mod LongExplained
+pub mod Listed
+pub mod LongClaims

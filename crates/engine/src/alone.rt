@@ -63,8 +63,8 @@ pub fn explain_alone(alloc: Global, input: &[u8]) -> Result<String, RunError>
 /// pattern.
 pub fn refute_alone(alloc: Global, input: &[u8]) -> Result<String, RunError>
     ensures within { OnOk result (length input.now ≤ MAX_INPUT_BYTES) }
-    ensures output { IfOk result (λ text. IsOutput Order.Refute input.now (string_bytes text)) }
-    ensures error { IfErr result (Fails Order.Refute (Some input.now)) }
+    ensures output { IfOk result (λ text. IsOutput (Order.Refute Length.Limited) input.now (string_bytes text)) }
+    ensures error { IfErr result (Fails (Order.Refute Length.Limited) (Some input.now)) }
 {
     stay_within(input)?;
     refute(alloc, input)

@@ -11,6 +11,8 @@ const CLAIM_PARTS: usize = 3;
 #[derive(Clone, Copy, Drop)]
 pub(crate) enum ClaimPlace {
     Claim,
+    /// A claim of which the history is read by itself.
+    LongClaim,
     History(HistoryPlace),
     Pattern(PatternPlace),
 }
@@ -22,7 +24,7 @@ impl Place for ClaimPlace {
 
     fn limit(self) -> Option<usize> {
         match self {
-            ClaimPlace::Claim => Some(CLAIM_PARTS + 1),
+            ClaimPlace::Claim | ClaimPlace::LongClaim => Some(CLAIM_PARTS + 1),
             ClaimPlace::History(place) => place.limit(),
             ClaimPlace::Pattern(place) => place.limit(),
         }
@@ -33,6 +35,11 @@ impl Place for ClaimPlace {
             ClaimPlace::Claim => if index == 0 {
                 ClaimPlace::History(HistoryPlace::Whole)
             } else if index == 1 {
+                ClaimPlace::History(HistoryPlace::Scalar)
+            } else {
+                ClaimPlace::Pattern(PatternPlace::Whole)
+            },
+            ClaimPlace::LongClaim => if index < 2 {
                 ClaimPlace::History(HistoryPlace::Scalar)
             } else {
                 ClaimPlace::Pattern(PatternPlace::Whole)

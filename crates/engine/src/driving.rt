@@ -49,7 +49,9 @@ pub fn drive_with<T: Threads + Wait + Sync, G: Gate>(
         | Order::JudgeLines(_)
         | Order::Check(_)
         | Order::Explain(_)
-        | Order::Refute
+        | Order::ExplainLong(_)
+        | Order::ListFaults(_)
+        | Order::Refute(_)
         | Order::Replay => { unreachable!() }
     }
 }

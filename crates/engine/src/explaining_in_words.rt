@@ -38,8 +38,8 @@ pub fn explain_in_words<T: Threads + Wait + Sync>(
     Ok(text_of_explanation(alloc, &history, &explanation)?)
 }
 
-// Why each criterion is met by a history, or is not, or why that is unknown.
-fn explanation_of_copy<T: Threads + Wait + Sync>(
+/// Why each criterion is met by a history, or is not, or why that is unknown.
+pub(crate) fn explanation_of_copy<T: Threads + Wait + Sync>(
     rt: &T,
     alloc: Global,
     history: &AnyHistory,
@@ -98,13 +98,26 @@ fn text_of_reason(
 ) -> Result<String, AllocError>
     ensures { IfOk result (λ text. Tells criterion reason.now (string_bytes text)) }
 {
+    let lines = lines_of_reason(alloc, history, criterion, reason)?;
+    text_with_lines(alloc, criterion, reason, &lines)
+}
+
+/// The text of one reason, with these lines after the line of `judge`. A line in which a line feed stands is left out.
+pub(crate) fn text_with_lines(
+    alloc: Global,
+    criterion: Criterion,
+    reason: &Reason,
+    lines: &[String],
+) -> Result<String, AllocError>
+    ensures { IfOk result (λ text. Tells criterion reason.now (string_bytes text)) }
+{
     let line = report_line(alloc, criterion, reason.answer())?;
-    let words = indented_text(alloc, &lines_of_reason(alloc, history, criterion, reason)?)?;
+    let words = indented_text(alloc, lines)?;
     format!(in alloc; "{line}{words}")
 }
 
-// Lines, each behind two spaces.
-fn indented_text(alloc: Global, lines: &[String]) -> Result<String, AllocError>
+/// Lines, each after two spaces. A line in which a line feed stands is left out.
+pub(crate) fn indented_text(alloc: Global, lines: &[String]) -> Result<String, AllocError>
     ensures { IfOk result (λ text. IsIndented (string_bytes text)) }
 {
     let mut text = String::new(alloc);

@@ -23,7 +23,13 @@ mod judging_alone;
 pub mod laws;
 mod line_answers;
 mod line_judge;
+mod listing_faults;
+mod long_explaining;
+mod long_forms;
 mod long_judging;
+mod long_picturing;
+mod long_refuting;
+mod long_words;
 mod making;
 mod memory_judging;
 mod output;
@@ -47,8 +53,8 @@ pub use checking::answer_of_certificate;
 pub use checking_alone::answer_of_certificate_alone;
 pub use collector::{Answer, Gate, OpenGate};
 pub use command_line::{
-    Delivery, Drive, Expected, Form, Judging, Length, MAX_SEALS, Order, Store, Usage, Workers,
-    command_of,
+    Delivery, Drive, Expected, Form, Judging, Length, ListForm, Listing, LongForm, MAX_LISTED,
+    MAX_SEALS, Order, Store, Usage, Workers, command_of,
 };
 pub use drivable::Drivable;
 pub use driving::drive_with;
@@ -62,6 +68,7 @@ pub use judging::report_on;
 pub use judging_alone::report_alone;
 pub use line_judge::judge_lines;
 pub use lines::{MAX_READ_CALLS, Outcome, Source};
+pub use long_forms::explain_long;
 pub use long_judging::report_on_long;
 pub use output::write_output;
 pub use picturing::explain_as_picture;

@@ -73,8 +73,8 @@ fn picture_of_object<O: Judged + Labelled + Send + Sync, T: Threads + Wait + Syn
     Ok(picture_with_report(alloc, &history, &report)?)
 }
 
-// The picture of a history of a memory.
-fn picture_of_memory<T: Threads + Wait + Sync>(
+/// The picture of a history of a memory. It costs what [`explain_as_picture`] costs but for reading.
+pub(crate) fn picture_of_memory<T: Threads + Wait + Sync>(
     rt: &T,
     alloc: Global,
     history: History<Memory>,
@@ -141,8 +141,8 @@ fn picture_with_report<O: Labelled>(
     picture_of_history(alloc, history, lines.as_slice(), marked)
 }
 
-// The lines of a report in one.
-fn title_of(alloc: Global, report: &Report) -> Result<String, AllocError> {
+/// The lines of a report in one.
+pub(crate) fn title_of(alloc: Global, report: &Report) -> Result<String, AllocError> {
     let cc = report_line(alloc, Criterion::Cc, report.cc)?;
     let cm = report_line(alloc, Criterion::Cm, report.cm)?;
     let ccv = report_line(alloc, Criterion::Ccv, report.ccv)?;

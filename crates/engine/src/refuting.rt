@@ -19,7 +19,7 @@ use bad_patterns::{Pattern, check_pattern, read_pattern};
 use bounded_json::{TextError, read_bounded};
 use cert_check::Criterion;
 use collector::Answer;
-use command_line::Order;
+use command_line::{Length, Order};
 use operations::{AnyHistory, ReadError, elements_of, history_of};
 use serde_json::Value;
 use std::alloc::{AllocError, Global};
@@ -34,8 +34,8 @@ struct Claim {
 
 /// The line on the claim in the input: a history, the name of a criterion and a pattern in one list.
 pub fn refute(alloc: Global, input: &[u8]) -> Result<String, RunError>
-    ensures output { IfOk result (λ text. IsOutput Order.Refute input.now (string_bytes text)) }
-    ensures error { IfErr result (IsOutputError Order.Refute input.now) }
+    ensures output { IfOk result (λ text. IsOutput (Order.Refute Length.Limited) input.now (string_bytes text)) }
+    ensures error { IfErr result (IsOutputError (Order.Refute Length.Limited) input.now) }
 {
     let claim = read_claim(alloc, input)?;
     if is_pattern_of(alloc, &claim.history, claim.criterion, &claim.pattern)? {
@@ -105,8 +105,8 @@ fn claim_of(alloc: Global, value: &Value) -> Result<Claim, RunError>
     })
 }
 
-// The criterion whose name a value is.
-fn criterion_in(value: &Value) -> Option<Criterion>
+/// The criterion whose name a value is.
+pub(crate) fn criterion_in(value: &Value) -> Option<Criterion>
     ensures { MatchOption result ((criterion : AnyCriterion) → view value.now ≢ string (name_of criterion))
         (λ criterion. view value.now ≡ string (name_of criterion)) }
 {

@@ -12,11 +12,14 @@ use crate::explaining_forms::explain_as;
 use crate::failure::RunError;
 use crate::input::read_input;
 use crate::line_judge::judge_each;
+use crate::listing_faults::list_faults;
+use crate::long_forms::explain_long;
+use crate::long_refuting::refute_long;
 use crate::output::write_output;
 use crate::refuting::refute;
 use crate::replaying::replay;
 use crate::report::report_text;
-use command_line::{Judging, Order};
+use command_line::{Judging, Length, Order};
 use lines::{MAX_READ_CALLS, Source};
 use std::alloc::Global;
 use std::io::Write;
@@ -69,7 +72,10 @@ pub fn answer_to<T: Threads + Wait + Sync>(
         Order::JudgeLines(judging) => judge_each(rt, alloc, input, *judging),
         Order::Check(workers) => check(rt, alloc, input, *workers),
         Order::Explain(form) => explain_as(rt, alloc, input, *form),
-        Order::Refute => refute(alloc, input),
+        Order::ExplainLong(form) => explain_long(rt, alloc, input, *form),
+        Order::ListFaults(listing) => list_faults(rt, alloc, input, *listing),
+        Order::Refute(Length::Limited) => refute(alloc, input),
+        Order::Refute(Length::Any) => refute_long(alloc, input),
         Order::Replay => replay(alloc, input),
         Order::Drive(drive) => drive_input(rt, alloc, input, *drive),
     }

@@ -1,0 +1,24 @@
+-- What is written of a history where its faults are listed, in each form.
+use Rattle.std.specs.Prelude.{◌≡◌, ℕ, List, ◌++◌, codes}
+use Rattle.serde_json.specs.Written.{compact_text}
+use Rattle.command_line.specs.declared.form.ListForm.{ListForm}
+use Rattle.command_line.specs.declared.form.ListForm.TheVariants.{Words, Json}
+use Rattle.operations.specs.declared.any_history.AnyHistory.{AnyHistory}
+use Rattle.operations.specs.AnyForm.{IsJson}
+use Rattle.engine.specs.declared.listing_faults.FaultReport.{FaultReport}
+use Rattle.engine.specs.declared.reason.Explanation.{Explanation}
+use Rattle.engine.specs.Explaining.{EachIsReason}
+use Rattle.engine.specs.ExplainingInWords.{IsIndented, TellsEach}
+use Rattle.engine.specs.ListingFaults.{IsFaultReportOf, fault_report_form}
+
+-- the text is that of the reasons, and lines after it
+abbrev pub AreLinesAfter : Explanation → List ℕ → Type 0
+AreLinesAfter explanation text = (first rest : List ℕ) × TellsEach explanation first × IsIndented rest × (text ≡ first ++ rest)
+
+-- the text lists the faults of a history
+abbrev pub IsListOf : ListForm → ℕ → AnyHistory → List ℕ → Type 0
+IsListOf Words most history text = (explanation : Explanation) × EachIsReason history explanation × AreLinesAfter explanation text
+IsListOf Json most history text =
+    (report : FaultReport) × IsFaultReportOf most history report
+    × IsJson (compact_text (fault_report_form report)) (fault_report_form report)
+    × (text ≡ compact_text (fault_report_form report) ++ codes "\n")

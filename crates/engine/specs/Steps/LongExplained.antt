@@ -1,0 +1,26 @@
+-- What is written of a history of any length, in each form.
+use Rattle.std.specs.Prelude.{◌≡◌, ℕ, List, ◌++◌, codes}
+use Rattle.serde_json.specs.Written.{compact_text}
+use Rattle.command_line.specs.declared.form.LongForm.{LongForm}
+use Rattle.command_line.specs.declared.form.LongForm.TheVariants.{Words, Json, Picture}
+use Rattle.operations.specs.declared.any_history.AnyHistory.{AnyHistory}
+use Rattle.operations.specs.AnyForm.{IsJson}
+use Rattle.picture.specs.Markup.{IsSvgElement}
+use Rattle.engine.specs.declared.reason.Explanation.{Explanation}
+use Rattle.engine.specs.Explaining.{EachIsReason, explanation_form}
+use Rattle.engine.specs.ExplainingInWords.{TellsEach}
+
+-- the text gives reasons of a history in words, as JSON, or is a picture
+abbrev pub IsWordsOf : AnyHistory → List ℕ → Type 0
+IsWordsOf history text = (explanation : Explanation) × EachIsReason history explanation × TellsEach explanation text
+
+abbrev pub IsJsonOf : AnyHistory → List ℕ → Type 0
+IsJsonOf history text =
+    (explanation : Explanation) × EachIsReason history explanation
+    × IsJson (compact_text (explanation_form explanation)) (explanation_form explanation)
+    × (text ≡ compact_text (explanation_form explanation) ++ codes "\n")
+
+abbrev pub IsExplainedAs : LongForm → AnyHistory → List ℕ → Type 0
+IsExplainedAs Words history text = IsWordsOf history text
+IsExplainedAs Json history text = IsJsonOf history text
+IsExplainedAs Picture history text = IsSvgElement text

@@ -1,0 +1,327 @@
+//! Reads of a history that show a fault, in a list.
+
+ghost use Rattle.std.specs.Prelude.{◌≡◌, ◌∷◌, ◌++◌, [], codes, IfErr, IfOk, OnOk, string_bytes};
+ghost use Rattle.serde_json.specs.View.{view};
+ghost use Rattle.serde_json.specs.Written.{compact_text};
+ghost use Rattle.operations.specs.AnyForm.{IsJson};
+ghost use Rattle.operations.specs.Json.{list};
+ghost use Rattle.engine.specs.Explaining.{EachIsReason};
+ghost use Rattle.engine.specs.ExplainingInWords.{TellsEach};
+ghost use Rattle.engine.specs.ListingFaults.{AreFaultsIn, IsFaultReportOf, fault_report_form, list_form};
+ghost use Rattle.engine.specs.Running.{IsOutput, IsOutputError};
+ghost use Rattle.engine.specs.Steps.Listed.{AreLinesAfter, IsListOf};
+
+use crate::explaining_in_words::{explanation_of_copy, indented_text, text_with_lines};
+use crate::failure::RunError;
+use crate::long_explaining::{LongExplanation, explanation_of_long};
+use crate::long_words::lines_of_found;
+use crate::reason::{Explanation, Reason};
+use crate::reason_lines::lines_of_reason;
+use crate::written::line_of_value;
+use bad_patterns::Kind;
+use cert_check::Criterion;
+use command_line::{Length, ListForm, Listing, Order};
+use long_faults::{Faults, count_lines, fault_line, faults, faults_value};
+use long_history::LongHistory;
+use long_index::LongIndex;
+use long_reader::{read_long, small};
+use operations::{AnyHistory, read_history};
+use serde_json::Value;
+use std::alloc::{AllocError, Global};
+use std::sync::Wait;
+use std::thread::Threads;
+
+/// Why a history meets each criterion or does not, and its reads that show a fault; none where values are not distinct, and of objects
+/// that have no keys to read.
+#[derive(Drop)]
+pub struct FaultReport {
+    pub explanation: Explanation,
+    pub faults: Option<Faults>,
+}
+
+/// Lists reads of the history in the input that show a fault: each returned a value that nobody wrote, or missed a write.
+///
+/// The lines of `judge` come first, with the pattern of a kind that no read shows by itself. Refuses what is no history, and fails for
+/// want of memory. It costs what `explain` costs, and O(n k) for n operations of k sessions.
+pub fn list_faults<T: Threads + Wait + Sync>(
+    rt: &T,
+    alloc: Global,
+    input: &[u8],
+    listing: Listing,
+) -> Result<String, RunError>
+    ensures output { IfOk result (λ text. IsOutput (Order.ListFaults listing) input.now (string_bytes text)) }
+    ensures error { IfErr result (IsOutputError (Order.ListFaults listing) input.now) }
+{
+    match listing.length {
+        Length::Limited => {
+            let history = read_history(alloc, input)?;
+            list_in_limited(rt, alloc, history, listing.most, listing.form)
+        }
+        Length::Any => {
+            let history = read_long(alloc, input)?;
+            list_in_long(rt, alloc, &history, listing.most, listing.form)
+        }
+    }
+}
+
+// The list of a memory history of any length.
+fn list_in_long<T: Threads + Wait + Sync>(
+    rt: &T,
+    alloc: Global,
+    history: &LongHistory,
+    most: u32,
+    form: ListForm,
+) -> Result<String, RunError>
+    ensures list { IfOk result (λ text. IsListOf form most (AnyHistory.Memory history.now) (string_bytes text)) }
+    ensures error { IfErr result (λ e. e ≡ RunError.Memory) }
+{
+    match small(alloc, history)? {
+        Some(small) => list_in_limited(rt, alloc, AnyHistory::Memory(small), most, form),
+        None => list_in_larger(alloc, history, most, form),
+    }
+}
+
+// The list of a history within the limits.
+fn list_in_limited<T: Threads + Wait + Sync>(
+    rt: &T,
+    alloc: Global,
+    history: AnyHistory,
+    most: u32,
+    form: ListForm,
+) -> Result<String, RunError>
+    ensures list { IfOk result (λ text. IsListOf form most history (string_bytes text)) }
+    ensures error { IfErr result (λ e. e ≡ RunError.Memory) }
+{
+    let explanation = explanation_of_copy(rt, alloc, &history)?;
+    match form {
+        ListForm::Words => {
+            let first = text_in_list(alloc, &history, &explanation)?;
+            let lines = fault_lines_of_any(alloc, &history, most)?;
+            Ok(joined(alloc, &first, &lines)?)
+        }
+        ListForm::Json => {
+            let faults = faults_of_any(alloc, &history, most)?;
+            Ok(text_of_report(alloc, &FaultReport { explanation, faults })?)
+        }
+    }
+}
+
+// The list of a history over the limits.
+fn list_in_larger(
+    alloc: Global,
+    history: &LongHistory,
+    most: u32,
+    form: ListForm,
+) -> Result<String, RunError>
+    ensures list { IfOk result (λ text. IsListOf form most (AnyHistory.Memory history.now) (string_bytes text)) }
+    ensures error { IfErr result (λ e. e ≡ RunError.Memory) }
+{
+    let said = explanation_of_long(alloc, history)?;
+    match form {
+        ListForm::Words => {
+            let first = long_text_in_list(alloc, history, &said)?;
+            let lines = fault_lines_of(alloc, history, most)?;
+            Ok(joined(alloc, &first, &lines)?)
+        }
+        ListForm::Json => {
+            let faults = faults_of(alloc, history, most)?;
+            let explanation = said.explanation;
+            Ok(text_of_report(alloc, &FaultReport { explanation, faults })?)
+        }
+    }
+}
+
+// The text of the reasons, and lines after it.
+fn joined(alloc: Global, first: &str, lines: &[String]) -> Result<String, AllocError>
+    ensures { IfOk result (λ text. (explanation : Explanation) → TellsEach explanation first.now
+        → AreLinesAfter explanation (string_bytes text)) }
+{
+    let rest = indented_text(alloc, lines)?;
+    format!(in alloc; "{first}{rest}")
+}
+
+// The faults of a memory history.
+fn faults_of(
+    alloc: Global,
+    history: &LongHistory,
+    most: u32,
+) -> Result<Option<Faults>, AllocError>
+    ensures { IfOk result (AreFaultsIn most (AnyHistory.Memory history.now)) }
+{
+    match LongIndex::of(alloc, history)? {
+        Some(index) => Ok(Some(faults(alloc, &index, most as usize)?)),
+        None => Ok(None),
+    }
+}
+
+// The faults of a history of any object: those of a memory.
+fn faults_of_any(
+    alloc: Global,
+    history: &AnyHistory,
+    most: u32,
+) -> Result<Option<Faults>, AllocError>
+    ensures { IfOk result (AreFaultsIn most history.now) }
+{
+    match history {
+        AnyHistory::Memory(memory) => faults_of(alloc, &long_of(alloc, memory)?, most),
+        AnyHistory::Register(_)
+        | AnyHistory::Counter(_)
+        | AnyHistory::Set(_)
+        | AnyHistory::Queue(_)
+        | AnyHistory::Counters(_)
+        | AnyHistory::Sets(_)
+        | AnyHistory::Queues(_) => Ok(None),
+    }
+}
+
+// The lines on the faults of a history of any object.
+fn fault_lines_of_any(
+    alloc: Global,
+    history: &AnyHistory,
+    most: u32,
+) -> Result<Vec<String>, AllocError> {
+    match history {
+        AnyHistory::Memory(memory) => fault_lines_of(alloc, &long_of(alloc, memory)?, most),
+        _ => one_line(alloc, "No faults of single reads are known of this object."),
+    }
+}
+
+// The lines on the faults of a memory history: how many there are, and some of them.
+fn fault_lines_of(
+    alloc: Global,
+    history: &LongHistory,
+    most: u32,
+) -> Result<Vec<String>, AllocError> {
+    let Some(index) = LongIndex::of(alloc, history)? else {
+        return one_line(
+            alloc,
+            "A read does not name its write, since values are not distinct: so no fault is known.",
+        );
+    };
+    let found = faults(alloc, &index, most as usize)?;
+    let mut lines = count_lines(alloc, &found)?;
+    for fault in &found.listed {
+        lines.push(fault_line(alloc, &index, fault)?)?;
+    }
+    Ok(lines)
+}
+
+fn one_line(alloc: Global, words: &'static str) -> Result<Vec<String>, AllocError> {
+    let mut lines = Vec::new(alloc);
+    lines.push(String::from_str(alloc, words)?)?;
+    Ok(lines)
+}
+
+// The JSON text of a report, and a line feed.
+fn text_of_report(alloc: Global, report: &FaultReport) -> Result<String, AllocError>
+    ensures whole { IfOk result (λ text. string_bytes text ≡ compact_text (fault_report_form report.now) ++ codes "\n") }
+    ensures json { OnOk result (IsJson (compact_text (fault_report_form report.now)) (fault_report_form report.now)) }
+{
+    let value = value_of_report(alloc, report)?;
+    line_of_value(alloc, &value)
+}
+
+// The form of a report.
+fn value_of_report(alloc: Global, report: &FaultReport) -> Result<Value, AllocError>
+    ensures { IfOk result (λ value. view value ≡ fault_report_form report.now) }
+{
+    let explanation = report.explanation.value(alloc)?;
+    let faults = value_of_faults(alloc, &report.faults)?;
+    let mut values = Vec::new(alloc);
+    values.push(explanation)?;
+    values.push(faults)?;
+    Ok(Value::Array(values))
+}
+
+// The form of the faults, where there are such.
+fn value_of_faults(alloc: Global, faults: &Option<Faults>) -> Result<Value, AllocError>
+    ensures { IfOk result (λ value. view value ≡ list_form faults.now) }
+{
+    match faults {
+        Some(faults) => faults_value(alloc, faults),
+        None => Ok(Value::Null),
+    }
+}
+
+// The text of the reasons on a history within the limits.
+fn text_in_list(
+    alloc: Global,
+    history: &AnyHistory,
+    said: &Explanation,
+) -> Result<String, AllocError>
+    ensures { IfOk result (λ text. TellsEach said.now (string_bytes text)) }
+{
+    let lines = lines_in_list(alloc, history, Criterion::Cc, &said.cc, None)?;
+    let cc = text_with_lines(alloc, Criterion::Cc, &said.cc, &lines)?;
+    let before = kind_in(&said.cc);
+    let lines = lines_in_list(alloc, history, Criterion::Cm, &said.cm, before)?;
+    let cm = text_with_lines(alloc, Criterion::Cm, &said.cm, &lines)?;
+    let lines = lines_in_list(alloc, history, Criterion::Ccv, &said.ccv, before)?;
+    let ccv = text_with_lines(alloc, Criterion::Ccv, &said.ccv, &lines)?;
+    format!(in alloc; "{cc}{cm}{ccv}")
+}
+
+// The lines of a reason: none where the list has the reads that show it, or the kind was shown before.
+fn lines_in_list(
+    alloc: Global,
+    history: &AnyHistory,
+    criterion: Criterion,
+    reason: &Reason,
+    before: Option<Kind>,
+) -> Result<Vec<String>, AllocError> {
+    if is_shown_apart(reason, before) {
+        lines_of_reason(alloc, history, criterion, reason)
+    } else {
+        Ok(Vec::new(alloc))
+    }
+}
+
+// The text of the reasons on a history over the limits.
+fn long_text_in_list(
+    alloc: Global,
+    history: &LongHistory,
+    said: &LongExplanation,
+) -> Result<String, AllocError>
+    ensures { IfOk result (λ text. TellsEach said.now.explanation (string_bytes text)) }
+{
+    let reasons = &said.explanation;
+    let lines = long_lines_in_list(alloc, history, said, &reasons.cc, None)?;
+    let cc = text_with_lines(alloc, Criterion::Cc, &reasons.cc, &lines)?;
+    let before = kind_in(&reasons.cc);
+    let lines = long_lines_in_list(alloc, history, said, &reasons.cm, before)?;
+    let cm = text_with_lines(alloc, Criterion::Cm, &reasons.cm, &lines)?;
+    let lines = long_lines_in_list(alloc, history, said, &reasons.ccv, before)?;
+    let ccv = text_with_lines(alloc, Criterion::Ccv, &reasons.ccv, &lines)?;
+    format!(in alloc; "{cc}{cm}{ccv}")
+}
+
+// The lines of a reason on a history over the limits, as above.
+fn long_lines_in_list(
+    alloc: Global,
+    history: &LongHistory,
+    said: &LongExplanation,
+    reason: &Reason,
+    before: Option<Kind>,
+) -> Result<Vec<String>, AllocError> {
+    match kind_in(reason) {
+        Some(kind) if is_shown_apart(reason, before) => lines_of_found(alloc, history, said, kind),
+        _ => Ok(Vec::new(alloc)),
+    }
+}
+
+// The kind of a reason that is a no.
+fn kind_in(reason: &Reason) -> Option<Kind> {
+    match reason {
+        Reason::Shown(pattern) => Some(pattern.kind()),
+        Reason::Present(kind) => Some(*kind),
+        Reason::Explained | Reason::Unexplained(_) => None,
+    }
+}
+
+// Whether a reason names a kind that no single read shows, and that was not shown before.
+fn is_shown_apart(reason: &Reason, before: Option<Kind>) -> bool {
+    match kind_in(reason) {
+        None | Some(Kind::ThinAirRead | Kind::WriteCOInitRead | Kind::WriteCORead) => false,
+        kind => kind != before,
+    }
+}

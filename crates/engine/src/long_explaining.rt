@@ -1,0 +1,164 @@
+//! Why a memory history of any length meets each criterion, or does not.
+
+ghost use Rattle.std.specs.Prelude.{◌≡◌, IfErr, IfOk, IfSome};
+ghost use Rattle.bad_patterns.specs.Patterns.{IsShownBy, kind_of};
+ghost use Rattle.long_decision.specs.LongDecisions.{AreDecided, IsLongDecided};
+ghost use Rattle.engine.specs.Explaining.{EachIsReason, IsReason};
+
+use crate::failure::RunError;
+use crate::reason::{Explanation, Reason};
+use bad_patterns::{Kind, Pattern};
+use cert_check::Criterion;
+use long_cores::{Gathered, core_of_kind};
+use long_decision::{LongDecision, LongDecisions, decide_indexed};
+use long_history::LongHistory;
+use long_index::LongIndex;
+use long_patterns::is_shown_in_long;
+use operations::AnyHistory;
+use std::alloc::{AllocError, Global};
+
+/// Why a long history meets each criterion or does not, with what was gathered of each kind that it shows.
+#[derive(Drop)]
+pub(crate) struct LongExplanation {
+    pub explanation: Explanation,
+    pub found: Vec<Found>,
+}
+
+/// A kind that a long history shows, and the operations that were gathered of it.
+#[derive(Drop)]
+pub(crate) struct Found {
+    pub kind: Kind,
+    pub gathered: Gathered,
+}
+
+impl LongExplanation {
+    /// What was gathered of a kind.
+    pub(crate) fn gathered(&self, kind: Kind) -> Option<&Gathered> {
+        gathered_of(&self.found, kind)
+    }
+}
+
+/// Why each criterion is met by a memory history of any length, or is not, or why that is unknown.
+///
+/// A `no` has a pattern where few operations show it by themselves: these are judged as a history of their own, and the pattern that is
+/// found there is tested in the whole. Else it has its kind. Unknown, with no operation, exactly where values are not distinct.
+///
+/// Fails for want of memory alone. O(n (k + log n)) for n operations of k sessions.
+pub(crate) fn explanation_of_long(
+    alloc: Global,
+    history: &LongHistory,
+) -> Result<LongExplanation, RunError>
+    ensures reasons { IfOk result (λ said. EachIsReason (AnyHistory.Memory history.now) said.explanation) }
+    ensures error { IfErr result (λ e. e ≡ RunError.Memory) }
+{
+    match LongIndex::of(alloc, history)? {
+        Some(index) => Ok(explanation_of_indexed(alloc, &index)?),
+        None => Ok(LongExplanation {
+            explanation: Explanation {
+                cc: Reason::Unexplained(None),
+                cm: Reason::Unexplained(None),
+                ccv: Reason::Unexplained(None),
+            },
+            found: Vec::new(alloc),
+        }),
+    }
+}
+
+// The same of a history of distinct values.
+#[tactic(auto, using(crate::proofs::Reasons::each_reason))]
+fn explanation_of_indexed(alloc: Global, index: &LongIndex) -> Result<LongExplanation, AllocError>
+    ensures { IfOk result (λ said. EachIsReason (AnyHistory.Memory index.now.history) said.explanation) }
+{
+    let decisions = decide_indexed(alloc, index)?;
+    let found = found_of(alloc, index, &decisions)?;
+    let cc = reason_of(alloc, index, Criterion::Cc, decisions.cc, &found)?;
+    let cm = reason_of(alloc, index, Criterion::Cm, decisions.cm, &found)?;
+    let ccv = reason_of(alloc, index, Criterion::Ccv, decisions.ccv, &found)?;
+    Ok(LongExplanation {
+        explanation: Explanation { cc, cm, ccv },
+        found,
+    })
+}
+
+// What is gathered of the kinds that are named, each once.
+fn found_of(
+    alloc: Global,
+    index: &LongIndex,
+    decisions: &LongDecisions,
+) -> Result<Vec<Found>, AllocError> {
+    let mut found = Vec::new(alloc);
+    push_found(alloc, index, Criterion::Cc, decisions.cc, &mut found)?;
+    push_found(alloc, index, Criterion::Cm, decisions.cm, &mut found)?;
+    push_found(alloc, index, Criterion::Ccv, decisions.ccv, &mut found)?;
+    Ok(found)
+}
+
+// Gathers what a decision names, unless that was done before.
+fn push_found(
+    alloc: Global,
+    index: &LongIndex,
+    criterion: Criterion,
+    decision: LongDecision,
+    found: &mut Vec<Found>,
+) -> Result<(), AllocError> {
+    if let LongDecision::ExcludedBy(kind) = decision
+        && gathered_of(found, kind).is_none()
+    {
+        let gathered = core_of_kind(alloc, index, criterion, kind)?;
+        found.push(Found { kind, gathered })?;
+    }
+    Ok(())
+}
+
+// What was gathered of a kind.
+fn gathered_of(found: &[Found], kind: Kind) -> Option<&Gathered> {
+    for one in found {
+        if one.kind == kind {
+            return Some(&one.gathered);
+        }
+    }
+    None
+}
+
+// The reason of a decision.
+fn reason_of(
+    alloc: Global,
+    index: &LongIndex,
+    criterion: Criterion,
+    decision: LongDecision,
+    found: &[Found],
+) -> Result<Reason, AllocError>
+    requires { IsLongDecided index.now.history criterion decision }
+    ensures { IfOk result (IsReason (AnyHistory.Memory index.now.history) criterion) }
+{
+    index.value_is_indexed();
+    match decision {
+        LongDecision::Meets => Ok(Reason::Explained),
+        LongDecision::ExcludedBy(kind) => match pattern_of(alloc, index, kind, found)? {
+            Some(pattern) => Ok(Reason::Shown(pattern)),
+            None => Ok(Reason::Present(kind)),
+        },
+        LongDecision::Open => Ok(Reason::Unexplained(None)),
+    }
+}
+
+// The pattern of a kind in the whole history, where one was found: it is tested there.
+fn pattern_of(
+    alloc: Global,
+    index: &LongIndex,
+    kind: Kind,
+    found: &[Found],
+) -> Result<Option<Pattern>, AllocError>
+    ensures shown { IfOk result (λ made. IfSome made (λ pattern. IsShownBy index.now.history pattern)) }
+    ensures kind { IfOk result (λ made. IfSome made (λ pattern. kind_of pattern ≡ kind)) }
+{
+    let Some(Gathered::Core(core)) = gathered_of(found, kind) else {
+        return Ok(None);
+    };
+    let pattern = core.pattern_in_whole(alloc)?;
+    if pattern.kind() == kind && is_shown_in_long(alloc, index, &pattern)? {
+        Ok(Some(pattern))
+    } else {
+        Ok(None)
+    }
+}

@@ -1,0 +1,103 @@
+//! The forms in which it is said why a memory history of any length meets each criterion, or does not.
+
+ghost use Rattle.std.specs.Prelude.{◌≡◌, IfErr, IfOk, string_bytes};
+ghost use Rattle.command_line.specs.declared.length.Length.TheVariants.{Any};
+ghost use Rattle.engine.specs.Running.{IsOutput, IsOutputError};
+ghost use Rattle.engine.specs.Steps.LongExplained.{IsExplainedAs, IsWordsOf};
+
+use crate::explaining::{explanation_of_memory, explanation_text};
+use crate::failure::RunError;
+use crate::long_explaining::explanation_of_long;
+use crate::long_picturing::picture_of_long;
+use crate::long_words::{text_of_long, text_of_small};
+use crate::picturing::picture_of_memory;
+use command_line::{LongForm, Order, Workers};
+use long_history::LongHistory;
+use long_reader::{read_long, small};
+use objects::Memory;
+use operations::{AnyHistory, History};
+use std::alloc::Global;
+use std::sync::Wait;
+use std::thread::Threads;
+
+/// Why the memory history in the input, of any length, meets each criterion or does not, in a form.
+///
+/// Of a history within the limits of [`History`] it is what `explain` says, but for the words after a yes. Refuses what is no such history,
+/// and fails for want of memory. The cost is that of reading it and of [`explanation_of_long`].
+pub fn explain_long<T: Threads + Wait + Sync>(
+    rt: &T,
+    alloc: Global,
+    input: &[u8],
+    form: LongForm,
+) -> Result<String, RunError>
+    ensures output { IfOk result (λ text. IsOutput (Order.ExplainLong form) input.now (string_bytes text)) }
+    ensures error { IfErr result (IsOutputError (Order.ExplainLong form) input.now) }
+{
+    let history = read_long(alloc, input)?;
+    explained_as(rt, alloc, &history, form)
+}
+
+// The text on a history, in a form.
+fn explained_as<T: Threads + Wait + Sync>(
+    rt: &T,
+    alloc: Global,
+    history: &LongHistory,
+    form: LongForm,
+) -> Result<String, RunError>
+    ensures text { IfOk result (λ text. IsExplainedAs form (AnyHistory.Memory history.now) (string_bytes text)) }
+    ensures error { IfErr result (λ e. e ≡ RunError.Memory) }
+{
+    match small(alloc, history)? {
+        Some(small) => small_as(rt, alloc, history, small, form),
+        None => larger_as(alloc, history, form),
+    }
+}
+
+// The text on a history over the limits.
+fn larger_as(alloc: Global, history: &LongHistory, form: LongForm) -> Result<String, RunError>
+    ensures text { IfOk result (λ text. IsExplainedAs form (AnyHistory.Memory history.now) (string_bytes text)) }
+    ensures error { IfErr result (λ e. e ≡ RunError.Memory) }
+{
+    let said = explanation_of_long(alloc, history)?;
+    match form {
+        LongForm::Words => Ok(text_of_long(alloc, history, &said)?),
+        LongForm::Json => Ok(explanation_text(alloc, &said.explanation)?),
+        LongForm::Picture => Ok(picture_of_long(alloc, history, &said)?),
+    }
+}
+
+// The text on a history within the limits.
+fn small_as<T: Threads + Wait + Sync>(
+    rt: &T,
+    alloc: Global,
+    history: &LongHistory,
+    small: History<Memory>,
+    form: LongForm,
+) -> Result<String, RunError>
+    ensures text { IfOk result (λ text. IsExplainedAs form (AnyHistory.Memory small) (string_bytes text)) }
+    ensures error { IfErr result (λ e. e ≡ RunError.Memory) }
+{
+    match form {
+        LongForm::Words => words_of_small(rt, alloc, history, small),
+        LongForm::Json => {
+            let said = explanation_of_memory(rt, alloc, small, Workers::usual())?;
+            Ok(explanation_text(alloc, &said)?)
+        }
+        LongForm::Picture => picture_of_memory(rt, alloc, small),
+    }
+}
+
+// The words on a history within the limits.
+fn words_of_small<T: Threads + Wait + Sync>(
+    rt: &T,
+    alloc: Global,
+    history: &LongHistory,
+    small: History<Memory>,
+) -> Result<String, RunError>
+    ensures words { IfOk result (λ text. IsWordsOf (AnyHistory.Memory small) (string_bytes text)) }
+    ensures error { IfErr result (λ e. e ≡ RunError.Memory) }
+{
+    let said = explanation_of_memory(rt, alloc, small.copy(alloc)?, Workers::usual())?;
+    let small = AnyHistory::Memory(small);
+    Ok(text_of_small(alloc, history, &small, &said)?)
+}

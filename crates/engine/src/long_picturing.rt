@@ -1,0 +1,74 @@
+//! A memory history of any length as a picture: the sessions of a pattern alone.
+
+ghost use Rattle.std.specs.Prelude.{IfOk, IfSome, string_bytes};
+ghost use Rattle.picture.specs.Markup.{IsSvgElement};
+
+use crate::long_explaining::LongExplanation;
+use crate::long_words::CoreNames;
+use crate::picturing::title_of;
+use crate::reason::Reason;
+use cert_check::Criterion;
+use history::History;
+use long_cores::Gathered;
+use long_history::LongHistory;
+use objects::{Memory, Table};
+use picture::{picture_of_history, picture_of_pattern};
+use std::alloc::{AllocError, Global};
+
+/// The picture of the pattern of the first criterion that is not met, with the sessions of its operations alone and how many operations
+/// are left out between them. Where no pattern is at hand, what is known of each criterion is all that it shows.
+///
+/// Fails for want of memory alone. What [`picture_of_pattern`] takes for a few operations.
+pub(crate) fn picture_of_long(
+    alloc: Global,
+    history: &LongHistory,
+    said: &LongExplanation,
+) -> Result<String, AllocError>
+    ensures { IfOk result (λ svg. IsSvgElement (string_bytes svg)) }
+{
+    let reasons = &said.explanation;
+    if let Some(svg) = picture_of_found(alloc, history, said, Criterion::Cc, &reasons.cc)? {
+        return Ok(svg);
+    }
+    if let Some(svg) = picture_of_found(alloc, history, said, Criterion::Cm, &reasons.cm)? {
+        return Ok(svg);
+    }
+    if let Some(svg) = picture_of_found(alloc, history, said, Criterion::Ccv, &reasons.ccv)? {
+        return Ok(svg);
+    }
+    picture_of_title(alloc, said)
+}
+
+// The picture of what was gathered of a reason, where it shows a pattern.
+fn picture_of_found(
+    alloc: Global,
+    history: &LongHistory,
+    said: &LongExplanation,
+    criterion: Criterion,
+    reason: &Reason,
+) -> Result<Option<String>, AllocError>
+    ensures { IfOk result (λ made. IfSome made (λ svg. IsSvgElement (string_bytes svg))) }
+{
+    let Reason::Shown(pattern) = reason else {
+        return Ok(None);
+    };
+    let Some(Gathered::Core(core)) = said.gathered(pattern.kind()) else {
+        return Ok(None);
+    };
+    let names = CoreNames {
+        core,
+        sessions: history.sessions(),
+    };
+    let svg = picture_of_pattern(alloc, core.history(), &names, criterion, core.pattern())?;
+    Ok(Some(svg))
+}
+
+// The picture of what is known of each criterion, and of no operation.
+fn picture_of_title(alloc: Global, said: &LongExplanation) -> Result<String, AllocError>
+    ensures { IfOk result (λ svg. IsSvgElement (string_bytes svg)) }
+{
+    let mut lines = Vec::new(alloc);
+    lines.push(title_of(alloc, &said.explanation.report())?)?;
+    let none: History<Memory> = History::of(Table::new(alloc), Vec::new(alloc));
+    picture_of_history(alloc, &none, lines.as_slice(), None)
+}
