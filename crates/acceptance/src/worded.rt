@@ -5,7 +5,7 @@ use bad_patterns::{Path, Pattern};
 use operations::OpId;
 use std::alloc::{AllocError, Global};
 use std::test::Fail;
-use wording::words_of_pattern;
+use wording::{OwnNames, words_of_pattern};
 
 /// The words of a cycle of so many operations of one session, in a history without operations.
 fn words_of_path(alloc: Global, length: u64) -> Result<Vec<String>, AllocError> {
@@ -14,7 +14,12 @@ fn words_of_path(alloc: Global, length: u64) -> Result<Vec<String>, AllocError> 
         ops.push(OpId { session: 0, index })?;
     }
     match memory(alloc, "[\"memory\",[]]") {
-        Some(history) => words_of_pattern(alloc, &history, &Pattern::CyclicCO(Path::of(ops))),
+        Some(history) => words_of_pattern(
+            alloc,
+            &history,
+            &OwnNames,
+            &Pattern::CyclicCO(Path::of(ops)),
+        ),
         None => Err(AllocError),
     }
 }

@@ -9,7 +9,7 @@ use memory_order::IndexedMemory;
 use objects::Memory;
 use operations::History;
 use std::alloc::{AllocError, Global};
-use wording::{repeated_variables, words_of_pattern, words_without_variables};
+use wording::{OwnNames, repeated_variables, words_of_pattern, words_without_variables};
 
 /// The lines on a pattern of a history of a memory: its words, and its core where it has one.
 ///
@@ -20,7 +20,7 @@ pub(crate) fn lines_with_core(
     criterion: Criterion,
     pattern: &Pattern,
 ) -> Result<Vec<String>, AllocError> {
-    let mut lines = words_of_pattern(alloc, history, pattern)?;
+    let mut lines = words_of_pattern(alloc, history, &OwnNames, pattern)?;
     push_core(alloc, &mut lines, history, criterion, pattern)?;
     Ok(lines)
 }
@@ -56,7 +56,10 @@ fn push_excluded(
         Decision::Excluded(pattern) => {
             lines.push(words_without_variables(alloc, variables, pattern.kind())?)?;
             let renamed = pattern_in_whole(alloc, history, variables, pattern)?;
-            push_all(lines, words_of_pattern(alloc, history, &renamed)?)?;
+            push_all(
+                lines,
+                words_of_pattern(alloc, history, &OwnNames, &renamed)?,
+            )?;
             push_core(alloc, lines, &excluded.part, criterion, pattern)
         }
         Decision::ExcludedBy(kind) => {

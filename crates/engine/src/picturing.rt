@@ -20,7 +20,7 @@ use picture::{Labelled, picture_of_history, picture_of_pattern};
 use std::alloc::{AllocError, Global};
 use std::sync::Wait;
 use std::thread::Threads;
-use wording::name_of;
+use wording::{OwnNames, name_of};
 
 /// The picture of the history in the input, as an SVG text: with the pattern of the first criterion that is not met, where one is
 /// at hand, and else all of the history, with the first operation that a certificate does not explain drawn out.
@@ -117,7 +117,7 @@ fn picture_of_reason(
 {
     match reason {
         Reason::Shown(pattern) => {
-            let svg = picture_of_pattern(alloc, history, criterion, pattern)?;
+            let svg = picture_of_pattern(alloc, history, &OwnNames, criterion, pattern)?;
             Ok(Some(svg))
         }
         Reason::Explained | Reason::Present(_) | Reason::Unexplained(_) => Ok(None),

@@ -5,11 +5,12 @@ use bad_patterns::{Kind, Pattern};
 use cert_check::Criterion;
 use history::OpId;
 use std::alloc::{AllocError, Global};
-use wording::name_of;
+use wording::{Names, name_of};
 
 /// The words at the head of a picture of a pattern: the criterion and the kind, and what the kind says.
-pub(crate) fn lines_of_pattern(
+pub(crate) fn lines_of_pattern<N: Names>(
     alloc: Global,
+    names: &N,
     criterion: Criterion,
     pattern: &Pattern,
 ) -> Result<Vec<String>, AllocError> {
@@ -19,7 +20,7 @@ pub(crate) fn lines_of_pattern(
     let mut lines = Vec::new(alloc);
     lines.push(format!(in alloc; "{name} no {kind}")?)?;
     lines.push(format!(in alloc; "The history does not meet {criterion}:")?)?;
-    lines.push(sentence_of(alloc, pattern)?)?;
+    lines.push(sentence_of(alloc, names, pattern)?)?;
     Ok(lines)
 }
 
@@ -33,10 +34,14 @@ fn words_of_criterion(criterion: Criterion) -> &'static str {
 }
 
 // What is wrong.
-fn sentence_of(alloc: Global, pattern: &Pattern) -> Result<String, AllocError> {
+fn sentence_of<N: Names>(
+    alloc: Global,
+    names: &N,
+    pattern: &Pattern,
+) -> Result<String, AllocError> {
     match pattern {
         Pattern::WriteHBInitRead(op, _) | Pattern::CyclicHB(op, _) => {
-            sentence_about(alloc, *op, words_of_kind(pattern.kind()))
+            sentence_about(alloc, names.in_whole(*op), words_of_kind(pattern.kind()))
         }
         _ => String::from_str(alloc, words_of_kind(pattern.kind())),
     }

@@ -93,7 +93,7 @@ fn draw_lane_lines(
     lanes: &[Lane],
 ) -> Result<(), AllocError> {
     for (number, lane) in lanes.iter().enumerate() {
-        draw_lane_line(alloc, svg, layout, number as u64, lane.session)?;
+        draw_lane_line(alloc, svg, layout, number as u64, lane.number)?;
     }
     Ok(())
 }
@@ -163,7 +163,7 @@ fn draw_operation(
 ) -> Result<(), AllocError> {
     draw_box(alloc, svg, layout, lane, row, shown.is_marked)?;
     let y = layout.top(row) + Saturating(23);
-    let name = name_of(alloc, shown.op)?;
+    let name = name_of(alloc, shown.named)?;
     let style = "font-size=\"11\" fill=\"#6b7280\"";
     push_text(alloc, svg, layout.left(lane) + PADDING, y, style, &name)?;
     let style = label_style(shown.is_marked);

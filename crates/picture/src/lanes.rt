@@ -4,6 +4,7 @@ use crate::label::{Labelled, label_of};
 use crate::marks::Marks;
 use history::{History, OpId};
 use std::alloc::{AllocError, Global};
+use wording::Names;
 
 /// The most operations of a history that is shown whole around a pattern.
 const MAX_WHOLE: u64 = 40;
@@ -24,6 +25,8 @@ pub(crate) enum Extent {
 #[derive(Debug, Drop)]
 pub(crate) struct Shown {
     pub op: OpId,
+    /// The operation of the whole that it is.
+    pub named: OpId,
     pub label: String,
     pub is_marked: bool,
 }
@@ -49,6 +52,8 @@ impl Entry {
 #[derive(Debug, Drop)]
 pub(crate) struct Lane {
     pub session: u64,
+    /// The number of the session in the whole.
+    pub number: u64,
     pub entries: Vec<Entry>,
 }
 
@@ -75,19 +80,21 @@ pub(crate) fn extent_around<O: Labelled>(history: &History<O>) -> Extent {
     }
 }
 
-/// The lanes of a history: of all sessions, or of those with marked operations.
+/// The lanes of a history: of all sessions, or of those with marked operations. A gap in a lane counts the operations of the whole
+/// that it leaves out, whether the history has them or not.
 ///
 /// Fails for want of memory alone. O(n m) for n operations and m marks.
-pub(crate) fn lanes_of<O: Labelled>(
+pub(crate) fn lanes_of<O: Labelled, N: Names>(
     alloc: Global,
     history: &History<O>,
+    names: &N,
     marks: &Marks,
     extent: Extent,
 ) -> Result<Vec<Lane>, AllocError> {
     let mut lanes = Vec::new(alloc);
     for session in 0..history.sessions() {
         let operations = history.session(session);
-        let lane = lane_of::<O>(alloc, session as u64, operations, marks, extent)?;
+        let lane = lane_of::<O, N>(alloc, session as u64, operations, names, marks, extent)?;
         if extent == Extent::Whole || lane.is_marked() {
             lanes.push(lane)?;
         }
@@ -96,43 +103,53 @@ pub(crate) fn lanes_of<O: Labelled>(
 }
 
 // The lane of a session.
-fn lane_of<O: Labelled>(
+fn lane_of<O: Labelled, N: Names>(
     alloc: Global,
     session: u64,
     operations: &[(O::Call, Option<O::Ret>)],
+    names: &N,
     marks: &Marks,
     extent: Extent,
 ) -> Result<Lane, AllocError> {
     let count = operations.len() as u64;
     let mut entries = Vec::new(alloc);
-    let mut left_out: u64 = 0;
+    // In the whole, the index after the last operation that is shown, and after the last of all.
+    let mut shown_end: u64 = 0;
+    let mut end: u64 = 0;
     for (index, operation) in operations.iter().enumerate() {
         let op = OpId {
             session,
             index: index as u64,
         };
+        let named = names.in_whole(op);
+        end = named.index.saturating_add(1);
         if extent == Extent::Whole || is_shown(marks, op, count) {
-            push_gap(&mut entries, left_out)?;
-            left_out = 0;
-            let shown = shown_of::<O>(alloc, op, operation, marks)?;
+            push_gap(&mut entries, named.index.saturating_sub(shown_end))?;
+            let shown = shown_of::<O>(alloc, op, named, operation, marks)?;
             entries.push(Entry::Operation(shown))?;
-        } else {
-            left_out = left_out.saturating_add(1);
+            shown_end = end;
         }
     }
-    push_gap(&mut entries, left_out)?;
-    Ok(Lane { session, entries })
+    push_gap(&mut entries, end.saturating_sub(shown_end))?;
+    let number = names.in_whole(OpId { session, index: 0 }).session;
+    Ok(Lane {
+        session,
+        number,
+        entries,
+    })
 }
 
 // An operation with its label.
 fn shown_of<O: Labelled>(
     alloc: Global,
     op: OpId,
+    named: OpId,
     operation: &(O::Call, Option<O::Ret>),
     marks: &Marks,
 ) -> Result<Shown, AllocError> {
     Ok(Shown {
         op,
+        named,
         label: label_of::<O>(alloc, &operation.0, &operation.1)?,
         is_marked: marks.contains(op),
     })

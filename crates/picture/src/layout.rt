@@ -199,20 +199,14 @@ fn letters_of(entry: &Entry, text: Text) -> Length {
         (Entry::Gap(_), Text::Label) => Saturating(12),
         (Entry::Operation(shown), Text::Label) => length_of(shown.label.chars().count()),
         (Entry::Operation(shown), Text::Name) => {
-            digits_of(shown.op.session) + Saturating(1) + digits_of(shown.op.index)
+            digits_of(shown.named.session) + Saturating(1) + digits_of(shown.named.index)
         }
     }
 }
 
 // How many digits a number of a session or an operation has.
 fn digits_of(number: u64) -> Length {
-    if number < 10 {
-        Saturating(1)
-    } else if number < 100 {
-        Saturating(2)
-    } else {
-        Saturating(3)
-    }
+    Saturating(u64::from(number.max(1).ilog10())) + Saturating(1)
 }
 
 // How many letters the longest line has.

@@ -16,6 +16,7 @@ use history::{History, OpId};
 use memory_order::IndexedMemory;
 use objects::Memory;
 use std::alloc::{AllocError, Global};
+use wording::{Names, OwnNames};
 
 /// The picture of a history of a memory and of a pattern against a criterion, as an SVG text.
 ///
@@ -23,11 +24,15 @@ use std::alloc::{AllocError, Global};
 /// operation before and behind each, in their sessions alone. At most 256 edges are drawn. What of the pattern is no operation
 /// of the history is left out.
 ///
+/// Sessions and operations have these names. Where the history is a part of a longer one, each lane says how many operations of the
+/// whole are left out before each that is shown. What follows the part's last operation of a session is not known, and not shown.
+///
 /// Fails for want of memory alone. O(n (log n + k) + m) for n operations of k sessions and m operations, links and lines of the
 /// pattern, times what is marked, which is bounded.
-pub fn picture_of_pattern(
+pub fn picture_of_pattern<N: Names>(
     alloc: Global,
     history: &History<Memory>,
+    names: &N,
     criterion: Criterion,
     pattern: &Pattern,
 ) -> Result<String, AllocError>
@@ -35,9 +40,10 @@ pub fn picture_of_pattern(
 {
     let memory = IndexedMemory::of(alloc, history)?;
     let marks = marks_of(alloc, &memory, pattern)?;
-    let lanes = lanes_of(alloc, history, &marks, extent_around(history))?;
-    let mut lines = lines_of_pattern(alloc, criterion, pattern)?;
-    push_left_out(alloc, &mut lines, history.sessions(), &lanes, &marks)?;
+    let lanes = lanes_of(alloc, history, names, &marks, extent_around(history))?;
+    let mut lines = lines_of_pattern(alloc, names, criterion, pattern)?;
+    let sessions = names.sessions(history.sessions());
+    push_left_out(alloc, &mut lines, sessions, &lanes, &marks)?;
     picture_of(alloc, &lines, &lanes, &marks, "operation of the pattern")
 }
 
@@ -59,7 +65,7 @@ pub fn picture_of_history<O: Labelled>(
     {
         marks.mark(op)?;
     }
-    let lanes = lanes_of(alloc, history, &marks, Extent::Whole)?;
+    let lanes = lanes_of(alloc, history, &OwnNames, &marks, Extent::Whole)?;
     picture_of(alloc, lines, &lanes, &marks, "operation named above")
 }
 

@@ -1,6 +1,6 @@
 //! Operations in words.
 
-use crate::naming::name_of;
+use crate::naming::{Names, name_in_whole};
 use history::{History, OpId};
 use object_trait::SeqObject;
 use objects::{
@@ -24,12 +24,13 @@ pub trait Worded: SeqObject {
 /// An operation in words, with its name in front.
 ///
 /// Fails for want of memory alone. O(1).
-pub(crate) fn operation_words<O: Worded>(
+pub(crate) fn operation_words<O: Worded, N: Names>(
     alloc: Global,
     h: &History<O>,
+    names: &N,
     op: OpId,
 ) -> Result<String, AllocError> {
-    let name = name_of(alloc, op)?;
+    let name = name_in_whole(alloc, names, op)?;
     if !h.contains(op) {
         return format!(in alloc; "{name} is not in the history");
     }

@@ -1,6 +1,7 @@
 //! Patterns in words.
 
 use crate::gathering::{Told, told_of};
+use crate::naming::Names;
 use crate::operation_words::operation_words;
 use crate::sentences::sentence_of;
 use crate::step::Step;
@@ -10,33 +11,35 @@ use objects::Memory;
 use std::alloc::{AllocError, Global};
 
 /// Why a pattern shows that a history of a memory does not meet a criterion, in lines with no line feed: the operations, each
-/// with its call and its return, then the steps from one to the other, and at the end what is wrong.
+/// with its call and its return, then the steps from one to the other, and at the end what is wrong. The operations have these names.
 ///
 /// The first 20 steps and the last 20 are told, and how many are left out between them. Of a pattern that is not one of the
 /// history it says something too.
 ///
 /// Fails for want of memory alone. O(m + l + n (log n + k)) for a pattern of m operations and l lines and a history of n operations
 /// of k sessions.
-pub fn words_of_pattern(
+pub fn words_of_pattern<N: Names>(
     alloc: Global,
     h: &History<Memory>,
+    names: &N,
     pattern: &Pattern,
 ) -> Result<Vec<String>, AllocError> {
     let told = told_of(alloc, h, pattern)?;
     let mut lines = Vec::new(alloc);
-    push_operations(alloc, &mut lines, h, &told)?;
-    push_steps(alloc, &mut lines, told.steps.first())?;
+    push_operations(alloc, &mut lines, h, names, &told)?;
+    push_steps(alloc, &mut lines, names, told.steps.first())?;
     push_left_out(alloc, &mut lines, told.steps.left_out())?;
-    push_steps(alloc, &mut lines, told.steps.last())?;
-    lines.push(last_line(alloc, h, pattern, &told)?)?;
+    push_steps(alloc, &mut lines, names, told.steps.last())?;
+    lines.push(last_line(alloc, h, names, pattern, &told)?)?;
     Ok(lines)
 }
 
 // The operations that are told, by session and index.
-fn push_operations(
+fn push_operations<N: Names>(
     alloc: Global,
     lines: &mut Vec<String>,
     h: &History<Memory>,
+    names: &N,
     told: &Told,
 ) -> Result<(), AllocError> {
     let mut ops = Vec::new(alloc);
@@ -49,7 +52,7 @@ fn push_operations(
     ops.sort_unstable();
     ops.dedup();
     for op in &ops {
-        lines.push(operation_words(alloc, h, *op)?)?;
+        lines.push(operation_words(alloc, h, names, *op)?)?;
     }
     Ok(())
 }
@@ -63,9 +66,14 @@ fn push_ops(ops: &mut Vec<OpId>, steps: &[Step]) -> Result<(), AllocError> {
 }
 
 // Steps in words.
-fn push_steps(alloc: Global, lines: &mut Vec<String>, steps: &[Step]) -> Result<(), AllocError> {
+fn push_steps<N: Names>(
+    alloc: Global,
+    lines: &mut Vec<String>,
+    names: &N,
+    steps: &[Step],
+) -> Result<(), AllocError> {
     for step in steps {
-        lines.push(step.words(alloc)?)?;
+        lines.push(step.words(alloc, names)?)?;
     }
     Ok(())
 }
@@ -79,14 +87,15 @@ fn push_left_out(alloc: Global, lines: &mut Vec<String>, left_out: u64) -> Resul
 }
 
 // What is wrong.
-fn last_line(
+fn last_line<N: Names>(
     alloc: Global,
     h: &History<Memory>,
+    names: &N,
     pattern: &Pattern,
     told: &Told,
 ) -> Result<String, AllocError> {
     let sentence = match told.ends {
-        Some(ends) => sentence_of(alloc, h, pattern, ends)?,
+        Some(ends) => sentence_of(alloc, h, names, pattern, ends)?,
         None => None,
     };
     match sentence {

@@ -1,5 +1,6 @@
 //! Which values of a history of a memory are not distinct.
 
+use crate::listing::listed;
 use crate::naming::name_of;
 use bad_patterns::Kind;
 use memory_order::{IndexedMemory, Write, initial_value};
@@ -50,29 +51,18 @@ pub fn words_without_variables(
     kind: Kind,
 ) -> Result<String, AllocError> {
     let plural = if variables.len() == 1 { "" } else { "s" };
-    let named = listed(alloc, variables)?;
+    let named = listed_variables(alloc, variables)?;
     let kind = kind.name();
     format!(in alloc; "Without variable{plural} {named}: no {kind}")
 }
 
-// Numbers in a list: the first 8, and how many more there are.
-fn listed(alloc: Global, numbers: &[u32]) -> Result<String, AllocError> {
-    let more = numbers.len().saturating_sub(MAX_VARIABLES);
-    let mut text = String::new(alloc);
-    for (place, number) in numbers.iter().take(MAX_VARIABLES).enumerate() {
-        let before = if place == 0 {
-            ""
-        } else if more == 0 && place.saturating_add(1) == numbers.len() {
-            " and "
-        } else {
-            ", "
-        };
-        text.push_str(format!(in alloc; "{before}{number}")?.as_str())?;
+// The first 8 variables, and how many more there are.
+fn listed_variables(alloc: Global, variables: &[u32]) -> Result<String, AllocError> {
+    let mut named = Vec::new(alloc);
+    for variable in variables.iter().take(MAX_VARIABLES) {
+        named.push(format!(in alloc; "{variable}")?)?;
     }
-    if more > 0 {
-        text.push_str(format!(in alloc; " and {more} more")?.as_str())?;
-    }
-    Ok(text)
+    listed(alloc, &named, variables.len().saturating_sub(MAX_VARIABLES))
 }
 
 // Of each variable whose values are not distinct the first write that shows it, with its place among the writes.

@@ -1,6 +1,6 @@
 //! What is wrong, in the terms of each kind of pattern.
 
-use crate::naming::name_of;
+use crate::naming::{Names, name_in_whole, name_of};
 use bad_patterns::{Kind, Pair, Pattern};
 use history::{History, OpId};
 use memory_order::{initial_value, known_read};
@@ -11,53 +11,56 @@ use std::alloc::{AllocError, Global};
 /// operations are not as the kind says.
 ///
 /// Fails for want of memory alone. O(log n) for a table of n entries.
-pub(crate) fn sentence_of(
+pub(crate) fn sentence_of<N: Names>(
     alloc: Global,
     h: &History<Memory>,
+    names: &N,
     pattern: &Pattern,
     ends: Pair,
 ) -> Result<Option<String>, AllocError> {
-    let (begin, end) = ends;
+    let (begin, _) = ends;
     match pattern {
         Pattern::WriteHBInitRead(op, _) | Pattern::CyclicHB(op, _) => {
-            sentence_on_session(alloc, h, pattern.kind(), *op, begin, end)
+            sentence_on_session(alloc, h, names, pattern.kind(), *op, ends)
         }
-        Pattern::CyclicCO(_) => sentence_on_cycle(alloc, begin, "in the causal order"),
+        Pattern::CyclicCO(_) => sentence_on_cycle(alloc, names, begin, "in the causal order"),
         Pattern::CyclicCF(_) => {
             let words =
                 "in the causal order and the arbitration together: no order of all writes agrees with what was read";
-            sentence_on_cycle(alloc, begin, words)
+            sentence_on_cycle(alloc, names, begin, words)
         }
         Pattern::ThinAirRead(_) | Pattern::WriteCOInitRead(_) | Pattern::WriteCORead(_, _) => {
-            sentence_on_read(alloc, h, pattern.kind(), begin, end)
+            sentence_on_read(alloc, h, names, pattern.kind(), ends)
         }
     }
 }
 
 // The sentence on an operation that comes before itself.
-fn sentence_on_cycle(
+fn sentence_on_cycle<N: Names>(
     alloc: Global,
+    names: &N,
     op: OpId,
     words: &'static str,
 ) -> Result<Option<String>, AllocError> {
-    let name = name_of(alloc, op)?;
+    let name = name_in_whole(alloc, names, op)?;
     Ok(Some(format!(in alloc; "So {name} comes before itself {words}.")?))
 }
 
 // The sentence on a read that should have read something else. The first operation is the one that stands against it.
-fn sentence_on_read(
+fn sentence_on_read<N: Names>(
     alloc: Global,
     h: &History<Memory>,
+    names: &N,
     kind: Kind,
-    other: OpId,
-    read: OpId,
+    ends: Pair,
 ) -> Result<Option<String>, AllocError> {
+    let (other, read) = ends;
     let Some((key, value)) = known_read(h, read) else {
         return Ok(None);
     };
     let initial = initial_value(h, key);
-    let other = name_of(alloc, other)?;
-    let read = name_of(alloc, read)?;
+    let other = name_in_whole(alloc, names, other)?;
+    let read = name_in_whole(alloc, names, read)?;
     let sentence = match kind {
         Kind::ThinAirRead => {
             format!(in alloc;
@@ -75,18 +78,20 @@ fn sentence_on_read(
 }
 
 // The sentence on what a session has read up to an operation, which puts one operation before another.
-fn sentence_on_session(
+fn sentence_on_session<N: Names>(
     alloc: Global,
     h: &History<Memory>,
+    names: &N,
     kind: Kind,
     op: OpId,
-    first: OpId,
-    second: OpId,
+    ends: Pair,
 ) -> Result<Option<String>, AllocError> {
+    let (first, second) = ends;
+    let op = names.in_whole(op);
     let session = op.session;
     let op = name_of(alloc, op)?;
-    let puts = name_of(alloc, first)?;
-    let before = name_of(alloc, second)?;
+    let puts = name_in_whole(alloc, names, first)?;
+    let before = name_in_whole(alloc, names, second)?;
     if kind == Kind::CyclicHB {
         return Ok(Some(format!(in alloc;
             "What session {session} has read up to {op} puts {puts} before itself."

@@ -1,6 +1,6 @@
 //! The steps of what shows a pattern.
 
-use crate::naming::name_of;
+use crate::naming::{Names, name_in_whole};
 use history::OpId;
 use std::alloc::{AllocError, Global};
 
@@ -43,12 +43,12 @@ impl Step {
         }
     }
 
-    /// The step in words.
-    pub fn words(self, alloc: Global) -> Result<String, AllocError> {
+    /// The step in words, with the names of its operations.
+    pub fn words<N: Names>(self, alloc: Global, names: &N) -> Result<String, AllocError> {
         let [first, second, third] = self.ops();
-        let a = name_of(alloc, first)?;
-        let b = name_of(alloc, second)?;
-        let c = name_of(alloc, third)?;
+        let a = name_in_whole(alloc, names, first)?;
+        let b = name_in_whole(alloc, names, second)?;
+        let c = name_in_whole(alloc, names, third)?;
         match self {
             Step::Follows(_, _) => format!(in alloc; "{b} follows {a} in its session"),
             Step::ReadsFrom(_, _) => format!(in alloc; "{b} reads from {a}"),

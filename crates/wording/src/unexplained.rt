@@ -1,6 +1,6 @@
 //! What a certificate does not explain, in words.
 
-use crate::naming::name_of;
+use crate::naming::{OwnNames, name_of};
 use crate::operation_words::{Worded, operation_words};
 use crate::replayed::unlike_answer;
 use cert_check::Certificate;
@@ -19,7 +19,7 @@ pub fn push_unexplained<O: Worded>(
     op: OpId,
 ) -> Result<(), AllocError> {
     let name = name_of(alloc, op)?;
-    lines.push(operation_words(alloc, h, op)?)?;
+    lines.push(operation_words(alloc, h, &OwnNames, op)?)?;
     lines.push(format!(in alloc; "The certificate that was made does not explain {name}.")?)?;
     match certificate {
         Some(certificate) => push_answer(alloc, lines, h, certificate, op),

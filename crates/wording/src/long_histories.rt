@@ -1,0 +1,86 @@
+//! Long histories in words.
+
+use crate::listing::listed;
+use crate::naming::{Names, name_in_whole, name_of};
+use cert_check::Criterion;
+use history::{History, OpId};
+use objects::Memory;
+use std::alloc::{AllocError, Global};
+
+/// How many of the operations that show something are named.
+const MAX_NAMED: usize = 1000;
+
+/// What is said of a criterion that a history meets which has so many operations and sessions, in a line with no line feed.
+///
+/// Fails for want of memory alone. O(1).
+pub fn words_of_long_yes(
+    alloc: Global,
+    criterion: Criterion,
+    operations: usize,
+    sessions: usize,
+) -> Result<String, AllocError> {
+    let explained = match criterion {
+        Criterion::Cc | Criterion::Ccv => "An order explains every known return",
+        Criterion::Cm => "For each session, an order explains its known returns",
+    };
+    let were = if operations == 1 { "was" } else { "were" };
+    let operations = counted(alloc, operations, "operation")?;
+    let sessions = counted(alloc, sessions, "session")?;
+    format!(in alloc; "{explained}: {operations} of {sessions} {were} judged.")
+}
+
+// A number, and what there are so many of.
+fn counted(alloc: Global, number: usize, one: &'static str) -> Result<String, AllocError> {
+    let plural = if number == 1 { "" } else { "s" };
+    format!(in alloc; "{number} {one}{plural}")
+}
+
+/// Which operations of the whole those of a part are, session by session, in a line with no line feed.
+///
+/// Fails for want of memory alone. O(n) for n operations of the part.
+pub fn words_of_places<N: Names>(
+    alloc: Global,
+    part: &History<Memory>,
+    names: &N,
+) -> Result<String, AllocError> {
+    let mut places = Vec::new(alloc);
+    for session in 0..part.sessions() {
+        push_places(alloc, &mut places, names, session, part.len(session))?;
+    }
+    let places = listed(alloc, &places, 0)?;
+    format!(in alloc; "In the whole history, {places}.")
+}
+
+// Which operations of the whole the operations of a session of a part are, which are so many.
+fn push_places<N: Names>(
+    alloc: Global,
+    places: &mut Vec<String>,
+    names: &N,
+    session: usize,
+    operations: usize,
+) -> Result<(), AllocError> {
+    for index in 0..operations {
+        let op = OpId::at(session, index);
+        let own = name_of(alloc, op)?;
+        let whole = name_in_whole(alloc, names, op)?;
+        places.push(format!(in alloc; "{own} is {whole}")?)?;
+    }
+    Ok(())
+}
+
+/// The operations that show that a history does not meet a criterion, in order and each once, in a line with no line feed: the first
+/// 1,000, and how many more there are.
+///
+/// Fails for want of memory alone. O(n log n) for n operations.
+pub fn words_of_operations(alloc: Global, ops: &[OpId]) -> Result<String, AllocError> {
+    let mut sorted = Vec::new(alloc);
+    sorted.extend_from_slice(ops)?;
+    sorted.sort_unstable();
+    sorted.dedup();
+    let mut named = Vec::new(alloc);
+    for op in sorted.iter().take(MAX_NAMED) {
+        named.push(name_of(alloc, *op)?)?;
+    }
+    let named = listed(alloc, &named, sorted.len().saturating_sub(MAX_NAMED))?;
+    format!(in alloc; "These operations show it: {named}.")
+}
