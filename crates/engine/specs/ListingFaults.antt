@@ -7,7 +7,7 @@ use Rattle.operations.specs.AnyForm.{form_of, IsJson}
 use Rattle.operations.specs.Json.{list}
 use Rattle.long_faults.specs.declared.faults.Faults.{Faults}
 use Rattle.long_faults.specs.Tallies.{IsTallyOf}
-use Rattle.long_faults.specs.FaultForm.{faults_form}
+use Rattle.long_faults.specs.FaultsForm.{faults_form}
 use Rattle.command_line.specs.declared.form.ListForm.{ListForm}
 use Rattle.command_line.specs.declared.form.ListForm.TheVariants.{Words, Json}
 use Rattle.command_line.specs.declared.length.Length.{Length}
@@ -34,7 +34,7 @@ pub record IsFaultReportOf (most : ℕ) (history : AnyHistory) (report : FaultRe
 -- the form of a list: that of the reasons, and that of the faults, if values are distinct
 abbrev pub list_form : Option Faults → Data
 list_form None = null
-list_form (Some faults) = faults_form faults
+list_form (Some faults) = faults_form faults.counts faults.by_session.items faults.listed.items
 
 abbrev pub fault_report_form : FaultReport → Data
 fault_report_form report = list (explanation_form report.explanation ∷ list_form report.faults ∷ [])

@@ -21,7 +21,7 @@ use crate::written::line_of_value;
 use bad_patterns::Kind;
 use cert_check::Criterion;
 use command_line::{Length, ListForm, Listing, Order};
-use long_faults::{Faults, count_lines, fault_line, faults, faults_value};
+use long_faults::{Faults, count_lines, fault_line, faults, faults_value, long_of};
 use long_history::LongHistory;
 use long_index::LongIndex;
 use long_reader::{read_long, small};
@@ -93,17 +93,39 @@ fn list_in_limited<T: Threads + Wait + Sync>(
     ensures error { IfErr result (λ e. e ≡ RunError.Memory) }
 {
     let explanation = explanation_of_copy(rt, alloc, &history)?;
-    match form {
-        ListForm::Words => {
-            let first = text_in_list(alloc, &history, &explanation)?;
-            let lines = fault_lines_of_any(alloc, &history, most)?;
-            Ok(joined(alloc, &first, &lines)?)
-        }
-        ListForm::Json => {
-            let faults = faults_of_any(alloc, &history, most)?;
-            Ok(text_of_report(alloc, &FaultReport { explanation, faults })?)
-        }
-    }
+    let text = match form {
+        ListForm::Words => words_in_limited(alloc, &history, &explanation, most)?,
+        ListForm::Json => json_in_limited(alloc, &history, explanation, most)?,
+    };
+    Ok(text)
+}
+
+// That list in words.
+fn words_in_limited(
+    alloc: Global,
+    history: &AnyHistory,
+    explanation: &Explanation,
+    most: u32,
+) -> Result<String, AllocError>
+    ensures { IfOk result (λ text. AreLinesAfter explanation.now (string_bytes text)) }
+{
+    let first = text_in_list(alloc, history, explanation)?;
+    let lines = fault_lines_of_any(alloc, history, most)?;
+    joined(alloc, &first, &lines)
+}
+
+// That list as JSON.
+fn json_in_limited(
+    alloc: Global,
+    history: &AnyHistory,
+    explanation: Explanation,
+    most: u32,
+) -> Result<String, AllocError>
+    requires { EachIsReason history.now explanation }
+    ensures { IfOk result (λ text. IsListOf ListForm.Json most history.now (string_bytes text)) }
+{
+    let faults = faults_of_any(alloc, history, most)?;
+    text_of_report(alloc, &FaultReport { explanation, faults })
 }
 
 // The list of a history over the limits.
@@ -117,18 +139,39 @@ fn list_in_larger(
     ensures error { IfErr result (λ e. e ≡ RunError.Memory) }
 {
     let said = explanation_of_long(alloc, history)?;
-    match form {
-        ListForm::Words => {
-            let first = long_text_in_list(alloc, history, &said)?;
-            let lines = fault_lines_of(alloc, history, most)?;
-            Ok(joined(alloc, &first, &lines)?)
-        }
-        ListForm::Json => {
-            let faults = faults_of(alloc, history, most)?;
-            let explanation = said.explanation;
-            Ok(text_of_report(alloc, &FaultReport { explanation, faults })?)
-        }
-    }
+    let text = match form {
+        ListForm::Words => words_in_larger(alloc, history, &said, most)?,
+        ListForm::Json => json_in_larger(alloc, history, said.explanation, most)?,
+    };
+    Ok(text)
+}
+
+// That list in words.
+fn words_in_larger(
+    alloc: Global,
+    history: &LongHistory,
+    said: &LongExplanation,
+    most: u32,
+) -> Result<String, AllocError>
+    ensures { IfOk result (λ text. AreLinesAfter said.now.explanation (string_bytes text)) }
+{
+    let first = long_text_in_list(alloc, history, said)?;
+    let lines = fault_lines_of(alloc, history, most)?;
+    joined(alloc, &first, &lines)
+}
+
+// That list as JSON.
+fn json_in_larger(
+    alloc: Global,
+    history: &LongHistory,
+    explanation: Explanation,
+    most: u32,
+) -> Result<String, AllocError>
+    requires { EachIsReason (AnyHistory.Memory history.now) explanation }
+    ensures { IfOk result (λ text. IsListOf ListForm.Json most (AnyHistory.Memory history.now) (string_bytes text)) }
+{
+    let faults = faults_of(alloc, history, most)?;
+    text_of_report(alloc, &FaultReport { explanation, faults })
 }
 
 // The text of the reasons, and lines after it.

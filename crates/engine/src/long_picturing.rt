@@ -8,10 +8,10 @@ use crate::long_words::CoreNames;
 use crate::picturing::title_of;
 use crate::reason::Reason;
 use cert_check::Criterion;
-use history::History;
 use long_cores::Gathered;
 use long_history::LongHistory;
 use objects::{Memory, Table};
+use operations::History;
 use picture::{picture_of_history, picture_of_pattern};
 use std::alloc::{AllocError, Global};
 

@@ -16,6 +16,7 @@ use std::alloc::{AllocError, Global};
 use wording::{Names, words_of_long_yes, words_of_operations, words_of_pattern, words_of_places};
 
 /// The names in the whole history of the operations of a core.
+#[derive(Clone, Copy)]
 pub(crate) struct CoreNames<'a> {
     pub core: &'a LongCore,
     /// How many sessions the whole has.
