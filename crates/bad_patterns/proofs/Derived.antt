@@ -6,22 +6,15 @@ use Rattle.std.proofs.lemmas.List.{get_or_append_left, get_or_push, take-append-
 use Rattle.std.proofs.lemmas.Option.{same_Some, slice_get_within, slice_get-get_or, get_or_from_slice_get}
 use Rattle.history.specs.declared.op_id.OpId.{OpId}
 use Rattle.memory_order.specs.Memory.{MemoryHistory, IsDifferentiated}
-use Rattle.memory_order.proofs.MemoryLaws.{same_read}
 use Rattle.causal_order.specs.Orders.{only, program_past}
 use Rattle.memory_order.specs.Relations.{ReadsFrom, AreRivalWrites, HB}
 use Rattle.bad_patterns.specs.declared.derivation.Line.{Line}
 use Rattle.bad_patterns.specs.declared.derivation.Line.TheVariants.{Co, Tr, Rf}
 use Rattle.bad_patterns.specs.Derivations.{Pair, Gives, GivesJoinedPair, GivesRivalPair, GivePairs, IsDerivation}
+use Rattle.bad_patterns.proofs.Distinct.{same_source}
 use Rattle.bad_patterns.proofs.Leads.{goes-leads, goes-past, past-before}
 use Rattle.causal_order.proofs.Fronts.{take-from}
 use Rattle.bad_patterns.proofs.ReadPasts.{itself}
-
-module _ (h : MemoryHistory) (distinct : IsDifferentiated h) where
-  -- a read reads from one write
-  pub same_source : (a b r : OpId) → ReadsFrom h a r → ReadsFrom h b r → a ≡ b
-  same_source a b r (x, v, wrote_a, reads_a, other_a) (y, u, wrote_b, reads_b, other_b) =
-      let same = same_read h r x v y u reads_a reads_b in
-      distinct.once a b y u (rw (← same.0, ← same.1) wrote_a) wrote_b
 
 module _ (pairs : List Pair) (i : ℕ) (p : Pair) (at : slice_get pairs i ≡ Some p) where
   -- a pair that ends with an operation

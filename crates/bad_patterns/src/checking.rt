@@ -1,17 +1,19 @@
 ghost use Rattle.std.specs.Prelude.{◌↔◌, IfOk, IsTrue};
+ghost use Rattle.memory_order.specs.Memory.{IsDifferentiated};
 ghost use Rattle.bad_patterns.specs.Kinds.{IsTrueNo};
 ghost use Rattle.bad_patterns.specs.Patterns.{IsBadPattern, IsShownBy, kind_of};
-ghost use Rattle.bad_patterns.specs.Steps.DistinctWrites.{AreDistinctWrites};
 
 use crate::cycle::is_cycle;
+use crate::edges::lacks_source;
 use crate::happened_before::{is_derivation_of_cycle, is_derivation_of_initial_read};
+use crate::known_memory::KnownMemory;
 use crate::laws::bad_patterns_exclude_criteria;
+use crate::listed_memory::ListedMemory;
 use crate::pattern::Pattern;
 use crate::routes::{are_paths_to_overwritten_read, is_cyclic_path, is_path_to_initial_read};
-use crate::thin_air::is_thin_air_read;
 use cert_check::Criterion;
 use history::History;
-use memory_order::{Write, are_distinct, sorted_writes};
+use memory_order::{are_distinct, sorted_writes};
 use objects::Memory;
 use std::alloc::{AllocError, Global};
 
@@ -39,33 +41,26 @@ pub fn check_pattern(
     if !are_distinct(h, &writes) {
         return Ok(false);
     }
-    is_shown(alloc, h, &writes, pattern)
+    is_shown(alloc, &ListedMemory::of(h, &writes), pattern)
 }
 
 /// Whether the operations of a pattern are as its kind says.
 ///
-/// The writes are those of the history, which has distinct values. Fails for want of memory alone. O(n log m) for n
-/// operations and lines of the pattern and m operations of the history.
-pub fn is_shown(
-    alloc: Global,
-    h: &History<Memory>,
-    writes: &[Write],
-    pattern: &Pattern,
-) -> Result<bool, AllocError>
-    requires { AreDistinctWrites h.now writes.now }
-    ensures { IfOk result (λ yes. IsTrue yes ↔ IsShownBy h.now pattern.now) }
+/// The history has distinct values. Fails for want of memory alone. Of each operation and each line of the pattern it asks for a
+/// few entries and a source at most, and once for an initial value.
+pub fn is_shown<M: KnownMemory>(alloc: Global, h: &M, pattern: &Pattern) -> Result<bool, AllocError>
+    requires { IsDifferentiated (M.history h.now) }
+    ensures { IfOk result (λ yes. IsTrue yes ↔ IsShownBy (M.history h.now) pattern.now) }
 {
     match pattern {
         Pattern::CyclicCO(path) => Ok(is_cyclic_path(h, path)),
-        Pattern::ThinAirRead(read) => Ok(is_thin_air_read(h, writes, *read)),
+        Pattern::ThinAirRead(read) => Ok(lacks_source(h, *read)),
         Pattern::WriteCOInitRead(path) => Ok(is_path_to_initial_read(h, path)),
         Pattern::WriteCORead(first, second) => Ok(are_paths_to_overwritten_read(h, first, second)),
         Pattern::WriteHBInitRead(op, derivation) => {
-            is_derivation_of_initial_read(alloc, h, writes, *op, derivation)
+            is_derivation_of_initial_read(alloc, h, *op, derivation)
         }
-        Pattern::CyclicHB(op, derivation) => {
-            is_derivation_of_cycle(alloc, h, writes, *op, derivation)
-        }
+        Pattern::CyclicHB(op, derivation) => is_derivation_of_cycle(alloc, h, *op, derivation),
         Pattern::CyclicCF(links) => Ok(is_cycle(h, links.links())),
     }
 }

@@ -4,24 +4,24 @@ ghost use Rattle.std.specs.Prelude.{◌↔◌, All, IsTrue};
 ghost use Rattle.bad_patterns.specs.Paths.{AreClosed, AreJoined, AreJoinedInTurn, IsConflict, IsCycle, IsLink};
 
 use crate::edges::{are_rival_writes, is_edge, reads_from};
+use crate::known_memory::KnownMemory;
 use crate::link::Link;
 use crate::path::Path;
 use crate::routes::ends_of;
-use history::{History, OpId};
-use objects::Memory;
+use history::OpId;
 
 /// Whether these links, of which there is at least one, are a cycle of the history.
 ///
-/// O(n log m) for n operations of the links and m initial values of the history.
-pub fn is_cycle(h: &History<Memory>, links: &[Link]) -> bool
-    ensures { IsTrue result ↔ IsCycle h.now links.now }
+/// Of each operation of the links it asks for a few entries and a source at most.
+pub fn is_cycle<M: KnownMemory>(h: &M, links: &[Link]) -> bool
+    ensures { IsTrue result ↔ IsCycle (M.history h.now) links.now }
 {
     are_links(h, links) && are_joined_in_turn(links) && are_closed(links)
 }
 
 /// Whether each of these is a link of the history.
-fn are_links(h: &History<Memory>, links: &[Link]) -> bool
-    ensures { IsTrue result ↔ All (IsLink h.now) links.now }
+fn are_links<M: KnownMemory>(h: &M, links: &[Link]) -> bool
+    ensures { IsTrue result ↔ All (IsLink (M.history h.now)) links.now }
 {
     links.iter().all(|link| is_link(h, link))
 }
@@ -59,8 +59,8 @@ fn are_joined(before: &Link, after: &Link) -> bool
 }
 
 /// Whether a link is one of the history.
-fn is_link(h: &History<Memory>, link: &Link) -> bool
-    ensures { IsTrue result ↔ IsLink h.now link.now }
+fn is_link<M: KnownMemory>(h: &M, link: &Link) -> bool
+    ensures { IsTrue result ↔ IsLink (M.history h.now) link.now }
 {
     match link {
         Link::Co(a, b) => is_edge(h, *a, *b),
@@ -69,8 +69,8 @@ fn is_link(h: &History<Memory>, link: &Link) -> bool
 }
 
 /// Whether the path goes from a write to a read of another write of its variable, which is the operation.
-fn is_conflict(h: &History<Memory>, path: &Path, rival: OpId) -> bool
-    ensures { IsTrue result ↔ IsConflict h.now path.now rival }
+fn is_conflict<M: KnownMemory>(h: &M, path: &Path, rival: OpId) -> bool
+    ensures { IsTrue result ↔ IsConflict (M.history h.now) path.now rival }
 {
     let Some(ends) = ends_of(h, path) else {
         return false;

@@ -3,17 +3,16 @@
 ghost use Rattle.std.specs.Prelude.{◌≡◌, ◌↔◌, IfOk, IsTrue, MatchOption, slice_get};
 ghost use Rattle.history.specs.declared.op_id.OpId.{OpId};
 ghost use Rattle.causal_order.specs.Orders.{program_past};
+ghost use Rattle.memory_order.specs.Memory.{IsDifferentiated};
 ghost use Rattle.memory_order.specs.Relations.{AreRivalWrites};
 ghost use Rattle.bad_patterns.specs.Derivations.{Gives, GivesCausalPair, GivesJoinedPair, GivesRivalPair, IsDerivation};
-ghost use Rattle.bad_patterns.specs.Steps.DistinctWrites.{AreDistinctWrites};
 
 use crate::derivation::Line;
 use crate::edges::are_rival_writes;
+use crate::known_memory::KnownMemory;
 use crate::path::Path;
 use crate::routes::ends_of;
-use history::{History, OpId};
-use memory_order::{Write, found_source};
-use objects::Memory;
+use history::OpId;
 use std::alloc::{AllocError, Global};
 
 /// How many lines a derivation may have.
@@ -24,25 +23,24 @@ pub type Pair = (OpId, OpId);
 
 /// The pair that the last line gives, where the lines are a derivation for the operation.
 ///
-/// The writes are those of the history. Fails for want of memory alone. O(n log m) for n operations and lines of the
-/// derivation and m operations of the history.
-pub fn derived_pair(
+/// The history has distinct values. Fails for want of memory alone. Of each operation and each line of the derivation it asks
+/// for a few entries and a source at most.
+pub fn derived_pair<M: KnownMemory>(
     alloc: Global,
-    h: &History<Memory>,
-    writes: &[Write],
+    h: &M,
     op: OpId,
     lines: &[Line],
 ) -> Result<Option<Pair>, AllocError>
-    requires { AreDistinctWrites h.now writes.now }
-    ensures { IfOk result (λ found. MatchOption found ((a b : OpId) → ¬ IsDerivation h.now op lines.now a b)
-        (λ pair. IsDerivation h.now op lines.now pair.0 pair.1)) }
+    requires { IsDifferentiated (M.history h.now) }
+    ensures { IfOk result (λ found. MatchOption found ((a b : OpId) → ¬ IsDerivation (M.history h.now) op lines.now a b)
+        (λ pair. IsDerivation (M.history h.now) op lines.now pair.0 pair.1)) }
 {
     if lines.len() > MAX_LINES {
         return Ok(None);
     }
     let mut pairs = Vec::new(alloc);
     for line in lines {
-        let Some(pair) = given_pair(h, writes, op, &pairs, line) else {
+        let Some(pair) = given_pair(h, op, &pairs, line) else {
             return Ok(None);
         };
         pairs.push(pair)?;
@@ -51,28 +49,22 @@ pub fn derived_pair(
 }
 
 /// The pair that a line gives, where the lines before it give these pairs.
-fn given_pair(
-    h: &History<Memory>,
-    writes: &[Write],
-    op: OpId,
-    pairs: &[Pair],
-    line: &Line,
-) -> Option<Pair>
-    requires { AreDistinctWrites h.now writes.now }
-    ensures { MatchOption result ((a b : OpId) → ¬ Gives h.now op pairs.now line.now a b)
-        (λ pair. Gives h.now op pairs.now line.now pair.0 pair.1) }
+fn given_pair<M: KnownMemory>(h: &M, op: OpId, pairs: &[Pair], line: &Line) -> Option<Pair>
+    requires { IsDifferentiated (M.history h.now) }
+    ensures { MatchOption result ((a b : OpId) → ¬ Gives (M.history h.now) op pairs.now line.now a b)
+        (λ pair. Gives (M.history h.now) op pairs.now line.now pair.0 pair.1) }
 {
     match line {
         Line::Co(first, second) => causal_pair(h, op, first, second),
         Line::Tr(i, j) => joined_pair(pairs, *i, *j),
-        Line::Rf(i, read) => rival_pair(h, writes, op, pairs, *i, *read),
+        Line::Rf(i, read) => rival_pair(h, op, pairs, *i, *read),
     }
 }
 
 /// The ends of a path with an edge, where another path goes from where it ends to the operation.
-fn causal_pair(h: &History<Memory>, op: OpId, first: &Path, second: &Path) -> Option<Pair>
-    ensures { MatchOption result ((a b : OpId) → ¬ GivesCausalPair h.now op first.now second.now a b)
-        (λ pair. GivesCausalPair h.now op first.now second.now pair.0 pair.1) }
+fn causal_pair<M: KnownMemory>(h: &M, op: OpId, first: &Path, second: &Path) -> Option<Pair>
+    ensures { MatchOption result ((a b : OpId) → ¬ GivesCausalPair (M.history h.now) op first.now second.now a b)
+        (λ pair. GivesCausalPair (M.history h.now) op first.now second.now pair.0 pair.1) }
 {
     let (Some(above), Some(below)) = (ends_of(h, first), ends_of(h, second)) else {
         return None;
@@ -100,19 +92,12 @@ fn joined_pair(pairs: &[Pair], i: u64, j: u64) -> Option<Pair>
 }
 
 /// A write that happened before a read of another write of its variable, and that write.
-fn rival_pair(
-    h: &History<Memory>,
-    writes: &[Write],
-    op: OpId,
-    pairs: &[Pair],
-    i: u64,
-    read: OpId,
-) -> Option<Pair>
-    requires { AreDistinctWrites h.now writes.now }
-    ensures { MatchOption result ((a b : OpId) → ¬ GivesRivalPair h.now op pairs.now i read a b)
-        (λ pair. GivesRivalPair h.now op pairs.now i read pair.0 pair.1) }
+fn rival_pair<M: KnownMemory>(h: &M, op: OpId, pairs: &[Pair], i: u64, read: OpId) -> Option<Pair>
+    requires { IsDifferentiated (M.history h.now) }
+    ensures { MatchOption result ((a b : OpId) → ¬ GivesRivalPair (M.history h.now) op pairs.now i read a b)
+        (λ pair. GivesRivalPair (M.history h.now) op pairs.now i read pair.0 pair.1) }
 {
-    let (Some(pair), Some(source)) = (pair_at(pairs, i), found_source(h, writes, read)) else {
+    let (Some(pair), Some(source)) = (pair_at(pairs, i), h.source(read)) else {
         return None;
     };
     if pair.1 == read && comes_before_source(h, op, pair.0, read, source) {
@@ -124,8 +109,14 @@ fn rival_pair(
 
 /// Whether a write that happened before a read happened before the read's source too: the read is the operation or before it
 /// in program order, and the source is another write of the variable.
-fn comes_before_source(h: &History<Memory>, op: OpId, write: OpId, read: OpId, source: OpId) -> bool
-    ensures { IsTrue result ↔ (IsTrue (program_past op read) × AreRivalWrites h.now write source) }
+fn comes_before_source<M: KnownMemory>(
+    h: &M,
+    op: OpId,
+    write: OpId,
+    read: OpId,
+    source: OpId,
+) -> bool
+    ensures { IsTrue result ↔ (IsTrue (program_past op read) × AreRivalWrites (M.history h.now) write source) }
 {
     read.is_in_program_past_of(op) && are_rival_writes(h, write, source)
 }

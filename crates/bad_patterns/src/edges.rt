@@ -4,67 +4,87 @@ ghost use Rattle.std.specs.Prelude.{◌≡◌, ◌↔◌, ℕ, IsTrue, MatchOpti
 ghost use Rattle.history.specs.History.{IsOp, Precedes};
 ghost use Rattle.memory_order.specs.Memory.{initial, Reads, Writes};
 ghost use Rattle.memory_order.specs.Relations.{AreRivalWrites, IsEdge, ReadsFrom};
+ghost use Rattle.bad_patterns.specs.Kinds.{IsThinAirRead};
 
-use history::{History, OpId};
-use memory_order::{initial_value, known_read};
-use objects::{Memory, RegisterCall};
+use crate::known_memory::KnownMemory;
+use history::OpId;
+use objects::{RegisterCall, RegisterRet};
 
 /// The variable and the value of a write, whether its return is known or not.
-pub fn written(h: &History<Memory>, op: OpId) -> Option<(u32, u64)>
-    ensures { MatchOption result ((x v : ℕ) → ¬ Writes h.now op x v) (λ write. Writes h.now op write.0 write.1) }
+pub fn written<M: KnownMemory>(h: &M, op: OpId) -> Option<(u32, u64)>
+    ensures { MatchOption result ((x v : ℕ) → ¬ Writes (M.history h.now) op x v)
+        (λ write. Writes (M.history h.now) op write.0 write.1) }
 {
-    if !h.contains(op) {
-        return None;
-    }
-    let call = h.call(op);
+    let (call, _) = h.entry(op)?;
     match call.call {
         RegisterCall::Write(value) => Some((call.key, value)),
         RegisterCall::Read => None,
     }
 }
 
-/// Whether the second operation reads from the first. O(log n) for a table of n initial values.
-pub fn reads_from(h: &History<Memory>, write: OpId, read: OpId) -> bool
-    ensures { IsTrue result ↔ ReadsFrom h.now write read }
+/// The variable and the value of a read whose return is known.
+fn known_read<M: KnownMemory>(h: &M, op: OpId) -> Option<(u32, u64)>
+    ensures { MatchOption result ((x v : ℕ) → ¬ Reads (M.history h.now) op x v)
+        (λ read. Reads (M.history h.now) op read.0 read.1) }
 {
-    let (Some(wrote), Some(known)) = (written(h, write), known_read(h, read)) else {
-        return false;
-    };
-    wrote.0 == known.0 && wrote.1 == known.1 && known.1 != initial_value(h, known.0)
+    let (call, ret) = h.entry(op)?;
+    match (call.call, ret) {
+        (RegisterCall::Read, Some(RegisterRet::Value(value))) => Some((call.key, value)),
+        _ => None,
+    }
 }
 
-/// Whether the second operation reads the initial value of the variable that the first writes. O(log n) for a table of n
-/// initial values.
-pub fn reads_initial(h: &History<Memory>, write: OpId, read: OpId) -> bool
-    ensures { IsTrue result ↔ ((x v : ℕ) × Writes h.now write x v × Reads h.now read x (initial h.now x)) }
+/// Whether the second operation reads from the first.
+pub fn reads_from<M: KnownMemory>(h: &M, write: OpId, read: OpId) -> bool
+    ensures { IsTrue result ↔ ReadsFrom (M.history h.now) write read }
+{
+    match h.source(read) {
+        Some(source) => source == write,
+        None => false,
+    }
+}
+
+/// Whether the second operation reads the initial value of the variable that the first writes.
+pub fn reads_initial<M: KnownMemory>(h: &M, write: OpId, read: OpId) -> bool
+    ensures { IsTrue result
+        ↔ ((x v : ℕ) × Writes (M.history h.now) write x v × Reads (M.history h.now) read x (initial (M.history h.now) x)) }
 {
     let (Some(wrote), Some(seen)) = (written(h, write), known_read(h, read)) else {
         return false;
     };
-    wrote.0 == seen.0 && seen.1 == initial_value(h, seen.0)
+    wrote.0 == seen.0 && seen.1 == h.initial_value(seen.0)
 }
 
-/// Whether an edge of the causal order goes from the first operation to the second. O(log n) for a table of n initial
-/// values.
-pub fn is_edge(h: &History<Memory>, a: OpId, b: OpId) -> bool
-    ensures { IsTrue result ↔ IsEdge h.now a b }
+/// Whether an edge of the causal order goes from the first operation to the second.
+pub fn is_edge<M: KnownMemory>(h: &M, a: OpId, b: OpId) -> bool
+    ensures { IsTrue result ↔ IsEdge (M.history h.now) a b }
 {
     is_later(h, a, b) || reads_from(h, a, b)
 }
 
 /// Whether the second is an operation of the history that is later than the first in one session.
-fn is_later(h: &History<Memory>, a: OpId, b: OpId) -> bool
-    ensures { IsTrue result ↔ (Precedes a b × IsOp h.now b) }
+fn is_later<M: KnownMemory>(h: &M, a: OpId, b: OpId) -> bool
+    ensures { IsTrue result ↔ (Precedes a b × IsOp (M.history h.now) b) }
 {
-    a.session == b.session && a.index < b.index && h.contains(b)
+    a.session == b.session && a.index < b.index && h.entry(b).is_some()
 }
 
 /// Whether these are two different writes of one variable.
-pub fn are_rival_writes(h: &History<Memory>, a: OpId, b: OpId) -> bool
-    ensures { IsTrue result ↔ AreRivalWrites h.now a b }
+pub fn are_rival_writes<M: KnownMemory>(h: &M, a: OpId, b: OpId) -> bool
+    ensures { IsTrue result ↔ AreRivalWrites (M.history h.now) a b }
 {
     let (Some(first), Some(second)) = (written(h, a), written(h, b)) else {
         return false;
     };
     a != b && first.0 == second.0
+}
+
+/// Whether the operation is a known read of a value that is not the initial one and that nobody wrote.
+pub fn lacks_source<M: KnownMemory>(h: &M, read: OpId) -> bool
+    ensures { IsTrue result ↔ IsThinAirRead (M.history h.now) read }
+{
+    match known_read(h, read) {
+        Some((key, value)) => value != h.initial_value(key) && h.source(read).is_none(),
+        None => false,
+    }
 }

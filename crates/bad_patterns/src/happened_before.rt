@@ -1,31 +1,29 @@
 //! What the derivation of a pattern shows.
 
 ghost use Rattle.std.specs.Prelude.{◌↔◌, IfOk, IsTrue};
+ghost use Rattle.memory_order.specs.Memory.{IsDifferentiated};
 ghost use Rattle.bad_patterns.specs.Patterns.{IsDerivationOfCycle, IsDerivationOfInitialRead};
-ghost use Rattle.bad_patterns.specs.Steps.DistinctWrites.{AreDistinctWrites};
 
 use crate::derivation::Derivation;
 use crate::derived_pairs::derived_pair;
 use crate::edges::reads_initial;
-use history::{History, OpId};
-use memory_order::Write;
-use objects::Memory;
+use crate::known_memory::KnownMemory;
+use history::OpId;
 use std::alloc::{AllocError, Global};
 
 /// Whether a derivation for the operation gives one operation twice.
 ///
 /// Fails for want of memory alone. The cost is that of `derived_pair`.
-pub fn is_derivation_of_cycle(
+pub fn is_derivation_of_cycle<M: KnownMemory>(
     alloc: Global,
-    h: &History<Memory>,
-    writes: &[Write],
+    h: &M,
     op: OpId,
     derivation: &Derivation,
 ) -> Result<bool, AllocError>
-    requires { AreDistinctWrites h.now writes.now }
-    ensures { IfOk result (λ yes. IsTrue yes ↔ IsDerivationOfCycle h.now op derivation.now) }
+    requires { IsDifferentiated (M.history h.now) }
+    ensures { IfOk result (λ yes. IsTrue yes ↔ IsDerivationOfCycle (M.history h.now) op derivation.now) }
 {
-    let Some(pair) = derived_pair(alloc, h, writes, op, derivation.lines())? else {
+    let Some(pair) = derived_pair(alloc, h, op, derivation.lines())? else {
         return Ok(false);
     };
     Ok(pair.0 == pair.1)
@@ -35,17 +33,16 @@ pub fn is_derivation_of_cycle(
 /// operation or before it in program order.
 ///
 /// Fails for want of memory alone. The cost is that of `derived_pair`.
-pub fn is_derivation_of_initial_read(
+pub fn is_derivation_of_initial_read<M: KnownMemory>(
     alloc: Global,
-    h: &History<Memory>,
-    writes: &[Write],
+    h: &M,
     op: OpId,
     derivation: &Derivation,
 ) -> Result<bool, AllocError>
-    requires { AreDistinctWrites h.now writes.now }
-    ensures { IfOk result (λ yes. IsTrue yes ↔ IsDerivationOfInitialRead h.now op derivation.now) }
+    requires { IsDifferentiated (M.history h.now) }
+    ensures { IfOk result (λ yes. IsTrue yes ↔ IsDerivationOfInitialRead (M.history h.now) op derivation.now) }
 {
-    let Some(pair) = derived_pair(alloc, h, writes, op, derivation.lines())? else {
+    let Some(pair) = derived_pair(alloc, h, op, derivation.lines())? else {
         return Ok(false);
     };
     Ok(pair.1.is_in_program_past_of(op) && reads_initial(h, pair.0, pair.1))

@@ -8,13 +8,13 @@ ghost use Rattle.bad_patterns.specs.Paths.{GoesFrom};
 ghost use Rattle.bad_patterns.specs.Patterns.{ArePathsToOverwrittenRead, IsCyclicPath, IsPathToInitialRead};
 
 use crate::edges::{are_rival_writes, is_edge, reads_from, reads_initial};
+use crate::known_memory::KnownMemory;
 use crate::path::Path;
-use history::{History, OpId};
-use objects::Memory;
+use history::OpId;
 
 /// Whether each of the operations is joined to the next by an edge of the causal order.
-fn is_path(h: &History<Memory>, ops: &[OpId]) -> bool
-    ensures { IsTrue result ↔ IsPath (IsEdge h.now) ops.now }
+fn is_path<M: KnownMemory>(h: &M, ops: &[OpId]) -> bool
+    ensures { IsTrue result ↔ IsPath (IsEdge (M.history h.now)) ops.now }
 {
     for i in 1..ops.len() {
         if !is_edge(h, ops[i - 1], ops[i]) {
@@ -26,9 +26,10 @@ fn is_path(h: &History<Memory>, ops: &[OpId]) -> bool
 
 /// The operations that a path goes from and to, where it is one of the history's causal order.
 ///
-/// O(n log m) for n operations of the path and m initial values of the history.
-pub fn ends_of(h: &History<Memory>, path: &Path) -> Option<(OpId, OpId)>
-    ensures { MatchOption result ((a b : OpId) → ¬ GoesFrom h.now path.now a b) (λ ends. GoesFrom h.now path.now ends.0 ends.1) }
+/// Of each operation of the path it asks for its entry and its source at most.
+pub fn ends_of<M: KnownMemory>(h: &M, path: &Path) -> Option<(OpId, OpId)>
+    ensures { MatchOption result ((a b : OpId) → ¬ GoesFrom (M.history h.now) path.now a b)
+        (λ ends. GoesFrom (M.history h.now) path.now ends.0 ends.1) }
 {
     let ops = path.ops();
     if !is_path(h, ops) {
@@ -41,8 +42,8 @@ pub fn ends_of(h: &History<Memory>, path: &Path) -> Option<(OpId, OpId)>
 }
 
 /// Whether a path with an edge ends where it begins. The cost is that of `ends_of`.
-pub fn is_cyclic_path(h: &History<Memory>, path: &Path) -> bool
-    ensures { IsTrue result ↔ IsCyclicPath h.now path.now }
+pub fn is_cyclic_path<M: KnownMemory>(h: &M, path: &Path) -> bool
+    ensures { IsTrue result ↔ IsCyclicPath (M.history h.now) path.now }
 {
     let Some(ends) = ends_of(h, path) else {
         return false;
@@ -51,8 +52,8 @@ pub fn is_cyclic_path(h: &History<Memory>, path: &Path) -> bool
 }
 
 /// Whether a path goes from a write to a read of the initial value of its variable. The cost is that of `ends_of`.
-pub fn is_path_to_initial_read(h: &History<Memory>, path: &Path) -> bool
-    ensures { IsTrue result ↔ IsPathToInitialRead h.now path.now }
+pub fn is_path_to_initial_read<M: KnownMemory>(h: &M, path: &Path) -> bool
+    ensures { IsTrue result ↔ IsPathToInitialRead (M.history h.now) path.now }
 {
     let Some(ends) = ends_of(h, path) else {
         return false;
@@ -62,8 +63,8 @@ pub fn is_path_to_initial_read(h: &History<Memory>, path: &Path) -> bool
 
 /// Whether the first path goes from a write to another write of its variable, and the second from there to a read that
 /// reads from the first write. The cost is that of `ends_of` for both.
-pub fn are_paths_to_overwritten_read(h: &History<Memory>, first: &Path, second: &Path) -> bool
-    ensures { IsTrue result ↔ ArePathsToOverwrittenRead h.now first.now second.now }
+pub fn are_paths_to_overwritten_read<M: KnownMemory>(h: &M, first: &Path, second: &Path) -> bool
+    ensures { IsTrue result ↔ ArePathsToOverwrittenRead (M.history h.now) first.now second.now }
 {
     let (Some(above), Some(below)) = (ends_of(h, first), ends_of(h, second)) else {
         return false;

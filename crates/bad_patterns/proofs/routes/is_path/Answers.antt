@@ -4,11 +4,11 @@ use Rattle.bad_patterns.proofs.Neighbours.{related-next, related-end}
 use Rattle.bad_patterns.proofs.routes.is_path.Goals as goal
 
 pub loop-i-preserved : goal.loop-i-preserved
-loop-i-preserved c =
+loop-i-preserved g c =
     let some : 0 < c.loop-i.i = omega arith in
-    related-next (IsEdge c.args.h.now) c.args.ops.now c.loop-i.i _ _ some c.loop-i.invariant (c.if-not-is_edge.ensures.0 refl)
+    related-next (IsEdge (g.M.KnownMemory.history c.args.h.now)) c.args.ops.now c.loop-i.i _ _ some c.loop-i.invariant (c.if-not-is_edge.ensures.0 refl)
 
 pub returns : goal.returns
-returns c =
+returns g c =
     let ended : length c.args.ops.now ≤ c.loop-i.i = omega arith in
-    (λ _. related-end (IsEdge c.args.h.now) c.args.ops.now c.loop-i.i ended c.loop-i.invariant, λ _. refl)
+    (λ _. related-end (IsEdge (g.M.KnownMemory.history c.args.h.now)) c.args.ops.now c.loop-i.i ended c.loop-i.invariant, λ _. refl)

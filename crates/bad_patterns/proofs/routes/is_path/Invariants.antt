@@ -4,4 +4,4 @@ use Rattle.bad_patterns.proofs.routes.is_path.Given as goal
 
 -- each operation so far is joined to the next
 abbrev pub invariant-loop-i : goal.invariant-loop-i
-invariant-loop-i l = AreRelatedUpTo (IsEdge l.h) l.ops l.i
+invariant-loop-i g l = AreRelatedUpTo (IsEdge (g.M.KnownMemory.history l.h)) l.ops l.i
