@@ -1,6 +1,7 @@
 pub mod ByNumber
 pub mod ColumnSteps
 pub mod Columns
+pub mod Dealt
 pub mod EdgeLists
 pub mod Firsts
 pub mod LastWrites

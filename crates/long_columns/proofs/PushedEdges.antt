@@ -1,8 +1,9 @@
--- Edges that are pushed to a list, one place of a table after the other.
-use Rattle.std.specs.Prelude.{◌≡◌, ◌⊎◌, ◌↔◌, ℕ, ◌+◌, ◌<◌, ◌≤◌, List, length, slice_index_or}
-use Rattle.std.proofs.Common.{arith, ap, sym, ◌∙◌, inl, inr, ⊎_elim}
+-- Edges that are pushed to a list, one place of a table after the other, and lists of edges that are joined.
+use Rattle.std.specs.Prelude.{◌≡◌, ◌⊎◌, ◌↔◌, ◌++◌, ℕ, ◌+◌, ◌-◌, ◌<◌, ◌≤◌, List, Some, length, slice_index_or}
+use Rattle.std.proofs.Common.{arith, ap, sym, ◌∙◌, refl, inl, inr, ⊎_elim, length-append}
 use Rattle.std.proofs.lemmas.Bool.{cases_eq, cases_lt}
-use Rattle.std.proofs.lemmas.List.{get_or_past}
+use Rattle.std.proofs.lemmas.List.{get_or_append_left, get_or-append-add, get_or-append_right, get_or_past}
+use Rattle.std.proofs.lemmas.Option.{get_or_from_slice_get, slice_get-get_or, slice_get_within}
 use Rattle.long_columns.specs.Swept.{HasEdge}
 
 abbrev Edges : Type 0
@@ -50,3 +51,45 @@ edges-whole late first edges n whole now a b = (
       (cases_lt b n))
       either),
 )
+
+-- a list has the edges of both its parts
+module _ (first second : Edges) (from to : ℕ) where
+  abbrev edge : ℕ × ℕ
+  edge = (from, to)
+
+  edge-cases : HasEdge (first ++ second) from to → HasEdge first from to ⊎ HasEdge second from to
+  edge-cases (j, at) =
+      let within : j < length (first ++ second) = slice_get_within (first ++ second) j edge at in
+      let sum = length-append first second in
+      let value = get_or_from_slice_get (first ++ second) j edge edge at in
+      ⊎_elim
+      (λ (below : j < length first).
+      inl (j, slice_get-get_or first j edge below
+      ∙ ap (λ (e : ℕ × ℕ). Some e) (sym (get_or_append_left first second edge j below) ∙ value)))
+      (λ (past : length first ≤ j).
+      let inside : j - length first < length second = omega arith in
+      inr (j - length first, slice_get-get_or second (j - length first) edge inside
+      ∙ ap (λ (e : ℕ × ℕ). Some e) (sym (get_or-append_right first second (length first) j edge refl past) ∙ value)))
+      (cases_lt j (length first))
+
+  edge-first : HasEdge first from to → HasEdge (first ++ second) from to
+  edge-first (j, at) =
+      let below : j < length first = slice_get_within first j edge at in
+      let sum = length-append first second in
+      let within : j < length (first ++ second) = omega arith in
+      (j, slice_get-get_or (first ++ second) j edge within
+      ∙ ap (λ (e : ℕ × ℕ). Some e) (get_or_append_left first second edge j below ∙ get_or_from_slice_get first j edge edge at))
+
+  edge-second : HasEdge second from to → HasEdge (first ++ second) from to
+  edge-second (j, at) =
+      let below : j < length second = slice_get_within second j edge at in
+      let sum = length-append first second in
+      let within : length first + j < length (first ++ second) = omega arith in
+      (length first + j, slice_get-get_or (first ++ second) (length first + j) edge within
+      ∙ ap (λ (e : ℕ × ℕ). Some e) (get_or-append-add first second j edge ∙ get_or_from_slice_get second j edge edge at))
+
+  pub edges-joined : HasEdge (first ++ second) from to ↔ (HasEdge first from to ⊎ HasEdge second from to)
+  edges-joined = (
+    edge-cases,
+    λ either. ⊎_elim (λ (one : HasEdge first from to). edge-first one) (λ (other : HasEdge second from to). edge-second other) either,
+  )

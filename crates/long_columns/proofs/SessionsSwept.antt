@@ -1,8 +1,8 @@
 -- The columns of sessions show together what each shows alone.
-use Rattle.std.specs.Prelude.{◌≡◌, ◌≢◌, ◌⊎◌, ◌↔◌, ℕ, ◌+◌, ◌<◌, ◌≤◌, ◌||◌, Bool, IsTrue, List, Some, length, slice_get}
-use Rattle.std.proofs.Common.{arith, ap, sym, ◌∙◌, subst, inl, inr, ⊎_elim}
-use Rattle.std.proofs.lemmas.Bool.{cases_eq, cases_lt, or_cases, or_left, or_right}
-use Rattle.std.proofs.lemmas.Option.{same_Some, slice_get_within}
+use Rattle.std.specs.Prelude.{◌≡◌, ◌≢◌, ◌⊎◌, ◌↔◌, ℕ, ◌+◌, ◌<◌, ◌≤◌, ◌||◌, Bool, false, IsTrue, List, []}
+use Rattle.std.proofs.Common.{arith, ap, sym, ◌∙◌, refl, subst, inl, inr, ⊎_elim}
+use Rattle.std.proofs.lemmas.Bool.{cases_lt, or_cases, or_left, or_right}
+use Rattle.std.proofs.lemmas.Option.{slice_get_within}
 use Rattle.history.specs.declared.op_id.OpId.{OpId}
 use Rattle.history.specs.History.{IsOp, Precedes, number}
 use Rattle.memory_order.specs.Memory.{MemoryHistory, Writes}
@@ -12,7 +12,7 @@ use Rattle.long_history.specs.Steps.{IsListedEdge, many}
 use Rattle.long_history.proofs.Numbers.{number-found}
 use Rattle.long_columns.specs.Conflicts.{IsLateEdge, IsReducedIn}
 use Rattle.long_columns.specs.LastWrites.{HasOverwrittenStartFrom, HasOverwrittenReadBy}
-use Rattle.long_columns.specs.Swept.{AreEdgesOf, AreSwept, HasEdge, IsAmongFirst}
+use Rattle.long_columns.specs.Swept.{AreEdgesOf, AreSwept, HasEdge, IsNumberedEdge}
 use Rattle.long_columns.proofs.Overwrites.{starts-by_sessions, reads-by_sessions}
 
 -- one of two flags is set
@@ -22,107 +22,129 @@ or-either a b = (
   λ either. ⊎_elim (λ (first : IsTrue a). or_left a b first) (λ (second : IsTrue b). or_right a b second) either,
 )
 
-module _ (h : MemoryHistory) (sessions : List ℕ) where
-  module _ (i t : ℕ) (here : slice_get sessions i ≡ Some t) where
-    among-more : (u : ℕ) → IsAmongFirst sessions (i + 1) u → IsAmongFirst sessions i u ⊎ (u ≡ t)
-    among-more u (k, below, at) = ⊎_elim
-        (λ (same : k ≡ i). inr (same_Some u t (sym (subst (λ (j : ℕ). slice_get sessions j ≡ Some u) same at) ∙ here)))
-        (λ (apart : k ≢ i). inl (k, omega arith, at))
-        (cases_eq k i)
+flag-one : (shows : ℕ → Type 0) (t : ℕ) (flag : Bool) → IsTrue flag ↔ shows t → IsTrue flag ↔ ((u : ℕ) × (u ≡ t) × shows u)
+flag-one shows t flag is = ((λ set. (t, refl, is.0 set)), λ some. is.1 (subst shows some.1 some.2))
 
-    among-still : (u : ℕ) → IsAmongFirst sessions i u → IsAmongFirst sessions (i + 1) u
-    among-still u (k, below, at) = (k, omega arith, at)
+no-edge : (from to : ℕ) → ¬ HasEdge [] from to
+no-edge from to (j, at) = let within = slice_get_within {A = ℕ × ℕ} [] j (from, to) at in omega arith
 
-    among-this : IsAmongFirst sessions (i + 1) t
-    among-this = (i, omega arith, here)
+module _ (h : MemoryHistory) where
+  no-numbered : (a w : OpId) → ¬ IsNumberedEdge h (HasEdge []) a w
+  no-numbered a w (is_a, is_w, between) = no-edge (number h a) (number h w) between
 
-    flag-more : (shows : ℕ → Type 0) (flag one made : Bool) → IsTrue flag ↔ ((u : ℕ) × IsAmongFirst sessions i u × shows u)
-        → IsTrue one ↔ shows t → IsTrue made ↔ (IsTrue flag ⊎ IsTrue one)
-        → IsTrue made ↔ ((u : ℕ) × IsAmongFirst sessions (i + 1) u × shows u)
-    flag-more shows flag one made was is either = (
+  -- no session shows anything
+  pub swept-none : (sessions : ℕ → Type 0) → ((t : ℕ) → ¬ sessions t) → AreSwept h sessions false false (HasEdge [])
+  swept-none sessions none = record {
+    starts = ((λ bad. absurd cc), λ some. absurd (none some.0 some.1));
+    reads = ((λ bad. absurd cc), λ some. absurd (none some.0 some.1));
+    sound = λ clear a w edge. absurd (no-numbered a w edge);
+    reduced = λ clear t is. absurd (none t is);
+    below = λ from to edge. absurd (no-edge from to edge);
+  }
+
+  -- a session shows what its column does
+  module _ (t : ℕ) (start read : Bool) (late : ℕ → ℕ) (start_shows : IsTrue start ↔ HasOverwrittenStartFrom h t)
+      (read_shows : IsTrue read ↔ HasOverwrittenReadBy h t) (reduced : ¬ IsTrue read → IsReducedIn h t (IsLateEdge h late))
+      (ending : (to : ℕ) → many h ≤ to → late to ≡ 0)
+      (small : (w : OpId) (n : ℕ) → IsOp h w → late (number h w) ≡ n + 1 → n < many h) where
+    pub swept-column : AreSwept h (λ u. u ≡ t) start read (λ from to. late to ≡ from + 1)
+    swept-column = record {
+      starts = flag-one (HasOverwrittenStartFrom h) t start start_shows;
+      reads = flag-one (HasOverwrittenReadBy h) t read read_shows;
+      sound = λ clear a w edge. (reduced clear).sound a w edge;
+      reduced = λ clear u same. subst (λ (s : ℕ). IsReducedIn h s (IsLateEdge h late)) (sym same) (reduced clear);
+      below = λ from to new. ⊎_elim
+          (λ (inside : to < many h).
+          let found = number-found h to inside in
+          (small found.0 from found.1 (ap late found.2 ∙ new), inside))
+          (λ (past : many h ≤ to). let none = ending to past in absurd (omega arith))
+          (cases_lt to (many h));
+    }
+
+  -- some sessions and others show together what each of the two shows
+  module _ (first second both : ℕ → Type 0) (split : (t : ℕ) → both t ↔ (first t ⊎ second t)) where
+    flag-both : (shows : ℕ → Type 0) (flag other made : Bool) → IsTrue flag ↔ ((t : ℕ) × first t × shows t)
+        → IsTrue other ↔ ((t : ℕ) × second t × shows t) → IsTrue made ↔ (IsTrue flag ⊎ IsTrue other)
+        → IsTrue made ↔ ((t : ℕ) × both t × shows t)
+    flag-both shows flag other made was is either = (
       (λ set. ⊎_elim
-          (λ (old : IsTrue flag). let some = was.0 old in (some.0, among-still some.0 some.1, some.2))
-          (λ (new : IsTrue one). (t, among-this, is.0 new))
+          (λ (old : IsTrue flag). let some = was.0 old in (some.0, (split some.0).1 (inl some.1), some.2))
+          (λ (new : IsTrue other). let some = is.0 new in (some.0, (split some.0).1 (inr some.1), some.2))
           (either.0 set)),
       λ some. either.1 (⊎_elim
-          (λ (old : IsAmongFirst sessions i some.0). inl (was.1 (some.0, old, some.2)))
-          (λ (same : some.0 ≡ t). inr (is.1 (subst shows same some.2)))
-          (among-more some.0 some.1)),
+          (λ (old : first some.0). inl (was.1 (some.0, old, some.2)))
+          (λ (new : second some.0). inr (is.1 (some.0, new, some.2)))
+          ((split some.0).0 some.1)),
     )
 
-    module _ (start read : Bool) (edges : List (ℕ × ℕ)) (was : AreSwept h sessions i start read edges)
-        (one_start one_read : Bool) (late : ℕ → ℕ) (start_now read_now : Bool) (edges_now : List (ℕ × ℕ))
-        (listed : (from to : ℕ) → HasEdge edges_now from to ↔ (HasEdge edges from to ⊎ (late to ≡ from + 1))) where
-      edge-cases : (a w : OpId) → IsListedEdge h edges_now a w → IsListedEdge h edges a w ⊎ IsLateEdge h late a w
-      edge-cases a w (j, at, is_a, is_w) = ⊎_elim
-          (λ (old : HasEdge edges (number h a) (number h w)). inl (old.0, old.1, is_a, is_w))
-          (λ (new : late (number h w) ≡ number h a + 1). inr (is_a, is_w, new))
-          ((listed (number h a) (number h w)).0 (j, at))
+    module _ (start read : Bool) (edge : ℕ → ℕ → Type 0) (was : AreSwept h first start read edge)
+        (more_start more_read : Bool) (more : ℕ → ℕ → Type 0) (is : AreSwept h second more_start more_read more)
+        (start_now read_now : Bool) (now : ℕ → ℕ → Type 0) (starts : IsTrue start_now ↔ (IsTrue start ⊎ IsTrue more_start))
+        (reads : IsTrue read_now ↔ (IsTrue read ⊎ IsTrue more_read))
+        (edges : (from to : ℕ) → now from to ↔ (edge from to ⊎ more from to)) where
+      sound-both : ¬ IsTrue read_now → (a w : OpId) → IsNumberedEdge h now a w → CF h a w
+      sound-both clear a w (is_a, is_w, between) = ⊎_elim
+          (λ (old : edge (number h a) (number h w)). was.sound (λ set. clear (reads.1 (inl set))) a w (is_a, is_w, old))
+          (λ (new : more (number h a) (number h w)). is.sound (λ set. clear (reads.1 (inr set))) a w (is_a, is_w, new))
+          ((edges (number h a) (number h w)).0 between)
 
-      edge-still : (a w : OpId) → IsListedEdge h edges a w → IsListedEdge h edges_now a w
-      edge-still a w (j, at, is_a, is_w) =
-          let place = (listed (number h a) (number h w)).1 (inl (j, at)) in (place.0, place.1, is_a, is_w)
+      module _ (narrow : ℕ → ℕ → Type 0) (wider : (from to : ℕ) → narrow from to → now from to) where
+        widened : (b w : OpId) → ((a : OpId) × ((b ≡ a) ⊎ Precedes b a) × IsNumberedEdge h narrow a w)
+            → (a : OpId) × ((b ≡ a) ⊎ Precedes b a) × IsNumberedEdge h now a w
+        widened b w (a, from, (is_a, is_w, between)) = (a, from, (is_a, is_w, wider (number h a) (number h w) between))
 
-      edge-late : (a w : OpId) → IsLateEdge h late a w → IsListedEdge h edges_now a w
-      edge-late a w (is_a, is_w, new) =
-          let place = (listed (number h a) (number h w)).1 (inr new) in (place.0, place.1, is_a, is_w)
-
-      module _ (start_shows : IsTrue one_start ↔ HasOverwrittenStartFrom h t) (read_shows : IsTrue one_read ↔ HasOverwrittenReadBy h t)
-          (reduced : ¬ IsTrue one_read → IsReducedIn h t (IsLateEdge h late))
-          (ending : (to : ℕ) → many h ≤ to → late to ≡ 0)
-          (small : (w : OpId) (n : ℕ) → IsOp h w → late (number h w) ≡ n + 1 → n < many h)
-          (starts : IsTrue start_now ↔ (IsTrue start ⊎ IsTrue one_start)) (reads : IsTrue read_now ↔ (IsTrue read ⊎ IsTrue one_read)) where
-        sound-now : ¬ IsTrue read_now → (a w : OpId) → IsListedEdge h edges_now a w → CF h a w
-        sound-now clear a w edge = ⊎_elim
-            (λ (old : IsListedEdge h edges a w). was.sound (λ set. clear (reads.1 (inl set))) a w old)
-            (λ (new : IsLateEdge h late a w). (reduced (λ set. clear (reads.1 (inr set)))).sound a w new)
-            (edge-cases a w edge)
-
-        reduced-wider : (edge : OpId → OpId → Type 0) → ((a w : OpId) → edge a w → IsListedEdge h edges_now a w) → ¬ IsTrue read_now
-            → (u : ℕ) → IsReducedIn h u edge → IsReducedIn h u (IsListedEdge h edges_now)
-        reduced-wider edge wider clear u is = record {
-          sound = sound-now clear;
-          each = λ b w of_u conflict. ⊎_elim
+        reduced-wider : ¬ IsTrue read_now → (t : ℕ) → IsReducedIn h t (IsNumberedEdge h narrow) → IsReducedIn h t (IsNumberedEdge h now)
+        reduced-wider clear t old = record {
+          sound = sound-both clear;
+          each = λ b w of_t conflict. ⊎_elim
               (λ (before : CO h b w). inl before)
-              (λ (some : (a : OpId) × ((b ≡ a) ⊎ Precedes b a) × edge a w). inr (some.0, some.1, wider some.0 w some.2))
-              (is.each b w of_u conflict);
+              (λ (some : (a : OpId) × ((b ≡ a) ⊎ Precedes b a) × IsNumberedEdge h narrow a w). inr (widened b w some))
+              (old.each b w of_t conflict);
         }
 
-        below-now : AreEdgesOf h edges_now
-        below-now j from to at = ⊎_elim
-            (λ (old : HasEdge edges from to). was.below old.0 from to old.1)
-            (λ (new : late to ≡ from + 1). ⊎_elim
-            (λ (inside : to < many h).
-            let found = number-found h to inside in
-            (small found.0 from found.1 (ap late found.2 ∙ new), inside))
-            (λ (past : many h ≤ to). let none = ending to past in absurd (omega arith))
-            (cases_lt to (many h)))
-            ((listed from to).0 (j, at))
+      pub swept-both : AreSwept h both start_now read_now now
+      swept-both = record {
+        starts = flag-both (HasOverwrittenStartFrom h) start more_start start_now was.starts is.starts starts;
+        reads = flag-both (HasOverwrittenReadBy h) read more_read read_now was.reads is.reads reads;
+        sound = sound-both;
+        reduced = λ clear t among. ⊎_elim
+            (λ (old : first t).
+            reduced-wider edge (λ from to has. (edges from to).1 (inl has)) clear t
+            (was.reduced (λ set. clear (reads.1 (inl set))) t old))
+            (λ (new : second t).
+            reduced-wider more (λ from to has. (edges from to).1 (inr has)) clear t
+            (is.reduced (λ set. clear (reads.1 (inr set))) t new))
+            ((split t).0 among);
+        below = λ from to has. ⊎_elim
+            (λ (old : edge from to). was.below from to old)
+            (λ (new : more from to). is.below from to new)
+            ((edges from to).0 has);
+      }
 
-        -- one session more
-        pub swept-more : AreSwept h sessions (i + 1) start_now read_now edges_now
-        swept-more = record {
-          starts = flag-more (HasOverwrittenStartFrom h) start one_start start_now was.starts start_shows starts;
-          reads = flag-more (HasOverwrittenReadBy h) read one_read read_now was.reads read_shows reads;
-          sound = sound-now;
-          reduced = λ clear u among. ⊎_elim
-              (λ (old : IsAmongFirst sessions i u).
-              reduced-wider (IsListedEdge h edges) edge-still clear u (was.reduced (λ set. clear (reads.1 (inl set))) u old))
-              (λ (same : u ≡ t). subst (λ (s : ℕ). IsReducedIn h s (IsListedEdge h edges_now)) (sym same)
-              (reduced-wider (IsLateEdge h late) edge-late clear t (reduced (λ set. clear (reads.1 (inr set))))))
-              (among-more u among);
-          below = below-now;
-        }
+  -- the same sessions, said in another way
+  module _ (sessions others : ℕ → Type 0) (same : (t : ℕ) → others t ↔ sessions t) (start read : Bool) (edge : ℕ → ℕ → Type 0)
+      (was : AreSwept h sessions start read edge) where
+    flag-same : (shows : ℕ → Type 0) (flag : Bool) → IsTrue flag ↔ ((t : ℕ) × sessions t × shows t)
+        → IsTrue flag ↔ ((t : ℕ) × others t × shows t)
+    flag-same shows flag is = (
+      (λ set. let some = is.0 set in (some.0, (same some.0).1 some.1, some.2)),
+      λ some. is.1 (some.0, (same some.0).0 some.1, some.2),
+    )
 
-  -- after the last session
-  module _ (i : ℕ) (whole : length sessions ≤ i)
-      (writers : (w : OpId) (x v : ℕ) → Writes h w x v → (k : ℕ) × (slice_get sessions k ≡ Some w.session))
-      (start read : Bool) (edges : List (ℕ × ℕ)) (now : AreSwept h sessions i start read edges) where
-    among-all : (w : OpId) (x v t : ℕ) → Writes h w x v → w.session ≡ t → IsAmongFirst sessions i t
-    among-all w x v t wrote of_t =
-        let place = writers w x v wrote in
-        let inside = slice_get_within sessions place.0 w.session place.1 in
-        (place.0, omega arith, place.1 ∙ ap (λ (s : ℕ). Some s) of_t)
+    pub swept-same : AreSwept h others start read edge
+    swept-same = record {
+      starts = flag-same (HasOverwrittenStartFrom h) start was.starts;
+      reads = flag-same (HasOverwrittenReadBy h) read was.reads;
+      sound = was.sound;
+      reduced = λ clear t is. was.reduced clear t ((same t).0 is);
+      below = was.below;
+    }
+
+  -- all sessions that write
+  module _ (sessions : ℕ → Type 0) (writers : (w : OpId) (x v : ℕ) → Writes h w x v → sessions w.session)
+      (start read : Bool) (edges : List (ℕ × ℕ)) (now : AreSwept h sessions start read (HasEdge edges)) where
+    among-all : (w : OpId) (x v t : ℕ) → Writes h w x v → w.session ≡ t → sessions t
+    among-all w x v t wrote of_t = subst sessions of_t (writers w x v wrote)
 
     pub all-starts : IsTrue start ↔ HasOverwrittenStart h
     all-starts = (
@@ -142,10 +164,25 @@ module _ (h : MemoryHistory) (sessions : List ℕ) where
           now.reads.1 (some.0, among-all b rivals.1.0 rivals.1.2 some.0 rivals.1.4 of_t, some.1),
     )
 
+    listed : (b w : OpId) → ((a : OpId) × ((b ≡ a) ⊎ Precedes b a) × IsNumberedEdge h (HasEdge edges) a w)
+        → (a : OpId) × ((b ≡ a) ⊎ Precedes b a) × IsListedEdge h edges a w
+    listed b w (a, from, (is_a, is_w, (j, at))) = (a, from, (j, at, is_a, is_w))
+
+    sound-listed : ¬ IsTrue read → (a w : OpId) → IsListedEdge h edges a w → CF h a w
+    sound-listed clear a w (j, at, is_a, is_w) = now.sound clear a w (is_a, is_w, (j, at))
+
     pub all-reduced : ¬ IsTrue read → (t : ℕ) → IsReducedIn h t (IsListedEdge h edges)
     all-reduced clear t = record {
-      sound = now.sound clear;
+      sound = sound-listed clear;
       each = λ b w of_t conflict.
           let rivals = conflict.0.1 in
-          (now.reduced clear t (among-all b rivals.0 rivals.1 t rivals.3 of_t)).each b w of_t conflict;
+          let among = among-all b rivals.0 rivals.1 t rivals.3 of_t in
+          ⊎_elim
+          (λ (before : CO h b w). inl before)
+          (λ (some : (a : OpId) × ((b ≡ a) ⊎ Precedes b a) × IsNumberedEdge h (HasEdge edges) a w). inr (listed b w some))
+          ((now.reduced clear t among).each b w of_t conflict);
     }
+
+  pub all-below : (sessions : ℕ → Type 0) (start read : Bool) (edges : List (ℕ × ℕ)) → AreSwept h sessions start read (HasEdge edges)
+      → AreEdgesOf h edges
+  all-below sessions start read edges now j from to at = now.below from to (j, at)

@@ -1,6 +1,7 @@
 pub mod Columns
 pub mod Conflicts
 pub mod LastWrites
+pub mod Parts
 pub mod Sights
 pub mod Sweeps
 pub mod Swept

@@ -1,15 +1,20 @@
--- What the columns of all sessions show together.
-use Rattle.std.specs.Prelude.{◌≡◌, ◌↔◌, ℕ, ◌<◌, Bool, IsTrue, List, Some, slice_get}
+-- What the columns of sessions show together.
+use Rattle.std.specs.Prelude.{◌≡◌, ◌↔◌, ℕ, ◌+◌, ◌%◌, ◌<◌, ◌≤◌, Bool, IsTrue, List, Some, slice_get}
 use Rattle.history.specs.declared.op_id.OpId.{OpId}
+use Rattle.history.specs.History.{IsOp, number}
 use Rattle.memory_order.specs.Memory.{MemoryHistory}
 use Rattle.memory_order.specs.Relations.{CF}
-use Rattle.long_history.specs.Steps.{IsListedEdge, many}
+use Rattle.long_history.specs.Steps.{many}
 use Rattle.long_columns.specs.Conflicts.{IsReducedIn}
 use Rattle.long_columns.specs.LastWrites.{HasOverwrittenReadBy, HasOverwrittenStartFrom}
 
--- t is one of the first i sessions of the list
-abbrev pub IsAmongFirst : List ℕ → ℕ → ℕ → Type 0
-IsAmongFirst sessions i t = (k : ℕ) × (k < i) × (slice_get sessions k ≡ Some t)
+-- t stands at one of the first i places of the list, and that place is dealt to a part: each part has every so many-th place
+abbrev pub IsDealt : List ℕ → (parts part : ℕ) → ℕ → ℕ → Type 0
+IsDealt sessions parts part i t = (k : ℕ) × (k < i) × (k % parts ≡ part) × (slice_get sessions k ≡ Some t)
+
+-- t stands at a place that is dealt to a part with the number p or a greater one
+abbrev pub IsDealtFrom : List ℕ → (parts p : ℕ) → ℕ → Type 0
+IsDealtFrom sessions parts p t = (k : ℕ) × (p ≤ k % parts) × (slice_get sessions k ≡ Some t)
 
 -- the list has the edge
 abbrev pub HasEdge : List (ℕ × ℕ) → ℕ → ℕ → Type 0
@@ -19,10 +24,14 @@ HasEdge edges from to = (j : ℕ) × (slice_get edges j ≡ Some (from, to))
 abbrev pub AreEdgesOf : MemoryHistory → List (ℕ × ℕ) → Type 0
 AreEdgesOf h edges = (j from to : ℕ) → slice_get edges j ≡ Some (from, to) → (from < many h) × (to < many h)
 
--- the flags and the edges are those of the first i sessions
-pub record AreSwept (h : MemoryHistory) (sessions : List ℕ) (i : ℕ) (start read : Bool) (edges : List (ℕ × ℕ)) : Type 0 where
-  pub starts : IsTrue start ↔ ((t : ℕ) × IsAmongFirst sessions i t × HasOverwrittenStartFrom h t)
-  pub reads : IsTrue read ↔ ((t : ℕ) × IsAmongFirst sessions i t × HasOverwrittenReadBy h t)
-  pub sound : ¬ IsTrue read → (a w : OpId) → IsListedEdge h edges a w → CF h a w
-  pub reduced : ¬ IsTrue read → (t : ℕ) → IsAmongFirst sessions i t → IsReducedIn h t (IsListedEdge h edges)
-  pub below : AreEdgesOf h edges
+-- an edge goes from the number of a to that of w
+abbrev pub IsNumberedEdge : MemoryHistory → (ℕ → ℕ → Type 0) → OpId → OpId → Type 0
+IsNumberedEdge h edge a w = IsOp h a × IsOp h w × edge (number h a) (number h w)
+
+-- the flags and the edges are those of the sessions
+pub record AreSwept (h : MemoryHistory) (sessions : ℕ → Type 0) (start read : Bool) (edge : ℕ → ℕ → Type 0) : Type 0 where
+  pub starts : IsTrue start ↔ ((t : ℕ) × sessions t × HasOverwrittenStartFrom h t)
+  pub reads : IsTrue read ↔ ((t : ℕ) × sessions t × HasOverwrittenReadBy h t)
+  pub sound : ¬ IsTrue read → (a w : OpId) → IsNumberedEdge h edge a w → CF h a w
+  pub reduced : ¬ IsTrue read → (t : ℕ) → sessions t → IsReducedIn h t (IsNumberedEdge h edge)
+  pub below : (from to : ℕ) → edge from to → (from < many h) × (to < many h)

@@ -6,10 +6,12 @@
 #![tactic(auto)]
 
 mod convergence;
+mod parts;
 mod passes;
 mod sight;
 mod sweeping;
 mod swept;
 
 pub use convergence::is_convergent;
-pub use swept::{Swept, sweep};
+pub use parts::{sweep, sweep_in_threads};
+pub use swept::Swept;

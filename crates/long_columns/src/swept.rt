@@ -1,12 +1,9 @@
-//! The columns of all sessions, one after the other.
+//! The columns of some sessions, one after the other.
 
-ghost use Rattle.std.specs.Prelude.{◌≡◌, ◌⊎◌, ◌↔◌, ◌+◌, ◌<◌, ℕ, List, [], Some, length, slice_get, slice_index_or, IfOk, IsTrue, OnOk};
-ghost use Rattle.history.specs.declared.op_id.OpId.{OpId as Operation};
-ghost use Rattle.memory_order.specs.Memory.{Writes};
-ghost use Rattle.memory_order.specs.OverwrittenReads.{HasOverwrittenRead, HasOverwrittenStart};
-ghost use Rattle.long_history.specs.Steps.{IsListedEdge, IsOrderBy, many};
-ghost use Rattle.long_columns.specs.Conflicts.{IsReducedIn};
-ghost use Rattle.long_columns.specs.Swept.{AreEdgesOf, AreSwept, HasEdge};
+ghost use Rattle.std.specs.Prelude.{◌≡◌, ◌⊎◌, ◌↔◌, ◌+◌, ◌%◌, ◌<◌, ℕ, List, [], Some, length, slice_get, slice_index_or, IfOk, OnOk};
+ghost use Rattle.long_history.specs.Steps.{IsOrderBy, many};
+ghost use Rattle.long_columns.specs.Parts.{HasWriters, IsSweptOver, IsSweptPart};
+ghost use Rattle.long_columns.specs.Swept.{HasEdge, IsDealt};
 
 use crate::passes::{fill, find_firsts, find_past_ends};
 use crate::sweeping::sweep_column;
@@ -24,36 +21,9 @@ pub struct Swept {
     pub edges: Vec<(u32, u32)>,
 }
 
-/// Finds whether writes overwrote what reads after them returned, and edges that stand for all conflicts of writes.
-///
-/// The order is one that [`long_order::causal_order`] gives. Fails for want of memory alone. O(n k) for n operations and k sessions that
-/// write. It takes 12 bytes an operation and 4 a variable, and 8 an edge: of these there is at most one for each write that is read and
-/// each session that writes.
-pub fn sweep(alloc: Global, index: &LongIndex, order: &[u32]) -> Result<Swept, AllocError>
-    requires { IsOrderBy index.now.history [] order.now }
-    ensures start { IfOk result (λ s. IsTrue s.has_overwritten_start ↔ HasOverwrittenStart index.now.history) }
-    ensures read { IfOk result (λ s. IsTrue s.has_overwritten_read ↔ HasOverwrittenRead index.now.history) }
-    ensures edges { IfOk result (λ s. ¬ IsTrue s.has_overwritten_read
-        → (t : ℕ) → IsReducedIn index.now.history t (IsListedEdge index.now.history s.edges.items)) }
-    ensures below { IfOk result (λ s. AreEdgesOf index.now.history s.edges.items) }
-{
-    let sessions = writing_sessions(alloc, index)?;
-    let mut arrays = Arrays::new(alloc, index)?;
-    let mut swept = Swept {
-        has_overwritten_start: false,
-        has_overwritten_read: false,
-        edges: Vec::new(alloc),
-    };
-    for &session in &sessions {
-        sweep_session(index, order, session, &mut arrays, &mut swept)?;
-    }
-    Ok(swept)
-}
-
 /// The sessions that write something, in order.
-fn writing_sessions(alloc: Global, index: &LongIndex) -> Result<Vec<u32>, AllocError>
-    ensures each { IfOk result (λ sessions. (w : Operation) (x v : ℕ) → Writes index.now.history w x v
-        → (k : ℕ) × (slice_get sessions.items k ≡ Some w.session)) }
+pub(crate) fn writing_sessions(alloc: Global, index: &LongIndex) -> Result<Vec<u32>, AllocError>
+    ensures each { IfOk result (λ sessions. HasWriters index.now.history sessions.items) }
     ensures below { IfOk result (λ sessions. (k t : ℕ) → slice_get sessions.items k ≡ Some t → t < length index.now.history.1) }
 {
     let mut sessions = Vec::new(alloc);
@@ -76,6 +46,37 @@ fn add_session(sessions: &mut Vec<u32>, session: u32) -> Result<(), AllocError>
         sessions.push(session)?;
     }
     Ok(())
+}
+
+/// What the sessions of a part show: those at the places `part`, `part + parts` and so on of a list.
+///
+/// Fails for want of memory alone. O(n k / p) for n operations, k sessions in the list and p parts.
+pub(crate) fn sweep_part(
+    alloc: Global,
+    index: &LongIndex,
+    order: &[u32],
+    sessions: &[u32],
+    parts: usize,
+    part: usize,
+) -> Result<Swept, AllocError>
+    requires order { IsOrderBy index.now.history [] order.now }
+    requires below { (k t : ℕ) → slice_get sessions.now k ≡ Some t → t < length index.now.history.1 }
+    requires part { part < parts }
+    ensures { IfOk result (IsSweptPart index.now.history sessions.now parts part) }
+{
+    let mut arrays = Arrays::new(alloc, index)?;
+    let mut swept = Swept {
+        has_overwritten_start: false,
+        has_overwritten_read: false,
+        edges: Vec::new(alloc),
+    };
+    for i in 0..sessions.len() {
+        let session = sessions[i];
+        if i % parts == part {
+            sweep_session(index, order, session, &mut arrays, &mut swept)?;
+        }
+    }
+    Ok(swept)
 }
 
 /// The numbers of one column and its sweep: the arrays are made once and filled again for each session.
@@ -126,10 +127,9 @@ fn sweep_session(
     ensures firsts { length arrays.new.firsts.items ≡ many index.now.history }
     ensures last { length arrays.new.last.items ≡ index.now.bound }
     ensures late { length arrays.new.late.items ≡ many index.now.history }
-    ensures swept { OnOk result ((sessions : List ℕ) (i : ℕ) → slice_get sessions i ≡ Some session
-        → AreSwept index.now.history sessions i swept.old.has_overwritten_start swept.old.has_overwritten_read swept.old.edges.items
-        → AreSwept index.now.history sessions (i + 1) swept.new.has_overwritten_start swept.new.has_overwritten_read
-        swept.new.edges.items) }
+    ensures swept { OnOk result ((sessions : List ℕ) (parts part i : ℕ) → slice_get sessions i ≡ Some session → i % parts ≡ part
+        → IsSweptOver index.now.history (IsDealt sessions parts part i) swept.old
+        → IsSweptOver index.now.history (IsDealt sessions parts part (i + 1)) swept.new) }
 {
     find_past_ends(index, order, session, &mut arrays.ends);
     find_firsts(index, order, session, &mut arrays.firsts);

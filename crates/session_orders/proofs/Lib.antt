@@ -6,6 +6,7 @@ pub mod FreeLaws
 pub mod HappenedBeforeDecided
 pub mod LeftSums
 pub mod Locks
+pub mod OrderedParts
 pub mod OutcomeLaws
 pub mod PartLaws
 pub mod PastLaws

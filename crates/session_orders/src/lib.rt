@@ -9,8 +9,10 @@ mod backward;
 mod free;
 mod numbers;
 mod ordering;
+mod parts;
 mod pasts;
 mod placement;
 mod turns;
 
-pub use ordering::{SessionOrder, order_sessions};
+pub use ordering::SessionOrder;
+pub use parts::{order_sessions, order_sessions_in_threads};

@@ -1,12 +1,13 @@
-//! Orders of all sessions.
+//! Orders of some sessions.
 
-ghost use Rattle.std.specs.Prelude.{◌≡◌, ℕ, [], length, IfOk, IsTrue};
+ghost use Rattle.std.specs.Prelude.{◌≡◌, ◌<◌, ℕ, [], length, IfOk, IsTrue};
 ghost use Rattle.long_history.specs.Steps.{IsOrderBy};
 ghost use Rattle.memory_order.specs.SourceOrder.{LacksSource};
 ghost use Rattle.session_orders.specs.Backward.{IsOpen};
 ghost use Rattle.session_orders.specs.declared.ordering.SessionOrder.TheVariants.{Explained};
 ghost use Rattle.session_orders.specs.OnItsWay.{IsClear, IsKnown, IsOnItsWay, IsStopped, ListsSessions, left_of};
-ghost use Rattle.session_orders.specs.SessionOrders.{AreOrdered, IsOutcome};
+ghost use Rattle.session_orders.specs.OrderedParts.{IsOrderedPart};
+ghost use Rattle.session_orders.specs.SessionOrders.{IsOutcome};
 
 use crate::backward::Backward;
 use crate::turns::Turns;
@@ -25,32 +26,58 @@ pub enum SessionOrder {
     Cyclic,
 }
 
-/// Whether each session has an order of what is before its last operation, in which each of its known reads reads what was last
-/// written to its variable; otherwise, which kind shows that some session has none.
+/// A session that has no such order.
+#[derive(Clone, Copy, Debug)]
+pub(crate) struct Unexplained {
+    /// Its place in the list of the sessions.
+    pub(crate) place: usize,
+    /// What shows that it has none.
+    pub(crate) order: SessionOrder,
+}
+
+/// The first session of a part that is not explained, if there is one. The part has the places `part`, `part + parts` and so on of the
+/// list.
 ///
-/// `order` is an order of all operations that program order and the sources make, and no known read lacks its source. Fails for want of
-/// memory alone. O(n k) for n operations in k sessions with operations, and O(n + k) numbers of memory for k sessions in all.
-pub fn order_sessions(
+/// Fails for want of memory alone. O(n k / p) for n operations, k sessions with operations and p parts, and O(n + k) numbers of memory for
+/// k sessions in all.
+pub(crate) fn order_part(
     alloc: Global,
     index: &LongIndex,
     order: &[u32],
-) -> Result<SessionOrder, AllocError>
+    sessions: &[u32],
+    parts: usize,
+    part: usize,
+) -> Result<Option<Unexplained>, AllocError>
     requires order { IsOrderBy index.now.history [] order.now }
     requires sources { ¬ LacksSource index.now.history }
-    ensures { IfOk result (AreOrdered index.now.history) }
+    requires sessions { ListsSessions index.now.history (length index.now.history.1) sessions.now }
+    requires part { part < parts }
+    ensures { IfOk result (IsOrderedPart index.now.history sessions.now parts part) }
 {
     index.value_is_indexed();
     let mut backward = Backward::clear(alloc, index)?;
     let mut turns = Turns::of(alloc, index)?;
-    for i in 0..turns.sessions.len() {
-        let own = turns.sessions[i];
-        match order_session(index, order, own, &mut backward, &mut turns)? {
-            SessionOrder::Explained => {}
-            SessionOrder::StartOverwritten => return Ok(SessionOrder::StartOverwritten),
-            SessionOrder::Cyclic => return Ok(SessionOrder::Cyclic),
+    for place in 0..sessions.len() {
+        let own = sessions[place];
+        if place % parts == part {
+            match order_session(index, order, own, &mut backward, &mut turns)? {
+                SessionOrder::Explained => {}
+                SessionOrder::StartOverwritten => {
+                    return Ok(Some(Unexplained {
+                        place,
+                        order: SessionOrder::StartOverwritten,
+                    }));
+                }
+                SessionOrder::Cyclic => {
+                    return Ok(Some(Unexplained {
+                        place,
+                        order: SessionOrder::Cyclic,
+                    }));
+                }
+            }
         }
     }
-    Ok(SessionOrder::Explained)
+    Ok(None)
 }
 
 /// Orders one session. Nothing is left before, nor after if it is explained.
