@@ -12,4 +12,7 @@ mod sweeping;
 mod swept;
 
 pub use convergence::is_convergent;
+pub use passes::{find_firsts, find_past_ends};
+pub use sight::Sight;
+pub use sweeping::{advance, look};
 pub use swept::{Swept, sweep};
