@@ -9,7 +9,7 @@ use std::alloc::{AllocError, Global};
 /// The operations of a pattern and the sources of its reads, in order, each once.
 ///
 /// Fails for want of memory alone. O(n (log n + k) + m log m) for n operations of k sessions and a pattern of m, as often as it names them.
-pub(crate) fn ops_with_sources(
+pub fn ops_with_sources(
     alloc: Global,
     history: &History<Memory>,
     pattern: &Pattern,

@@ -10,5 +10,7 @@ mod renaming;
 mod without_variables;
 
 pub use cores::{core_of, core_text};
-pub use renaming::pattern_in_whole;
+pub use gathering::ops_with_sources;
+pub use places::Places;
+pub use renaming::{pattern_in_whole, renamed};
 pub use without_variables::{Excluded, excluded_without};

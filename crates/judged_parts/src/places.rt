@@ -6,11 +6,16 @@ use std::alloc::{AllocError, Global};
 
 /// For each session of a part the operations of the whole that it keeps, in order.
 #[derive(Debug, Drop)]
-pub(crate) struct Places {
+pub struct Places {
     sessions: Vec<Vec<OpId>>,
 }
 
 impl Places {
+    /// Of each session of a part these operations of the whole. What they name is no promise: a part is judged by itself.
+    pub fn of(sessions: Vec<Vec<OpId>>) -> Places {
+        Places { sessions }
+    }
+
     /// Those of the operations at all variables but some. Fails for want of memory alone. O(n m) for n operations and m variables.
     pub(crate) fn without(
         alloc: Global,
@@ -25,7 +30,7 @@ impl Places {
     }
 
     /// The operation of the whole that an operation of the part is, and itself where it is none of the part.
-    pub(crate) fn in_whole(&self, op: OpId) -> OpId {
+    pub fn in_whole(&self, op: OpId) -> OpId {
         let kept = self.sessions.get(op.session_place());
         match kept.and_then(|kept| kept.get(op.place())) {
             Some(place) => *place,

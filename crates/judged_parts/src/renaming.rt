@@ -15,27 +15,37 @@ pub fn pattern_in_whole(
     variables: &[u32],
     pattern: &Pattern,
 ) -> Result<Pattern, AllocError> {
-    let places = Places::without(alloc, history, variables)?;
+    renamed(
+        alloc,
+        &Places::without(alloc, history, variables)?,
+        pattern,
+    )
+}
+
+/// A pattern of a part, with the operations as the whole numbers them.
+///
+/// Fails for want of memory alone. O(l) for a pattern of l operations and lines.
+pub fn renamed(alloc: Global, places: &Places, pattern: &Pattern) -> Result<Pattern, AllocError> {
     match pattern {
-        Pattern::CyclicCO(path) => Ok(Pattern::CyclicCO(renamed_path(alloc, &places, path)?)),
+        Pattern::CyclicCO(path) => Ok(Pattern::CyclicCO(renamed_path(alloc, places, path)?)),
         Pattern::ThinAirRead(read) => Ok(Pattern::ThinAirRead(places.in_whole(*read))),
         Pattern::WriteCOInitRead(path) => {
-            Ok(Pattern::WriteCOInitRead(renamed_path(alloc, &places, path)?))
+            Ok(Pattern::WriteCOInitRead(renamed_path(alloc, places, path)?))
         }
         Pattern::WriteCORead(first, second) => {
-            let first = renamed_path(alloc, &places, first)?;
-            let second = renamed_path(alloc, &places, second)?;
+            let first = renamed_path(alloc, places, first)?;
+            let second = renamed_path(alloc, places, second)?;
             Ok(Pattern::WriteCORead(first, second))
         }
         Pattern::WriteHBInitRead(op, derivation) => {
-            let derivation = renamed_derivation(alloc, &places, derivation)?;
+            let derivation = renamed_derivation(alloc, places, derivation)?;
             Ok(Pattern::WriteHBInitRead(places.in_whole(*op), derivation))
         }
         Pattern::CyclicHB(op, derivation) => {
-            let derivation = renamed_derivation(alloc, &places, derivation)?;
+            let derivation = renamed_derivation(alloc, places, derivation)?;
             Ok(Pattern::CyclicHB(places.in_whole(*op), derivation))
         }
-        Pattern::CyclicCF(links) => Ok(Pattern::CyclicCF(renamed_links(alloc, &places, links)?)),
+        Pattern::CyclicCF(links) => Ok(Pattern::CyclicCF(renamed_links(alloc, places, links)?)),
     }
 }
 

@@ -14,4 +14,7 @@ mod swept;
 
 pub use convergence::is_convergent;
 pub use parts::{sweep, sweep_in_threads};
+pub use passes::{find_firsts, find_past_ends};
+pub use sight::Sight;
+pub use sweeping::{advance, look};
 pub use swept::Swept;

@@ -77,7 +77,7 @@ pub(crate) fn sweep_column(
 
 /// Moves the table of last writes from one place of the session to another. It goes on from the first place, or from the session's
 /// start when the other place comes earlier.
-fn advance(index: &LongIndex, start: u32, at: u32, to: u32, last: &mut Vec<u32>)
+pub fn advance(index: &LongIndex, start: u32, at: u32, to: u32, last: &mut Vec<u32>)
     requires from { start ≤ to }
     requires within { to ≤ many index.now.history }
     requires size { length last.old.items ≡ index.now.bound }
@@ -123,7 +123,7 @@ fn pass_one(index: &LongIndex, operation: u32, last: &mut Vec<u32>)
 }
 
 /// What an operation shows, by the session's last write of its variable in its past.
-fn look(
+pub fn look(
     index: &LongIndex,
     ends: &[u32],
     firsts: &[u32],

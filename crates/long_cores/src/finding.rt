@@ -1,0 +1,104 @@
+//! What is gathered, judged by itself.
+
+ghost use Rattle.std.specs.Prelude.{IfOk, IfSome};
+ghost use Rattle.long_cores.specs.Cores.{IsCoreOfKind, IsShownAlone};
+ghost use Rattle.long_cores.specs.Gathered.{ShowsKind};
+
+use crate::gathering::ops_of_kind;
+use crate::long_core::{Gathered, LongCore};
+use crate::part::Part;
+use bad_patterns::{Kind, Pattern};
+use cert_check::Criterion;
+use history::{History, OpId};
+use judged_parts::ops_with_sources;
+use long_index::LongIndex;
+use objects::Memory;
+use pattern_search::find;
+use std::alloc::{AllocError, Global};
+
+/// Few operations of a long history that show a kind of bad pattern by themselves, which is the first that is present against the
+/// criterion.
+///
+/// They are gathered and judged by themselves. Nothing is promised of how many they are, nor that there is a core: mostly there is one
+/// of a few operations. Fails for want of memory alone. O(n (k + log n)) for n operations of k sessions, and what
+/// [`find`](pattern_search::find) takes for a history within the limits of `History`, twice.
+pub fn core_of_kind(
+    alloc: Global,
+    index: &LongIndex,
+    criterion: Criterion,
+    kind: Kind,
+) -> Result<Gathered, AllocError>
+    ensures { IfOk result (ShowsKind criterion kind) }
+{
+    let ops = ops_of_kind(alloc, index, kind)?;
+    match judged(alloc, index, criterion, kind, &ops)? {
+        Some(core) => Ok(Gathered::Core(narrowed(alloc, index, criterion, kind, core)?)),
+        None => Ok(Gathered::Operations(ops)),
+    }
+}
+
+/// The part with these operations, which are in order, where it shows the kind by itself.
+fn judged(
+    alloc: Global,
+    index: &LongIndex,
+    criterion: Criterion,
+    kind: Kind,
+    ops: &[OpId],
+) -> Result<Option<LongCore>, AllocError>
+    ensures { IfOk result (λ found. IfSome found (IsCoreOfKind criterion kind)) }
+{
+    let Some(part) = Part::of(alloc, index.history(), ops)? else {
+        return Ok(None);
+    };
+    let Part { history, places } = part;
+    match pattern_of_kind(alloc, &history, criterion, kind)? {
+        Some(pattern) => Ok(Some(LongCore {
+            history,
+            pattern,
+            places,
+        })),
+        None => Ok(None),
+    }
+}
+
+/// A pattern of the kind, where the search finds one and none of a kind before it.
+fn pattern_of_kind(
+    alloc: Global,
+    history: &History<Memory>,
+    criterion: Criterion,
+    kind: Kind,
+) -> Result<Option<Pattern>, AllocError>
+    ensures { IfOk result (λ found. IfSome found (IsShownAlone criterion kind history.now)) }
+{
+    let Some(pattern) = find(alloc, history, criterion)? else {
+        return Ok(None);
+    };
+    if pattern.kind() == kind {
+        Ok(Some(pattern))
+    } else {
+        Ok(None)
+    }
+}
+
+/// The core of the operations that a core's pattern names, with the sources of their reads, where these show the kind by themselves, and
+/// else the core.
+fn narrowed(
+    alloc: Global,
+    index: &LongIndex,
+    criterion: Criterion,
+    kind: Kind,
+    core: LongCore,
+) -> Result<LongCore, AllocError>
+    requires { IsCoreOfKind criterion kind core }
+    ensures { IfOk result (IsCoreOfKind criterion kind) }
+{
+    let named = ops_with_sources(alloc, core.history(), core.pattern())?;
+    let mut ops = Vec::new(alloc);
+    for op in &named {
+        ops.push(core.in_whole(*op))?;
+    }
+    match judged(alloc, index, criterion, kind, &ops)? {
+        Some(fewer) => Ok(fewer),
+        None => Ok(core),
+    }
+}
