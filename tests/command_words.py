@@ -6,12 +6,12 @@ STORES = ("causal", "lamport")
 CRITERIA = ("cc", "cm", "ccv")
 RANGES = {"--workers": range(1, 17), "--seals": range(9), "--stop": range(16)}
 WITH_VALUE = (*RANGES, "--expect")
-FORMS = ((), ("--json",), ("--certificates", "--json"), ("--svg",))
+FORMS = ((), ("--json",), ("--certificates", "--json"), ("--svg",), ("--long",), ("--json", "--long"))
 OPTIONS = {
     "judge": ("--workers", "--expect", "--long"),
     "check": ("--workers",),
-    "explain": ("--json", "--certificates", "--svg"),
-    "refute": (),
+    "explain": ("--json", "--certificates", "--svg", "--long"),
+    "refute": ("--long",),
     "replay": (),
     "drive": ("--eager", "--seals", "--workers", "--stop"),
 }

@@ -199,7 +199,7 @@ def answer_due(order, data):
     if order["command"] == "check":
         return reading.line_of_check(data)
     if order["command"] == "refute":
-        return reading.line_of_refute(data)
+        return reading.line_of_refute(data, "--long" in order)
     if order["command"] == "drive":
         reading.read_driven(data, order.get("--stop"))
     elif "--long" in order:
