@@ -9,7 +9,8 @@ faults of bench/planted.py, and many are beyond the limits of `judge`.
 - The words: the lines that are not indented are those of `judge --long`. What the lines below say of single operations is true of the
   history, and they name no operation that it does not have. Behind a `no` come either the operations that show it, or a core with the
   places that its operations have in the whole: each is the very operation, sessions stay sessions in their order, initial values are the
-  same, and `judge` says the same line of the core.
+  same, and `judge` says the same line of the core. Of a history within the limits of `judge`, what stands below a `no` and an `unknown`
+  is what `explain` writes there, in which a core has no places.
 - `--json`: the same answers. Each pattern shows its kind by patterns.py, and `refute --long` accepts it, as does `refute` where the
   history is within its limits.
 - Mangled patterns: with a number changed, an operation that is out of range, or another criterion. `refute --long` accepts those that
@@ -111,8 +112,8 @@ def sections(text):
     return found
 
 
-def core_faults(program, whole, line, core, places):
-    """What is wrong with a core that stands below a line, and with the places of its operations in the whole."""
+def place_faults(whole, core, places):
+    """What is wrong with the places that the operations of a core have in the whole."""
     start, sessions = reading.read_history(core)[1:]
     part, pairs = MemoryHistory(sessions, start), [tuple(map(op_of, pair)) for pair in PLACES.findall(places)]
     found = []
@@ -125,9 +126,6 @@ def core_faults(program, whole, line, core, places):
         found.append(f"the places do not keep the sessions: {places!r}")
     if any(part.initial(call[1]) != whole.known.initial(call[1]) for call, _ in part.operations.values()):
         found.append(f"the core {json.dumps(core)} starts with other values")
-    judged = said(program, ["judge"], core)[1]
-    if line not in judged.splitlines():
-        found.append(f"of the core {json.dumps(core)} of {line!r} judge says {judged!r}")
     return found
 
 
@@ -138,8 +136,10 @@ def no_faults(program, whole, line, reason, seen):
         seen["a no without a core"] += 1
         return [] if any("show it" in words for words in reason) else [f"no operations show {line!r}: {reason!r}"]
     seen[f"core of {line}"] += 1
-    places = reason[cores[0] + 1] if cores[0] + 1 < len(reason) else ""
-    return core_faults(program, whole, line, core_in(reason[cores[0]]), places)
+    core, behind = core_in(reason[cores[0]]), [*reason[cores[0] + 1 :], ""]
+    judged = said(program, ["judge"], core)[1]
+    found = [] if line in judged.splitlines() else [f"of the core {json.dumps(core)} of {line!r} judge says {judged!r}"]
+    return found if whole.is_small else found + place_faults(whole, core, behind[0])
 
 
 def word_faults(program, whole, seen):
@@ -150,6 +150,10 @@ def word_faults(program, whole, seen):
     found, parts = [], sections(text)
     if [line for line, _ in parts] != whole.lines:
         found.append(f"judge says {whole.lines!r}, and the words begin with {[line for line, _ in parts]!r}")
+    if whole.is_small:
+        short = sections(said(program, ["explain"], whole.form)[1])
+        apart = [(one, other) for one, other in zip(parts, short) if one != other and not one[0].endswith(" yes")]
+        found += [f"explain writes {other!r}, and --long {one!r}" for one, other in apart]
     for line, reason in parts:
         found += [f"below {line!r} stands {words!r}" for words in reason if not is_true(whole.known, words)]
         if " no " in line:

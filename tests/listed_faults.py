@@ -1,17 +1,18 @@
 #!/usr/bin/env python3
-"""Puts the reads that `explain --all` lists of random memories to a plain search by the definitions.
+"""Puts the reads that `explain --all` lists and counts to a plain search.
 
     python3 tests/listed_faults.py SEED COUNT -- PROGRAM
 
-Each history is a small memory or one of many sessions (random_memories.py), to which more reads with faults are added; with `--long` and,
-where it is within the limits of `judge`, without, in words and by `--json`, with a most that is below, at and above what there is.
+Each history is a small memory or one of many sessions (random_memories.py), mostly with several reads at fault. It is explained with
+`--long` and, where it is within the limits of `judge`, without, in words and by `--json`, with a most that is below, at or above the number
+of reads at fault.
 
-- The counts of each kind are those of all reads that show it. Where the causal order has a cycle, only thin-air reads are counted.
-- As many reads are listed as there are, but not more than the most; they are the first ones, in the order of sessions and places.
-- What is listed of a read shows its kind: the write that it missed writes its variable, comes before it in the causal order, and after
-  the write that it read from. No other write that it missed comes after that one.
+- `--json`: the explanation is that of `explain --json`. The counts and the listed reads, with the writes that they missed, are right by
+  plain_faults.py; where values are not distinct there are none.
+- The words: the lines that are not indented are those of `judge`. The kinds and the sessions are counted right, and the first reads are
+  listed, as many as there may be: each with its variable and value, its source, and one of the latest writes that it missed.
 
-The plain search knows nothing of the program. Each of the three kinds has to be listed. It prints each history with a fault.
+Each of the three kinds has to be listed in both forms. It prints a line for each history with a fault, and how often each kind came.
 """
 
 import argparse
@@ -19,8 +20,8 @@ import json
 import random
 import re
 from collections import Counter
-from typing import NamedTuple
 
+import plain_faults
 import random_memories
 import reading
 from command_words import with_program
@@ -28,134 +29,119 @@ from counting import end
 from explained import said
 from explained_long import kept, op_of
 from patterns import MemoryHistory
-from plain_long_judge import Graph, members
+from plain_faults import KINDS
 
-KINDS = ("ThinAirRead", "WriteCOInitRead", "WriteCORead")
-PLACE = r"(\d+\.\d+)"
-LISTED = (
-    ("ThinAirRead", re.compile(rf"{PLACE} read \d+, which nobody wrote")),
-    ("WriteCOInitRead", re.compile(rf"{PLACE} read \d+, the initial value of variable \d+, which {PLACE} had overwritten")),
-    ("WriteCORead", re.compile(rf"{PLACE} read \d+, which {PLACE} had overwritten")),
-)
-COUNT = re.compile(rf"(\d+) (?:reads? of )?({'|'.join(KINDS)})")
-
-
-class Shown(NamedTuple):
-    """What is listed of a read: its kind, the read and the write that it missed, if there is one."""
-
-    kind: str
-    read: tuple
-    missed: tuple | None
-
-
-class Faults:
-    """All faults of a history, by the definitions: of each read with one its kind and the writes that it missed, and of each operation the
-    set of those before it in the causal order."""
-
-    def __init__(self, start, sessions):
-        graph = Graph(start, sessions)
-        self.ops = list(MemoryHistory(sessions, start).operations)
-        self.past = pasts(graph)
-        self.missed = {}
-        for read in graph.reads:
-            if graph.is_thin(read):
-                self.missed[read] = "ThinAirRead", 0
-            elif self.past is not None:
-                some = graph.writes_among(self.past[read], read)
-                if not graph.is_initial[read]:
-                    some = sum(1 << write for write in members(some) if self.past[write] >> graph.source[read] & 1)
-                if some:
-                    self.missed[read] = "WriteCOInitRead" if graph.is_initial[read] else "WriteCORead", some
-
-    def counts(self):
-        """How many reads show each kind."""
-        return Counter(kind for kind, _ in self.missed.values())
-
-    def are_last(self, read):
-        """The missed writes of a read that no other one is after."""
-        _, some = self.missed[read]
-        return {self.ops[write] for write in members(some) if not any(self.past[other] >> write & 1 for other in members(some))}
-
-
-def pasts(graph):
-    """Of each operation the set of those before it in the causal order; none where that has a cycle."""
-    found, waiting = {}, list(range(len(graph.edges)))
-    while waiting:
-        left = [op for op in waiting if any(before not in found for before in members(graph.edges[op]))]
-        if len(left) == len(waiting):
-            return None
-        for op in waiting:
-            if all(before in found for before in members(graph.edges[op])):
-                found[op] = graph.edges[op]
-                for before in members(graph.edges[op]):
-                    found[op] |= found[before]
-        waiting = [op for op in left if op not in found]
-    return found
-
-
-def listed_in_words(text):
-    """The reads that the words list, in order, and the counts."""
-    listed = []
-    for line in text.splitlines():
-        found = next(((kind, match) for kind, form in LISTED if (match := form.search(line))), None)
-        if found:
-            places = list(map(op_of, found[1].groups()))
-            listed.append(Shown(found[0], places[0], places[1] if len(places) > 1 else None))
-    return listed, Counter({kind: int(number) for number, kind in COUNT.findall(text)})
-
-
-def shown_of(entry):
-    """What an entry of the JSON list says of a read: its kind, the read and then the writes, the missed one last."""
-    kind, read, *writes = entry
-    return Shown(kind, tuple(read), tuple(writes[-1]) if writes else None)
-
-
-def listed_in_json(text):
-    """The same of the JSON form: an object-free list with the counts, as pairs of a kind and a number, and the listed reads."""
-    counts, listed, *_ = json.loads(text)
-    return [shown_of(entry) for entry in listed], Counter(dict(counts))
-
-
-def list_faults(faults, most, listed, counts):
-    """What is wrong with what is listed and counted."""
-    found, due = [], sorted(faults.missed)
-    if +counts != +faults.counts():
-        found.append(f"the counts are {dict(counts)}, due {dict(faults.counts())}")
-    reads = [faults.ops[read] for read in due[:most]]
-    if [shown.read for shown in listed] != reads:
-        return [*found, f"the listed reads are {[shown.read for shown in listed]}, due {reads}"]
-    for read, shown in zip(due, listed):
-        kind, some = faults.missed[read]
-        if shown.kind != kind or (shown.missed in faults.are_last(read)) != bool(some):
-            found.append(f"{shown} is listed, due {kind} with one of {faults.are_last(read)}")
-    return found
+PLACE, READ = r"(\d+\.\d+)", r"(\d+\.\d+) reads (\d+) from variable (\d+)"
+MISSED = rf", after {PLACE} wrote (\d+) to it"
+LISTED = {
+    "ThinAirRead": re.compile(rf"{READ}, which nobody wrote: ThinAirRead"),
+    "WriteCOInitRead": re.compile(rf"{READ} \(its initial value\){MISSED}: WriteCOInitRead"),
+    "WriteCORead": re.compile(rf"{READ} \(written by {PLACE}\){MISSED}: WriteCORead"),
+}
+OF_KIND = re.compile(rf"({'|'.join(KINDS)}): (\d+) reads? in (\d+) of (\d+) sessions?")
+OF_SESSION = re.compile(r"session (\d+): (\d+) reads?")
+MORE_SESSIONS = re.compile(r"and (\d+) more sessions?")
+MOST_SESSIONS = 16
 
 
 def faulty(rng):
-    """A memory, mostly with several reads at fault, and whether it is within the limits of `judge`."""
-    form = random_memories.small(rng) if rng.random() < 0.6 else random_memories.wide(rng)[0]
+    """A memory, mostly with several reads at fault."""
+    form = random_memories.small(rng) if rng.random() < 0.7 else random_memories.wide(rng)[0]
+    known = [[operation for operation in session if reading.UNKNOWN not in operation] for session in form[1]]
     for _ in range(rng.choice((0, 1, 3, 8))):
-        random_memories.spoil(rng, [[operation for operation in session if reading.UNKNOWN not in operation] for session in form[1]])
+        random_memories.spoil(rng, known)
     return form
 
 
+def matched(form, lines):
+    """What a form finds in the lines that are wholly of it, as texts."""
+    return [match.groups() for line in lines if (match := form.fullmatch(line))]
+
+
+def due_counts(found, sessions):
+    """The lines of counts that are due, as numbers: of each kind that is there, and of each session, those with the most first."""
+    many = {session: sum(number for _, number in counts) for session, counts in found.by_session()}
+    with_kind = lambda kind: sum(dict(counts)[kind] > 0 for _, counts in found.by_session())
+    of_kinds = [(kind, number, with_kind(kind), sessions) for kind, number in found.counts() if number]
+    return of_kinds, sorted(many.items(), key=lambda pair: (-pair[1], pair[0]))
+
+
+def count_faults(found, sessions, lines):
+    """What is wrong with the lines of counts."""
+    of_kinds, of_sessions = due_counts(found, sessions)
+    told = [(kind, *map(int, numbers)) for kind, *numbers in matched(OF_KIND, lines)]
+    rows = [tuple(map(int, row)) for row in matched(OF_SESSION, lines)]
+    more = [int(number) for (number,) in matched(MORE_SESSIONS, lines)]
+    wrong = [] if told == of_kinds else [f"the kinds are counted {told}, due {of_kinds}"]
+    if rows != of_sessions[:MOST_SESSIONS] or more != [len(of_sessions) - MOST_SESSIONS] * (len(of_sessions) > MOST_SESSIONS):
+        wrong.append(f"the sessions are counted {rows} and {more} more, due {of_sessions}")
+    return wrong
+
+
+def listed_in(lines):
+    """The listed reads, each with its kind and what the line says of it."""
+    return [(kind, match.groups()) for line in lines for kind, form in LISTED.items() if (match := form.fullmatch(line))]
+
+
+def is_line_of(known, fault, kind, words):
+    """Whether a line lists a fault: its read with variable and value, its source, and one of the latest writes that it missed."""
+    name, value, variable, *others = words
+    read = op_of(name)
+    if (kind, read) != (fault.kind, fault.read) or known.read(read) != (int(variable), int(value)):
+        return False
+    if kind == "ThinAirRead":
+        return True
+    *source, missed, written = others
+    is_written = known.operations[op_of(missed)][0] == ["w", int(variable), int(written)]
+    return is_written and op_of(missed) in fault.latest and [op_of(other) for other in source] == [fault.source] * len(source)
+
+
+def word_faults(whole, found, most, lines, text):
+    """What is wrong with the words."""
+    known, sessions = whole
+    heads, shown = [line for line in text.splitlines() if not line.startswith("  ")], [line.strip() for line in text.splitlines()]
+    wrong = [] if heads == lines else [f"the words have the lines {heads}, due {lines}"]
+    if found is None:
+        return wrong + [f"{shown} is listed where values are not distinct"] * bool(listed_in(shown))
+    wrong += count_faults(found, sessions, shown)
+    listed, due = listed_in(shown), found.all[:most]
+    if len(listed) != len(due) or not all(is_line_of(known, fault, *line) for fault, line in zip(due, listed)):
+        wrong.append(f"the list is {listed}, due {due}")
+    return wrong
+
+
+def json_faults(found, most, explanation, text):
+    """What is wrong with the JSON form."""
+    value = json.loads(text)
+    if type(value) is not list or len(value) != 2 or value[0] != explanation:
+        return [f"{text!r} is not a list with {explanation!r} first"]
+    if found is None:
+        return [] if value[1] is None else [f"{value[1]} is listed where values are not distinct"]
+    due = [found.counts(), found.by_session(), found.all[:most]]
+    return [] if plain_faults.is_right(found, most, value[1]) else [f"{value[1]} is listed, due {due}"]
+
+
 def faults_of(program, form, rng, seen):
-    """What is wrong with the lists of a history of distinct values."""
+    """What is wrong with the lists of a history."""
     start, sessions = reading.read_long(json.dumps(form).encode())
-    if not Graph(start, sessions).is_distinct:
-        return []
-    faults, found = Faults(start, sessions), []
-    for kind, many in faults.counts().items():
-        seen[kind] += many
-    options = [["--long"], *([[]] if reading.is_small(start, sessions) else [])]
-    for words, read in (([], listed_in_words), (["--json"], listed_in_json)):
-        for option in options:
-            most = rng.choice((1, max(1, len(faults.missed)), len(faults.missed) + 1, rng.randint(1, 1 + len(faults.missed))))
+    found, wrong = plain_faults.faults(start, sessions), []
+    many = len(found.all) if found else 0
+    whole = MemoryHistory(sessions, start), len(sessions)
+    for option in [["--long"], *([[]] if reading.is_small(start, sessions) else [])]:
+        lines = said(program, ["judge", *option], form)[1].splitlines()
+        explanation = json.loads(said(program, ["explain", "--json", *option], form)[1])
+        for words in ([], ["--json"]):
+            most = rng.choice((1, max(1, many), many + 1, rng.randint(1, 1 + many)))
             command = ["explain", "--all", str(most), *option, *words]
             status, text = said(program, command, form)
-            wrong = list_faults(faults, most, *read(text)) if status == 0 else [f"status {status}"]
-            found += [f"{' '.join(command)}: {fault}" for fault in wrong]
-    return found
+            if status != 0:
+                due = [f"status {status}"]
+            else:
+                due = json_faults(found, most, explanation, text) if words else word_faults(whole, found, most, lines, text)
+            wrong += [f"{' '.join(command)}: {fault}" for fault in due]
+            how = " ".join(["explain --all N", *option, *words])
+            seen.update(f"{fault.kind} by {how}" for fault in (found.all[:most] if found else []))
+    return wrong
 
 
 def main():
@@ -170,10 +156,13 @@ def main():
         wrong += bool(found)
         if found:
             print(kept(form), *found, sep="\n  ", flush=True)
-    for kind in KINDS:
-        print(f"{seen[kind]:8} {kind}")
-    missing = sum(not seen[kind] for kind in KINDS)
-    end(given.count + len(KINDS) - wrong - missing, wrong + missing)
+    for what, times in sorted(seen.items()):
+        print(f"{times:8} {what}")
+    named = [f"{kind} by explain --all N{words}" for kind in KINDS for words in ("", " --json", " --long", " --long --json")]
+    missing = [what for what in named if not seen[what]]
+    for what in missing:
+        print(f"never seen: {what}")
+    end(given.count + len(named) - wrong - len(missing), wrong + len(missing))
 
 
 if __name__ == "__main__":
