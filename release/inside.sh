@@ -78,6 +78,24 @@ python_sample() {
     compared python3 "$DOC/embed/causal_judge.py"
 }
 
+go_sample() {
+    cp "$DOC/embed/judge.go" . && go build -tags installed -o judge_go judge.go && compared ./judge_go
+}
+
+rust_sample() {
+    rustc --edition 2024 -O -L "$(pkg-config --variable=libdir causal_judge)" "$DOC/embed/judge.rs" -o judge_rs && compared ./judge_rs
+}
+
+# Whether rustc is there and knows the edition of the sample.
+has_rust() { echo | rustc --edition 2024 --crate-type lib --crate-name empty -o /tmp/libempty.rlib -; }
+
+# Counts the sample of a language: what tells whether its compiler is here, and the command that builds and compares it.
+try_if() {
+    local name=$1 present=$2
+    shift 2
+    if $present > /dev/null 2>&1; then try "$name" "$@"; else SKIPPED=$((SKIPPED + 1)); echo "$NAME: $name: skipped, no compiler for it here"; fi
+}
+
 try "no kit" no_kit
 try "the program is found" found
 try "its version" says_version
@@ -85,14 +103,16 @@ try "its BUILD" says_build
 try "man causal_judge" has_page causal_judge "Judges a recorded history"
 try "man causal_judge-judge" has_page causal_judge-judge "Judges a history in each line"
 if [ "$NAME" = wheel ]; then
-    SKIPPED=$((SKIPPED + 3))
+    SKIPPED=$((SKIPPED + 5))
 else
     try "completion in bash" completes
     if [ -f "$LIB/libcausal_judge.a" ]; then
         try "the C sample" c_sample
         try "the Python sample" python_sample
+        try_if "the Go sample" "go version" go_sample
+        try_if "the Rust sample" has_rust rust_sample
     else
-        SKIPPED=$((SKIPPED + 2))
+        SKIPPED=$((SKIPPED + 4))
     fi
 fi
 SAID=$(python3 /given/tests/documents.py --root "$DOC" --page README.md -- "$(command -v causal_judge)" 2>&1)

@@ -1,16 +1,18 @@
 #!/usr/bin/env bash
 # Installs each package of a release in a clean Debian without the Rattle kit, and tries it there.
 #
-#     release/test.sh [--out DIR] [--root TAR] [tarball] [deb] [wheel]
+#     release/test.sh [--out DIR] [--root TAR] [--languages] [tarball] [deb] [wheel]
 #
 # It takes the packages of DIR, release/out unless given. For each it unpacks a clean Debian, installs the package by README.md's lines,
 # and runs there each command that README.md shows, the man pages, a completion, and the C and the Python sample against the installed
-# library. Where lintian is installed, the Debian package may have no fault but that no licence is granted.
+# library. The Go and the Rust sample are tried where the root has a compiler for them, and else named as skipped: --languages makes a root
+# with those of Debian, of which rustc may be too old for the sample. Where lintian is installed, the Debian package may have no fault but
+# that no licence is granted.
 #
 # It runs as root, and needs mmdebstrap and a mirror of Debian: about 150 megabytes, and two to eight minutes to make the root, which
 # --root TAR keeps for the next time. It takes a gigabyte of /tmp while it runs, and a minute a package.
 #
-# The last line is 'N passed, M failed', with ', K skipped' after it where a package has no library.
+# The last line is 'N passed, M failed', with ', K skipped' after it where a package has no library or the root no compiler.
 set -euo pipefail
 
 HERE=$(cd "$(dirname "$0")" && pwd)
@@ -23,6 +25,7 @@ while [ $# -gt 0 ]; do
     case $1 in
         --out) OUT=$2; shift ;;
         --root) TAR=$2; shift ;;
+        --languages) HOLDS=$HOLDS,golang-go,rustc ;;
         tarball | deb | wheel) NAMES="$NAMES $1" ;;
         *) sed -n '2,4p' "$0" >&2; exit 2 ;;
     esac

@@ -4,14 +4,15 @@ import sys
 
 STORES = ("causal", "lamport")
 CRITERIA = ("cc", "cm", "ccv")
-RANGES = {"--workers": range(1, 17), "--seals": range(9), "--stop": range(16)}
+RANGES = {"--workers": range(1, 17), "--seals": range(9), "--stop": range(16), "--all": range(1, 1_000_001)}
 WITH_VALUE = (*RANGES, "--expect")
-FORMS = ((), ("--json",), ("--certificates", "--json"), ("--svg",))
+ANY_LENGTH = ((), ("--json",), ("--svg",), ("--all",), ("--all", "--json"))
+FORMS = (*ANY_LENGTH, *(tuple(sorted((*form, "--long"))) for form in ANY_LENGTH), ("--certificates", "--json"))
 OPTIONS = {
     "judge": ("--workers", "--expect", "--long"),
     "check": ("--workers",),
-    "explain": ("--json", "--certificates", "--svg"),
-    "refute": (),
+    "explain": ("--json", "--certificates", "--svg", "--long", "--all"),
+    "refute": ("--long",),
     "replay": (),
     "drive": ("--eager", "--seals", "--workers", "--stop"),
 }

@@ -346,7 +346,8 @@ NO_COMMAND_LINE = (
     ["judge", "--long", "--expect", "cc,cc"],
     ["judge", "--long", "--workers", "0"],
     ["check", "--long"],
-    ["refute", "--long"],
+    ["explain", "--long", "--long"],
+    ["refute", "--long=1"],
     ["replay", "--long"],
     ["drive", "causal", "--long"],
 )

@@ -199,7 +199,7 @@ def answer_due(order, data):
     if order["command"] == "check":
         return reading.line_of_check(data)
     if order["command"] == "refute":
-        return reading.line_of_refute(data)
+        return reading.line_of_refute(data, "--long" in order)
     if order["command"] == "drive":
         reading.read_driven(data, order.get("--stop"))
     elif "--long" in order:
@@ -222,7 +222,8 @@ def wanted(order, data):
 def is_reason(order, text):
     """Whether a text has the outside of a reason in the form that is asked for."""
     if "--json" in order:
-        return [reason[0] for reason in json.loads(text)] == ["cc", "cm", "ccv"]
+        value = json.loads(text)
+        return [reason[0] for reason in (value[0] if "--all" in order else value)] == ["cc", "cm", "ccv"]
     return text.startswith("<svg") and text.endswith("</svg>\n") if "--svg" in order else text.endswith("\n")
 
 

@@ -1,7 +1,7 @@
 """Reads the inputs of `judge`, `check`, `refute` and `drive` in a plain way, and refuses them in the order in which they are read.
 
 It knows the form of a report too, and nothing of the program: what it says follows docs/definitions.md and the table of refusals in
-docs/guide.md. `judge --long` reads a memory alone, without a limit on sessions, on operations and on the entries of a table.
+docs/guide.md. With `--long` a memory alone is read, without a limit on sessions, on operations and on the entries of a table.
 """
 
 import math
@@ -76,7 +76,7 @@ def read_history(value, objects=OBJECTS, limits=SMALL):
 
 
 def read_long(data):
-    """The table of initial values and the sessions of a memory, as `judge --long` reads it."""
+    """The table of initial values and the sessions of a memory, as `--long` has it read."""
     _, start, sessions = read_history(read_text(data), ("memory",), LONG)
     return start, sessions
 
@@ -132,12 +132,12 @@ def line_of_check(data):
     return f"{kind} yes\n"
 
 
-def line_of_refute(data):
-    """The line that `refute` has to write."""
+def line_of_refute(data, is_long=False):
+    """The line that `refute` has to write, or `refute --long`."""
     value = read_text(data)
     if type(value) is not list or len(value) != 3:
         raise Refused(2)
-    name, start, sessions = read_history(value[0])
+    name, start, sessions = read_history(value[0], *((("memory",), LONG) if is_long else ()))
     _, criterion, pattern = value
     if criterion not in CRITERIA or not is_pattern(pattern) or name != "memory":
         raise Refused(23)

@@ -98,6 +98,11 @@ INPUTS = (
     ("explain --json --certificates", AGAINST_CCV, '["ccv","no",["CyclicCF",'),
     ("explain --svg", STALE, "<title>cc no WriteCORead"),
     ("explain --svg", POPS, "<title>cc unknown 1.0"),
+    ("explain --long", long(PLAIN), "cm yes\n"),
+    ("explain --long", long(STALE), "  These operations alone are a no: "),
+    ("explain --long --json", long(CYCLIC), '["cm","no",["CyclicHB",'),
+    ("explain --long --json", long(AGAINST_CCV), '["ccv","no",["CyclicCF",'),
+    ("refute --long", f'[{long(STALE)},"cc",["WriteCORead",[[0,0],[0,1],[1,0],[1,1]],[[1,1],[2,0],[2,1]]]]', "cc no WriteCORead\n"),
     ("refute", f'[{STALE},"cc",["WriteCORead",[[0,0],[0,1],[1,0],[1,1]],[[1,1],[2,0],[2,1]]]]', "cc no WriteCORead\n"),
     ("refute", f'[{AGAINST_CCV},"ccv",["CyclicCF",[["cf",[[1,0],[1,1]],[0,0]],["cf",[[0,0],[0,1]],[1,0]]]]]', "ccv no CyclicCF\n"),
     (

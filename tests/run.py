@@ -99,6 +99,8 @@ PARTS = (
     Part("full_drives", lambda given: given.of("driven", "2", given.many(4, 60), "--full", "--object", "memory")),
     Part("full_drives_of_all", lambda given: given.of("driven", "3", given.many(0, 40), "--full"), is_long=True),
     Part("explained", lambda given: given.of("explained", "1", given.many(200, 4_000))),
+    Part("explained_long", lambda given: given.of("explained_long", "1", given.many(150, 3_000))),
+    Part("listed_faults", lambda given: given.of("listed_faults", "1", given.many(400, 10_000))),
     Part("lines", lambda given: given.of("lines", "1", given.many(120, 1_000))),
     Part(
         "long_histories",

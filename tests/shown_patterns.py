@@ -45,7 +45,7 @@ def reads(paths):
             yield ["ThinAirRead", list(read)]
         for write in paths.operations:
             path = paths.between(write, read)
-            if path and found and history.write(write) == history.reads_nothing_written(read):
+            if path and history.write(write) is not None and history.write(write) == history.reads_nothing_written(read):
                 yield ["WriteCOInitRead", path]
             above = paths.between(history.source(read), write)
             if path and above and history.are_two_writes(history.source(read), write):
