@@ -18,8 +18,8 @@ use Rattle.engine.proofs.PatternForms.{one_pattern}
 use Rattle.engine.specs.Failure.{failure_of}
 use Rattle.command_line.specs.declared.length.Length.{Length}
 use Rattle.command_line.specs.declared.length.Length.TheVariants.{Limited}
-use Rattle.engine.specs.Lengths.{first_refusal_of}
-use Rattle.engine.specs.Refuting.{claim_form, claim_refusal, claim_refusal_at, first_of_claim, HasNoSuchPattern, IsClaimErrorOf, IsPatternOf}
+use Rattle.engine.specs.Lengths.{IsHistoryOf, first_refusal_of}
+use Rattle.engine.specs.Refuting.{claim_form, claim_refusal, claim_refusal_at, first_of_claim, HasNoSuchPattern, HasNoSuchPatternAt, IsClaimErrorOf, IsPatternOf}
 
 -- the first refusal of a list of three is that of its history
 pub refusal-claim : (long : Length) (d h c p : Data) → d ≡ list (h ∷ c ∷ p ∷ []) → claim_refusal_at long (elements d) ≡ first_refusal_of long h
@@ -54,9 +54,9 @@ module _ (d h c p : Data) (history : AnyHistory) (is : d ≡ list (h ∷ c ∷ p
 pub ruleset refused_claims = (claim_refused, claim_without_criterion, claim_without_pattern)
 
 -- or the pattern does not show it: a name is that of one criterion, and a value the form of one pattern
-pub claim_not_shown : (h : AnyHistory) (criterion : Criterion) (pattern : Pattern) → IsAnyHistory h → ¬ IsPatternOf h criterion pattern
-    → HasNoSuchPattern (claim_form h criterion pattern)
-claim_not_shown h criterion pattern good refused = (
+pub claim_not_shown : (long : Length) (h : AnyHistory) (criterion : Criterion) (pattern : Pattern) → IsHistoryOf long h
+    → ¬ IsPatternOf h criterion pattern → HasNoSuchPatternAt long (claim_form h criterion pattern)
+claim_not_shown long h criterion pattern good refused = (
   h,
   string (name_of criterion),
   pattern_form pattern,

@@ -157,5 +157,3 @@ module _ (text : List ℕ) (seen : Data) (of : IsSeenOf text seen) where
           alone limit_of inside_of (InPattern patterns.Whole) three.third (pattern_form pattern) (pattern_kept pattern) (three.pattern ∙ form) in
           subst (IsJson text) (whole_is ∙ (λ i. list (form_of (kinds.Memory g) ∷ second i ∷ third i ∷ []))) of.1
 
--- why a claim is refused, by which of its parts it is
-pub ruleset refused_long_claims = (wrong_shape, first_is_refused, no_criterion, no_pattern, claim_is_read)

@@ -9,6 +9,7 @@ pub mod EachAnswer
 pub mod JudgeErrors
 pub mod LineAnswerLaws
 pub mod LongTruth
+pub mod LongOutputs
 pub mod ReadCallLaws
 pub mod NotRefused
 pub mod ScriptOutcomes
@@ -17,6 +18,7 @@ pub mod Decided
 pub mod Reasons
 pub mod Reported
 pub mod ExplanationForms
+pub mod FaultForms
 pub mod Indented
 pub mod SealedTexts
 pub mod DriveOutcomes

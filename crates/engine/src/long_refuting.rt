@@ -63,7 +63,7 @@ fn read_long_claim(alloc: Global, input: &[u8]) -> Result<LongClaim, RunError>
 }
 
 // The claim of an input, of whose value this much is seen.
-#[tactic(auto, using(crate::proofs::CutLongClaims::refused_long_claims))]
+
 fn claim_after_history(
     alloc: Global,
     input: &[u8],
@@ -97,7 +97,7 @@ fn after_history(value: &Value) -> Option<(&Value, &Value)>
         (λ rest. (h : Data) × (view value.now ≡ list (h ∷ view rest.0.now ∷ view rest.1.now ∷ []))) }
 {
     match elements_of(value)? {
-        [_, criterion, pattern] => Some((criterion, pattern)),
+        [_history, criterion, pattern] => Some((criterion, pattern)),
         _ => None,
     }
 }

@@ -1,4 +1,5 @@
 use Rattle.std.specs.Prelude.{IsTrue}
+use Rattle.command_line.specs.declared.length.Length.TheVariants.{Limited}
 use Rattle.engine.specs.Refuting.{claim_form}
 use Rattle.engine.proofs.Claims.{claim_not_shown}
 use Rattle.engine.proofs.refuting.refute.Goals as goal
@@ -8,6 +9,6 @@ returns-clause-error c =
     let claim = c.in_ok-claim.claim in (
       claim_form claim.history claim.criterion claim.pattern,
       c.in_ok-claim.ensures.read,
-      claim_not_shown claim.history claim.criterion claim.pattern c.in_ok-claim.ensures.history
+      claim_not_shown Limited claim.history claim.criterion claim.pattern c.in_ok-claim.ensures.history
           (λ shown. let yes : IsTrue c.in_ok-is_pattern_of.field-0 = c.in_ok-is_pattern_of.ensures.exact.1 shown in let no = c.if-branch.false in absurd cc),
     )

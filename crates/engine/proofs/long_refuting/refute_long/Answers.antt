@@ -1,0 +1,33 @@
+use Rattle.std.proofs.Common.{ap, ◌∙◌}
+use Rattle.std.specs.Prelude.{IsTrue}
+use Rattle.board.specs.declared.answer.Answer.TheVariants.{No}
+use Rattle.command_line.specs.declared.length.Length.TheVariants.{Any}
+use Rattle.operations.specs.declared.any_history.AnyHistory.TheVariants as histories
+use Rattle.engine.specs.Refuting.{claim_form}
+use Rattle.engine.specs.Report.{line_for}
+use Rattle.engine.proofs.Claims.{claim_not_shown}
+use Rattle.engine.proofs.long_refuting.refute_long.Goals as goal
+
+pub returns-then-branch-clause-output : goal.returns-then-branch-clause-output
+returns-then-branch-clause-output c =
+    let claim = c.in_ok-claim.claim in
+    let tested = c.in_ok-check_long_pattern.ensures in
+    record {
+      history = histories.Memory claim.history;
+      criterion = claim.criterion;
+      pattern = claim.pattern;
+      is_history = c.in_ok-claim.ensures.history;
+      read = c.in_ok-claim.ensures.read;
+      shown = tested.exact.0 c.if-branch.true;
+      excluded = tested.true_no c.if-branch.true;
+      line = c.in_ok-report_line.ensures ∙ ap (λ kind. line_for claim.criterion (No kind)) c.kind.ensures;
+    }
+
+pub returns-clause-error : goal.returns-clause-error
+returns-clause-error c =
+    let claim = c.in_ok-claim.claim in (
+      claim_form (histories.Memory claim.history) claim.criterion claim.pattern,
+      c.in_ok-claim.ensures.read,
+      claim_not_shown Any (histories.Memory claim.history) claim.criterion claim.pattern c.in_ok-claim.ensures.history
+          (λ shown. let yes : IsTrue c.in_ok-check_long_pattern.field-0 = c.in_ok-check_long_pattern.ensures.exact.1 shown in let no = c.if-branch.false in absurd cc),
+    )
