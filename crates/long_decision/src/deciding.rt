@@ -10,10 +10,10 @@ ghost use Rattle.long_decision.specs.LongDecisions.{AreDecided, IsLongDecided};
 ghost use Rattle.long_decision.specs.Steps.Consistency.{IsAgainstAll, IsConsistent, IsFirstShown};
 
 use crate::decisions::{LongDecision, LongDecisions};
+use crate::session_work::SessionWork;
 use crate::thin_air::lacks_source;
 use bad_patterns::Kind;
 use bad_patterns::laws::present_kinds_exclude_criteria;
-use crate::session_work::SessionWork;
 use long_columns::is_convergent;
 use long_history::LongHistory;
 use long_index::LongIndex;

@@ -22,12 +22,7 @@ pub trait SessionWork {
     ghost can_work: { Self → Type 0 };
 
     /// Sweeps the columns of the sessions, as [`sweep`] does.
-    fn sweep(
-        &self,
-        alloc: Global,
-        index: &LongIndex,
-        order: &[u32],
-    ) -> Result<Swept, AllocError>
+    fn sweep(&self, alloc: Global, index: &LongIndex, order: &[u32]) -> Result<Swept, AllocError>
         requires can_work { can_work self.now }
         requires order { IsOrderBy index.now.history [] order.now }
         ensures start { IfOk result (λ s. IsTrue s.has_overwritten_start ↔ HasOverwrittenStart index.now.history) }
@@ -56,12 +51,7 @@ pub struct CallingThread;
 impl SessionWork for CallingThread {
     ghost can_work = { λ _. Unit {0} };
 
-    fn sweep(
-        &self,
-        alloc: Global,
-        index: &LongIndex,
-        order: &[u32],
-    ) -> Result<Swept, AllocError> {
+    fn sweep(&self, alloc: Global, index: &LongIndex, order: &[u32]) -> Result<Swept, AllocError> {
         sweep(alloc, index, order)
     }
 
@@ -92,12 +82,7 @@ impl<'a, T: Threads + Wait + Sync> WorkerThreads<'a, T> {
 impl<'a, T: Threads + Wait + Sync> SessionWork for WorkerThreads<'a, T> {
     ghost can_work = { λ _. IsSync T.row };
 
-    fn sweep(
-        &self,
-        alloc: Global,
-        index: &LongIndex,
-        order: &[u32],
-    ) -> Result<Swept, AllocError> {
+    fn sweep(&self, alloc: Global, index: &LongIndex, order: &[u32]) -> Result<Swept, AllocError> {
         sweep_in_threads(self.rt, alloc, self.workers, index, order)
     }
 
