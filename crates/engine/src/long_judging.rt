@@ -13,7 +13,7 @@ use crate::judging_alone::report_alone;
 use crate::report::Report;
 use cert_check::Criterion;
 use collector::Answer;
-use long_decision::{LongDecision, decide_long};
+use long_decision::{CallingThread, LongDecision, decide_long};
 use long_history::LongHistory;
 use long_reader::{read_long, small};
 use operations::AnyHistory;
@@ -57,7 +57,7 @@ fn report_on_larger(alloc: Global, history: &LongHistory) -> Result<Report, RunE
     ensures unexplained { IfOk result (EachNamesUnexplained (AnyHistory.Memory history.now)) }
     ensures error { IfErr result (λ e. e ≡ RunError.Memory) }
 {
-    let decisions = decide_long(alloc, history)?;
+    let decisions = decide_long(&CallingThread, alloc, history)?;
     Ok(Report {
         cc: answer_of(history, Criterion::Cc, decisions.cc),
         cm: answer_of(history, Criterion::Cm, decisions.cm),

@@ -64,29 +64,39 @@ module _ (first second : Edges) (from to : ℕ) where
       let value = get_or_from_slice_get (first ++ second) j edge edge at in
       ⊎_elim
       (λ (below : j < length first).
-      inl (j, slice_get-get_or first j edge below
-      ∙ ap (λ (e : ℕ × ℕ). Some e) (sym (get_or_append_left first second edge j below) ∙ value)))
+      inl (
+        j,
+        slice_get-get_or first j edge below
+            ∙ ap (λ (e : ℕ × ℕ). Some e) (sym (get_or_append_left first second edge j below) ∙ value),
+      ))
       (λ (past : length first ≤ j).
       let inside : j - length first < length second = omega arith in
-      inr (j - length first, slice_get-get_or second (j - length first) edge inside
-      ∙ ap (λ (e : ℕ × ℕ). Some e) (sym (get_or-append_right first second (length first) j edge refl past) ∙ value)))
+      inr (
+        j - length first,
+        slice_get-get_or second (j - length first) edge inside
+            ∙ ap (λ (e : ℕ × ℕ). Some e) (sym (get_or-append_right first second (length first) j edge refl past) ∙ value),
+      ))
       (cases_lt j (length first))
 
   edge-first : HasEdge first from to → HasEdge (first ++ second) from to
   edge-first (j, at) =
       let below : j < length first = slice_get_within first j edge at in
       let sum = length-append first second in
-      let within : j < length (first ++ second) = omega arith in
-      (j, slice_get-get_or (first ++ second) j edge within
-      ∙ ap (λ (e : ℕ × ℕ). Some e) (get_or_append_left first second edge j below ∙ get_or_from_slice_get first j edge edge at))
+      let within : j < length (first ++ second) = omega arith in (
+        j,
+        slice_get-get_or (first ++ second) j edge within
+            ∙ ap (λ (e : ℕ × ℕ). Some e) (get_or_append_left first second edge j below ∙ get_or_from_slice_get first j edge edge at),
+      )
 
   edge-second : HasEdge second from to → HasEdge (first ++ second) from to
   edge-second (j, at) =
       let below : j < length second = slice_get_within second j edge at in
       let sum = length-append first second in
-      let within : length first + j < length (first ++ second) = omega arith in
-      (length first + j, slice_get-get_or (first ++ second) (length first + j) edge within
-      ∙ ap (λ (e : ℕ × ℕ). Some e) (get_or-append-add first second j edge ∙ get_or_from_slice_get second j edge edge at))
+      let within : length first + j < length (first ++ second) = omega arith in (
+        length first + j,
+        slice_get-get_or (first ++ second) (length first + j) edge within
+            ∙ ap (λ (e : ℕ × ℕ). Some e) (get_or-append-add first second j edge ∙ get_or_from_slice_get second j edge edge at),
+      )
 
   pub edges-joined : HasEdge (first ++ second) from to ↔ (HasEdge first from to ⊎ HasEdge second from to)
   edges-joined = (

@@ -10,14 +10,15 @@ ghost use Rattle.long_decision.specs.LongDecisions.{AreDecided, IsLongDecided};
 ghost use Rattle.long_decision.specs.Steps.Consistency.{IsAgainstAll, IsConsistent, IsFirstShown};
 
 use crate::decisions::{LongDecision, LongDecisions};
+use crate::session_work::SessionWork;
 use crate::thin_air::lacks_source;
 use bad_patterns::Kind;
 use bad_patterns::laws::present_kinds_exclude_criteria;
-use long_columns::{is_convergent, sweep};
+use long_columns::is_convergent;
 use long_history::LongHistory;
 use long_index::LongIndex;
 use long_order::causal_order;
-use session_orders::{SessionOrder, order_sessions};
+use session_orders::SessionOrder;
 use std::alloc::{AllocError, Global};
 
 /// Whether a long history meets each of the three criteria.
@@ -28,12 +29,20 @@ use std::alloc::{AllocError, Global};
 /// conflicts that columns leave are ordered too, and for causal memory the past of each session's last operation. `Open` exactly where
 /// values are not distinct.
 ///
-/// Fails for want of memory alone. O(n (k + log n)) for n operations of k sessions.
-pub fn decide_long(alloc: Global, h: &LongHistory) -> Result<LongDecisions, AllocError>
+/// `work` goes over the sessions: [`CallingThread`](crate::CallingThread) alone, or [`WorkerThreads`](crate::WorkerThreads), which share
+/// them. Both give the same decisions.
+///
+/// Fails for want of memory alone. O(n (k + log n)) for n operations of k sessions, of which the workers share O(n k).
+pub fn decide_long<W: SessionWork>(
+    work: &W,
+    alloc: Global,
+    h: &LongHistory,
+) -> Result<LongDecisions, AllocError>
+    requires { W.can_work work.now }
     ensures { IfOk result (AreDecided h.now) }
 {
     match LongIndex::of(alloc, h)? {
-        Some(index) => decide_indexed(alloc, &index),
+        Some(index) => decide_indexed(work, alloc, &index),
         None => Ok(LongDecisions {
             cc: LongDecision::Open,
             cm: LongDecision::Open,
@@ -60,44 +69,53 @@ fn excluded_by(index: &LongIndex, kind: Kind) -> LongDecisions
 
 /// What is decided of an indexed history.
 #[tactic(auto, using(crate::proofs::Firsts::first_cyclic))]
-fn decide_indexed(alloc: Global, index: &LongIndex) -> Result<LongDecisions, AllocError>
+fn decide_indexed<W: SessionWork>(
+    work: &W,
+    alloc: Global,
+    index: &LongIndex,
+) -> Result<LongDecisions, AllocError>
+    requires { W.can_work work.now }
     ensures { IfOk result (AreDecided index.now.history) }
 {
     match causal_order(alloc, index)? {
-        Some(order) => decide_ordered(alloc, index, &order),
+        Some(order) => decide_ordered(work, alloc, index, &order),
         None => Ok(excluded_by(index, Kind::CyclicCO)),
     }
 }
 
 /// What is decided of a history whose causal order has no cycle: here it is.
-fn decide_ordered(
+fn decide_ordered<W: SessionWork>(
+    work: &W,
     alloc: Global,
     index: &LongIndex,
     order: &[u32],
 ) -> Result<LongDecisions, AllocError>
-    requires { IsOrderBy index.now.history [] order.now }
+    requires can_work { W.can_work work.now }
+    requires order { IsOrderBy index.now.history [] order.now }
     ensures { IfOk result (AreDecided index.now.history) }
 {
     if lacks_source(index) {
         return Ok(excluded_by(index, Kind::ThinAirRead));
     }
-    let swept = sweep(alloc, index, order)?;
+    let swept = work.sweep(alloc, index, order)?;
     if swept.has_overwritten_start {
         return Ok(excluded_by(index, Kind::WriteCOInitRead));
     }
     if swept.has_overwritten_read {
         return Ok(excluded_by(index, Kind::WriteCORead));
     }
-    decide_consistent(alloc, index, order, swept.edges)
+    decide_consistent(work, alloc, index, order, swept.edges)
 }
 
 /// What is decided of a history in which no kind against causal consistency is present: it meets that.
-fn decide_consistent(
+fn decide_consistent<W: SessionWork>(
+    work: &W,
     alloc: Global,
     index: &LongIndex,
     order: &[u32],
     edges: Vec<(u32, u32)>,
 ) -> Result<LongDecisions, AllocError>
+    requires can_work { W.can_work work.now }
     requires order { IsOrderBy index.now.history [] order.now }
     requires consistent { IsConsistent index.now.history }
     requires below { AreEdgesOf index.now.history edges.items }
@@ -105,7 +123,7 @@ fn decide_consistent(
     ensures { IfOk result (AreDecided index.now.history) }
 {
     let ccv = decide_convergence(alloc, index, edges)?;
-    let cm = decide_memory(alloc, index, order)?;
+    let cm = decide_memory(work, alloc, index, order)?;
     Ok(LongDecisions {
         cc: decide_consistency(index),
         cm,
@@ -145,18 +163,20 @@ fn decide_convergence(
 
 /// Whether such a history meets causal memory.
 #[tactic(auto, using(crate::proofs::Orders::orders_meet))]
-fn decide_memory(
+fn decide_memory<W: SessionWork>(
+    work: &W,
     alloc: Global,
     index: &LongIndex,
     order: &[u32],
 ) -> Result<LongDecision, AllocError>
+    requires can_work { W.can_work work.now }
     requires order { IsOrderBy index.now.history [] order.now }
     requires consistent { IsConsistent index.now.history }
     ensures { IfOk result (IsLongDecided index.now.history Cm) }
 {
     index.value_is_indexed();
     present_kinds_exclude_criteria();
-    match order_sessions(alloc, index, order)? {
+    match work.order_sessions(alloc, index, order)? {
         SessionOrder::Explained => Ok(LongDecision::Meets),
         SessionOrder::StartOverwritten => Ok(LongDecision::ExcludedBy(Kind::WriteHBInitRead)),
         SessionOrder::Cyclic => Ok(LongDecision::ExcludedBy(Kind::CyclicHB)),

@@ -1,4 +1,4 @@
-use Rattle.std.specs.Prelude.{length, vec_len}
+use Rattle.std.specs.Prelude.{vec_len}
 use Rattle.long_columns.specs.Parts.{AreSweptParts, IsSweptOver}
 use Rattle.long_columns.specs.Swept.{IsDealtFrom}
 use Rattle.long_columns.proofs.parts.join_parts.Given as goal

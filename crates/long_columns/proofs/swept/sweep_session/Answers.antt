@@ -20,7 +20,7 @@ returns-clause-swept c sessions parts part i here mine was =
     let late : List ℕ = c.sweep_column-overwritten.new.late.items in
     let size = shows.late_size in
     let column = swept-column h c.args.session one.start one.read (λ n. slice_index_or late n 0) shows.start shows.read shows.edges
-        (λ to past. get_or_past late to 0 (omega arith)) shows.writes in
+    (λ to past. get_or_past late to 0 (omega arith)) shows.writes in
     swept-both h (IsDealt sessions parts part i) (λ t. t ≡ c.args.session) (IsDealt sessions parts part (i + 1))
     (dealt-more sessions parts part i c.args.session here mine) old.has_overwritten_start old.has_overwritten_read
     (HasEdge old.edges.items) was one.start one.read (λ from to. slice_index_or late to 0 ≡ from + 1) column

@@ -9,7 +9,7 @@ use Rattle.long_decision.proofs.Firsts.{first_overwritten}
 use Rattle.long_decision.proofs.deciding.decide_memory.Goals as goal
 
 pub returns-in-StartOverwritten : goal.returns-in-StartOverwritten
-returns-in-StartOverwritten c =
+returns-in-StartOverwritten g c =
     let h = c.args.index.now.history in
     let shown = subst (λ (o : SessionOrder). AreOrdered h o) c.in-StartOverwritten.is c.in_ok-order_sessions.ensures in
     let present : IsPresent h WriteHBInitRead = (c.value_is_indexed.ensures.distinct, shown) in
@@ -24,7 +24,7 @@ returns-in-StartOverwritten c =
     }
 
 pub returns-in-Cyclic : goal.returns-in-Cyclic
-returns-in-Cyclic c =
+returns-in-Cyclic g c =
     let h = c.args.index.now.history in
     let shown = subst (λ (o : SessionOrder). AreOrdered h o) c.in-Cyclic.is c.in_ok-order_sessions.ensures in
     let present : IsPresent h CyclicHB = (c.value_is_indexed.ensures.distinct, shown) in
