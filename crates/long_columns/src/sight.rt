@@ -2,7 +2,7 @@
 
 /// What a read shows of the last write of a session, of its variable, in its past.
 #[derive(Clone, Copy, Debug, PartialEq, Eq)]
-pub(crate) enum Sight {
+pub enum Sight {
     /// Nothing: there is no such write, or the read returned it or one after it.
     Nothing,
     /// The read returned the initial value, which the write overwrote.

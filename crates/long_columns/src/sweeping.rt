@@ -77,7 +77,10 @@ pub(crate) fn sweep_column(
 
 /// Moves the table of last writes from one place of the session to another. It goes on from the first place, or from the session's
 /// start when the other place comes earlier.
-fn advance(index: &LongIndex, start: u32, at: u32, to: u32, last: &mut Vec<u32>)
+///
+/// The table has, by variable, the number after that of its last write, or 0 or a number of an earlier session. O(m) for m operations between
+/// the places.
+pub fn advance(index: &LongIndex, start: u32, at: u32, to: u32, last: &mut Vec<u32>)
     requires from { start ≤ to }
     requires within { to ≤ many index.now.history }
     requires size { length last.old.items ≡ index.now.bound }
@@ -122,8 +125,8 @@ fn pass_one(index: &LongIndex, operation: u32, last: &mut Vec<u32>)
     }
 }
 
-/// What an operation shows, by the session's last write of its variable in its past.
-fn look(
+/// What an operation shows, by the session's last write of its variable in its past: `last` has these for the end of the operation. O(1).
+pub fn look(
     index: &LongIndex,
     ends: &[u32],
     firsts: &[u32],

@@ -50,8 +50,8 @@ pub fn sweep(alloc: Global, index: &LongIndex, order: &[u32]) -> Result<Swept, A
     Ok(swept)
 }
 
-/// The sessions that write something, in order.
-fn writing_sessions(alloc: Global, index: &LongIndex) -> Result<Vec<u32>, AllocError>
+/// The sessions that write something, in order. Fails for want of memory alone. O(n) for n operations.
+pub fn writing_sessions(alloc: Global, index: &LongIndex) -> Result<Vec<u32>, AllocError>
     ensures each { IfOk result (λ sessions. (w : Operation) (x v : ℕ) → Writes index.now.history w x v
         → (k : ℕ) × (slice_get sessions.items k ≡ Some w.session)) }
     ensures below { IfOk result (λ sessions. (k t : ℕ) → slice_get sessions.items k ≡ Some t → t < length index.now.history.1) }
