@@ -1,5 +1,5 @@
 pub mod FaultLists
-pub mod Finding
+pub mod FoundParts
 pub mod MissedWrites
 pub mod Noting
 pub mod Pushes

@@ -1,6 +1,6 @@
 -- Which writes of a session a read missed, by the session's last write of its variable in its past.
-use Rattle.std.specs.Prelude.{◌≡◌, ◌⊎◌, ℕ, ◌+◌, ◌-◌, ◌<◌, ◌≤◌, List, slice_index_or}
-use Rattle.std.proofs.Common.{arith, ap, sym, ◌∙◌, subst, inl, inr, ⊎_elim}
+use Rattle.std.specs.Prelude.{◌≡◌, ◌≢◌, ◌⊎◌, ℕ, ◌+◌, ◌-◌, ◌<◌, ◌≤◌, List, slice_index_or}
+use Rattle.std.proofs.Common.{arith, refl, ap, sym, ◌∙◌, subst, inl, inr, ⊎_elim}
 use Rattle.history.specs.declared.op_id.OpId.{OpId}
 use Rattle.history.specs.History.{IsOp, Precedes, many_before, number}
 use Rattle.memory_order.specs.Memory.{MemoryHistory, initial, Reads, IsDifferentiated}
@@ -11,6 +11,7 @@ use Rattle.long_index.specs.Parts.{AreVariables}
 use Rattle.long_columns.specs.Columns.{AreFirsts, ArePastEnds, AreWithinSession}
 use Rattle.long_columns.specs.LastWrites.{IsLastBeside, IsLastIn, ShowsStart, WritesTo}
 use Rattle.long_columns.specs.Sights.{IsSight, IsTable, WritesNumbered}
+use Rattle.long_columns.specs.declared.sight.Sight.{Sight}
 use Rattle.long_columns.specs.declared.sight.Sight.TheVariants as sights
 use Rattle.long_columns.proofs.LastWrites.{are-writes, last-once, last-renamed, look-some}
 use Rattle.long_columns.proofs.LateWrites.{beside-once}
@@ -43,8 +44,7 @@ module _ (h : MemoryHistory) (t : ℕ) (ends firsts : ℕ → ℕ) (r : OpId) wh
       let found = look-some h (WritesNumbered h variables) (are-numbered h variables) t (ends (number h r)) (λ k. slice_index_or last k 0)
       table (within r is_op).1 z (slice_index_or last z 0 - 1) (omega arith) (omega arith) (omega arith) in
       let same = last-once h (WritesNumbered h variables) (are-numbered h variables) t z (ends (number h r)) found.0 a found.1 named in
-      let place = ap (number h) same in
-      let value = found.2 in
+      let value = subst (λ (q : OpId). number h q ≡ slice_index_or last z 0 - 1) same found.2 in
       omega arith
 
   module _ (column : ArePastEnds h t ends) (are_firsts : AreFirsts h t firsts) (straight : ¬ IsCyclic h) where
@@ -124,8 +124,8 @@ module _ (h : MemoryHistory) (t : ℕ) (ends firsts : ℕ → ℕ) (r : OpId) wh
           subst (IsUpTo b) same.1 found.3)
           either in
           last-some m a (value from.0 from.1 from.3 a is) is_op is.of_session
-          (inr (w, from, ((λ same. apart (sym same)), (from.0, from.1, is.wrote.0, from.2, wrote)), leads,
-          last-before h t ends column a r from.0 from.0 from.1 from.3 is)) last
+          (inr (w, (from, ((λ same. apart (sym same)), (from.0, from.1, is.wrote.0, from.2, wrote)), leads,
+          last-before h t ends column a r from.0 from.0 from.1 from.3 is))) last
 
       -- what is seen of a column says which write was missed
       pub seen-start : IsSight h t ends firsts r sights.OverwrittenStart → IsLastMissed h t r m
@@ -134,10 +134,10 @@ module _ (h : MemoryHistory) (t : ℕ) (ends firsts : ℕ → ℕ) (r : OpId) wh
       pub seen-read : IsSight h t ends firsts r sights.OverwrittenRead → IsLastMissed h t r m
       seen-read (w, a, beside, up_to) = last-read w a beside up_to
 
-    pub seen-nothing : IsSight h t ends firsts r sights.Nothing → IsLastMissed h t r 0
+    seen-nothing : IsSight h t ends firsts r sights.Nothing → IsLastMissed h t r 0
     seen-nothing (no_start, clear) = last-none (none-missed no_start (λ w a beside. (clear w a beside).0))
 
-    pub seen-conflict : IsDifferentiated h → (n k : ℕ) → IsSight h t ends firsts r (sights.Conflict n k) → IsLastMissed h t r 0
+    seen-conflict : IsDifferentiated h → (n k : ℕ) → IsSight h t ends firsts r (sights.Conflict n k) → IsLastMissed h t r 0
     seen-conflict distinct n k (w, a, beside, ahead, at_a, at_w) = last-none (none-missed
         (source-apart h t ends firsts r w beside.0)
         (λ u b other.
@@ -145,3 +145,10 @@ module _ (h : MemoryHistory) (t : ℕ) (ends firsts : ℕ → ℕ) (r : OpId) wh
         let source = ap (λ (q : OpId). firsts (number h q)) same.0 in
         let last = ap (number h) same.1 in
         omega arith))
+
+    pub seen-other : IsDifferentiated h → (s : Sight) → IsSight h t ends firsts r s → s ≢ sights.OverwrittenStart
+        → s ≢ sights.OverwrittenRead → IsLastMissed h t r 0
+    seen-other distinct sights.Nothing shows apart other = seen-nothing shows
+    seen-other distinct sights.OverwrittenStart shows apart other = absurd (apart refl)
+    seen-other distinct sights.OverwrittenRead shows apart other = absurd (other refl)
+    seen-other distinct (sights.Conflict n k) shows apart other = seen-conflict distinct n k shows

@@ -1,11 +1,13 @@
 -- The tally of the operations that are seen, with one operation more.
-use Rattle.std.specs.Prelude.{◌≡◌, ◌⊎◌, ℕ, ◌+◌, ◌<◌, ◌≤◌, List, [], ◌∷◌, ◌++◌, length, Some, None, slice_get}
-use Rattle.std.proofs.Common.{arith, ap, ◌∙◌, ⊎_elim}
+use Rattle.std.specs.Prelude.{◌≡◌, ◌↔◌, ℕ, ◌+◌, ◌<◌, ◌≤◌, List, [], ◌∷◌, ◌++◌, Bool, false, IsTrue, Some, None, slice_get}
+use Rattle.std.specs.Prelude.{Result, Ok, Err, IfOk}
+use Rattle.std.proofs.Common.{arith, ap, subst, ⊎_elim}
 use Rattle.std.proofs.lemmas.Bool.{cases_lt}
 use Rattle.std.proofs.lemmas.List.{length_push}
 use Rattle.history.specs.declared.op_id.OpId.{OpId}
 use Rattle.history.specs.History.{IsOp, number}
 use Rattle.memory_order.specs.Memory.{MemoryHistory, IsDifferentiated}
+use Rattle.memory_order.specs.SourceOrder.{IsCyclic}
 use Rattle.long_history.specs.Steps.{many}
 use Rattle.long_history.proofs.Numbers.{number-before}
 use Rattle.long_faults.specs.declared.counts.FaultCounts.{FaultCounts}
@@ -76,3 +78,12 @@ module _ (h : MemoryHistory) (most : ℕ) where
           seen = seen-more h n now.all now.faults o is_op here distinct f found now.seen;
           few = (let few = now.few in let long = length_push now.all f in omega arith);
         }
+
+-- a history without a cycle, where the flag says so
+pub straight-known : (h : MemoryHistory) → ¬ IsCyclic h → {V E : Type 0} (r : Result V E) (flag : V → Bool)
+    → IfOk r (λ v. flag v ≡ false) → IfOk r (λ v. IsTrue (flag v) ↔ IsCyclic h)
+straight-known h straight (Ok v) flag same = (
+  (λ set. let bad : IsTrue false = subst IsTrue same set in absurd cc),
+  λ cyclic. absurd (straight cyclic),
+)
+straight-known h straight (Err e) flag nothing = nothing

@@ -54,7 +54,7 @@ pub record IsBelow (counts : FaultCounts) (n : ℕ) : Type 0 where
 
 -- a row for each session of which the list has a fault, in the order of sessions
 pub record AreSessionCounts (all : List Fault) (rows : List SessionFaults) : Type 0 where
-  pub each : (f : Fault) → IsListed all f → (j : ℕ) (row : SessionFaults) × (slice_get rows j ≡ Some row)
+  pub each : (f : Fault) → IsListed all f → (j : ℕ) × (row : SessionFaults) × (slice_get rows j ≡ Some row)
       × (row.session ≡ (read_of f).session)
   pub counts : (j : ℕ) (row : SessionFaults) → slice_get rows j ≡ Some row → AreCounts (filter (is_of row.session) all) row.counts
   pub no_other : (j : ℕ) (row : SessionFaults) → slice_get rows j ≡ Some row

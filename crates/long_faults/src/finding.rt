@@ -1,11 +1,11 @@
 //! The search for all reads that show a fault.
 
-ghost use Rattle.std.specs.Prelude.{◌≡◌, ◌↔◌, ◌<◌, length, IfOk, IsTrue, MatchOption};
+ghost use Rattle.std.specs.Prelude.{◌≡◌, ◌↔◌, ◌+◌, ◌<◌, length, IfOk, IsTrue, OnOk};
 ghost use Rattle.history.specs.declared.op_id.OpId.{OpId as Operation};
 ghost use Rattle.history.specs.History.{IsOp, number};
 ghost use Rattle.memory_order.specs.SourceOrder.{IsCyclic};
 ghost use Rattle.long_history.specs.Steps.{many};
-ghost use Rattle.long_faults.specs.Found.{IsFoundFor, IsMissedBy};
+ghost use Rattle.long_faults.specs.Found.{IsFoundFor, IsMissedBy, IsTallyBelow};
 ghost use Rattle.long_faults.specs.Noted.{AreLatestMissed};
 ghost use Rattle.long_faults.specs.Tallies.{IsTallyOf};
 
@@ -53,14 +53,39 @@ fn tally(
     ensures sessions { IfOk result (λ f. f.sessions ≡ length index.now.history.1) }
     ensures cycle { IfOk result (λ f. f.has_cycle ≡ has_cycle) }
 {
-    index.value_is_indexed();
     let mut faults = Faults::none(alloc, index.sessions(), has_cycle);
     for operation in 0..index.operations() {
-        if let Some(fault) = fault_of(index, missed, operation) {
-            faults.add(fault, most)?;
-        }
+        add_fault(index, missed, operation, most, &mut faults)?;
     }
     Ok(faults)
+}
+
+/// Lists and counts the fault of the next operation, if it shows one.
+fn add_fault(
+    index: &LongIndex,
+    missed: &[u32],
+    operation: u32,
+    most: usize,
+    faults: &mut Faults,
+) -> Result<(), AllocError>
+    requires operation { operation < many index.now.history }
+    requires missed { AreLatestMissed index.now.history missed.now }
+    requires few { operation < 4_294_967_294 }
+    requires few_sessions { length index.now.history.1 < 4_294_967_296 }
+    requires tally { IsTallyBelow index.now.history operation most faults.old.listed.items faults.old.counts faults.old.by_session.items }
+    ensures tally { OnOk result (IsTallyBelow index.now.history (operation + 1) most faults.new.listed.items faults.new.counts
+        faults.new.by_session.items) }
+    ensures sessions { faults.new.sessions ≡ faults.old.sessions }
+    ensures cycle { faults.new.has_cycle ≡ faults.old.has_cycle }
+{
+    index.value_is_indexed();
+    match fault_of(index, missed, operation) {
+        Some(fault) => {
+            faults.add(fault, most)?;
+            Ok(())
+        }
+        None => Ok(()),
+    }
 }
 
 /// The fault that an operation shows, if it does.

@@ -1,5 +1,5 @@
 use Rattle.std.proofs.Common.{arith}
-use Rattle.long_faults.proofs.Finding.{missed-none, missed-some, missed-within}
+use Rattle.long_faults.proofs.FoundParts.{missed-none, missed-some, missed-within}
 use Rattle.long_faults.proofs.finding.missed_by.Goals as goal
 
 pub operation_of-requires : goal.operation_of-requires

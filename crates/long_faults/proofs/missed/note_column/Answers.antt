@@ -1,5 +1,6 @@
-use Rattle.std.specs.Prelude.{◌<◌, ◌≤◌, ℕ, ◌+◌, List, slice_index_or}
+use Rattle.std.specs.Prelude.{◌<◌, ◌≤◌, ℕ, ◌+◌, List, length, slice_index_or}
 use Rattle.std.proofs.Common.{arith, sym, subst}
+use Rattle.std.proofs.lemmas.List.{get_or_read}
 use Rattle.std.proofs.lemmas.Option.{slice_get-get_or}
 use Rattle.long_history.specs.Steps.{many}
 use Rattle.long_history.proofs.Numbers.{number-found}
@@ -7,7 +8,7 @@ use Rattle.long_columns.specs.Sights.{IsTable, WritesNumbered}
 use Rattle.long_columns.proofs.ColumnSteps.{end-from, end-to}
 use Rattle.long_columns.proofs.LastWrites.{table-empty}
 use Rattle.long_columns.proofs.Sights.{are-numbered}
-use Rattle.long_faults.specs.Noted.{IsNoted, IsOfFirst}
+use Rattle.long_faults.specs.Noted.{IsLater, IsNoted, IsOfFirst}
 use Rattle.long_faults.proofs.Noting.{below-first, below-more, below-whole, first-more, noted-below, noted-more}
 use Rattle.long_faults.proofs.missed.note_column.Goals as goal
 
@@ -49,6 +50,9 @@ later-latest-requires c =
     let few = noted-below h (IsOfFirst h sessions c.args.i) o.0 (slice_index_or missed n 0)
     (subst (λ (k : ℕ). IsNoted h (IsOfFirst h sessions c.args.i) o.0 (slice_index_or missed k 0)) at noted) in
     let size = c.requires.firsts_size in
+    let long = c.loop-operation.invariant.noted.size in
+    let inside : n < length missed = omega arith in
+    let read = get_or_read missed _ _ inside c.index.ensures 0 in
     omega arith
 
 pub loop-operation-preserved : goal.loop-operation-preserved
@@ -69,13 +73,18 @@ loop-operation-preserved c =
     c.requires.straight
     (subst (λ (xs : List ℕ). IsTable h c.args.index.now.variables t (slice_index_or c.args.ends.now n 0) xs) (sym c.deref.ensures.value)
     table) in
+    let long = c.loop-operation.invariant.noted.size in
+    let inside : n < length missed = omega arith in
+    let read = get_or_read missed _ _ inside c.index.ensures 0 in
+    let latest = subst (λ (k : ℕ). IsLater (λ m. slice_index_or c.args.firsts.now m 0) k c.last_missed-write.result c.later-latest.result)
+    read c.later-latest.ensures in
     record {
       last_size = c.advance.ensures.size;
       table = table;
       noted = below-more h sessions i n missed c.loop-operation.invariant.noted o.0 o.1 at c.later-latest.result
           (noted-more h c.requires.straight t (λ k. slice_index_or c.args.firsts.now k 0) c.requires.firsts o.0 (IsOfFirst h sessions i)
           (IsOfFirst h sessions (i + 1)) (first-more h sessions i t (slice_get-get_or sessions i 0 c.requires.inside))
-          (slice_index_or missed n 0) c.last_missed-write.result c.later-latest.result noted write c.later-latest.ensures);
+          (slice_index_or missed n 0) c.last_missed-write.result c.later-latest.result noted write latest);
     }
 
 pub returns-clause-noted : goal.returns-clause-noted

@@ -25,8 +25,8 @@ returns-in-WriteCOInitRead c all are =
     let d = ap (λ (f : Fault). length (filter is_read (f ∷ []))) c.in-WriteCOInitRead.is in
     counts-more all c.args.fault old made (omega arith) (omega arith) (omega arith) are
 
-pub returns : goal.returns
-returns c all are =
+pub returns-in-WriteCORead : goal.returns-in-WriteCORead
+returns-in-WriteCORead c all are =
     let old : FaultCounts = c.args.self.now in
     let made : FaultCounts = record { thin_air = old.thin_air; start = old.start; read = old.read + 1 } in
     let a = ap (λ (f : Fault). length (filter is_thin_air (f ∷ []))) c.in-WriteCORead.is in
