@@ -1,13 +1,12 @@
 -- Lists of all faults of the operations that are seen, with one operation more.
 use Rattle.std.specs.Prelude.{◌≡◌, ◌≢◌, ◌⊎◌, ℕ, ◌+◌, ◌<◌, ◌≤◌, List, [], ◌∷◌, ◌++◌, length, Some, None, slice_get}
-use Rattle.std.proofs.Common.{arith, refl, ap, sym, ◌∙◌, subst, inl, inr, ⊎_elim}
+use Rattle.std.proofs.Common.{arith, ap, sym, ◌∙◌, subst, inl, inr, ⊎_elim}
 use Rattle.std.proofs.lemmas.Bool.{cases_eq}
 use Rattle.std.proofs.lemmas.Option.{slice_get_within}
 use Rattle.history.specs.declared.op_id.OpId.{OpId}
 use Rattle.history.specs.History.{IsOp, number}
 use Rattle.memory_order.specs.Memory.{MemoryHistory, initial, Writes, IsDifferentiated}
 use Rattle.memory_order.specs.Relations.{ReadsFrom}
-use Rattle.memory_order.specs.SourceOrder.{IsCyclic}
 use Rattle.memory_order.proofs.MemoryLaws.{same_read}
 use Rattle.bad_patterns.specs.Kinds.{IsThinAirRead}
 use Rattle.long_history.specs.Steps.{many}

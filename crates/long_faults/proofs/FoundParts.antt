@@ -1,5 +1,5 @@
 -- What is found of one operation, by its part, its source and the write that it missed.
-use Rattle.std.specs.Prelude.{◌≡◌, ◌≢◌, ◌⊎◌, ℕ, ◌+◌, ◌-◌, ◌<◌, List, Some, None, slice_index_or}
+use Rattle.std.specs.Prelude.{◌≡◌, ◌≢◌, ℕ, ◌-◌, ◌<◌, List, Some, None, slice_index_or}
 use Rattle.std.proofs.Common.{arith, refl, ap, sym, ◌∙◌, subst, ⊎_elim}
 use Rattle.history.specs.declared.op_id.OpId.{OpId}
 use Rattle.history.specs.History.{IsOp, many_before, number}
@@ -58,8 +58,7 @@ module _ (h : MemoryHistory) (o : OpId) where
       absurd (from.4 (one.1 ∙ ap (initial h) (sym one.0))))
       (λ (second : (u : OpId) × MissesAfter h u o a).
       subst (λ (u : OpId). MissesAfter h u o a) (one-source h distinct second.0 w o second.1.0 from) second.1)
-      missed in
-      (
+      missed in (
         subst (λ (q : OpId). MissesAfter h source q a × IsLatest h q a × ¬ IsCyclic h) (sym same)
             (subst (λ (u : OpId). MissesAfter h u o a) (sym same_source) after, latest, straight),
         same,

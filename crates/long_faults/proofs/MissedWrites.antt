@@ -1,6 +1,6 @@
 -- Which writes of a session a read missed, by the session's last write of its variable in its past.
 use Rattle.std.specs.Prelude.{◌≡◌, ◌≢◌, ◌⊎◌, ℕ, ◌+◌, ◌-◌, ◌<◌, ◌≤◌, List, slice_index_or}
-use Rattle.std.proofs.Common.{arith, refl, ap, sym, ◌∙◌, subst, inl, inr, ⊎_elim}
+use Rattle.std.proofs.Common.{arith, refl, ap, sym, subst, inl, inr, ⊎_elim}
 use Rattle.history.specs.declared.op_id.OpId.{OpId}
 use Rattle.history.specs.History.{IsOp, Precedes, many_before, number}
 use Rattle.memory_order.specs.Memory.{MemoryHistory, initial, Reads, IsDifferentiated}
@@ -124,8 +124,15 @@ module _ (h : MemoryHistory) (t : ℕ) (ends firsts : ℕ → ℕ) (r : OpId) wh
           subst (IsUpTo b) same.1 found.3)
           either in
           last-some m a (value from.0 from.1 from.3 a is) is_op is.of_session
-          (inr (w, (from, ((λ same. apart (sym same)), (from.0, from.1, is.wrote.0, from.2, wrote)), leads,
-          last-before h t ends column a r from.0 from.0 from.1 from.3 is))) last
+          (inr (
+            w,
+            (
+              from,
+              ((λ same. apart (sym same)), (from.0, from.1, is.wrote.0, from.2, wrote)),
+              leads,
+              last-before h t ends column a r from.0 from.0 from.1 from.3 is,
+            ),
+          )) last
 
       -- what is seen of a column says which write was missed
       pub seen-start : IsSight h t ends firsts r sights.OverwrittenStart → IsLastMissed h t r m

@@ -18,11 +18,11 @@ count_form kind count = worded (kind_name kind) (number_form count ∷ [])
 
 abbrev pub counts_form : FaultCounts → Data
 counts_form counts = list (
-  count_form kinds.ThinAirRead counts.thin_air
-  ∷ count_form kinds.WriteCOInitRead counts.start
-  ∷ count_form kinds.WriteCORead counts.read
-  ∷ []
-)
+    count_form kinds.ThinAirRead counts.thin_air
+    ∷ count_form kinds.WriteCOInitRead counts.start
+    ∷ count_form kinds.WriteCORead counts.read
+    ∷ []
+    )
 
 -- a session and its counts
 abbrev pub session_form : SessionFaults → Data

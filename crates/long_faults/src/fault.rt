@@ -10,9 +10,14 @@ use history::OpId;
 #[derive(Clone, Copy, Debug, PartialEq, Eq)]
 pub enum Fault {
     /// It returned a value that is not the initial one and that nobody wrote.
-    ThinAirRead { read: OpId },
+    ThinAirRead {
+        read: OpId,
+    },
     /// It returned the initial value.
-    WriteCOInitRead { read: OpId, missed: OpId },
+    WriteCOInitRead {
+        read: OpId,
+        missed: OpId,
+    },
     /// It returned the value of the source, which the missed write is after.
     WriteCORead {
         read: OpId,

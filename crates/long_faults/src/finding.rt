@@ -132,5 +132,8 @@ fn operation_of(index: &LongIndex, operation: u32) -> OpId
     ensures { (o : Operation) → IsOp index.now.history o → number index.now.history o ≡ operation → result ≡ o }
 {
     let session = index.session_of(operation);
-    OpId::at(session as usize, (operation - index.start(session)) as usize)
+    OpId::at(
+        session as usize,
+        (operation - index.start(session)) as usize,
+    )
 }

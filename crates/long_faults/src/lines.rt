@@ -12,11 +12,7 @@ use std::alloc::{AllocError, Global};
 use wording::name_of;
 
 /// The kinds of faults, in the order of their lines.
-const KINDS: [Kind; 3] = [
-    Kind::ThinAirRead,
-    Kind::WriteCOInitRead,
-    Kind::WriteCORead,
-];
+const KINDS: [Kind; 3] = [Kind::ThinAirRead, Kind::WriteCOInitRead, Kind::WriteCORead];
 
 /// The most sessions that have a line each.
 const SHOWN_SESSIONS: usize = 16;
@@ -34,16 +30,22 @@ pub fn fault_line(alloc: Global, index: &LongIndex, fault: &Fault) -> Result<Str
     };
     match *fault {
         Fault::ThinAirRead { .. } => {
-            format!(in alloc; "{read} reads {value} from variable {key}, which nobody wrote: {kind}")
+            format!(in alloc;
+                "{read} reads {value} from variable {key}, which nobody wrote: {kind}"
+            )
         }
         Fault::WriteCOInitRead { missed, .. } => {
             let missed = missed_words(alloc, h, missed)?;
-            format!(in alloc; "{read} reads {value} from variable {key} (its initial value), {missed}: {kind}")
+            format!(in alloc;
+                "{read} reads {value} from variable {key} (its initial value), {missed}: {kind}"
+            )
         }
         Fault::WriteCORead { source, missed, .. } => {
             let source = name_of(alloc, source)?;
             let missed = missed_words(alloc, h, missed)?;
-            format!(in alloc; "{read} reads {value} from variable {key} (written by {source}), {missed}: {kind}")
+            format!(in alloc;
+                "{read} reads {value} from variable {key} (written by {source}), {missed}: {kind}"
+            )
         }
     }
 }

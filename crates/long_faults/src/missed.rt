@@ -162,7 +162,9 @@ fn last_missed(
 {
     index.value_is_indexed();
     match look(index, ends, firsts, last, start, operation) {
-        Sight::OverwrittenStart | Sight::OverwrittenRead => last[index.variable(operation) as usize],
+        Sight::OverwrittenStart | Sight::OverwrittenRead => last[index.variable(
+            operation,
+        ) as usize],
         Sight::Nothing | Sight::Conflict(_, _) => 0,
     }
 }
