@@ -7,3 +7,4 @@ mod written;
 
 pub use certificates::certificate_value;
 pub use patterns::{op_value, pattern_value};
+pub use written::{Written, list_value, worded_one, worded_two};

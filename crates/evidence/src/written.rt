@@ -9,7 +9,7 @@ use serde_json::Value;
 use std::alloc::{AllocError, Global};
 
 /// What has a form as a JSON value.
-pub(crate) trait Written: Sized {
+pub trait Written: Sized {
     /// Its form.
     ghost form: { Self → Data };
 
@@ -18,8 +18,8 @@ pub(crate) trait Written: Sized {
         ensures { IfOk result (λ value. view value ≡ form self.now) };
 }
 
-/// The list of the forms of these.
-pub(crate) fn list_value<T: Written>(alloc: Global, items: &[T]) -> Result<Value, AllocError>
+/// The list of the forms of these. Fails for want of memory alone. O(n) for n items, and what their forms cost.
+pub fn list_value<T: Written>(alloc: Global, items: &[T]) -> Result<Value, AllocError>
     ensures { IfOk result (λ value. view value ≡ list_form T.form items.now) }
 {
     let mut values = Vec::new(alloc);
@@ -30,8 +30,8 @@ pub(crate) fn list_value<T: Written>(alloc: Global, items: &[T]) -> Result<Value
     Ok(Value::Array(values))
 }
 
-/// The list of a word and one thing.
-pub(crate) fn worded_one(alloc: Global, word: &str, part: Value) -> Result<Value, AllocError>
+/// The list of a word and one thing. Fails for want of memory alone.
+pub fn worded_one(alloc: Global, word: &str, part: Value) -> Result<Value, AllocError>
     ensures { IfOk result (λ value. view value ≡ worded word.now (view part ∷ [])) }
 {
     let mut values = Vec::new(alloc);
@@ -40,8 +40,8 @@ pub(crate) fn worded_one(alloc: Global, word: &str, part: Value) -> Result<Value
     Ok(Value::Array(values))
 }
 
-/// The list of a word and two things.
-pub(crate) fn worded_two(
+/// The list of a word and two things. Fails for want of memory alone.
+pub fn worded_two(
     alloc: Global,
     word: &str,
     first: Value,

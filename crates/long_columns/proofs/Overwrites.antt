@@ -57,7 +57,7 @@ module _ (h : MemoryHistory) (t : ℕ) (ends : ℕ → ℕ) (column : ArePastEnd
   )
 
   -- what is before an operation in CO is before the later ones of its session
-  before-later : (a b l : OpId) → IsOp h l → (b ≡ l) ⊎ Precedes b l → CO h a b → CO h a l
+  pub before-later : (a b l : OpId) → IsOp h l → (b ≡ l) ⊎ Precedes b l → CO h a b → CO h a l
   before-later a b l is_op (inl same) leads = subst (CO h a) same leads
   before-later a b l is_op (inr before) leads = leads-leads (IsEdge h) a b l leads (program-causal h b l before is_op)
 

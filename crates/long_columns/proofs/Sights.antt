@@ -95,7 +95,7 @@ are-numbered h variables = record {
 
 module _ (h : MemoryHistory) (variables : List ℕ) (are : AreVariables h variables) where
   -- the variable of a known read has the number that its writes have
-  numbered-same : (r : OpId) (y u : ℕ) → Reads h r y u → (a : OpId)
+  pub numbered-same : (r : OpId) (y u : ℕ) → Reads h r y u → (a : OpId)
       → WritesNumbered h variables (slice_index_or variables (number h r) 0) a ↔ WritesTo h y a
   numbered-same r y u reads a = (
     (λ wrote.

@@ -2,7 +2,8 @@
 //!
 //! [`sweep`] makes a column for each session that writes, two numbers an operation, and finds by it which writes overwrote what reads after
 //! them returned, and which writes conflict; [`is_convergent`] says whether the conflicts make a cycle. Both serve to decide causal
-//! consistency and causal convergence of long histories. The crate uses long_order.
+//! consistency and causal convergence of long histories. The columns by themselves ([`find_past_ends`], [`find_firsts`]) and what a read shows
+//! of one ([`look`], with the table of last writes that [`advance`] moves) serve to list all faulty reads. The crate uses long_order.
 #![tactic(auto)]
 
 mod convergence;
@@ -14,7 +15,7 @@ mod swept;
 
 pub use convergence::is_convergent;
 pub use parts::{sweep, sweep_in_threads};
-pub use passes::{find_firsts, find_past_ends};
+pub use passes::{fill, find_firsts, find_past_ends};
 pub use sight::Sight;
 pub use sweeping::{advance, look};
-pub use swept::Swept;
+pub use swept::{Swept, writing_sessions};

@@ -11,6 +11,8 @@ use long_index::LongIndex;
 
 /// Finds where the past of each operation ends in a session: the number after that of the session's last operation in the past, or the
 /// session's first number where there is none.
+///
+/// The order is one that [`long_order::causal_order`] gives. O(n) for n operations.
 pub fn find_past_ends(index: &LongIndex, order: &[u32], session: u32, ends: &mut Vec<u32>)
     requires session { session < length index.now.history.1 }
     requires order { IsOrderBy index.now.history [] order.now }
@@ -78,6 +80,8 @@ pub(crate) fn put(numbers: &mut Vec<u32>, place: u32, number: u32)
 
 /// Finds for each operation the first one of a session that has it in its past: the number after that of the session's last operation
 /// where none has.
+///
+/// The order is one that [`long_order::causal_order`] gives. O(n) for n operations.
 pub fn find_firsts(index: &LongIndex, order: &[u32], session: u32, firsts: &mut Vec<u32>)
     requires session { session < length index.now.history.1 }
     requires order { IsOrderBy index.now.history [] order.now }
@@ -91,8 +95,8 @@ pub fn find_firsts(index: &LongIndex, order: &[u32], session: u32, firsts: &mut 
     }
 }
 
-/// Puts a number in each place.
-pub(crate) fn fill(numbers: &mut Vec<u32>, number: u32)
+/// Puts a number in each place. O(n) for n places.
+pub fn fill(numbers: &mut Vec<u32>, number: u32)
     ensures size { length numbers.new.items ≡ length numbers.old.items }
     ensures each { (n : ℕ) → n < length numbers.old.items → slice_index_or numbers.new.items n 0 ≡ number }
 {

@@ -77,6 +77,9 @@ pub(crate) fn sweep_column(
 
 /// Moves the table of last writes from one place of the session to another. It goes on from the first place, or from the session's
 /// start when the other place comes earlier.
+///
+/// The table has, by variable, the number after that of its last write, or 0 or a number of an earlier session. O(m) for m operations between
+/// the places.
 pub fn advance(index: &LongIndex, start: u32, at: u32, to: u32, last: &mut Vec<u32>)
     requires from { start ≤ to }
     requires within { to ≤ many index.now.history }
@@ -122,7 +125,7 @@ fn pass_one(index: &LongIndex, operation: u32, last: &mut Vec<u32>)
     }
 }
 
-/// What an operation shows, by the session's last write of its variable in its past.
+/// What an operation shows, by the session's last write of its variable in its past: `last` has these for the end of the operation. O(1).
 pub fn look(
     index: &LongIndex,
     ends: &[u32],

@@ -21,8 +21,8 @@ pub struct Swept {
     pub edges: Vec<(u32, u32)>,
 }
 
-/// The sessions that write something, in order.
-pub(crate) fn writing_sessions(alloc: Global, index: &LongIndex) -> Result<Vec<u32>, AllocError>
+/// The sessions that write something, in order. Fails for want of memory alone. O(n) for n operations.
+pub fn writing_sessions(alloc: Global, index: &LongIndex) -> Result<Vec<u32>, AllocError>
     ensures each { IfOk result (λ sessions. HasWriters index.now.history sessions.items) }
     ensures below { IfOk result (λ sessions. (k t : ℕ) → slice_get sessions.items k ≡ Some t → t < length index.now.history.1) }
 {
