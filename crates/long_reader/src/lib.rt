@@ -4,10 +4,13 @@
 //! operations alone. [`small`] copies a long history into a `History`, where it fits the limits of that type.
 #![tactic(auto)]
 
+mod digits;
 mod limits;
+mod operation;
 mod parts;
 mod passing;
 mod reader;
+mod scalar;
 mod session;
 mod sessions;
 mod start;
