@@ -1,25 +1,17 @@
--- What is read of an operation, or of an entry of the start, whose value is cut at its place, is what is read of the whole of it.
+-- What is read of an entry of the start, whose value is cut at its place, is what is read of the whole of it.
 use Rattle.std.proofs.Common.{◌≡◌, ◌≢◌, ℕ, ◌<◌, ◌^◌, [], ◌∷◌, Some, refl, sym, subst}
 use Rattle.std.proofs.lemmas.List.Elements.{All-head}
 use Rattle.serde_json.specs.Data.{Data}
 use Rattle.bounded_json.specs.Cut.{cut}
 use Rattle.bounded_json.proofs.CutLaws.{unseen}
 use Rattle.operations.specs.Json.{list}
-use Rattle.operations.specs.Laws.KeyedForm.{keyed_read}
 use Rattle.operations.specs.Laws.RegisterForm as register_laws
 use Rattle.operations.specs.Laws.TableForm.{table_read}
 use Rattle.operations.specs.Places.{inside_of, limit_of}
 use Rattle.operations.specs.RegisterForm as register
 use Rattle.operations.specs.Spelling.{entry_at, entry_form, table_at}
 use Rattle.operations.specs.declared.history_place.HistoryPlace.TheVariants as places
-use Rattle.operations.proofs.KeptForms.{IsWholeAt, keyed_kept, register_argument, register_return}
-use Rattle.long_reader.specs.LongRefusals.{operation_at}
-
-pub operation_same : (d : Data) → operation_at (cut limit_of inside_of places.Operation d) ≡ operation_at d
-operation_same =
-    unseen limit_of inside_of places.Operation operation_at
-    (λ d x read. subst (IsWholeAt places.Operation) (sym ((keyed_read register_laws.is_spelling d x.0 x.1 read).0))
-    (keyed_kept register.word_of register.arguments register.ret_form register_argument register_return x.0 x.1))
+use Rattle.operations.proofs.KeptForms.{IsWholeAt}
 
 -- an entry alone is a table
 table_alone : (d : Data) (e : ℕ × ℕ) → entry_at register.start_at d ≡ Some e → table_at register.start_at (list (d ∷ []) ∷ []) ≡ Some (e ∷ [])

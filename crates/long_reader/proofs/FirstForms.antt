@@ -13,7 +13,7 @@ use Rattle.operations.specs.declared.any_history.AnyHistory.TheVariants as histo
 use Rattle.operations.specs.declared.read_error.ReadError.{ReadError}
 use Rattle.operations.specs.declared.read_error.ReadError.TheVariants as errors
 use Rattle.long_reader.specs.FirstOfList.{BeginsWith, IsRefusedFirst, refusal_of_first}
-use Rattle.long_reader.specs.Steps.{ArePartsOf, Entry, IsFirstIn, IsJsonList, IsWholeList}
+use Rattle.long_reader.specs.Steps.Reading.{ArePartsOf, Entry, IsFirstIn, IsJsonList, IsWholeList}
 use Rattle.long_reader.proofs.LongForms.{parts_are_form, parts_are_history, value_not}
 
 -- of the elements of a value the first has these parts, which are those of a history

@@ -5,6 +5,10 @@ pub mod LongForms
 mod LongTables
 mod OperationsRead
 mod PartsRead
+mod ScalarTokens
+mod ScalarsRead
 mod SessionsRead
+mod SpelledScalars
 mod TableRead
 mod Values
+mod WholeNumbers

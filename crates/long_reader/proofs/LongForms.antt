@@ -32,7 +32,7 @@ use Rattle.operations.proofs.HistoryForm.{calls_read, same_sessions, sessions_fo
 use Rattle.operations.proofs.PartsForm.{parts_again, parts_again_with_start, parts_formed}
 use Rattle.operations.proofs.SessionReading.{form_at, unknown_among}
 use Rattle.long_reader.specs.LongRefusals.{IsRefusedLong, first_long_refusal, name_refusal, operation_at, operations_refusal, parts_refusal, session_refusal, sessions_refusal, start_of}
-use Rattle.long_reader.specs.Steps.{ArePartsOf, Entry, IsJsonOf, IsSessionOfMemory, IsWhole}
+use Rattle.long_reader.specs.Steps.Reading.{ArePartsOf, Entry, IsJsonOf, IsSessionOfMemory, IsWhole}
 use Rattle.long_reader.proofs.LongTables.{start_again, start_formed}
 
 abbrev operation_form : MemoryCall → Option RegisterRet → Data

@@ -10,7 +10,7 @@ use Rattle.operations.specs.Reading.{named_parts, parts_among}
 use Rattle.operations.specs.declared.object_name.ObjectName.TheVariants.{Memory as MemoryName}
 use Rattle.operations.specs.declared.read_error.ReadError.{ReadError}
 use Rattle.long_reader.specs.LongRefusals.{start_of}
-use Rattle.long_reader.specs.Steps.{AreParts, AreSessions, AreSessionsOf, Entry, IsSessionList, joined_of, name_or, name_read, start_read, table_or}
+use Rattle.long_reader.specs.Steps.Reading.{AreParts, AreSessions, AreSessionsOf, Entry, IsSessionList, joined_of, name_or, name_read, start_read, table_or}
 
 abbrev Found : Type 0
 Found = Option (List ℕ × List Data × List Data)

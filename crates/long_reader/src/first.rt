@@ -5,7 +5,7 @@ ghost use Rattle.json.specs.Reads.{token_of};
 ghost use Rattle.bounded_json.specs.Steps.Reading.{AreRefused, IsRefused, IsWholeRefused};
 ghost use Rattle.long_history.specs.LongHistories.{IsLongHistory};
 ghost use Rattle.long_reader.specs.FirstOfList.{BeginsWith, IsRefusedFirst};
-ghost use Rattle.long_reader.specs.Steps.{AreParts, IsFirst, IsFirstIn, IsJsonList, IsList, IsRest, IsWholeList, parts_in};
+ghost use Rattle.long_reader.specs.Steps.Reading.{AreParts, IsFirst, IsFirstIn, IsJsonList, IsList, IsRest, IsWholeList, parts_in};
 
 use crate::parts::{Parts, read_history};
 use crate::passing::{next_token, pass_no_list};

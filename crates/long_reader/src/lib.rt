@@ -5,11 +5,14 @@
 //! `History`, where it fits the limits of that type.
 #![tactic(auto)]
 
+mod digits;
 mod first;
 mod limits;
+mod operation;
 mod parts;
 mod passing;
 mod reader;
+mod scalar;
 mod session;
 mod sessions;
 mod start;

@@ -4,7 +4,7 @@ ghost use Rattle.std.specs.Prelude.{◌≡◌, ◌∷◌, ◌<◌, ◌≤◌, le
 ghost use Rattle.json.specs.Reads.{token_of};
 ghost use Rattle.serde_json.specs.View.{view};
 ghost use Rattle.bounded_json.specs.Steps.Reading.{AreRefused, IsRefused};
-ghost use Rattle.long_reader.specs.Steps.{AreParts, IsList, IsRest, IsValue, joined_of, name_read, parts_in};
+ghost use Rattle.long_reader.specs.Steps.Reading.{AreParts, IsList, IsRest, IsValue, joined_of, name_read, parts_in};
 
 use crate::passing::{next_value, pass_no_list};
 use crate::sessions::read_session_list;
@@ -68,7 +68,7 @@ fn read_parts(
     reader: &mut Reader<'_>,
     depth: usize,
 ) -> Result<Result<Parts, ReadError>, TextError>
-    requires { 1 < depth }
+    requires { 2 < depth }
     ensures read { IfOk result (λ r. IsRest (λ ds. AreParts (parts_in (Some ds)) r) depth reader.old reader.new) }
     ensures shorter { OnOk result (length reader.new ≤ length reader.old) }
     ensures refused { IfErr result (AreRefused depth reader.old) }
@@ -92,7 +92,7 @@ pub(crate) fn read_history(
     reader: &mut Reader<'_>,
     depth: usize,
 ) -> Result<Result<Parts, ReadError>, TextError>
-    requires { 2 < depth }
+    requires { 3 < depth }
     ensures read { IfOk result
         (λ r. IsList (λ ds. AreParts (parts_in ds) r) depth (token_of token.entry ∷ reader.old) reader.new) }
     ensures shorter { OnOk result (length reader.new ≤ length reader.old) }

@@ -5,7 +5,7 @@ ghost use Rattle.json.specs.Reads.{token_of};
 ghost use Rattle.serde_json.specs.View.{view};
 ghost use Rattle.bounded_json.specs.Steps.Reading.{IsCut, IsRefused};
 ghost use Rattle.operations.specs.Places.{inside_of, limit_of};
-ghost use Rattle.long_reader.specs.Steps.{IsList, IsValue};
+ghost use Rattle.long_reader.specs.Steps.Reading.{IsList, IsValue};
 
 use bounded_json::{TextError, read_value};
 use json::{Reader, Token};
@@ -14,6 +14,7 @@ use serde_json::Value;
 use std::alloc::Global;
 
 /// The next token, with which a value begins.
+#[inline(always)]
 pub(crate) fn next_token<'a>(reader: &mut Reader<'a>) -> Result<Token<'a>, TextError>
     ensures token { IfOk result (λ token. reader.old ≡ token_of token ∷ reader.new) }
     ensures none { OnErr result (reader.old ≡ []) }

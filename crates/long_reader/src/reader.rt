@@ -6,7 +6,7 @@ ghost use Rattle.long_history.specs.LongHistories.{IsLongHistory};
 ghost use Rattle.memory_order.specs.Memory.{MemoryHistory};
 ghost use Rattle.operations.specs.AnyForm.{IsJson, form_of};
 ghost use Rattle.long_reader.specs.LongRefusals.{IsRefusedLong};
-ghost use Rattle.long_reader.specs.Steps.{IsJsonOf, IsWhole};
+ghost use Rattle.long_reader.specs.Steps.Reading.{IsJsonOf, IsWhole};
 
 use crate::parts::{Parts, read_history};
 use crate::passing::next_token;

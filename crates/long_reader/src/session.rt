@@ -2,14 +2,13 @@
 
 ghost use Rattle.std.specs.Prelude.{◌≡◌, ◌<◌, ◌≤◌, length, IfOk, IfErr, OnOk, Some};
 ghost use Rattle.bounded_json.specs.Steps.Reading.{AreRefused, IsRefused};
-ghost use Rattle.long_reader.specs.Steps.{AreOperations, IsOperation, IsRest, IsValue};
+ghost use Rattle.long_reader.specs.Steps.Reading.{AreOperations, IsOperation, IsRest, IsValue};
 
-use crate::passing::next_value;
+use crate::operation::read_entry;
 use bounded_json::{TextError, walk_items};
 use json::Reader;
 use long_history::LongEntry;
-use objects::Memory;
-use operations::{HistoryPlace, Named, OpId, ReadError};
+use operations::{OpId, ReadError};
 use std::alloc::Global;
 
 /// The operation that comes next, or its refusal at its place `op`.
@@ -20,12 +19,12 @@ fn read_operation(
     op: OpId,
     unknown_seen: bool,
 ) -> Result<Result<LongEntry, ReadError>, TextError>
+    requires { 0 < depth }
     ensures read { IfOk result (λ r. IsValue (λ d. IsOperation unknown_seen op d r) depth reader.old reader.new) }
     ensures shorter { OnOk result (length reader.new < length reader.old) }
     ensures refused { IfErr result (IsRefused depth reader.old) }
 {
-    let value = next_value(alloc, reader, HistoryPlace::Operation, depth)?;
-    let Some(entry) = Memory::read_operation(&value) else {
+    let Some(entry) = read_entry(alloc, reader, depth)? else {
         return Ok(Err(ReadError::BadOp(op)));
     };
     if unknown_seen && entry.1.is_some() {
@@ -43,6 +42,7 @@ pub(crate) fn read_operations(
     s: usize,
     entries: &mut Vec<LongEntry>,
 ) -> Result<Option<ReadError>, TextError>
+    requires { 0 < depth }
     ensures read { IfOk result
         (λ refusal. IsRest (λ ds. AreOperations s (Some ds) entries.new.items refusal) depth reader.old reader.new) }
     ensures shorter { OnOk result (length reader.new ≤ length reader.old) }

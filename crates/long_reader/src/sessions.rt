@@ -2,7 +2,7 @@
 
 ghost use Rattle.std.specs.Prelude.{◌≡◌, ◌<◌, ◌≤◌, length, IfOk, IfErr, OnOk, None};
 ghost use Rattle.bounded_json.specs.Steps.Reading.{AreRefused, IsRefused};
-ghost use Rattle.long_reader.specs.Steps.{AreOperations, AreSessions, IsList, IsRest, IsSessionList};
+ghost use Rattle.long_reader.specs.Steps.Reading.{AreOperations, AreSessions, IsList, IsRest, IsSessionList};
 
 use crate::passing::{next_token, pass_no_list};
 use crate::session::read_operations;
@@ -21,7 +21,7 @@ fn read_session(
     s: usize,
     entries: &mut Vec<LongEntry>,
 ) -> Result<Option<ReadError>, TextError>
-    requires { 0 < depth }
+    requires { 1 < depth }
     ensures read { IfOk result
         (λ refusal. IsList (λ ds. AreOperations s ds entries.new.items refusal) depth reader.old reader.new) }
     ensures shorter { OnOk result (length reader.new < length reader.old) }
@@ -41,7 +41,7 @@ fn read_sessions(
     reader: &mut Reader<'_>,
     depth: usize,
 ) -> Result<Result<Rows<LongEntry>, ReadError>, TextError>
-    requires { 0 < depth }
+    requires { 1 < depth }
     ensures read { IfOk result (λ r. IsRest (λ ds. AreSessions ds r) depth reader.old reader.new) }
     ensures shorter { OnOk result (length reader.new ≤ length reader.old) }
     ensures refused { IfErr result (AreRefused depth reader.old) }
@@ -66,7 +66,7 @@ pub(crate) fn read_session_list(
     reader: &mut Reader<'_>,
     depth: usize,
 ) -> Result<Option<Result<Rows<LongEntry>, ReadError>>, TextError>
-    requires { 1 < depth }
+    requires { 2 < depth }
     ensures read { IfOk result (λ o. IsList (λ ds. IsSessionList ds o) depth reader.old reader.new) }
     ensures shorter { OnOk result (length reader.new < length reader.old) }
     ensures refused { IfErr result (IsRefused depth reader.old) }

@@ -4,7 +4,7 @@ ghost use Rattle.std.specs.Prelude.{◌≡◌, ◌<◌, ◌≤◌, length, IfOk,
 ghost use Rattle.bounded_json.specs.Steps.Reading.{AreRefused, IsRefused};
 ghost use Rattle.operations.specs.Spelling.{is_above as is_above_before};
 ghost use Rattle.long_reader.specs.LongRefusals.{table_of};
-ghost use Rattle.long_reader.specs.Steps.{IsList, IsRest, IsValue, entry_above, start_read, table_or};
+ghost use Rattle.long_reader.specs.Steps.Reading.{IsList, IsRest, IsValue, entry_above, start_read, table_or};
 
 use crate::passing::{next_token, next_value, pass_no_list, pass_value};
 use bounded_json::{TextError, walk_items};

@@ -1,7 +1,7 @@
 use Rattle.std.proofs.Common.{◌≡◌, [], ◌∷◌, None, refl, arith}
 use Rattle.std.proofs.lemmas.Result.{err_from_is_err_and}
 use Rattle.json.specs.Json.{after_end_array}
-use Rattle.long_reader.specs.Steps.{IsFirst}
+use Rattle.long_reader.specs.Steps.Reading.{IsFirst}
 use Rattle.operations.specs.declared.read_error.ReadError.TheVariants.{BadShape}
 use Rattle.std.proofs.Common.{Result, Err}
 use Rattle.long_reader.proofs.Elements.{element_refused, no_rest_after, read_all, read_none, read_one_more, rest_passed}

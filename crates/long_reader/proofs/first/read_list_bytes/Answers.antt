@@ -1,4 +1,4 @@
-use Rattle.long_reader.specs.Steps.{IsWholeList}
+use Rattle.long_reader.specs.Steps.Reading.{IsWholeList}
 use Rattle.long_reader.proofs.FirstForms.{refused_if_not}
 use Rattle.long_reader.proofs.first.read_list_bytes.Goals as goal
 

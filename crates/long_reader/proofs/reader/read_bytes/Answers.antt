@@ -1,4 +1,4 @@
-use Rattle.long_reader.specs.Steps.{IsWhole}
+use Rattle.long_reader.specs.Steps.Reading.{IsWhole}
 use Rattle.long_reader.proofs.LongForms.{refused_if_not}
 use Rattle.long_reader.proofs.reader.read_bytes.Goals as goal
 

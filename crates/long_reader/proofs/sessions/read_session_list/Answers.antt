@@ -4,7 +4,7 @@ use Rattle.json.specs.Reads.{token_of}
 use Rattle.json.specs.Token.{Token}
 use Rattle.bounded_json.proofs.Stopping.{list_refused}
 use Rattle.operations.specs.Json.{listed}
-use Rattle.long_reader.specs.Steps.{IsSessionList}
+use Rattle.long_reader.specs.Steps.Reading.{IsSessionList}
 use Rattle.long_reader.proofs.Values.{list_there}
 use Rattle.long_reader.proofs.sessions.read_session_list.Goals as goal
 

@@ -1,7 +1,7 @@
 use Rattle.std.proofs.Common.{◌≡◌, [], ◌∷◌, Some, None, Ok, refl, arith}
 use Rattle.std.proofs.lemmas.Result.{err_from_is_err_and}
 use Rattle.json.specs.Json.{after_end_array}
-use Rattle.long_reader.specs.Steps.{start_read}
+use Rattle.long_reader.specs.Steps.Reading.{start_read}
 use Rattle.long_reader.proofs.Elements.{element_refused, no_rest, read_all, read_none, read_one_more, rest_passed}
 use Rattle.long_reader.proofs.start.read_start.Goals as goal
 

@@ -5,7 +5,7 @@ use Rattle.json.specs.Token.{Token}
 use Rattle.std.specs.Prelude.{option_map}
 use Rattle.bounded_json.proofs.Stopping.{list_refused}
 use Rattle.long_reader.specs.LongRefusals.{table_of}
-use Rattle.long_reader.specs.Steps.{table_or}
+use Rattle.long_reader.specs.Steps.Reading.{table_or}
 use Rattle.long_reader.proofs.Values.{list_there}
 use Rattle.long_reader.proofs.start.read_table_list.Goals as goal
 
