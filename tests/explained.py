@@ -61,6 +61,15 @@ def line_of(reason):
     return f"{criterion} {word}" + ("" if shown is None else f" {shown[0]}.{shown[1]}")
 
 
+def has_idle_line(pattern):
+    """Whether a derivation has a line before its last one to which no other refers."""
+    if pattern[0] not in ("WriteHBInitRead", "CyclicHB"):
+        return False
+    lines = pattern[2]
+    needed = {number for word, *parts in lines for number in (parts if word == "tr" else parts[:1] if word == "rf" else ())}
+    return not needed.issuperset(range(len(lines) - 1))
+
+
 def pattern_faults(program, form, lines, accepted):
     """What is wrong with the reasons on a history, and what they are."""
     status, text = said(program, ["explain", "--json"], form)
@@ -75,6 +84,8 @@ def pattern_faults(program, form, lines, accepted):
             claim = [form, criterion, shown]
             if said(program, ["refute"], claim) != (0, f"{criterion} no {shown[0]}\n"):
                 found.append(f"refute does not accept {json.dumps(claim)}")
+            if has_idle_line(shown):
+                found.append(f"a line is idle: {json.dumps(claim)}")
             accepted[f"{criterion} {shown[0]}"] += 1
     return found, reasons
 

@@ -142,14 +142,16 @@ INPUTS = (
 
 # Tests of crates/acceptance, each with the texts that it has to print in some run.
 REPEATING = (
-    ("refused_memory::begin_and_seal", ()),
-    ("refused_memory::act_and_receive_in_the_causal_store", ()),
-    ("refused_memory::act_and_receive_in_the_store_by_stamps", ()),
-    ("refused_memory::act_and_receive_from_a_copy", ()),
-    ("refused_memory::file", ()),
     ("seals::a_seal_holds_what_it_is_told_and_more", ()),
-    ("seals::a_seal_meets_the_session", ()),
-    ("desks::abandoned", ("refused 8; Open(3); 2", "refused 8; Open(2); 1", "refused 8; Open(1); 0")),
+    ("desks::file", ()),
+    (
+        "desks::abandoned",
+        (
+            "Refused(8), Stands(Open(3)), Number(2)",
+            "Refused(8), Stands(Open(2)), Number(1)",
+            "Refused(8), Stands(Open(1)), Number(0)",
+        ),
+    ),
 )
 
 LIBRARY = r"""

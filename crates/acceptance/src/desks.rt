@@ -1,159 +1,312 @@
-//! What a desk answers to steps, one after the other.
+//! What is seen of steps at a desk, one after the other.
 
 ghost use Rattle.std.specs.Prelude.{◌≡◌};
 
-use crate::case_files::{file_named, pattern_of};
-use crate::cases::Question;
-use crate::histories::op_of;
-use crate::tables::as_wanted;
-use cert_check::{CaseFile, DeskError};
-use desk::{Desk, Shelf, ShelfName, Ticket, Verdict};
+use crate::case_files::{
+    FileText, NO_OPERATION, READ_AFTER_ITS_WRITE, THREE_OF_ONE_SESSION, VALUES_THAT_NOBODY_WROTE,
+    WITHOUT_A_CERTIFICATE, file_of, pattern_of,
+};
+use bad_patterns::{Kind, Pattern};
+use cert_check::{Criterion, DeskError, Outcome};
+use desk::{Answer, Desk, Shelf, ShelfName, Ticket, Verdict};
 use history::OpenGate;
 use objects::Memory;
 use operations::OpId;
 use std::alloc::{AllocError, Global};
-use std::fmt::Debug;
 use std::marker::Brand;
 use std::sync::Wait;
 use std::test::Fail;
 
-/// The input is a list of steps, each with its answer. A step names cases and verdicts by their numbers, from 0.
-const STEPS: &str = r#"
-verdicts_are_read_back | file read_after_its_write; ask 0; check 0 0.0; check 0 1.0; put 0 0; ask 0; put 0 1; ask 0 | 0; Open(2); 0 0.0 Explained; 0 1.0 Explained; ok; Open(1); ok; Yes
-a_row_takes_one_verdict | file read_after_its_write; check 0 1.0; put 0 0; put 0 0; ask 0 | 0; 0 1.0 Explained; ok; refused 24; Open(1)
-a_verdict_is_of_one_case | file read_after_its_write; file read_after_its_write; check 0 0.0; put 1 0; ask 1; check 1 0.0; put 1 1; put 1 0; ask 0; ask 1 | 0; 1; 0 0.0 Explained; refused 25; Open(2); 1 0.0 Explained; ok; refused 25; Open(2); Open(1)
-a_verdict_is_of_one_operation | file read_after_its_write; check 0 5.0; check 0 1.1; file without_a_certificate; check 1 0.0; ask 0 | 0; refused 26; refused 26; 1; refused 26; Open(2)
-the_first_unexplained_operation_is_told | file value_that_nobody_wrote; check 0 0.1; check 0 0.0; put 0 0; ask 0; put 0 1; ask 0 | 0; 0 0.1 Unexplained; 0 0.0 Unexplained; ok; Open(1); ok; Unknown(Some(OpId { session: 0, index: 0 }))
-an_unexplained_operation_behind_explained_ones_is_told | file overwritten_value_by_program_order; work; ask 0 | 0; 6; Unknown(Some(OpId { session: 1, index: 0 }))
-a_vector_that_counts_what_counts_it_explains_nothing | file each_counts_the_other; check 0 0.0; work; ask 0 | 0; 0 0.0 Unexplained; 2; Unknown(Some(OpId { session: 0, index: 0 }))
-one_list_is_checked | file read_after_its_write_in_one_list; see 0; check 0 1.0; work; ask 0 | 0; Ccv true 2; 0 1.0 Explained; 2; Yes
-nothing_is_done_without_a_certificate | file without_a_certificate; see 0; take; work; settle 0; ask 0; pattern 0 | 0; Cm false 2; none; 0; ok; Unknown(None); None
-no_operation_is_explained_at_once | file no_operation; ask 0; take; settle 0; ask 0 | 0; Yes; none; ok; Yes
-pieces_are_taken_in_their_order | file without_a_certificate; file read_after_its_write; file three_of_one_session; check 2 0.1; put 2 0; take; take; take; take; take; ask 1; ask 2 | 0; 1; 2; 2 0.1 Explained; ok; 1 0.0; 1 1.0; 2 0.0; 2 0.2; none; Open(2); Open(2)
-a_piece_that_was_taken_and_left_is_settled | file three_of_one_session; take; check 0 0.0; put 0 0; take; ask 0; work; ask 0; settle 0; ask 0; work | 0; 0 0.0; 0 0.0 Explained; ok; 0 0.1; Open(2); 1; Open(1); ok; Yes; 0
-a_pattern_is_kept | file value_that_nobody_wrote; pattern 0; refute 0 ["ThinAirRead",[0,1]]; ask 0; refute 0 ["ThinAirRead",[0,0]]; pattern 0; ask 0 | 0; None; ok; No(ThinAirRead); ok; Some(ThinAirRead(OpId { session: 0, index: 1 })); No(ThinAirRead)
-a_pattern_of_another_history_changes_nothing | file read_after_its_write; refute 0 ["ThinAirRead",[0,0]]; refute 0 ["ThinAirRead",[5,0]]; pattern 0; ask 0 | 0; refused 23; refused 23; None; Open(2)
-a_case_is_refuted_without_a_certificate | file unwritten_value_without_a_certificate; ask 0; refute 0 ["ThinAirRead",[0,0]]; ask 0; take; settle 0; ask 0 | 0; Unknown(None); ok; No(ThinAirRead); none; ok; No(ThinAirRead)
-a_refuted_case_takes_verdicts_and_gives_no_piece | file value_that_nobody_wrote; file read_after_its_write; take; check 0 0.0; refute 0 ["ThinAirRead",[0,0]]; take; put 0 0; ask 0; put 0 0 | 0; 1; 0 0.0; 0 0.0 Unexplained; ok; 1 0.0; ok; No(ThinAirRead); refused 24
-a_desk_has_64_cases | file_64_times read_after_its_write; file without_a_certificate; file_or_back without_a_certificate; ask 63; work; ask 0; ask 63; file no_operation | 63; refused 22; Cm false 2; Open(2); 128; Yes; Yes; refused 22
-a_file_that_finds_room_does_not_come_back | file_or_back read_after_its_write; see 0; file_or_back without_a_certificate; see 1 | 0; Cc true 2; 1; Cm false 2
-"#;
+/// A step at a desk. Cases and verdicts have numbers, in the order in which the desk gave them.
+#[derive(Clone, Copy)]
+enum Step {
+    File(FileText),
+    FileOrBack(FileText),
+    /// Files a case 64 times.
+    Fill(FileText),
+    Take,
+    Work,
+    On(usize, Event),
+}
+
+/// What is done with a case.
+#[derive(Clone, Copy)]
+enum Event {
+    Check(OpId),
+    Put(usize),
+    Ask,
+    Refute(&'static str),
+    Pattern,
+    Settle,
+}
+
+/// What is seen of a step.
+#[derive(Clone, Copy, Debug, PartialEq)]
+enum Seen {
+    /// The number of a case, or of the verdicts that were put.
+    Number(u32),
+    Done,
+    Refused(u8),
+    /// How a case stands.
+    Stands(Answer),
+    Piece(u32, OpId),
+    Checked(u32, OpId, Outcome),
+    /// The read that a thin-air read names.
+    Pattern(Option<OpId>),
+    /// The criterion of a file that came back.
+    Back(Criterion),
+    Nothing,
+}
+
+const FIRST: OpId = OpId {
+    session: 0,
+    index: 0,
+};
+
+const SECOND: OpId = OpId {
+    session: 0,
+    index: 1,
+};
+
+const THIRD: OpId = OpId {
+    session: 0,
+    index: 2,
+};
+
+const FIRST_OF_SECOND: OpId = OpId {
+    session: 1,
+    index: 0,
+};
+
+const NO_SUCH: OpId = OpId {
+    session: 5,
+    index: 0,
+};
+
+const VERDICTS: [(Step, Seen); 18] = [
+    (Step::File(READ_AFTER_ITS_WRITE), Seen::Number(0)),
+    (Step::On(0, Event::Ask), Seen::Stands(Answer::Open(2))),
+    (
+        Step::On(0, Event::Check(FIRST)),
+        Seen::Checked(0, FIRST, Outcome::Explained),
+    ),
+    (
+        Step::On(0, Event::Check(FIRST_OF_SECOND)),
+        Seen::Checked(0, FIRST_OF_SECOND, Outcome::Explained),
+    ),
+    (Step::On(0, Event::Check(NO_SUCH)), Seen::Refused(26)),
+    (Step::On(0, Event::Put(0)), Seen::Done),
+    (Step::On(0, Event::Ask), Seen::Stands(Answer::Open(1))),
+    (Step::On(0, Event::Put(0)), Seen::Refused(24)),
+    (Step::On(0, Event::Ask), Seen::Stands(Answer::Open(1))),
+    (Step::On(0, Event::Put(1)), Seen::Done),
+    (Step::On(0, Event::Ask), Seen::Stands(Answer::Yes)),
+    (Step::FileOrBack(READ_AFTER_ITS_WRITE), Seen::Number(1)),
+    (Step::On(1, Event::Put(0)), Seen::Refused(25)),
+    (Step::On(1, Event::Ask), Seen::Stands(Answer::Open(2))),
+    (Step::Work, Seen::Number(2)),
+    (Step::On(1, Event::Ask), Seen::Stands(Answer::Yes)),
+    (Step::File(NO_OPERATION), Seen::Number(2)),
+    (Step::On(2, Event::Ask), Seen::Stands(Answer::Yes)),
+];
+
+/// Two patterns of the case, and one that is not in its history.
+const SECOND_IS_THIN_AIR: &str = r#"["ThinAirRead",[0,1]]"#;
+
+const FIRST_IS_THIN_AIR: &str = r#"["ThinAirRead",[0,0]]"#;
+
+const NO_SUCH_READ: &str = r#"["ThinAirRead",[5,0]]"#;
+
+const PATTERNS: [(Step, Seen); 14] = [
+    (Step::File(VALUES_THAT_NOBODY_WROTE), Seen::Number(0)),
+    (
+        Step::On(0, Event::Check(SECOND)),
+        Seen::Checked(0, SECOND, Outcome::Unexplained),
+    ),
+    (Step::On(0, Event::Put(0)), Seen::Done),
+    (Step::Work, Seen::Number(1)),
+    (
+        Step::On(0, Event::Ask),
+        Seen::Stands(Answer::Unknown(Some(FIRST))),
+    ),
+    (Step::On(0, Event::Refute(NO_SUCH_READ)), Seen::Refused(23)),
+    (Step::On(0, Event::Pattern), Seen::Pattern(None)),
+    (Step::On(0, Event::Refute(SECOND_IS_THIN_AIR)), Seen::Done),
+    (
+        Step::On(0, Event::Ask),
+        Seen::Stands(Answer::No(Kind::ThinAirRead)),
+    ),
+    (Step::On(0, Event::Refute(FIRST_IS_THIN_AIR)), Seen::Done),
+    (Step::On(0, Event::Pattern), Seen::Pattern(Some(SECOND))),
+    (Step::File(READ_AFTER_ITS_WRITE), Seen::Number(1)),
+    (Step::Take, Seen::Piece(1, FIRST)),
+    (Step::On(0, Event::Put(0)), Seen::Refused(24)),
+];
+
+const PIECES: [(Step, Seen); 20] = [
+    (Step::File(WITHOUT_A_CERTIFICATE), Seen::Number(0)),
+    (Step::On(0, Event::Check(FIRST)), Seen::Refused(26)),
+    (Step::File(READ_AFTER_ITS_WRITE), Seen::Number(1)),
+    (Step::File(THREE_OF_ONE_SESSION), Seen::Number(2)),
+    (
+        Step::On(2, Event::Check(SECOND)),
+        Seen::Checked(2, SECOND, Outcome::Explained),
+    ),
+    (Step::On(2, Event::Put(0)), Seen::Done),
+    (Step::Take, Seen::Piece(1, FIRST)),
+    (Step::Take, Seen::Piece(1, FIRST_OF_SECOND)),
+    (Step::Take, Seen::Piece(2, FIRST)),
+    (Step::Take, Seen::Piece(2, THIRD)),
+    (Step::Take, Seen::Nothing),
+    (Step::Work, Seen::Number(0)),
+    (Step::On(1, Event::Ask), Seen::Stands(Answer::Open(2))),
+    (Step::On(2, Event::Ask), Seen::Stands(Answer::Open(2))),
+    (Step::On(2, Event::Settle), Seen::Done),
+    (Step::On(2, Event::Ask), Seen::Stands(Answer::Yes)),
+    (Step::On(0, Event::Settle), Seen::Done),
+    (Step::On(0, Event::Ask), Seen::Stands(Answer::Unknown(None))),
+    (Step::On(1, Event::Ask), Seen::Stands(Answer::Open(2))),
+    (Step::On(0, Event::Pattern), Seen::Pattern(None)),
+];
+
+const FULL: [(Step, Seen); 7] = [
+    (Step::Fill(READ_AFTER_ITS_WRITE), Seen::Number(63)),
+    (Step::File(WITHOUT_A_CERTIFICATE), Seen::Refused(22)),
+    (
+        Step::FileOrBack(WITHOUT_A_CERTIFICATE),
+        Seen::Back(Criterion::Cm),
+    ),
+    (Step::On(63, Event::Ask), Seen::Stands(Answer::Open(2))),
+    (Step::Work, Seen::Number(128)),
+    (Step::On(63, Event::Ask), Seen::Stands(Answer::Yes)),
+    (Step::File(NO_OPERATION), Seen::Refused(22)),
+];
 
 #[test]
-fn desk_reads_back(rt: HostRuntime) -> Result<(), Fail> {
-    as_wanted(&rt, Question::Desk, STEPS)
+fn desk_shows_what_was_done(rt: HostRuntime) -> Result<(), Fail> {
+    assert_eq!(rt; first_unwanted(&rt, &VERDICTS)?, None);
+    assert_eq!(rt; first_unwanted(&rt, &PATTERNS)?, None);
+    assert_eq!(rt; first_unwanted(&rt, &PIECES)?, None);
+    assert_eq!(rt; first_unwanted(&rt, &FULL)?, None);
+    Ok(())
+}
+
+/// Three cases are filed, the second without a certificate, and the third by the call that gives back the file.
+const FILED: [(Step, Seen); 10] = [
+    (Step::File(READ_AFTER_ITS_WRITE), Seen::Number(0)),
+    (Step::On(0, Event::Ask), Seen::Stands(Answer::Open(2))),
+    (Step::File(WITHOUT_A_CERTIFICATE), Seen::Number(1)),
+    (Step::FileOrBack(NO_OPERATION), Seen::Number(2)),
+    (Step::On(0, Event::Ask), Seen::Stands(Answer::Open(2))),
+    (Step::On(1, Event::Ask), Seen::Stands(Answer::Unknown(None))),
+    (Step::On(2, Event::Ask), Seen::Stands(Answer::Yes)),
+    (Step::Take, Seen::Piece(0, FIRST)),
+    (Step::Take, Seen::Piece(0, FIRST_OF_SECOND)),
+    (Step::Take, Seen::Nothing),
+];
+
+/// `tests/refused_memory.py` refuses each allocation in turn. A file that memory was refused to is filed once more.
+#[test]
+fn file(rt: HostRuntime) -> Result<(), Fail> {
+    let unwanted = match first_unwanted(&rt, &FILED) {
+        Ok(unwanted) => unwanted,
+        Err(_refused) => first_unwanted(&rt, &FILED)?,
+    };
+    assert_eq!(rt; unwanted, None);
+    Ok(())
 }
 
 /// A case of three pieces is worked on, and worked on once more, and settled.
-const WORKED_TWICE: &str = "file three_of_one_session; work; ask 0; work; ask 0; settle 0; ask 0";
-
-/// What is answered: nothing is refused, or memory is refused to the check of the first, the second or the third piece. The
-/// piece that was taken then stays open until the case is settled.
-///
-/// The gate sees the first row. `tests/refused_memory.py` refuses each allocation of `abandoned` in turn, and has to see the others.
-const WORKED: [&str; 4] = [
-    "0; 3; Yes; 0; Yes; ok; Yes",
-    "0; refused 8; Open(3); 2; Open(1); ok; Yes",
-    "0; refused 8; Open(2); 1; Open(1); ok; Yes",
-    "0; refused 8; Open(1); 0; Open(1); ok; Yes",
+const WORKED_TWICE: [Step; 7] = [
+    Step::File(THREE_OF_ONE_SESSION),
+    Step::Work,
+    Step::On(0, Event::Ask),
+    Step::Work,
+    Step::On(0, Event::Ask),
+    Step::On(0, Event::Settle),
+    Step::On(0, Event::Ask),
 ];
 
-/// Prints what was answered where memory was refused.
+/// What is seen where nothing is refused.
+const WORKED: [Seen; 7] = [
+    Seen::Number(0),
+    Seen::Number(3),
+    Seen::Stands(Answer::Yes),
+    Seen::Number(0),
+    Seen::Stands(Answer::Yes),
+    Seen::Done,
+    Seen::Stands(Answer::Yes),
+];
+
+/// What is seen where memory is refused to the check of the first, the second or the third piece: the piece that was taken then
+/// stays open until the case is settled.
+fn abandoned_at(piece: u32) -> [Seen; 7] {
+    [
+        Seen::Number(0),
+        Seen::Refused(8),
+        Seen::Stands(Answer::Open(3u32.saturating_sub(piece))),
+        Seen::Number(2u32.saturating_sub(piece)),
+        Seen::Stands(Answer::Open(1)),
+        Seen::Done,
+        Seen::Stands(Answer::Yes),
+    ]
+}
+
+/// Prints what was seen where memory was refused. The gate sees no refusal; `tests/refused_memory.py` refuses each allocation in turn,
+/// and has to see each piece abandoned.
 #[test]
 fn abandoned(rt: HostRuntime) -> Result<(), Fail> {
-    let answers = match answered(&rt, WORKED_TWICE) {
-        Ok(answers) => answers,
-        Err(_refused) => answered(&rt, WORKED_TWICE)?,
+    let seen = match seen_at_desk(&rt, &WORKED_TWICE) {
+        Ok(seen) => seen,
+        Err(_refused) => seen_at_desk(&rt, &WORKED_TWICE)?,
     };
-    if answers.as_str() != WORKED[0] {
-        println!(rt; "{answers}")?;
+    if seen.as_slice() != WORKED.as_slice() {
+        println!(rt; "{seen:?}")?;
+        let is_abandoned = (0..3).any(|piece| seen.as_slice() == abandoned_at(piece).as_slice());
+        assert!(rt; is_abandoned);
     }
-    assert!(rt; WORKED.contains(&answers.as_str()), "{answers}");
     Ok(())
 }
 
-/// What a desk of memory cases answers to the steps in a text.
-pub fn answered<P: Wait + AllocGlobal>(rt: &P, steps: &str) -> Result<String, AllocError> {
-    let steps = String::from_str(rt.alloc(), steps)?;
+/// The number of the first step of which something else is seen than wanted.
+fn first_unwanted<P: Wait + AllocGlobal>(
+    rt: &P,
+    cases: &[(Step, Seen)],
+) -> Result<Option<usize>, AllocError> {
+    let mut steps = Vec::new(rt.alloc());
+    for (step, _) in cases {
+        steps.push(*step)?;
+    }
+    let seen = seen_at_desk(rt, steps.as_slice())?;
+    Ok(
+        cases
+            .iter()
+            .zip(seen.as_slice())
+            .position(|((_, wanted), seen)| wanted != seen),
+    )
+}
+
+/// What is seen of each step at a desk of memory cases.
+fn seen_at_desk<P: Wait + AllocGlobal>(rt: &P, steps: &[Step]) -> Result<Vec<Seen>, AllocError> {
     let shelf = Shelf::new(rt.alloc())?;
-    answered_on::<Brand, P>(rt, shelf, steps)
+    seen_on::<Brand, P>(rt, shelf, steps)
 }
 
 /// The same on a shelf that is named.
-fn answered_on<K: ShelfName, P: Wait + AllocGlobal>(
+fn seen_on<K: ShelfName, P: Wait + AllocGlobal>(
     rt: &P,
     shelf: Shelf<Memory>,
-    steps: String,
-) -> Result<String, AllocError>
+    steps: &[Step],
+) -> Result<Vec<Seen>, AllocError>
     requires { shelf ≡ K.shelf }
 {
     let desk = Desk::<Memory, K>::on(rt.alloc(), shelf)?;
     let mut given = Given::none(rt.alloc());
-    answers_at(rt, &desk, &mut given, steps.as_str())
-}
-
-/// What a desk answers to steps.
-fn answers_at<K: ShelfName, P: Wait + AllocGlobal>(
-    rt: &P,
-    desk: &Desk<Memory, K>,
-    given: &mut Given<K>,
-    steps: &str,
-) -> Result<String, AllocError> {
-    let mut answers = String::new(rt.alloc());
-    for step in steps.split("; ") {
-        push_answer(&mut answers, answer_to(rt, desk, given, step)?.as_str())?;
+    let mut all = Vec::new(rt.alloc());
+    for step in steps {
+        all.push(seen_of(rt, &desk, &mut given, *step)?)?;
     }
-    Ok(answers)
-}
-
-/// Puts one more answer into a text.
-fn push_answer(answers: &mut String, answer: &str) -> Result<(), AllocError> {
-    if !answers.is_empty() {
-        answers.push_str("; ")?;
-    }
-    answers.push_str(answer)
-}
-
-/// What a desk answers to steps, of which another desk knows nothing: it is asked before and after.
-fn apart<P: Wait + AllocGlobal>(rt: &P) -> Result<String, AllocError> {
-    let shelf = Shelf::new(rt.alloc())?;
-    apart_on::<Brand, P>(rt, shelf)
-}
-
-/// The same on a shelf that is named.
-fn apart_on<K: ShelfName, P: Wait + AllocGlobal>(
-    rt: &P,
-    shelf: Shelf<Memory>,
-) -> Result<String, AllocError>
-    requires { shelf ≡ K.shelf }
-{
-    let desk = Desk::<Memory, K>::on(rt.alloc(), shelf)?;
-    let mut given = Given::none(rt.alloc());
-    apart_at(rt, &desk, &mut given)
-}
-
-/// The same at a desk.
-fn apart_at<K: ShelfName, P: Wait + AllocGlobal>(
-    rt: &P,
-    desk: &Desk<Memory, K>,
-    given: &mut Given<K>,
-) -> Result<String, AllocError> {
-    let mut answers = answers_at(rt, desk, given, "file read_after_its_write; ask 0")?;
-    let steps = "file value_that_nobody_wrote; work; ask 0; ask 1";
-    push_answer(&mut answers, answered(rt, steps)?.as_str())?;
-    push_answer(
-        &mut answers,
-        answers_at(rt, desk, given, "ask 0; work; ask 0")?.as_str(),
-    )?;
-    Ok(answers)
-}
-
-#[test]
-fn two_desks_are_apart(rt: HostRuntime) -> Result<(), Fail> {
-    let wanted =
-        "0; Open(2); 0; 2; Unknown(Some(OpId { session: 0, index: 0 })); no case; Open(2); 2; Yes";
-    assert_eq!(rt; apart(&rt)?.as_str(), wanted);
-    Ok(())
+    Ok(all)
 }
 
 /// The tickets and the verdicts that a desk has given.
@@ -173,269 +326,195 @@ impl<K: ShelfName> Given<K> {
     }
 }
 
-/// The answer to a step: its word, and what stands behind it.
-fn answer_to<K: ShelfName, P: Wait + AllocGlobal>(
+/// What is seen of a step.
+fn seen_of<K: ShelfName, P: Wait + AllocGlobal>(
     rt: &P,
     desk: &Desk<Memory, K>,
     given: &mut Given<K>,
-    step: &str,
-) -> Result<String, AllocError> {
-    let (word, rest) = word_first(step);
-    match word {
-        "file" => filed(rt, desk, given, rest),
-        "file_or_back" => filed_or_back(rt, desk, given, rest),
-        "take" => taken(rt, desk),
-        "work" => worked(rt, desk),
-        "file_64_times" => filled(rt, desk, given, rest),
-        _ => answer_on_case(rt, desk, given, step),
+    step: Step,
+) -> Result<Seen, AllocError> {
+    match step {
+        Step::File(text) => filed(rt, desk, given, text),
+        Step::FileOrBack(text) => filed_or_back(rt, desk, given, text),
+        Step::Fill(text) => filled(rt, desk, given, text),
+        Step::Take => Ok(taken(rt, desk)),
+        Step::Work => Ok(worked(rt, desk)),
+        Step::On(case, event) => match given.tickets.get(case) {
+            Some(ticket) => {
+                let ticket = ticket.again();
+                seen_on_case(rt, desk, given, &ticket, event)
+            }
+            None => Ok(Seen::Nothing),
+        },
     }
 }
 
-/// The first word of a text, and the rest behind it.
-fn word_first(text: &str) -> (&str, &str) {
-    text.split_once(' ').unwrap_or((text, ""))
-}
-
-/// The answer to a step on a case: its word, the number of the case, and what stands behind it.
-fn answer_on_case<K: ShelfName, P: Wait + AllocGlobal>(
+/// What is seen of an event on a case.
+fn seen_on_case<K: ShelfName, P: Wait + AllocGlobal>(
     rt: &P,
     desk: &Desk<Memory, K>,
     given: &mut Given<K>,
-    step: &str,
-) -> Result<String, AllocError> {
-    let (word, rest) = word_first(step);
-    let (number, rest) = word_first(rest);
-    let Some(ticket) = ticket_of(given, number) else {
-        return String::from_str(rt.alloc(), "no case");
-    };
-    match word {
-        "check" => checked(rt.alloc(), desk, given, &ticket, rest),
-        "put" => put(rt, desk, given, &ticket, rest),
-        "ask" => told(rt.alloc(), &desk.ask(rt, &ticket)),
-        "refute" => refuted(rt, desk, &ticket, rest),
-        "pattern" => kept(rt, desk, &ticket),
-        "settle" => done(rt.alloc(), desk.settle(rt, &ticket)),
-        "see" => seen(rt.alloc(), ticket.file(desk)),
-        _ => String::from_str(rt.alloc(), "no step"),
+    ticket: &Ticket<Memory, K>,
+    event: Event,
+) -> Result<Seen, AllocError> {
+    match event {
+        Event::Check(op) => checked(desk, given, ticket, op),
+        Event::Put(verdict) => Ok(put(rt, desk, given, ticket, verdict)),
+        Event::Ask => Ok(Seen::Stands(desk.ask(rt, ticket))),
+        Event::Refute(pattern) => refuted(rt, desk, ticket, pattern),
+        Event::Pattern => kept(rt, desk, ticket),
+        Event::Settle => Ok(done(desk.settle(rt, ticket))),
     }
 }
 
-/// The ticket of a case, once more.
-fn ticket_of<K: ShelfName>(given: &Given<K>, number: &str) -> Option<Ticket<Memory, K>> {
-    let number: usize = number.parse().ok()?;
-    Some(given.tickets.get(number)?.again())
-}
-
-/// Files a case: its number. It is filed once more where memory was refused: later answers show whether the refusal left the
-/// board as it was.
+/// Files a case, once more where memory was refused: later steps show whether the refusal left the board as it was.
 fn filed<K: ShelfName, P: Wait + AllocGlobal>(
     rt: &P,
     desk: &Desk<Memory, K>,
     given: &mut Given<K>,
-    name: &str,
-) -> Result<String, AllocError> {
-    let Some(file) = file_made(rt.alloc(), name) else {
-        return String::from_str(rt.alloc(), "no case file");
+    text: FileText,
+) -> Result<Seen, AllocError> {
+    match filed_once(rt, desk, given, text)? {
+        Seen::Refused(8) => filed_once(rt, desk, given, text),
+        seen => Ok(seen),
+    }
+}
+
+/// Files a case.
+fn filed_once<K: ShelfName, P: Wait + AllocGlobal>(
+    rt: &P,
+    desk: &Desk<Memory, K>,
+    given: &mut Given<K>,
+    text: FileText,
+) -> Result<Seen, AllocError> {
+    let Some(file) = file_of(rt.alloc(), text) else {
+        return Err(AllocError);
     };
     match desk.file(rt, file) {
-        Err(DeskError::Memory) => filed_again(rt, desk, given, name),
-        filed => with_ticket(rt.alloc(), given, filed),
+        Ok(ticket) => with_ticket(given, ticket),
+        Err(refused) => Ok(Seen::Refused(refused.number())),
     }
 }
 
-/// Files a case for the last time: its number.
-fn filed_again<K: ShelfName, P: Wait + AllocGlobal>(
-    rt: &P,
-    desk: &Desk<Memory, K>,
-    given: &mut Given<K>,
-    name: &str,
-) -> Result<String, AllocError> {
-    match file_made(rt.alloc(), name) {
-        Some(file) => with_ticket(rt.alloc(), given, desk.file(rt, file)),
-        None => String::from_str(rt.alloc(), "no case file"),
-    }
-}
-
-/// The case file of a name, made once more where memory was refused.
-fn file_made(alloc: Global, name: &str) -> Option<CaseFile<Memory>> {
-    match file_named(alloc, name) {
-        Some(file) => Some(file),
-        None => file_named(alloc, name),
-    }
-}
-
-/// Files a case 64 times: the last number.
-fn filled<K: ShelfName, P: Wait + AllocGlobal>(
-    rt: &P,
-    desk: &Desk<Memory, K>,
-    given: &mut Given<K>,
-    name: &str,
-) -> Result<String, AllocError> {
-    let mut last = String::new(rt.alloc());
-    for _case in 0..64 {
-        last = filed(rt, desk, given, name)?;
-    }
-    Ok(last)
-}
-
-/// Keeps a ticket: its number.
-fn with_ticket<K: ShelfName>(
-    alloc: Global,
-    given: &mut Given<K>,
-    filed: Result<Ticket<Memory, K>, DeskError>,
-) -> Result<String, AllocError> {
-    match filed {
-        Ok(ticket) => {
-            let number = ticket.number();
-            given.tickets.push(ticket)?;
-            told(alloc, &number)
-        }
-        Err(refused) => refusal(alloc, refused),
-    }
-}
-
-/// Files a case: its number, or the file that comes back.
+/// Files a case by the call that gives the file back where there is no room.
 fn filed_or_back<K: ShelfName, P: Wait + AllocGlobal>(
     rt: &P,
     desk: &Desk<Memory, K>,
     given: &mut Given<K>,
-    name: &str,
-) -> Result<String, AllocError> {
-    let Some(file) = file_made(rt.alloc(), name) else {
-        return String::from_str(rt.alloc(), "no case file");
+    text: FileText,
+) -> Result<Seen, AllocError> {
+    let Some(file) = file_of(rt.alloc(), text) else {
+        return Err(AllocError);
     };
     match desk.file_or_back(rt, file) {
-        Ok(ticket) => with_ticket(rt.alloc(), given, Ok(ticket)),
-        Err(Some(file)) => seen(rt.alloc(), &file),
-        Err(None) => filed_again(rt, desk, given, name),
+        Ok(ticket) => with_ticket(given, ticket),
+        Err(Some(file)) => Ok(Seen::Back(file.criterion())),
+        Err(None) => filed_once(rt, desk, given, text),
     }
 }
 
-/// The criterion of a case file, whether it has a certificate, and how many sessions its history has.
-fn seen(alloc: Global, file: &CaseFile<Memory>) -> Result<String, AllocError> {
-    let criterion = file.criterion();
-    let certified = file.certificate().is_some();
-    let sessions = file.history().sessions();
-    format!(in alloc; "{criterion:?} {certified} {sessions}")
-}
-
-/// Takes a piece: the number of its case, which the ticket has, and the operation.
-fn taken<K: ShelfName, P: Wait + AllocGlobal>(
+/// Files a case 64 times: what is seen of the last.
+fn filled<K: ShelfName, P: Wait + AllocGlobal>(
     rt: &P,
     desk: &Desk<Memory, K>,
-) -> Result<String, AllocError> {
+    given: &mut Given<K>,
+    text: FileText,
+) -> Result<Seen, AllocError> {
+    let mut last = Seen::Nothing;
+    for _case in 0..64 {
+        last = filed_once(rt, desk, given, text)?;
+    }
+    Ok(last)
+}
+
+/// Keeps a ticket.
+fn with_ticket<K: ShelfName>(
+    given: &mut Given<K>,
+    ticket: Ticket<Memory, K>,
+) -> Result<Seen, AllocError> {
+    let number = ticket.number();
+    given.tickets.push(ticket)?;
+    Ok(Seen::Number(number))
+}
+
+/// Takes a piece.
+fn taken<K: ShelfName, P: Wait>(rt: &P, desk: &Desk<Memory, K>) -> Seen {
     match desk.take(rt) {
-        Some((ticket, op)) => piece(rt.alloc(), ticket.number(), op),
-        None => String::from_str(rt.alloc(), "none"),
+        Some((ticket, op)) => Seen::Piece(ticket.number(), op),
+        None => Seen::Nothing,
     }
 }
 
-/// The number of a case, and an operation.
-fn piece(alloc: Global, number: u32, op: OpId) -> Result<String, AllocError> {
-    let OpId { session, index } = op;
-    format!(in alloc; "{number} {session}.{index}")
-}
-
-/// Works: how many verdicts are put.
-fn worked<K: ShelfName, P: Wait + AllocGlobal>(
-    rt: &P,
-    desk: &Desk<Memory, K>,
-) -> Result<String, AllocError> {
+/// Works.
+fn worked<K: ShelfName, P: Wait>(rt: &P, desk: &Desk<Memory, K>) -> Seen {
     match desk.work(rt, &OpenGate) {
-        Ok(put) => told(rt.alloc(), &put),
-        Err(refused) => refusal(rt.alloc(), refused),
+        Ok(put) => Seen::Number(put),
+        Err(refused) => Seen::Refused(refused.number()),
     }
 }
 
-/// Keeps a verdict on an operation: its case, its operation and its outcome.
+/// Checks an operation, and keeps the verdict.
 fn checked<K: ShelfName>(
-    alloc: Global,
     desk: &Desk<Memory, K>,
     given: &mut Given<K>,
     ticket: &Ticket<Memory, K>,
-    op: &str,
-) -> Result<String, AllocError> {
-    let Some(op) = op_of(op) else {
-        return String::from_str(alloc, "no operation");
-    };
+    op: OpId,
+) -> Result<Seen, AllocError> {
     match desk.check(ticket, op) {
-        Ok(verdict) => with_verdict(alloc, given, verdict),
-        Err(refused) => refusal(alloc, refused),
+        Ok(verdict) => {
+            let seen = Seen::Checked(verdict.case(), verdict.op(), verdict.outcome());
+            given.verdicts.push(verdict)?;
+            Ok(seen)
+        }
+        Err(refused) => Ok(Seen::Refused(refused.number())),
     }
 }
 
-/// Keeps a verdict: its case, its operation and its outcome.
-fn with_verdict<K: ShelfName>(
-    alloc: Global,
-    given: &mut Given<K>,
-    verdict: Verdict<Memory, K>,
-) -> Result<String, AllocError> {
-    let outcome = verdict.outcome();
-    let piece = piece(alloc, verdict.case(), verdict.op())?;
-    given.verdicts.push(verdict)?;
-    format!(in alloc; "{piece} {outcome:?}")
-}
-
-/// Puts a verdict once more to a case.
-fn put<K: ShelfName, P: Wait + AllocGlobal>(
+/// Puts a verdict once more.
+fn put<K: ShelfName, P: Wait>(
     rt: &P,
     desk: &Desk<Memory, K>,
     given: &Given<K>,
     ticket: &Ticket<Memory, K>,
-    number: &str,
-) -> Result<String, AllocError> {
-    match verdict_of(given, number) {
-        Some(verdict) => done(rt.alloc(), desk.put(rt, ticket, verdict)),
-        None => String::from_str(rt.alloc(), "no verdict"),
+    verdict: usize,
+) -> Seen {
+    match given.verdicts.get(verdict) {
+        Some(verdict) => done(desk.put(rt, ticket, verdict.again())),
+        None => Seen::Nothing,
     }
 }
 
-/// A verdict, once more.
-fn verdict_of<K: ShelfName>(given: &Given<K>, number: &str) -> Option<Verdict<Memory, K>> {
-    let number: usize = number.parse().ok()?;
-    Some(given.verdicts.get(number)?.again())
-}
-
-/// Puts a pattern to a case.
+/// Puts a pattern.
 fn refuted<K: ShelfName, P: Wait + AllocGlobal>(
     rt: &P,
     desk: &Desk<Memory, K>,
     ticket: &Ticket<Memory, K>,
     pattern: &str,
-) -> Result<String, AllocError> {
+) -> Result<Seen, AllocError> {
     match pattern_of(rt.alloc(), pattern) {
-        Some(pattern) => done(rt.alloc(), desk.refute(rt, ticket, pattern)),
-        None => String::from_str(rt.alloc(), "no pattern"),
+        Some(pattern) => Ok(done(desk.refute(rt, ticket, pattern))),
+        None => Err(AllocError),
     }
 }
 
 /// The pattern that a case keeps.
-fn kept<K: ShelfName, P: Wait + AllocGlobal>(
+fn kept<K: ShelfName, P: Wait>(
     rt: &P,
     desk: &Desk<Memory, K>,
     ticket: &Ticket<Memory, K>,
-) -> Result<String, AllocError> {
+) -> Result<Seen, AllocError> {
     match desk.pattern(rt, ticket) {
-        Ok(pattern) => told(rt.alloc(), &pattern),
+        Ok(Some(Pattern::ThinAirRead(read))) => Ok(Seen::Pattern(Some(read))),
+        Ok(Some(_)) => Ok(Seen::Nothing),
+        Ok(None) => Ok(Seen::Pattern(None)),
         Err(_no_memory) => Err(AllocError),
     }
 }
 
 /// How an event without a value ended.
-fn done(alloc: Global, ended: Result<(), DeskError>) -> Result<String, AllocError> {
+fn done(ended: Result<(), DeskError>) -> Seen {
     match ended {
-        Ok(()) => String::from_str(alloc, "ok"),
-        Err(refused) => refusal(alloc, refused),
+        Ok(()) => Seen::Done,
+        Err(refused) => Seen::Refused(refused.number()),
     }
-}
-
-/// The number of a refusal.
-pub fn refusal(alloc: Global, refused: DeskError) -> Result<String, AllocError> {
-    let number = refused.number();
-    format!(in alloc; "refused {number}")
-}
-
-/// A value as it is shown.
-pub fn told<T: Debug>(alloc: Global, value: &T) -> Result<String, AllocError> {
-    format!(in alloc; "{value:?}")
 }

@@ -1,8 +1,7 @@
-//! What the cases over histories of a memory share.
+//! Histories of a memory in texts.
 
-use cert_check::Criterion;
 use objects::Memory;
-use operations::{AnyHistory, History, OpId, read_history};
+use operations::{AnyHistory, History, read_history};
 use std::alloc::{AllocError, Global};
 
 /// The history of a memory in a text.
@@ -13,44 +12,19 @@ pub fn memory(alloc: Global, text: &str) -> Option<History<Memory>> {
     }
 }
 
-/// The criterion that a text names first, and the rest of the text.
-pub fn criterion_first(text: &str) -> Option<(Criterion, &str)> {
-    let (criterion, rest) = text.split_once(' ')?;
-    Some((Criterion::named(criterion)?, rest))
+/// Pieces one after the other, each so many times.
+pub fn joined(alloc: Global, pieces: &[(&str, usize)]) -> Result<String, AllocError> {
+    let mut text = String::new(alloc);
+    for (piece, times) in pieces {
+        push_times(&mut text, piece, *times)?;
+    }
+    Ok(text)
 }
 
-/// The operation that a text names, as `session.index`.
-pub fn op_of(text: &str) -> Option<OpId> {
-    let (session, index) = text.split_once('.')?;
-    Some(OpId {
-        session: session.parse().ok()?,
-        index: index.parse().ok()?,
-    })
-}
-
-/// Puts a session of so many writes of its own variable into a text.
-fn push_writes(
-    text: &mut String,
-    alloc: Global,
-    session: usize,
-    operations: usize,
-) -> Result<(), AllocError> {
-    for value in 1..=operations {
-        let comma = if value == 1 { "" } else { "," };
-        let write = format!(in alloc; "{comma}[\"w\",{session},{value}]")?;
-        text.push_str(write.as_str())?;
+/// Puts a piece so many times into a text.
+fn push_times(text: &mut String, piece: &str, times: usize) -> Result<(), AllocError> {
+    for _time in 0..times {
+        text.push_str(piece)?;
     }
     Ok(())
-}
-
-/// The text of a memory history of so many sessions, each of so many writes of its own variable.
-pub fn writes(alloc: Global, sessions: usize, operations: usize) -> Result<String, AllocError> {
-    let mut text = String::from_str(alloc, r#"["memory",["#)?;
-    for session in 0..sessions {
-        text.push_str(if session == 0 { "[" } else { ",[" })?;
-        push_writes(&mut text, alloc, session, operations)?;
-        text.push_str("]")?;
-    }
-    text.push_str("]]")?;
-    Ok(text)
 }

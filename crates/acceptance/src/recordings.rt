@@ -1,9 +1,8 @@
-//! Steps of sessions that are made again where memory was refused, and what a history says of them.
+//! Steps of sessions, and what a history says of them.
 
 use history::{Advice, History, MAX_SESSIONS, TakenIn};
-use object_trait::SeqObject;
 use objects::{Register, RegisterCall, RegisterRet};
-use recorder::{RecordError, Session};
+use recorder::Session;
 use std::alloc::{AllocError, Global};
 
 /// Advice that tells nothing but a stamp.
@@ -15,16 +14,13 @@ pub fn advice(alloc: Global, stamp: u64) -> Advice {
     }
 }
 
-/// Begins a call, at the second time of asking where memory was refused at the first.
-pub fn begun<O: SeqObject>(session: &mut Session<O>, call: O::Call) -> bool {
-    match session.begin(call) {
-        Err(RecordError::Memory) => session.begin(call).is_ok(),
-        outcome => outcome.is_ok(),
-    }
+/// Begins a call: whether it has begun.
+pub fn begun(session: &mut Session<Register>, call: RegisterCall) -> bool {
+    session.begin(call).is_ok()
 }
 
-/// Ends the pending call, with advice that nothing was taken in.
-pub fn ended<O: SeqObject>(alloc: Global, session: &mut Session<O>, ret: O::Ret) -> bool {
+/// Ends the pending call, with advice that nothing was taken in: whether it has ended.
+pub fn ended(alloc: Global, session: &mut Session<Register>, ret: RegisterRet) -> bool {
     session.finish(ret, advice(alloc, 0)).is_ok()
 }
 
@@ -32,16 +28,8 @@ pub fn ended<O: SeqObject>(alloc: Global, session: &mut Session<O>, ret: O::Ret)
 pub fn operations_of(alloc: Global, history: &History<Register>) -> Result<String, AllocError> {
     let mut text = String::new(alloc);
     for session in 0..history.sessions() {
-        push_operations(&mut text, alloc, history.session(session))?;
+        let operations = history.session(session);
+        text.push_str(format!(in alloc; "{operations:?};")?.as_str())?;
     }
     Ok(text)
-}
-
-fn push_operations(
-    text: &mut String,
-    alloc: Global,
-    operations: &[(RegisterCall, Option<RegisterRet>)],
-) -> Result<(), AllocError> {
-    let operations = format!(in alloc; "{operations:?};")?;
-    text.push_str(operations.as_str())
 }

@@ -1,356 +1,94 @@
-//! What replicas answer and tell, step by step.
-//!
-//! A step `2` is the next operation of session 2, and `2<0` gives its replica the first update that was sent. An update that
-//! nobody sent is written as `2<session.index.number.stamp.seen`, what it has seen of each session as in `0/3/1`.
+//! What two replicas of a queue answer and tell, by each store and delivery.
 
-use crate::cases::Question;
-use crate::tables::as_wanted;
-use causal_memory::AsTakenIn;
-use history::{History, MAX_SESSIONS};
-use lamport_store::ByStamp;
-use object_trait::SeqObject;
-use objects::{Register, RegisterCall};
-use operations::{AnyHistory, read_history};
-use replica::{ActedOf, Delivery, Replica, ReplicaError, UpdateOf, UpdateOrder};
-use std::alloc::{AllocError, Global};
-use std::fmt::Debug;
+use causal_memory::{AsTakenIn, CausalReplica};
+use lamport_store::{ByStamp, LamportReplica};
+use objects::{Queue, QueueCall};
+use replica::{Delivery, Replica, ReplicaError, UpdateOf, UpdateOrder};
+use std::alloc::Global;
 use std::test::Fail;
 
-/// For each operation: its return, what was taken in of each session, the stamp, and the order.
-const STEPS: &str = r#"
-update_waits_for_what_its_writer_had_seen | causal causal ["memory",[[["w",0,1,"?"]],[["r",0,"?"],["w",1,1,"?"]],[["r",1,"?"],["r",0,"?"]]]] 0 1<0 1 1 2<1 2 2<0 2 | Done [1, 0, 0] 1 [0];Value(1) [1, 1, 0] 2 [0, 1];Done [1, 2, 0] 3 [0, 1];Value(0) [0, 0, 1] 1 [2];Value(1) [1, 2, 2] 4 [0, 1, 2];
-eager_update_comes_before_what_its_writer_had_seen | causal eager ["memory",[[["w",0,1,"?"]],[["r",0,"?"],["w",1,1,"?"]],[["r",1,"?"],["r",0,"?"]]]] 0 1<0 1 1 2<1 2 2 | Done [1, 0, 0] 1 [0];Value(1) [1, 1, 0] 2 [0, 1];Done [1, 2, 0] 3 [0, 1];Value(1) [0, 2, 1] 4 [1, 2];Value(0) [0, 2, 2] 5 [1, 2];
-last_taken_in_is_read | causal causal ["memory",[[["w",0,1,"?"]],[["w",0,2,"?"]],[["r",0,"?"]]]] 0 1 2<1 2<0 2 | Done [1, 0, 0] 1 [0];Done [0, 1, 0] 1 [1];Value(1) [1, 1, 1] 2 [1, 0, 2];
-later_stamp_is_read_and_of_one_stamp_the_later_session | lamport causal ["memory",[[["w",0,1,"?"]],[["w",0,2,"?"]],[["r",0,"?"]]]] 0 1 2<1 2<0 2 | Done [1, 0, 0] 1 [];Done [0, 1, 0] 1 [];Value(2) [1, 1, 1] 2 [];
-later_stamp_comes_first | lamport eager ["memory",[[["w",0,1,"?"],["w",0,2,"?"]],[["w",0,3,"?"],["r",0,"?"]]]] 0 0 1<1 1 1<0 1 | Done [1, 0] 1 [];Done [2, 0] 2 [];Done [2, 1] 3 [];Value(3) [2, 2] 4 [];
-earlier_stamp_comes_behind_what_was_answered | lamport causal ["queue",[[["push",7,"?"]],[["push",8,"?"],["pop","?"],["pop","?"],["pop","?"]]]] 0 1 1 1<0 1 1 | Done [1, 0] 1 [];Done [0, 1] 1 [];Popped(Some(8)) [0, 2] 2 [];Popped(Some(8)) [1, 3] 3 [];Popped(None) [1, 4] 4 [];
-greatest_stamp_stops_the_clock | causal eager ["memory",[[["r",0,"?"]],[["w",0,1,"?"]]]] 0<1.0.0.18446744073709551615.0 0 0 | refused 16;refused 16;
-clock_goes_up_to_the_greatest_stamp | lamport causal ["memory",[[["r",0,"?"],["w",0,3,"?"]],[["w",0,1,"?"]]]] 0<1.0.0.18446744073709551614.0 0 0 | Value(1) [1, 1] 18446744073709551615 [];refused 16;
-increment_is_counted_once_it_is_taken_in | causal causal ["counter",[[["inc","?"]],[["get","?"]]]] 0 1<0 1 | Done [1, 0] 1 [0];Value(1) [1, 1] 2 [0, 1];
-own_query_is_no_entry_of_the_order | causal causal ["counter",[[["inc","?"]],[["get","?"],["get","?"]]]] 1 0 1<0 1 | Value(0) [0, 1] 1 [1];Done [1, 0] 1 [0];Value(1) [1, 2] 2 [0, 1];
-update_that_comes_again_changes_nothing | causal causal ["counter",[[["inc","?"],["inc","?"]],[["get","?"],["get","?"]]]] 0 0 1<1 1<1 1 1<0 1<0 1<1 1 | Done [1, 0] 1 [0];Done [2, 0] 2 [0, 0];Value(0) [0, 1] 1 [1];Value(2) [2, 2] 3 [0, 0, 1];
-eager_update_that_comes_again_changes_nothing | lamport eager ["counter",[[["inc","?"],["inc","?"]],[["get","?"],["get","?"]]]] 0 0 1<1 1<1 1 1<0 1<0 1<1 1 | Done [1, 0] 1 [];Done [2, 0] 2 [];Value(1) [2, 1] 3 [];Value(2) [2, 2] 4 [];
-own_update_changes_nothing | causal eager ["counter",[[["inc","?"],["get","?"]],[]]] 0 0<0 0<0.0.5.9.0 0 | Done [1, 0] 1 [0];Value(1) [2, 0] 2 [0, 0];
-update_of_a_session_that_is_not_there_changes_nothing | causal eager ["counter",[[["get","?"]],[["inc","?"]]]] 0<2.0.0.9.0 0<16.0.0.9.0 0<255.255.0.9.0 0 | Value(0) [1, 0] 1 [0];
-update_with_a_taken_number_changes_nothing | lamport causal ["memory",[[["r",0,"?"]],[["w",0,1,"?"],["w",0,2,"?"]]]] 0<1.0.0.3.0 0<1.1.0.7.0 0 | Value(1) [1, 1] 4 [];
-first_received_goes_first | causal causal ["memory",[[["r",0,"?"],["r",0,"?"]],[["w",0,1,"?"]],[["w",0,2,"?"]],[["w",0,3,"?"]]]] 0<2.0.0.9.0/1 0<3.0.0.9.0/1 0 0<1.0.0.1.0 0 | Value(0) [1, 0, 0, 0] 1 [0];Value(3) [2, 1, 1, 1] 10 [1, 2, 3, 0];
-own_updates_are_not_waited_for | causal causal ["memory",[[["r",0,"?"]],[["w",0,1,"?"]]]] 0<1.0.0.4.9/7/0 0 | Value(1) [1, 1] 5 [1, 0];
-number_that_comes_too_early_is_held | causal causal ["memory",[[["r",0,"?"],["r",0,"?"]],[["w",0,1,"?"],["w",0,2,"?"]]]] 0<1.1.18446744073709551615.5.0 0<1.1.1.2.0 0 0<1.0.0.1.0 0 | Value(0) [1, 0] 1 [0];Value(2) [2, 2] 3 [1, 1, 0];
-later_update_is_taken_in_eagerly | causal eager ["memory",[[["r",0,"?"],["w",0,9,"?"],["r",0,"?"]],[["w",0,1,"?"],["w",0,2,"?"]]]] 0<1.255.18446744073709551615.5.0 0 0<1.0.0.1.0 0 0 | Value(1) [1, 256] 6 [1, 0];Done [2, 256] 7 [1, 1, 0];Value(9) [3, 256] 8 [1, 1, 0, 0];
-"#;
-
-#[test]
-fn replicas_answer_step_by_step(rt: HostRuntime) -> Result<(), Fail> {
-    as_wanted(&rt, Question::Replicate, STEPS)
-}
-
-/// What replicas answer, where the input has a store, a delivery, a history whose calls are asked, and steps.
-pub fn replicated(alloc: Global, input: &str) -> Result<String, AllocError> {
-    match store_and_delivery(input) {
-        Some(("causal", delivery, rest)) => replicated_by::<AsTakenIn>(alloc, delivery, rest),
-        Some(("lamport", delivery, rest)) => replicated_by::<ByStamp>(alloc, delivery, rest),
-        _ => String::from_str(alloc, "no store and delivery"),
-    }
-}
-
-/// The store and the delivery that a text names first, and the rest of the text.
-pub fn store_and_delivery(text: &str) -> Option<(&str, Delivery, &str)> {
-    let (store, rest) = text.split_once(' ')?;
-    let (delivery, rest) = rest.split_once(' ')?;
-    let delivery = match delivery {
-        "causal" => Delivery::Causal,
-        "eager" => Delivery::Eager,
-        _ => return None,
-    };
-    Some((store, delivery, rest))
-}
-
-fn replicated_by<P: UpdateOrder>(
+/// What the replicas answer, with the stamp and the order that are told. The second pushes and pops before it receives the two
+/// pushes of the first, the later one first.
+fn answers_of_two<P: UpdateOrder>(
     alloc: Global,
     delivery: Delivery,
-    input: &str,
-) -> Result<String, AllocError> {
-    let (text, steps) = input.split_once(' ').unwrap_or((input, ""));
-    match read_history(alloc, text.as_bytes()) {
-        Ok(AnyHistory::Counter(plain)) => {
-            answers::<_, P>(alloc, plain.history(), delivery, steps)
-        }
-        Ok(AnyHistory::Queue(plain)) => answers::<_, P>(alloc, plain.history(), delivery, steps),
-        Ok(AnyHistory::Memory(history)) => answers::<_, P>(alloc, &history, delivery, steps),
-        _ => String::from_str(alloc, "no history of these objects"),
-    }
-}
-
-/// A replica for each session of a history.
-pub fn replicas_of<O: SeqObject, P: UpdateOrder>(
-    alloc: Global,
-    history: &History<O>,
-    delivery: Delivery,
-) -> Result<Vec<Replica<O, P>>, AllocError> {
-    let k = history.sessions();
-    let mut replicas = Vec::new(alloc);
-    for session in 0..k {
-        let replica = Replica::new(alloc, session, k, delivery, history.start())?;
-        replicas.push(replica)?;
-    }
-    Ok(replicas)
-}
-
-/// What the replicas answer to steps.
-fn answers<O: SeqObject, P: UpdateOrder>(
-    alloc: Global,
-    history: &History<O>,
-    delivery: Delivery,
-    steps: &str,
-) -> Result<String, AllocError>
-where
-    O::Ret: Debug,
-{
-    let mut replicas: Vec<Replica<O, P>> = replicas_of(alloc, history, delivery)?;
-    let mut sent = Vec::new(alloc);
+) -> Result<String, ReplicaError> {
     let mut answers = String::new(alloc);
-    let mut asked = [0; MAX_SESSIONS];
-    for step in steps.split(' ') {
-        let answer = answer_to(alloc, history, &mut replicas, &mut sent, &mut asked, step)?;
-        answers.push_str(answer.as_str())?;
+    let mut first: Replica<Queue, P> = Replica::new(alloc, 0, 2, delivery, &())?;
+    let earlier = act(alloc, &mut answers, &mut first, QueueCall::Push(7))?;
+    let later = act(alloc, &mut answers, &mut first, QueueCall::Push(9))?;
+    let mut second: Replica<Queue, P> = Replica::new(alloc, 1, 2, delivery, &())?;
+    act(alloc, &mut answers, &mut second, QueueCall::Push(8))?;
+    act(alloc, &mut answers, &mut second, QueueCall::Pop)?;
+    for update in [later, earlier] {
+        if let Some(update) = update {
+            second.receive(update)?;
+        }
+        act(alloc, &mut answers, &mut second, QueueCall::Pop)?;
     }
+    act(alloc, &mut answers, &mut second, QueueCall::Pop)?;
     Ok(answers)
 }
 
-fn answer_to<O: SeqObject, P: UpdateOrder>(
+/// Asks a replica, adds its answer to the others, and gives its update.
+fn act<P: UpdateOrder>(
     alloc: Global,
-    history: &History<O>,
-    replicas: &mut Vec<Replica<O, P>>,
-    sent: &mut Vec<UpdateOf<O::Call>>,
-    asked: &mut [usize; MAX_SESSIONS],
-    step: &str,
-) -> Result<String, AllocError>
-where
-    O::Ret: Debug,
-{
-    let (to, update) = step.split_once('<').unwrap_or((step, ""));
-    let Some((replica, asked)) = chosen(replicas, asked, to) else {
-        return String::from_str(alloc, "no such session;");
-    };
-    if update.is_empty() {
-        return answer_of(alloc, history, replica, sent, asked, to);
-    }
-    let Some(update) = update_of(history, sent, update) else {
-        return String::from_str(alloc, "no such update;");
-    };
-    match received(replica, update) {
-        Ok(()) => Ok(String::new(alloc)),
-        Err(refusal) => refused(alloc, refusal),
-    }
-}
-
-/// The replica of a session, and how many calls it was asked.
-fn chosen<'a, R>(
-    replicas: &'a mut Vec<R>,
-    asked: &'a mut [usize; MAX_SESSIONS],
-    session: &str,
-) -> Option<(&'a mut R, &'a mut usize)> {
-    let session: usize = session.parse().ok()?;
-    Some((replicas.get_mut(session)?, asked.get_mut(session)?))
-}
-
-/// What a replica answers to the next call of its session.
-fn answer_of<O: SeqObject, P: UpdateOrder>(
-    alloc: Global,
-    history: &History<O>,
-    replica: &mut Replica<O, P>,
-    sent: &mut Vec<UpdateOf<O::Call>>,
-    asked: &mut usize,
-    session: &str,
-) -> Result<String, AllocError>
-where
-    O::Ret: Debug,
-{
-    let session = session.parse().unwrap_or(MAX_SESSIONS);
-    let Some(call) = call_at(history, session, *asked) else {
-        return String::from_str(alloc, "no such call;");
-    };
-    match acted(replica, call) {
-        Ok(acted) => {
-            *asked = asked.saturating_add(1);
-            if let Some(update) = &acted.update {
-                sent.push(update.again())?;
-            }
-            told(alloc, &acted, history.sessions())
-        }
-        Err(refusal) => refused(alloc, refusal),
-    }
-}
-
-/// What an operation returned, and what is told of it.
-fn told<C: Drop, R: Drop + Debug>(
-    alloc: Global,
-    acted: &ActedOf<C, R>,
-    k: usize,
-) -> Result<String, AllocError> {
-    let ret = &acted.ret;
-    let counts = acted.advice.counts.get(..k).unwrap_or(&[]);
+    answers: &mut String,
+    replica: &mut Replica<Queue, P>,
+    call: QueueCall,
+) -> Result<Option<UpdateOf<QueueCall>>, ReplicaError> {
+    let acted = replica.act(call)?;
+    let ret = acted.ret;
     let stamp = acted.advice.stamp;
     let order = acted.advice.order.sessions();
-    format!(in alloc; "{ret:?} {counts:?} {stamp} {order:?};")
+    answers.push_str(format!(in alloc; "{ret:?} {stamp} {order:?};")?.as_str())?;
+    Ok(acted.update)
 }
 
-fn refused(alloc: Global, refusal: ReplicaError) -> Result<String, AllocError> {
-    let number = refusal.number();
-    format!(in alloc; "refused {number};")
+const AS_TAKEN_IN: &str =
+    "Done 1 [0];Done 2 [0, 0];Done 1 [1];Popped(Some(8)) 2 [1, 1];Popped(None) 3 [1, 1, 1];\
+    Popped(Some(7)) 4 [1, 1, 1, 0, 0, 1];Popped(Some(9)) 5 [1, 1, 1, 0, 0, 1, 1];";
+
+const AS_TAKEN_IN_EAGERLY: &str =
+    "Done 1 [0];Done 2 [0, 0];Done 1 [1];Popped(Some(8)) 2 [1, 1];Popped(Some(9)) 3 [1, 1, 0, 1];\
+    Popped(Some(7)) 4 [1, 1, 0, 1, 0, 1];Popped(None) 5 [1, 1, 0, 1, 0, 1, 1];";
+
+const BY_STAMP: &str =
+    "Done 1 [];Done 2 [];Done 1 [];Popped(Some(8)) 2 [];Popped(None) 3 [];Popped(Some(9)) 4 [];Popped(None) 5 [];";
+
+const BY_STAMP_EAGERLY: &str =
+    "Done 1 [];Done 2 [];Done 1 [];Popped(Some(8)) 2 [];Popped(Some(9)) 3 [];Popped(Some(9)) 4 [];Popped(None) 5 [];";
+
+#[test]
+fn replicas_of_the_causal_store_answer(rt: HostRuntime) -> Result<(), Fail> {
+    let causal = answers_of_two::<AsTakenIn>(rt.alloc(), Delivery::Causal)?;
+    assert_eq!(rt; causal.as_str(), AS_TAKEN_IN);
+    let eager = answers_of_two::<AsTakenIn>(rt.alloc(), Delivery::Eager)?;
+    assert_eq!(rt; eager.as_str(), AS_TAKEN_IN_EAGERLY);
+    Ok(())
 }
 
-/// The call of an operation of a history.
-pub fn call_at<O: SeqObject>(
-    history: &History<O>,
-    session: usize,
-    index: usize,
-) -> Option<O::Call> {
-    if session < history.sessions() {
-        let (call, _) = history.session(session).get(index)?;
-        Some(*call)
-    } else {
-        None
-    }
+#[test]
+fn replicas_of_the_store_by_stamps_answer(rt: HostRuntime) -> Result<(), Fail> {
+    let causal = answers_of_two::<ByStamp>(rt.alloc(), Delivery::Causal)?;
+    assert_eq!(rt; causal.as_str(), BY_STAMP);
+    let eager = answers_of_two::<ByStamp>(rt.alloc(), Delivery::Eager)?;
+    assert_eq!(rt; eager.as_str(), BY_STAMP_EAGERLY);
+    Ok(())
 }
 
-/// An update that was sent, or one of these parts. That one has the call of its operation, where the history has that one,
-/// and else the first call of session 1.
-fn update_of<O: SeqObject>(
-    history: &History<O>,
-    sent: &[UpdateOf<O::Call>],
-    text: &str,
-) -> Option<UpdateOf<O::Call>> {
-    if let Ok(number) = text.parse::<usize>() {
-        return sent.get(number).copied();
-    }
-    let (op, rest) = op_first(text)?;
-    let (number, rest) = rest.split_once('.')?;
-    let (stamp, seen) = rest.split_once('.')?;
-    let call = match call_at(history, usize::from(op.0), usize::from(op.1)) {
-        Some(call) => call,
-        None => call_at(history, 1, 0)?,
-    };
-    Some(UpdateOf::of(
-        op.0,
-        u64::from(op.1),
-        number.parse().ok()?,
-        stamp.parse().ok()?,
-        call,
-        seen_in(seen),
-    ))
-}
-
-/// The session and the index that a text names first, and the rest of the text.
-fn op_first(text: &str) -> Option<((u8, u8), &str)> {
-    let (session, rest) = text.split_once('.')?;
-    let (index, rest) = rest.split_once('.')?;
-    Some(((session.parse().ok()?, index.parse().ok()?), rest))
-}
-
-/// Numbers with slashes between them, for the first sessions.
-fn seen_in(text: &str) -> [u64; MAX_SESSIONS] {
-    let mut seen = [0; MAX_SESSIONS];
-    for (place, number) in text.split('/').take(MAX_SESSIONS).enumerate() {
-        seen[place] = number.parse().unwrap_or(0);
-    }
-    seen
-}
-
-/// What a replica does with a call, which is asked once more where memory was refused: the answers then tell whether the
-/// refusal left the replica. `rt try --test --fail-alloc N` refuses the Nth allocation.
-pub fn acted<O: SeqObject, P: UpdateOrder>(
-    replica: &mut Replica<O, P>,
-    call: O::Call,
-) -> Result<ActedOf<O::Call, O::Ret>, ReplicaError> {
-    match replica.act(call) {
-        Err(ReplicaError::Memory) => replica.act(call),
-        acted => acted,
-    }
-}
-
-/// The same of an update.
-pub fn received<O: SeqObject, P: UpdateOrder>(
-    replica: &mut Replica<O, P>,
-    update: UpdateOf<O::Call>,
-) -> Result<(), ReplicaError> {
-    match replica.receive(update.again()) {
-        Err(ReplicaError::Memory) => replica.receive(update),
-        received => received,
-    }
-}
-
-/// An update of a register, the first of its session.
-fn first_write(session: u8, stamp: u64, value: u64) -> UpdateOf<RegisterCall> {
-    UpdateOf::of(
-        session,
-        0,
-        0,
-        stamp,
-        RegisterCall::Write(value),
-        [0; MAX_SESSIONS],
-    )
-}
-
-/// A replica of session 0 that has received an update of session 2 and then one of session 1.
-fn after_two_updates<P: UpdateOrder>(alloc: Global) -> Result<Replica<Register, P>, ReplicaError> {
-    let mut replica = Replica::new(alloc, 0, 3, Delivery::Causal, &0)?;
-    received(&mut replica, first_write(2, 5, 7))?;
-    received(&mut replica, first_write(1, 5, 8))?;
+/// A replica that has pushed once.
+fn pushed<P: UpdateOrder>(alloc: Global) -> Result<Replica<Queue, P>, ReplicaError> {
+    let mut replica = Replica::new(alloc, 0, 1, Delivery::Causal, &())?;
+    replica.act(QueueCall::Push(7))?;
     Ok(replica)
 }
 
-/// The sessions of updates.
-fn sessions_of<C: Copy>(alloc: Global, updates: &[UpdateOf<C>]) -> Result<String, AllocError> {
-    let mut sessions = String::new(alloc);
-    for update in updates {
-        let session = update.session;
-        sessions.push_str(format!(in alloc; "{session} ")?.as_str())?;
-    }
-    Ok(sessions)
-}
-
-fn sessions_as_taken_in(alloc: Global) -> Result<String, ReplicaError> {
-    let replica = after_two_updates(alloc)?;
-    Ok(sessions_of(alloc, causal_memory::taken_in(&replica))?)
-}
-
-fn sessions_by_stamp(alloc: Global) -> Result<String, ReplicaError> {
-    let replica = after_two_updates(alloc)?;
-    Ok(sessions_of(alloc, lamport_store::taken_in(&replica))?)
-}
-
 #[test]
-fn updates_stand_in_the_order_of_the_store(rt: HostRuntime) {
-    let as_taken_in = sessions_as_taken_in(rt.alloc()).expect(&rt, "memory");
-    assert_eq!(rt; as_taken_in.as_str(), "2 1 ");
-    let by_stamp = sessions_by_stamp(rt.alloc()).expect(&rt, "memory");
-    assert_eq!(rt; by_stamp.as_str(), "1 2 ");
-}
-
-/// How many operations of a replica are taken before one is refused, and the number of that refusal.
-fn refused_behind(alloc: Global, stamp: u64) -> Result<(usize, u8), AllocError> {
-    let mut replica: Replica<Register, AsTakenIn> = Replica::new(
-        alloc,
-        0,
-        2,
-        Delivery::Causal,
-        &0,
-    )?;
-    for taken in 0..300 {
-        if taken == 256 && received(&mut replica, first_write(1, stamp, 9)).is_err() {
-            return Ok((taken, 0));
-        }
-        if let Err(refusal) = acted(&mut replica, RegisterCall::Read) {
-            return Ok((taken, refusal.number()));
-        }
-    }
-    Ok((300, 0))
-}
-
-#[test]
-fn full_session_is_refused_before_a_full_clock(rt: HostRuntime) -> Result<(), Fail> {
-    assert_eq!(rt; refused_behind(rt.alloc(), 1)?, (256, 11));
-    assert_eq!(rt; refused_behind(rt.alloc(), u64::MAX)?, (256, 11));
+fn stores_tell_what_was_taken_in(rt: HostRuntime) -> Result<(), Fail> {
+    let causal: CausalReplica<Queue> = pushed(rt.alloc())?;
+    assert_eq!(rt; causal_memory::taken_in(&causal).len(), 1);
+    let lamport: LamportReplica<Queue> = pushed(rt.alloc())?;
+    assert_eq!(rt; lamport_store::taken_in(&lamport).len(), 1);
     Ok(())
 }

@@ -71,26 +71,16 @@ fn read_all(alloc: Global, progress: &Progress, mut session: Session<Register>) 
     made
 }
 
-/// Whether a session of a history has a write of a value.
-fn is_written(history: &History<Register>, value: u64) -> bool {
-    for session in 0..history.sessions() {
-        for (call, _) in history.session(session) {
-            if *call == RegisterCall::Write(value) {
-                return true;
-            }
-        }
+/// Whether a history is one of two sessions that has no read of a value that nobody wrote. The first session writes 1, 2 and so
+/// on, and the second reads.
+fn has_written_all(history: &History<Register>) -> bool {
+    if history.sessions() != 2 {
+        return false;
     }
-    false
-}
-
-/// Whether each value that a session read was written.
-fn are_written(
-    history: &History<Register>,
-    session: &[(RegisterCall, Option<RegisterRet>)],
-) -> bool {
-    for (_, ret) in session {
+    let written = history.len(0) as u64;
+    for (_, ret) in history.session(1) {
         if let Some(RegisterRet::Value(value)) = ret {
-            if !is_written(history, *value) {
+            if *value > written {
                 return false;
             }
         }
@@ -98,54 +88,39 @@ fn are_written(
     true
 }
 
-/// Whether a history has no read of a value that nobody wrote.
-fn has_written_all(history: &History<Register>) -> bool {
-    for session in 0..history.sessions() {
-        if !are_written(history, history.session(session)) {
-            return false;
-        }
-    }
-    true
-}
-
 /// Whether a seal was taken that has no read of a value that nobody wrote.
-fn is_cut(alloc: Global, lanes: &Lanes<Register>) -> Result<bool, RecordError> {
-    let sealed = seal(alloc, lanes, &[])?;
-    Ok(has_written_all(sealed.history()))
+fn is_cut(alloc: Global, lanes: &Lanes<Register>) -> bool {
+    match seal(alloc, lanes, &[]) {
+        Ok(sealed) => has_written_all(sealed.history()),
+        Err(_refused) => false,
+    }
 }
 
 /// Whether each seal was taken, and has no such read.
 fn seal_all(alloc: Global, lanes: &Lanes<Register>) -> bool {
     let mut made = true;
     for _ in 0..SEALS {
-        let cut = match is_cut(alloc, lanes) {
-            Ok(cut) => cut,
-            Err(_refused) => is_cut(alloc, lanes).is_ok_and(|cut| cut),
-        };
-        made &= cut;
+        made &= is_cut(alloc, lanes);
     }
     made
 }
 
-/// Plays a part: whether all went well, or none where the other threads don't run.
-fn play(alloc: Global, lanes: &Lanes<Register>, progress: &Progress, part: Part) -> Option<bool> {
+/// Plays a part once the other threads run: whether all went well.
+fn play(alloc: Global, lanes: &Lanes<Register>, progress: &Progress, part: Part) -> bool {
     progress.started.fetch_add(1, Ordering::SeqCst);
-    if !reached(&progress.started, 3) {
-        return None;
-    }
-    Some(match part {
-        Part::Write(session) => write_all(alloc, progress, session),
-        Part::Read(session) => read_all(alloc, progress, session),
-        Part::Seal => seal_all(alloc, lanes),
-    })
+    reached(&progress.started, 3)
+        && match part {
+            Part::Write(session) => write_all(alloc, progress, session),
+            Part::Read(session) => read_all(alloc, progress, session),
+            Part::Seal => seal_all(alloc, lanes),
+        }
 }
 
-/// Fills a recorder while seals are taken. Whether each step was made, and each seal is a cut; none where the threads were
-/// not made.
-fn round<R: Threads + Sync>(rt: &R, alloc: Global) -> Result<Option<bool>, RecordError> {
+/// Fills a recorder while seals are taken. Whether each step was made, and each seal is a cut.
+fn round<R: Threads + Sync>(rt: &R, alloc: Global) -> Result<bool, RecordError> {
     let (lanes, mut sessions) = new_recorder::<Register>(alloc, 2, PLACES as usize, 0)?;
     let (Some(reader), Some(writer)) = (sessions.pop(), sessions.pop()) else {
-        return Ok(None);
+        return Ok(false);
     };
     let progress = Progress {
         started: AtomicU64::new(0),
@@ -153,26 +128,13 @@ fn round<R: Threads + Sync>(rt: &R, alloc: Global) -> Result<Option<bool>, Recor
     };
     let parts = vec![in alloc; Part::Write(writer), Part::Read(reader), Part::Seal]?;
     let made = thread::map_vec(rt, parts, &|part| play(alloc, &lanes, &progress, part))?;
-    Ok(all_of(made))
-}
-
-/// Whether all of them are true, if there is none that is not known.
-fn all_of(parts: Vec<Option<bool>>) -> Option<bool> {
-    let mut all = true;
-    for part in parts {
-        all &= part?;
-    }
-    Some(all)
+    Ok(made.as_slice() == [true, true, true].as_slice())
 }
 
 #[test]
 fn seal_cut(rt: HostRuntime) -> Result<(), Fail> {
     for _ in 0..RECORDERS {
-        let made = match round(&rt, rt.alloc()) {
-            Ok(Some(made)) => made,
-            _refused => round(&rt, rt.alloc())? == Some(true),
-        };
-        assert!(rt; made);
+        assert!(rt; round(&rt, rt.alloc())?);
     }
     Ok(())
 }

@@ -11,12 +11,13 @@ use snapshot::{Cell, CutPlan, LaneLooker, Looker, walk};
 use std::alloc::{AllocError, Global};
 use std::test::Fail;
 
-/// What is sealed where two sessions record before this look, counted from 0.
-const SEALED: [&str; 4] = [
-    "[(Write(1), Some(Done))];[(Read, Some(Value(1)))];",
-    "[(Write(1), None)];[(Read, Some(Value(1)))];",
-    "[(Write(1), None)];[(Read, None)];",
-    "[];[(Read, None)];",
+/// What is sealed where two sessions record before this look, counted from 0, and how many looks there are: each cell is looked at
+/// once, and none behind one that was found empty.
+const SEALED: [(&str, usize); 4] = [
+    ("[(Write(1), Some(Done))];[(Read, Some(Value(1)))];", 2),
+    ("[(Write(1), None)];[(Read, Some(Value(1)))];", 3),
+    ("[(Write(1), None)];[(Read, None)];", 4),
+    ("[];[(Read, None)];", 4),
 ];
 
 /// Looks as a `LaneLooker` does. Before one of its looks session 0 begins a write of 1, session 1 reads 1, and session 0 ends.
@@ -27,8 +28,8 @@ struct SteppingLooker<'a> {
     writer: Session<Register>,
     reader: Session<Register>,
     /// How many looks come before that.
-    left: usize,
-    recorded: bool,
+    at: usize,
+    looked: usize,
 }
 
 impl<'a> Looker for SteppingLooker<'a> {
@@ -45,11 +46,11 @@ impl<'a> Looker for SteppingLooker<'a> {
     ghost keeps_on = { λ a b c. keeps_lanes_on a.looker b.looker c.looker };
 
     fn look(&mut self, cell: Cell) -> Result<bool, AllocError> {
-        if self.left == 0 && !self.recorded {
-            self.recorded = recorded(self.alloc, &mut self.writer, &mut self.reader);
+        if self.looked == self.at {
+            recorded(self.alloc, &mut self.writer, &mut self.reader);
         }
         let full = self.looker.look(cell)?;
-        self.left = self.left.saturating_sub(1);
+        self.looked = self.looked.saturating_add(1);
         Ok(full)
     }
 }
@@ -62,11 +63,11 @@ fn recorded(alloc: Global, writer: &mut Session<Register>, reader: &mut Session<
         && ended(alloc, writer, RegisterRet::Done)
 }
 
-/// What is sealed where the steps come before look `at`.
-fn sealed_before(alloc: Global, at: usize) -> Result<String, RecordError> {
+/// What is sealed where the steps come before look `at`, and how many looks there are.
+fn sealed_before(alloc: Global, at: usize) -> Result<(String, usize), RecordError> {
     let (lanes, mut sessions) = new_recorder::<Register>(alloc, 2, 1, 0)?;
     let (Some(reader), Some(writer)) = (sessions.pop(), sessions.pop()) else {
-        return Ok(String::new(alloc));
+        return Err(RecordError::BadLimits);
     };
     let looker = LaneLooker::new(alloc, &lanes, &[])?;
     sealed_by(SteppingLooker {
@@ -74,31 +75,31 @@ fn sealed_before(alloc: Global, at: usize) -> Result<String, RecordError> {
         looker,
         writer,
         reader,
-        left: at,
-        recorded: false,
+        at,
+        looked: 0,
     })
 }
 
-/// What a looker seals. A walk that memory broke off goes on.
-fn sealed_by(mut stepping: SteppingLooker<'_>) -> Result<String, RecordError> {
+/// What a looker seals, and how many looks there are. A walk that memory broke off goes on.
+fn sealed_by(mut stepping: SteppingLooker<'_>) -> Result<(String, usize), RecordError> {
     let alloc = stepping.alloc;
     let looker = &stepping.looker;
     let mut plan = CutPlan::new(alloc, looker.lanes(), looker.places(), looker.told())?;
     if walk(&mut plan, &mut stepping).is_err() {
         walk(&mut plan, &mut stepping)?;
     }
+    let looks = stepping.looked;
     let sealed = stepping.looker.sealed()?;
-    Ok(operations_of(alloc, sealed.history())?)
+    let text = operations_of(alloc, sealed.history())?;
+    Ok((text, looks))
 }
 
 #[test]
 fn seal_steps(rt: HostRuntime) -> Result<(), Fail> {
-    for (at, wanted) in SEALED.iter().enumerate() {
-        let text = match sealed_before(rt.alloc(), at) {
-            Ok(text) => text,
-            Err(_refused) => sealed_before(rt.alloc(), at)?,
-        };
+    for (at, (wanted, many)) in SEALED.iter().enumerate() {
+        let (text, looks) = sealed_before(rt.alloc(), at)?;
         assert_eq!(rt; text.as_str(), *wanted, "before look {at}");
+        assert_eq!(rt; looks, *many, "before look {at}");
     }
     Ok(())
 }

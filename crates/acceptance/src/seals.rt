@@ -93,97 +93,45 @@ fn stamps_of(alloc: Global, sealed: &Sealed<Register>) -> Result<Vec<u64>, Recor
     Ok(stamps)
 }
 
-/// The stamps in a seal of two writes that a receipt stands for, of a third, and of a call that is pending.
-fn told_of_two(alloc: Global) -> Result<Vec<u64>, RecordError> {
+/// The stamps in a seal of two writes that a receipt stands for, of a third, and of a call that is pending; and how far the
+/// session meets it.
+fn told_of_two(alloc: Global) -> Result<(Vec<u64>, Met), RecordError> {
     let (lanes, mut session) = one_session(alloc, 4)?;
     write(alloc, &mut session, 5)?;
     let receipt = write(alloc, &mut session, 6)?;
-    let told = told_by(alloc, &lanes, &mut session, receipt)?;
-    stamps_of(alloc, &told)
+    write(alloc, &mut session, 7)?;
+    begin_write(&mut session)?;
+    told_by(alloc, &lanes, &mut session, receipt)
 }
 
-/// A seal that is told of a receipt, after one more write and a call that is pending.
+/// A seal that is told of a receipt, which the session meets after the call that was pending has ended.
 fn told_by(
     alloc: Global,
     lanes: &Lanes<Register>,
     session: &mut Session<Register>,
     receipt: Receipt<Register>,
-) -> Result<Sealed<Register>, RecordError>
-    requires { IsReceiptOf lanes.now receipt }
+) -> Result<(Vec<u64>, Met), RecordError>
+    requires session { IsSessionOf lanes.now session.old }
+    requires receipt { IsReceiptOf lanes.now receipt }
 {
-    write(alloc, session, 7)?;
-    begun(session, RegisterCall::Read);
-    seal_told(alloc, lanes, &[receipt])
+    let sealed = seal_told(alloc, lanes, &[receipt])?;
+    end(alloc, session, 8)?;
+    let stamps = stamps_of(alloc, &sealed)?;
+    Ok((stamps, meet(&sealed, session)))
 }
 
 #[test]
 fn a_seal_holds_what_it_is_told_and_more(rt: HostRuntime) -> Result<(), Fail> {
-    let stamps = match told_of_two(rt.alloc()) {
-        Ok(stamps) => stamps,
+    let (stamps, met) = match told_of_two(rt.alloc()) {
+        Ok(told) => told,
         Err(_refused) => told_of_two(rt.alloc())?,
     };
     assert!(rt; stamps.as_slice() == [5, 6, 7, 0].as_slice());
-    Ok(())
-}
-
-/// Writes a value: whether it was written.
-fn wrote(alloc: Global, session: &mut Session<Register>, value: u64) -> bool
-    ensures lane { session.new.lane ≡ session.old.lane }
-    ensures cells { session.new.cells ≡ session.old.cells }
-{
-    match write(alloc, session, value) {
-        Ok(_) => true,
-        Err(_) => false,
-    }
-}
-
-/// Writes `many` values.
-fn write_many(alloc: Global, session: &mut Session<Register>, many: u64) -> Result<(), RecordError>
-    ensures lane { session.new.lane ≡ session.old.lane }
-    ensures cells { session.new.cells ≡ session.old.cells }
-{
-    for value in 0..many {
-        if !wrote(alloc, session, value) {
-            return Err(RecordError::Memory);
-        }
-    }
-    Ok(())
-}
-
-/// How far a session and a seal meet that was taken of `before` writes and then of a pending one, before `after` more.
-fn met(alloc: Global, before: u64, pending: bool, after: u64) -> Result<Met, RecordError> {
-    let (lanes, mut session) = one_session(alloc, 8)?;
-    write_many(alloc, &mut session, before)?;
-    if pending {
-        begin_write(&mut session)?;
-    }
-    let sealed = seal_told(alloc, &lanes, &[])?;
-    if pending && after > 0 {
-        end(alloc, &mut session, 9)?;
-    }
-    write_many(alloc, &mut session, after.saturating_sub(pending as u64))?;
-    Ok(meet(&sealed, &session))
-}
-
-/// Writes before the seal, whether one is pending there, and writes after it; then the calls and the returns that meet.
-const MET: [(u64, bool, u64, usize, usize); 6] = [
-    (0, false, 0, 0, 0),
-    (0, false, 2, 0, 0),
-    (2, false, 0, 2, 2),
-    (2, false, 3, 2, 2),
-    (2, true, 0, 3, 2),
-    (2, true, 2, 3, 2),
-];
-
-#[test]
-fn a_seal_meets_the_session(rt: HostRuntime) -> Result<(), Fail> {
-    for (before, pending, after, calls, returns) in MET {
-        let met = match met(rt.alloc(), before, pending, after) {
-            Ok(met) => met,
-            Err(_refused) => met(rt.alloc(), before, pending, after)?,
-        };
-        assert_eq!(rt; met, Met { calls, returns }, "{before} {pending} {after}");
-    }
+    let wanted = Met {
+        calls: 4,
+        returns: 3,
+    };
+    assert_eq!(rt; met, wanted);
     Ok(())
 }
 

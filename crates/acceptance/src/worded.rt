@@ -24,32 +24,23 @@ fn words_of_path(alloc: Global, length: u64) -> Result<Vec<String>, AllocError> 
     }
 }
 
-#[test]
-fn pattern_of_another_history_is_told(rt: HostRuntime) -> Result<(), Fail> {
-    let words = words_of_path(rt.alloc(), 2)?;
-    assert_eq!(rt; words.len(), 4);
-    assert_eq!(rt; words[0].as_str(), "0.0 is not in the history");
-    assert_eq!(rt; words[2].as_str(), "0.1 follows 0.0 in its session");
-    Ok(())
-}
+/// The length of such a cycle, how many lines it has, and one of them: that operations are in no history, that nothing is shown, and
+/// that steps of a long path are left out.
+const LINES: [(u64, usize, usize, &str); 6] = [
+    (2, 4, 0, "0.0 is not in the history"),
+    (2, 4, 2, "0.1 follows 0.0 in its session"),
+    (0, 1, 0, "These operations show nothing in this history."),
+    (60, 84, 61, "0.20 follows 0.19 in its session"),
+    (60, 84, 62, "(19 more steps are left out here)"),
+    (60, 84, 63, "0.40 follows 0.39 in its session"),
+];
 
 #[test]
-fn pattern_without_operations_is_told(rt: HostRuntime) -> Result<(), Fail> {
-    let words = words_of_path(rt.alloc(), 0)?;
-    assert_eq!(rt; words.len(), 1);
-    assert_eq!(rt;
-        words[0].as_str(),
-        "These operations show nothing in this history."
-    );
-    Ok(())
-}
-
-#[test]
-fn steps_of_a_long_path_are_left_out(rt: HostRuntime) -> Result<(), Fail> {
-    let words = words_of_path(rt.alloc(), 60)?;
-    assert_eq!(rt; words.len(), 84);
-    assert_eq!(rt; words[61].as_str(), "0.20 follows 0.19 in its session");
-    assert_eq!(rt; words[62].as_str(), "(19 more steps are left out here)");
-    assert_eq!(rt; words[63].as_str(), "0.40 follows 0.39 in its session");
+fn patterns_of_no_history_are_told(rt: HostRuntime) -> Result<(), Fail> {
+    for (length, many, at, wanted) in LINES {
+        let words = words_of_path(rt.alloc(), length)?;
+        assert_eq!(rt; words.len(), many, "{length}");
+        assert_eq!(rt; words[at].as_str(), wanted, "{length}");
+    }
     Ok(())
 }

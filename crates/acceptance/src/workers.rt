@@ -2,11 +2,12 @@
 
 ghost use Rattle.std.specs.Prelude.{◌≡◌};
 
-use crate::case_files::{file_by_program_order, file_named, pattern_of};
-use crate::histories::writes;
-use cert_check::{CaseFile, DeskError};
+use crate::case_files::{FileText, READ_AFTER_ITS_WRITE, file_of, pattern_of};
+use crate::histories::{joined, memory};
+use bad_patterns::{Kind, Pattern};
+use cert_check::{CaseFile, Criterion, DeskError};
 use collector::judge_with;
-use desk::{Desk, Shelf, ShelfName, Ticket};
+use desk::{Answer, Desk, Shelf, ShelfName, Ticket};
 use history::Gate;
 use objects::Memory;
 use operations::OpId;
@@ -91,21 +92,18 @@ pub fn is_set_in_time(flag: &AtomicBool) -> bool {
 /// What two workers say of a case file, and whether the first piece was held until the second had left.
 fn said_by_two<P: Threads + Wait + Sync + AllocGlobal>(
     rt: &P,
-    name: &str,
-) -> Result<String, DeskError> {
-    let Some(file) = file_named(rt.alloc(), name) else {
+) -> Result<(Answer, bool), DeskError> {
+    let Some(file) = file_of(rt.alloc(), READ_AFTER_ITS_WRITE) else {
         return Err(DeskError::NoSuch);
     };
     let hold = Hold::new();
     let answer = judge_with(rt, rt.alloc(), file, 2, &hold)?;
-    let in_time = hold.is_in_time();
-    Ok(format!(in rt.alloc(); "{answer:?} {in_time}")?)
+    Ok((answer, hold.is_in_time()))
 }
 
 #[test]
 fn gate_two(rt: HostRuntime) -> Result<(), Fail> {
-    let said = said_by_two(&rt, "read_after_its_write")?;
-    assert_eq!(rt; said.as_str(), "Yes true");
+    assert_eq!(rt; said_by_two(&rt)?, (Answer::Yes, true));
     Ok(())
 }
 
@@ -120,25 +118,56 @@ enum Parts {
     RefuteMidway,
 }
 
-/// For each what the threads put together, whether the first piece was held in time, and then how the case stands, its
-/// pattern and whether a piece is left.
-const TOGETHER: [(Parts, &str); 3] = [
-    (Parts::Work, "256 true Yes None false"),
-    (Parts::PutOneEach, "2 false Yes None false"),
-    (Parts::RefuteMidway, REFUTED),
-];
+/// What threads leave of a case that they shared.
+#[derive(Clone, Copy, Debug, PartialEq)]
+struct Left {
+    /// How many verdicts they put together.
+    put: u32,
+    /// Whether the first piece was held in time.
+    in_time: bool,
+    answer: Answer,
+    /// Whether the pattern of the case, where it has one, is the one that was put.
+    pattern: Option<bool>,
+    has_piece: bool,
+}
 
-const REFUTED: &str = "1 true No(WriteCORead) Some(WriteCORead(\
-    Path { ops: [OpId { session: 0, index: 0 }, OpId { session: 0, index: 1 }, \
-    OpId { session: 1, index: 0 }, OpId { session: 1, index: 1 }] }, \
-    Path { ops: [OpId { session: 1, index: 1 }, OpId { session: 2, index: 0 }, \
-    OpId { session: 2, index: 1 }] })) false";
+const TOGETHER: [(Parts, Left); 3] = [
+    (
+        Parts::Work,
+        Left {
+            put: 256,
+            in_time: true,
+            answer: Answer::Yes,
+            pattern: None,
+            has_piece: false,
+        },
+    ),
+    (
+        Parts::PutOneEach,
+        Left {
+            put: 2,
+            in_time: false,
+            answer: Answer::Yes,
+            pattern: None,
+            has_piece: false,
+        },
+    ),
+    (
+        Parts::RefuteMidway,
+        Left {
+            put: 1,
+            in_time: true,
+            answer: Answer::No(Kind::WriteCORead),
+            pattern: Some(true),
+            has_piece: false,
+        },
+    ),
+];
 
 #[test]
 fn two_threads_share_a_case(rt: HostRuntime) -> Result<(), Fail> {
     for (parts, wanted) in TOGETHER {
-        let answer = together(&rt, parts)?;
-        assert_eq!(rt; answer.as_str(), wanted, "{parts:?}");
+        assert_eq!(rt; together(&rt, parts)?, wanted, "{parts:?}");
     }
     Ok(())
 }
@@ -147,7 +176,7 @@ fn two_threads_share_a_case(rt: HostRuntime) -> Result<(), Fail> {
 fn together<P: Threads + Wait + Sync + AllocGlobal>(
     rt: &P,
     parts: Parts,
-) -> Result<String, DeskError> {
+) -> Result<Left, DeskError> {
     let shelf = Shelf::new(rt.alloc())?;
     match file_for(rt.alloc(), parts)? {
         Some(file) => together_on::<Brand, P>(rt, shelf, file, parts),
@@ -155,13 +184,45 @@ fn together<P: Threads + Wait + Sync + AllocGlobal>(
     }
 }
 
+/// A read of a value that was overwritten before.
+const OVERWRITTEN: FileText = FileText {
+    criterion: Criterion::Cc,
+    history: r#"["memory",[[["w",0,1],["w",1,1]],[["r",1,1],["w",0,2]],[["r",0,2],["r",0,1]]]]"#,
+    certificate: Some(
+        r#"["cc",[[[1,0,0],[2,0,0]],[[0,1,0],[0,2,0]],[[0,0,1],[0,0,2]]],[[[0],[0,0]],[[1],[1,1]],[[2],[2,2]]]]"#,
+    ),
+};
+
 /// The case file of the parts.
 fn file_for(alloc: Global, parts: Parts) -> Result<Option<CaseFile<Memory>>, AllocError> {
     match parts {
-        Parts::Work => file_by_program_order(alloc, writes(alloc, 4, 64)?.as_str()),
-        Parts::PutOneEach => Ok(file_named(alloc, "read_after_its_write")),
-        Parts::RefuteMidway => Ok(file_named(alloc, "overwritten_value_by_program_order")),
+        Parts::Work => file_of_writes(alloc),
+        Parts::PutOneEach => Ok(file_of(alloc, READ_AFTER_ITS_WRITE)),
+        Parts::RefuteMidway => Ok(file_of(alloc, OVERWRITTEN)),
     }
+}
+
+/// Four sessions of 64 writes, with a certificate of causal consistency by program order.
+fn file_of_writes(alloc: Global) -> Result<Option<CaseFile<Memory>>, AllocError> {
+    let write = r#"["w",0,1],"#;
+    let next = r#"["w",0,1]],["#;
+    let last = r#"["w",0,1]]]]"#;
+    let pieces = [
+        (r#"["memory",[["#, 1),
+        (write, 63),
+        (next, 1),
+        (write, 63),
+        (next, 1),
+        (write, 63),
+        (next, 1),
+        (write, 63),
+        (last, 1),
+    ];
+    let Some(history) = memory(alloc, joined(alloc, &pieces)?.as_str()) else {
+        return Ok(None);
+    };
+    let certificate = certify_cc::make(alloc, &history, &[])?;
+    Ok(CaseFile::new(history, Criterion::Cc, certificate).ok())
 }
 
 /// The same on a shelf that is named.
@@ -170,7 +231,7 @@ fn together_on<K: ShelfName + Send + Sync, P: Threads + Wait + Sync + AllocGloba
     shelf: Shelf<Memory>,
     file: CaseFile<Memory>,
     parts: Parts,
-) -> Result<String, DeskError>
+) -> Result<Left, DeskError>
     requires { shelf ≡ K.shelf }
 {
     let desk = Desk::<Memory, K>::on(rt.alloc(), shelf)?;
@@ -183,7 +244,7 @@ fn together_on<K: ShelfName + Send + Sync, P: Threads + Wait + Sync + AllocGloba
         &|thread| { play(rt, &desk, &ticket, &hold, parts, thread) },
     )?;
     let put = sum(ended)?;
-    left(rt, &desk, &ticket, put, hold.is_in_time())
+    left_by(rt, &desk, &ticket, put, hold.is_in_time())
 }
 
 /// What a thread puts.
@@ -215,7 +276,43 @@ fn put_one<K: ShelfName, P: Wait>(
 }
 
 /// Two paths that show that a value is read after it was overwritten.
-const OVERWRITTEN: &str = r#"["WriteCORead",[[0,0],[0,1],[1,0],[1,1]],[[1,1],[2,0],[2,1]]]"#;
+const PATHS: &str = r#"["WriteCORead",[[0,0],[0,1],[1,0],[1,1]],[[1,1],[2,0],[2,1]]]"#;
+
+/// Whether a pattern has these two paths.
+fn is_put(pattern: &Pattern) -> bool {
+    let Pattern::WriteCORead(first, second) = pattern else {
+        return false;
+    };
+    first.ops() == FIRST_PATH.as_slice() && second.ops() == SECOND_PATH.as_slice()
+}
+
+const FIRST_PATH: [OpId; 4] = [
+    FIRST,
+    OpId {
+        session: 0,
+        index: 1,
+    },
+    SECOND,
+    OpId {
+        session: 1,
+        index: 1,
+    },
+];
+
+const SECOND_PATH: [OpId; 3] = [
+    OpId {
+        session: 1,
+        index: 1,
+    },
+    OpId {
+        session: 2,
+        index: 0,
+    },
+    OpId {
+        session: 2,
+        index: 1,
+    },
+];
 
 /// Puts a pattern while the first piece is held, and lets it go then.
 fn refute_held<K: ShelfName, P: Wait + AllocGlobal>(
@@ -225,7 +322,7 @@ fn refute_held<K: ShelfName, P: Wait + AllocGlobal>(
     hold: &Hold,
 ) -> Result<u32, DeskError> {
     is_set_in_time(&hold.entered);
-    let refuted = match pattern_of(rt.alloc(), OVERWRITTEN) {
+    let refuted = match pattern_of(rt.alloc(), PATHS) {
         Some(pattern) => desk.refute(rt, ticket, pattern),
         None => Err(DeskError::NotThatPattern),
     };
@@ -243,17 +340,22 @@ fn sum(parts: Vec<Result<u32, DeskError>>) -> Result<u32, DeskError> {
     Ok(sum)
 }
 
-/// What the threads left: what they put and whether they held in time, how the case stands, its pattern, and whether a piece
-/// is left.
-fn left<K: ShelfName, P: Wait + AllocGlobal>(
+/// What the threads left, who put so many verdicts.
+fn left_by<K: ShelfName, P: Wait + AllocGlobal>(
     rt: &P,
     desk: &Desk<Memory, K>,
     ticket: &Ticket<Memory, K>,
     put: u32,
     in_time: bool,
-) -> Result<String, DeskError> {
+) -> Result<Left, DeskError> {
+    let pattern = desk.pattern(rt, ticket)?.map(|pattern| is_put(&pattern));
     let answer = desk.ask(rt, ticket);
-    let pattern = desk.pattern(rt, ticket)?;
-    let piece_is_left = desk.take(rt).is_some();
-    Ok(format!(in rt.alloc(); "{put} {in_time} {answer:?} {pattern:?} {piece_is_left}")?)
+    let has_piece = desk.take(rt).is_some();
+    Ok(Left {
+        put,
+        in_time,
+        answer,
+        pattern,
+        has_piece,
+    })
 }

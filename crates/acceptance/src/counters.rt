@@ -1,0 +1,25 @@
+//! Laws of objects that are called, and a counter that is full.
+
+use object_trait::SeqObject;
+use objects::laws::{answer_depends_on_its_key, counter_stays_full};
+use objects::{Counter, CounterCall, CounterRet, Register};
+use std::alloc::AllocError;
+use std::test::Fail;
+
+/// What a full counter answers before an increment and after it.
+fn answers_when_full() -> Result<(CounterRet, CounterRet), AllocError> {
+    let mut counter = Counter::full();
+    let before = counter.apply(CounterCall::Get)?;
+    counter.apply(CounterCall::Increment)?;
+    let after = counter.apply(CounterCall::Get)?;
+    Ok((before, after))
+}
+
+#[test]
+fn full_counter_stays_full(rt: HostRuntime) -> Result<(), Fail> {
+    counter_stays_full();
+    answer_depends_on_its_key::<Register>();
+    let full = CounterRet::Value(u64::MAX);
+    assert_eq!(rt; answers_when_full()?, (full, full));
+    Ok(())
+}

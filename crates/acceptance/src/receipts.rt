@@ -1,0 +1,36 @@
+//! A session and its receipts on another thread.
+
+use crate::recordings::advice;
+use history::OpId;
+use objects::{Register, RegisterCall, RegisterRet};
+use recorder::{Receipt, Session, new_recorder};
+use std::alloc::Global;
+use std::test::Fail;
+use std::thread;
+
+/// The second session of a recorder of two.
+fn second_session(alloc: Global) -> Option<Session<Register>> {
+    match new_recorder::<Register>(alloc, 2, 1, 0) {
+        Ok((_, mut sessions)) => sessions.pop(),
+        Err(_) => None,
+    }
+}
+
+fn receipt_of_a_read(alloc: Global, session: &mut Session<Register>) -> Option<Receipt<Register>> {
+    match session.begin(RegisterCall::Read) {
+        Ok(_) => session.finish(RegisterRet::Value(0), advice(alloc, 1)).ok(),
+        Err(_) => None,
+    }
+}
+
+#[test]
+fn a_session_and_its_receipt_move_to_other_threads(rt: HostRuntime) -> Result<(), Fail> {
+    let alloc = rt.alloc();
+    let mut session = second_session(alloc).expect(&rt, "memory");
+    let child = thread::spawn(&rt, move || receipt_of_a_read(alloc, &mut session))?;
+    let receipt = child.join(&rt).expect(&rt, "memory");
+    assert_eq!(rt; receipt.op(), OpId::at(1, 0));
+    assert!(rt; receipt.call() == RegisterCall::Read);
+    assert!(rt; receipt.ret() == RegisterRet::Value(0));
+    Ok(())
+}
