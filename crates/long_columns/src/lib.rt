@@ -2,8 +2,8 @@
 //!
 //! [`sweep`] makes a column for each session that writes, two numbers an operation, and finds by it which writes overwrote what reads after
 //! them returned, and which writes conflict; [`is_convergent`] says whether the conflicts make a cycle. Both serve to decide causal
-//! consistency and causal convergence of long histories. The columns by themselves ([`find_past_ends`], [`find_firsts`]) and what a read shows
-//! of one ([`look`], with the table of last writes that [`advance`] moves) serve to list all faulty reads. The crate uses long_order.
+//! consistency and causal convergence of long histories. The columns by themselves, [`find_past_ends`] and [`find_firsts`], and what a read
+//! shows of one, [`look`] with the table of last writes that [`advance`] moves, serve to list all faulty reads. The crate uses long_order.
 #![tactic(auto)]
 
 mod convergence;

@@ -78,8 +78,8 @@ pub(crate) fn sweep_column(
 /// Moves the table of last writes from one place of the session to another. It goes on from the first place, or from the session's
 /// start when the other place comes earlier.
 ///
-/// The table has, by variable, the number after that of its last write, or 0 or a number of an earlier session. O(m) for m operations between
-/// the places.
+/// The table has, by variable, the number after that of the session's last write before the place, or 0 or a number that is not between the
+/// start and the place. O(m) for m operations that it passes.
 pub fn advance(index: &LongIndex, start: u32, at: u32, to: u32, last: &mut Vec<u32>)
     requires from { start ≤ to }
     requires within { to ≤ many index.now.history }
