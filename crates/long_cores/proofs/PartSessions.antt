@@ -1,5 +1,5 @@
 -- One operation more in a session of a part, and one session more in a part.
-use Rattle.std.proofs.Common.{◌≡◌, ℕ, ◌+◌, ◌-◌, ◌<◌, ◌≤◌, List, [], ◌∷◌, ◌++◌, length, map, Some, None, Option, sym, ap, subst, ◌∙◌, arith, ⊎_elim, ◌⊎◌, inl, inr, get_or, length-append}
+use Rattle.std.proofs.Common.{◌≡◌, ℕ, ◌+◌, ◌-◌, ◌<◌, ◌≤◌, List, [], ◌∷◌, ◌++◌, length, Some, None, Option, sym, ap, subst, ◌∙◌, arith, ⊎_elim, ◌⊎◌, inl, inr, get_or, length-append}
 use Rattle.std.specs.Prelude.{slice_get}
 use Rattle.std.proofs.lemmas.Bool.{cases_lt}
 use Rattle.std.proofs.lemmas.Option.{slice_get_within, slice_get-get_or}
@@ -9,7 +9,7 @@ use Rattle.history.specs.declared.limits.TheConstants.{MAX_OPERATIONS, MAX_SESSI
 use Rattle.memory_order.specs.Memory.{MemoryCall}
 use Rattle.causal_order.proofs.Fronts.{push-at, push-last}
 use Rattle.long_history.specs.LongHistories.{IsLongSession}
-use Rattle.operations.proofs.HistoryReading.{empty_session, one_more_session}
+use Rattle.operations.proofs.HistoryReading.{one_more_session}
 use Rattle.long_cores.specs.Parts.{AreFewSessions, CanFollow, IsMemorySession}
 
 abbrev Entry : Type 0

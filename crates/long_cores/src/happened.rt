@@ -1,5 +1,7 @@
 //! What shows that happened-before of an operation has a cycle, or puts a write before a read of its variable's initial value.
 
+ghost use Rattle.std.specs.Prelude.{◌<◌, length};
+
 use crate::asking::{is_write_of, number_at, put, session_of, source_of, variable_of};
 use crate::run::Run;
 use crate::searching::Search;
@@ -48,7 +50,9 @@ fn least_shown(
     order: &[u32],
     session: u32,
     kind: Kind,
-) -> Result<Vec<u32>, AllocError> {
+) -> Result<Vec<u32>, AllocError>
+    requires { session < length index.now.history.1 }
+{
     let mut low = index.start(session);
     let mut high = index.end(session);
     for _halving in 0..u32::BITS {
