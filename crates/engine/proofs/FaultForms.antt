@@ -8,7 +8,7 @@ use Rattle.evidence.proofs.PatternDepth.{deepest, deepest-map, no_float-map}
 use Rattle.long_faults.specs.declared.counts.SessionFaults.{SessionFaults}
 use Rattle.long_faults.specs.declared.fault.Fault.{Fault}
 use Rattle.long_faults.specs.declared.fault.Fault.TheVariants.{ThinAirRead, WriteCOInitRead, WriteCORead}
-use Rattle.long_faults.specs.declared.listed.Faults.{Faults}
+use Rattle.long_faults.specs.declared.tally.Faults.{Faults}
 use Rattle.long_faults.specs.FaultsForm.{fault_form, session_form}
 use Rattle.engine.specs.declared.listing_faults.FaultReport.{FaultReport}
 use Rattle.engine.specs.Explaining.{explanation_form}

@@ -1,6 +1,6 @@
 -- What is written of a history of any length is an output on the input in which it was read.
-use Rattle.std.proofs.Common.{◌≡◌, ◌++◌, ℕ, List, Result, Ok, Err}
-use Rattle.std.specs.Prelude.{codes, IfOk, OnOk}
+use Rattle.std.proofs.Common.{◌≡◌, ◌++◌, ℕ, List, Option, Some, None, Result, Ok, Err, subst, sym, ap}
+use Rattle.std.specs.Prelude.{codes, IfOk, MatchResult, OnOk}
 use Rattle.serde_json.specs.Written.{compact_text}
 use Rattle.command_line.specs.declared.form.ListForm.{ListForm}
 use Rattle.command_line.specs.declared.form.ListForm.TheVariants as list_forms
@@ -8,15 +8,26 @@ use Rattle.command_line.specs.declared.form.LongForm.{LongForm}
 use Rattle.command_line.specs.declared.form.LongForm.TheVariants as long_forms
 use Rattle.command_line.specs.declared.length.Length.{Length}
 use Rattle.command_line.specs.declared.length.Length.TheVariants.{Any}
-use Rattle.command_line.specs.declared.order.Order.TheVariants.{ExplainLong}
+use Rattle.command_line.specs.declared.listing.Listing.{Listing}
+use Rattle.command_line.specs.declared.order.Order.TheVariants.{ExplainLong, ListFaults}
 use Rattle.operations.specs.declared.any_history.AnyHistory.{AnyHistory}
-use Rattle.operations.specs.AnyForm.{form_of, IsJson}
+use Rattle.operations.specs.declared.any_history.AnyHistory.TheVariants as histories
+use Rattle.operations.specs.declared.read_error.ReadError.{ReadError}
+use Rattle.operations.specs.declared.read_error.ReadError.TheVariants as errors
+use Rattle.operations.specs.AnyForm.{form_of, IsAnyHistory, IsJson}
+use Rattle.memory_order.specs.Memory.{MemoryHistory}
+use Rattle.long_history.specs.LongHistories.{IsLongHistory}
+use Rattle.long_faults.specs.declared.tally.Faults.{Faults}
+use Rattle.engine.specs.declared.failure.RunError.{RunError}
+use Rattle.engine.specs.declared.failure.RunError.TheVariants.{History, Script, BadCertificate, ShapeMismatch, NotThatPattern, BadLimits, NoSuch, TooLong, Memory, ReadFault, WriteFault}
 use Rattle.engine.specs.declared.listing_faults.FaultReport.{FaultReport}
 use Rattle.engine.specs.Lengths.{IsHistoryOf}
-use Rattle.engine.specs.ListingFaults.{IsFaultReportOf, IsListedAs, fault_report_form}
-use Rattle.engine.specs.Running.{IsOutput}
-use Rattle.engine.specs.Steps.Listed.{IsListOf}
+use Rattle.engine.specs.ListingFaults.{AreFaultsIn, IsFaultReportOf, IsListedAs, fault_report_form}
+use Rattle.engine.specs.Report.{LacksDistinctValues}
+use Rattle.engine.specs.Running.{IsOutput, IsOutputError}
+use Rattle.engine.specs.Steps.Listed.{IsListOf, IsLongOf}
 use Rattle.engine.specs.Steps.LongExplained.{IsExplainedAs}
+use Rattle.engine.specs.Steps.ReportErrors.{IsReportError}
 
 module _ (input : List ℕ) (history : AnyHistory) where
   explained_output : (form : LongForm) (text : List ℕ) → IsHistoryOf Any history → IsJson input (form_of history)
@@ -53,3 +64,58 @@ pub listed_as_json : {T E : Type 0} (bytes : T → List ℕ) (most : ℕ) (histo
     → IfOk r (λ text. IsListOf list_forms.Json most history (bytes text))
 listed_as_json bytes most history report (Ok text) is whole json = (report, is, json, whole)
 listed_as_json bytes most history report (Err e) is whole json = tt
+
+-- what comes in the place of a report comes in the place of a list
+pub error_listed : (listing : Listing) (input : List ℕ) (e : RunError) → IsReportError listing.length input e → IsOutputError (ListFaults listing) input e
+error_listed listing input (History p) is = is
+error_listed listing input Memory is = tt
+error_listed listing input BadCertificate is = absurd is
+error_listed listing input ShapeMismatch is = absurd is
+error_listed listing input (Script p) is = absurd is
+error_listed listing input TooLong is = absurd is
+error_listed listing input NotThatPattern is = absurd is
+error_listed listing input BadLimits is = absurd is
+error_listed listing input NoSuch is = absurd is
+error_listed listing input ReadFault is = absurd is
+error_listed listing input WriteFault is = absurd is
+
+-- a memory within the limits is one of any length
+pub within_is_long : (h : MemoryHistory) → IsAnyHistory (histories.Memory h) → IsLongHistory h
+within_is_long h is =
+    let start = is.0.start in
+    record {
+      start = record { rising = start.rising; small = start.small; not_plain = start.not_plain };
+      each = λ s. record { fitting = (is.0.each s).fitting; known_first = (is.0.each s).known_first };
+      calls = is.1;
+    }
+
+-- what is read of any length of the text of a memory is that memory
+pub read_again : (input : List ℕ) (h g : MemoryHistory) (r : Result MemoryHistory ReadError) → IsAnyHistory (histories.Memory h)
+    → IsJson input (form_of (histories.Memory h)) → r ≡ Ok g
+    → ((h : MemoryHistory) → IsLongHistory h → IsJson input (form_of (histories.Memory h)) → MatchResult r (λ g. g ≡ h) (λ e. e ≡ errors.Memory))
+    → g ≡ h
+read_again input h g r is json same only =
+    let found : MatchResult (Ok g) (λ (x : MemoryHistory). x ≡ h) (λ (e : ReadError). e ≡ errors.Memory) =
+    subst (λ (x : Result MemoryHistory ReadError). MatchResult x (λ g. g ≡ h) (λ e. e ≡ errors.Memory)) same (only h (within_is_long h is) json) in found
+
+-- the faults of a memory as one of any length are those of the memory; of another object none are given
+pub faults_of_long : {E : Type 0} (most : ℕ) (history : AnyHistory) (g : MemoryHistory) (r : Result (Option Faults) E) → IsLongOf history (Some g)
+    → IfOk r (AreFaultsIn most (histories.Memory g)) → IfOk r (AreFaultsIn most history)
+faults_of_long most (histories.Memory h) g r same are = subst (λ (x : MemoryHistory). IfOk r (AreFaultsIn most (histories.Memory x))) same are
+faults_of_long most (histories.Register h) g r same are = absurd same
+faults_of_long most (histories.Counter h) g r same are = absurd same
+faults_of_long most (histories.Set h) g r same are = absurd same
+faults_of_long most (histories.Queue h) g r same are = absurd same
+faults_of_long most (histories.Counters h) g r same are = absurd same
+faults_of_long most (histories.Sets h) g r same are = absurd same
+faults_of_long most (histories.Queues h) g r same are = absurd same
+
+pub no_faults : (history : AnyHistory) → IsLongOf history None → LacksDistinctValues history
+no_faults (histories.Memory h) same = absurd same
+no_faults (histories.Register h) same = tt
+no_faults (histories.Counter h) same = tt
+no_faults (histories.Set h) same = tt
+no_faults (histories.Queue h) same = tt
+no_faults (histories.Counters h) same = tt
+no_faults (histories.Sets h) same = tt
+no_faults (histories.Queues h) same = tt

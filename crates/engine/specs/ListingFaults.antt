@@ -5,7 +5,7 @@ use Rattle.operations.specs.declared.any_history.AnyHistory.{AnyHistory}
 use Rattle.operations.specs.declared.any_history.AnyHistory.TheVariants as histories
 use Rattle.operations.specs.AnyForm.{form_of, IsJson}
 use Rattle.operations.specs.Json.{list}
-use Rattle.long_faults.specs.declared.faults.Faults.{Faults}
+use Rattle.long_faults.specs.declared.tally.Faults.{Faults}
 use Rattle.long_faults.specs.Tallies.{IsTallyOf}
 use Rattle.long_faults.specs.FaultsForm.{faults_form}
 use Rattle.command_line.specs.declared.form.ListForm.{ListForm}

@@ -18,6 +18,7 @@ use crate::report::{Report, report_text};
 use collector::Answer;
 use command_line::{Expected, Judging, Length, Order};
 use lines::{MAX_READ_CALLS, Outcome, Source};
+use long_decision::{CallingThread, WorkerThreads};
 use operations::read_history;
 use std::alloc::Global;
 use std::io::Write;
@@ -63,7 +64,10 @@ pub(crate) fn report_on_input<T: Threads + Wait + Sync>(
 {
     match judging.length {
         Length::Limited => report_on_limited_input(rt, alloc, input, judging),
-        Length::Any => report_on_long_input(alloc, input),
+        Length::Any => {
+            let work = WorkerThreads::of(rt, judging.workers.count());
+            report_on_long_input(&work, alloc, input)
+        }
     }
 }
 
@@ -95,7 +99,7 @@ pub(crate) fn report_on_input_alone(
 {
     match allowed {
         Length::Limited => report_on_limited_input_alone(alloc, input),
-        Length::Any => report_on_long_input(alloc, input),
+        Length::Any => report_on_long_input(&CallingThread, alloc, input),
     }
 }
 

@@ -68,6 +68,7 @@ pub use judging::report_on;
 pub use judging_alone::report_alone;
 pub use line_judge::judge_lines;
 pub use lines::{MAX_READ_CALLS, Outcome, Source};
+pub use long_decision::{CallingThread, SessionWork, WorkerThreads};
 pub use long_forms::explain_long;
 pub use long_judging::report_on_long;
 pub use output::write_output;

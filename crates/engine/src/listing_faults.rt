@@ -1,15 +1,16 @@
 //! Reads of a history that show a fault, in a list.
 
-ghost use Rattle.std.specs.Prelude.{◌≡◌, ◌∷◌, ◌++◌, [], codes, IfErr, IfOk, OnOk, string_bytes};
+ghost use Rattle.std.specs.Prelude.{◌≡◌, ◌∷◌, ◌++◌, [], codes, option_map, IfErr, IfOk, OnOk, string_bytes};
 ghost use Rattle.serde_json.specs.View.{view};
 ghost use Rattle.serde_json.specs.Written.{compact_text};
-ghost use Rattle.operations.specs.AnyForm.{IsJson};
+ghost use Rattle.operations.specs.AnyForm.{IsAnyHistory, IsJson, form_of};
 ghost use Rattle.operations.specs.Json.{list};
 ghost use Rattle.engine.specs.Explaining.{EachIsReason};
 ghost use Rattle.engine.specs.ExplainingInWords.{TellsEach};
-ghost use Rattle.engine.specs.ListingFaults.{AreFaultsIn, IsFaultReportOf, fault_report_form, list_form};
+ghost use Rattle.engine.specs.ListingFaults.{AreFaultsIn, IsListedAs, fault_report_form, list_form};
 ghost use Rattle.engine.specs.Running.{IsOutput, IsOutputError};
-ghost use Rattle.engine.specs.Steps.Listed.{AreLinesAfter, IsListOf};
+ghost use Rattle.engine.specs.Steps.Listed.{AreLinesAfter, IsListOf, IsLongOf};
+ghost use Rattle.engine.specs.Steps.ReportErrors.{IsReportError};
 
 use crate::explaining_in_words::{explanation_of_copy, indented_text, text_with_lines};
 use crate::failure::RunError;
@@ -20,8 +21,9 @@ use crate::reason_lines::lines_of_reason;
 use crate::written::line_of_value;
 use bad_patterns::Kind;
 use cert_check::Criterion;
-use command_line::{Length, ListForm, Listing, Order};
-use long_faults::{Faults, count_lines, fault_line, faults, faults_value, long_of};
+use command_line::{Length, ListForm, Listing, Order, Workers};
+use long_decision::WorkerThreads;
+use long_faults::{Faults, count_lines, fault_line, faults_value, find_faults};
 use long_history::LongHistory;
 use long_index::LongIndex;
 use long_reader::{read_long, small};
@@ -43,6 +45,7 @@ pub struct FaultReport {
 ///
 /// The lines of `judge` come first, with the pattern of a kind that no read shows by itself. Refuses what is no history, and fails for
 /// want of memory. It costs what `explain` costs, and O(n k) for n operations of k sessions.
+#[tactic(auto, using(crate::proofs::LongOutputs::error_listed))]
 pub fn list_faults<T: Threads + Wait + Sync>(
     rt: &T,
     alloc: Global,
@@ -54,14 +57,61 @@ pub fn list_faults<T: Threads + Wait + Sync>(
 {
     match listing.length {
         Length::Limited => {
-            let history = read_history(alloc, input)?;
-            list_in_limited(rt, alloc, history, listing.most, listing.form)
+            list_in_limited_input(rt, alloc, input, listing.most, listing.form)
         }
-        Length::Any => {
-            let history = read_long(alloc, input)?;
-            list_in_long(rt, alloc, &history, listing.most, listing.form)
-        }
+        Length::Any => list_in_long_input(rt, alloc, input, listing.most, listing.form),
     }
+}
+
+// The list of the history in an input, within the limits. A memory is read once more, as a history of any length.
+fn list_in_limited_input<T: Threads + Wait + Sync>(
+    rt: &T,
+    alloc: Global,
+    input: &[u8],
+    most: u32,
+    form: ListForm,
+) -> Result<String, RunError>
+    ensures list { IfOk result (λ text. IsListedAs form Length.Limited most input.now (string_bytes text)) }
+    ensures error { IfErr result (IsReportError Length.Limited input.now) }
+{
+    let history = read_history(alloc, input)?;
+    let long = long_of(alloc, input, &history)?;
+    list_in_limited(rt, alloc, history, long.as_ref(), most, form)
+}
+
+// The history in an input as one of any length, where it is one of a memory.
+fn long_of(
+    alloc: Global,
+    input: &[u8],
+    history: &AnyHistory,
+) -> Result<Option<LongHistory>, RunError>
+    requires is_history { IsAnyHistory history.now }
+    requires read { IsJson input.now (form_of history.now) }
+    ensures long { IfOk result (IsLongOf history.now) }
+    ensures error { IfErr result (λ e. e ≡ RunError.Memory) }
+{
+    let AnyHistory::Memory(_) = history else {
+        return Ok(None);
+    };
+    match read_long(alloc, input) {
+        Ok(long) => Ok(Some(long)),
+        Err(_no_memory) => Err(RunError::Memory),
+    }
+}
+
+// The list of the history in an input, of any length.
+fn list_in_long_input<T: Threads + Wait + Sync>(
+    rt: &T,
+    alloc: Global,
+    input: &[u8],
+    most: u32,
+    form: ListForm,
+) -> Result<String, RunError>
+    ensures list { IfOk result (λ text. IsListedAs form Length.Any most input.now (string_bytes text)) }
+    ensures error { IfErr result (IsReportError Length.Any input.now) }
+{
+    let history = read_long(alloc, input)?;
+    list_in_long(rt, alloc, &history, most, form)
 }
 
 // The list of a memory history of any length.
@@ -76,26 +126,31 @@ fn list_in_long<T: Threads + Wait + Sync>(
     ensures error { IfErr result (λ e. e ≡ RunError.Memory) }
 {
     match small(alloc, history)? {
-        Some(small) => list_in_limited(rt, alloc, AnyHistory::Memory(small), most, form),
-        None => list_in_larger(alloc, history, most, form),
+        Some(small) => {
+            let small = AnyHistory::Memory(small);
+            list_in_limited(rt, alloc, small, Some(history), most, form)
+        }
+        None => list_in_larger(rt, alloc, history, most, form),
     }
 }
 
-// The list of a history within the limits.
+// The list of a history within the limits, and the same as one of any length where it is one of a memory.
 fn list_in_limited<T: Threads + Wait + Sync>(
     rt: &T,
     alloc: Global,
     history: AnyHistory,
+    long: Option<&LongHistory>,
     most: u32,
     form: ListForm,
 ) -> Result<String, RunError>
+    requires { IsLongOf history (option_map (λ g. g.now) long) }
     ensures list { IfOk result (λ text. IsListOf form most history (string_bytes text)) }
     ensures error { IfErr result (λ e. e ≡ RunError.Memory) }
 {
     let explanation = explanation_of_copy(rt, alloc, &history)?;
     let text = match form {
-        ListForm::Words => words_in_limited(alloc, &history, &explanation, most)?,
-        ListForm::Json => json_in_limited(alloc, &history, explanation, most)?,
+        ListForm::Words => words_in_limited(alloc, &history, long, &explanation, most)?,
+        ListForm::Json => json_in_limited(alloc, &history, long, explanation, most)?,
     };
     Ok(text)
 }
@@ -104,13 +159,14 @@ fn list_in_limited<T: Threads + Wait + Sync>(
 fn words_in_limited(
     alloc: Global,
     history: &AnyHistory,
+    long: Option<&LongHistory>,
     explanation: &Explanation,
     most: u32,
 ) -> Result<String, AllocError>
     ensures { IfOk result (λ text. AreLinesAfter explanation.now (string_bytes text)) }
 {
     let first = text_in_list(alloc, history, explanation)?;
-    let lines = fault_lines_of_any(alloc, history, most)?;
+    let lines = fault_lines_of_any(alloc, long, most)?;
     joined(alloc, &first, &lines)
 }
 
@@ -118,18 +174,21 @@ fn words_in_limited(
 fn json_in_limited(
     alloc: Global,
     history: &AnyHistory,
+    long: Option<&LongHistory>,
     explanation: Explanation,
     most: u32,
 ) -> Result<String, AllocError>
-    requires { EachIsReason history.now explanation }
+    requires reasons { EachIsReason history.now explanation }
+    requires long { IsLongOf history.now (option_map (λ g. g.now) long) }
     ensures { IfOk result (λ text. IsListOf ListForm.Json most history.now (string_bytes text)) }
 {
-    let faults = faults_of_any(alloc, history, most)?;
+    let faults = faults_of_any(alloc, history, long, most)?;
     text_of_report(alloc, &FaultReport { explanation, faults })
 }
 
 // The list of a history over the limits.
-fn list_in_larger(
+fn list_in_larger<T: Threads + Wait + Sync>(
+    rt: &T,
     alloc: Global,
     history: &LongHistory,
     most: u32,
@@ -138,7 +197,8 @@ fn list_in_larger(
     ensures list { IfOk result (λ text. IsListOf form most (AnyHistory.Memory history.now) (string_bytes text)) }
     ensures error { IfErr result (λ e. e ≡ RunError.Memory) }
 {
-    let said = explanation_of_long(alloc, history)?;
+    let work = WorkerThreads::of(rt, Workers::usual().count());
+    let said = explanation_of_long(&work, alloc, history)?;
     let text = match form {
         ListForm::Words => words_in_larger(alloc, history, &said, most)?,
         ListForm::Json => json_in_larger(alloc, history, said.explanation, most)?,
@@ -192,40 +252,37 @@ fn faults_of(
     ensures { IfOk result (AreFaultsIn most (AnyHistory.Memory history.now)) }
 {
     match LongIndex::of(alloc, history)? {
-        Some(index) => Ok(Some(faults(alloc, &index, most as usize)?)),
+        Some(index) => Ok(Some(find_faults(alloc, &index, most as usize)?)),
         None => Ok(None),
     }
 }
 
 // The faults of a history of any object: those of a memory.
+#[tactic(auto, using(crate::proofs::LongOutputs::faults_of_long, crate::proofs::LongOutputs::no_faults))]
 fn faults_of_any(
     alloc: Global,
-    history: &AnyHistory,
+    _history: &AnyHistory,
+    long: Option<&LongHistory>,
     most: u32,
 ) -> Result<Option<Faults>, AllocError>
-    ensures { IfOk result (AreFaultsIn most history.now) }
+    requires { IsLongOf _history.now (option_map (λ g. g.now) long) }
+    ensures { IfOk result (AreFaultsIn most _history.now) }
 {
-    match history {
-        AnyHistory::Memory(memory) => faults_of(alloc, &long_of(alloc, memory)?, most),
-        AnyHistory::Register(_)
-        | AnyHistory::Counter(_)
-        | AnyHistory::Set(_)
-        | AnyHistory::Queue(_)
-        | AnyHistory::Counters(_)
-        | AnyHistory::Sets(_)
-        | AnyHistory::Queues(_) => Ok(None),
+    match long {
+        Some(long) => faults_of(alloc, long, most),
+        None => Ok(None),
     }
 }
 
 // The lines on the faults of a history of any object.
 fn fault_lines_of_any(
     alloc: Global,
-    history: &AnyHistory,
+    long: Option<&LongHistory>,
     most: u32,
 ) -> Result<Vec<String>, AllocError> {
-    match history {
-        AnyHistory::Memory(memory) => fault_lines_of(alloc, &long_of(alloc, memory)?, most),
-        _ => one_line(alloc, "No faults of single reads are known of this object."),
+    match long {
+        Some(long) => fault_lines_of(alloc, long, most),
+        None => one_line(alloc, "No faults of single reads are known of this object."),
     }
 }
 
@@ -241,7 +298,7 @@ fn fault_lines_of(
             "A read does not name its write, since values are not distinct: so no fault is known.",
         );
     };
-    let found = faults(alloc, &index, most as usize)?;
+    let found = find_faults(alloc, &index, most as usize)?;
     let mut lines = count_lines(alloc, &found)?;
     for fault in &found.listed {
         lines.push(fault_line(alloc, &index, fault)?)?;

@@ -10,7 +10,7 @@ use crate::reason::{Explanation, Reason};
 use bad_patterns::{Kind, Pattern};
 use cert_check::Criterion;
 use long_cores::{Gathered, core_of_kind};
-use long_decision::{LongDecision, LongDecisions, decide_indexed};
+use long_decision::{LongDecision, LongDecisions, SessionWork, decide_indexed};
 use long_history::LongHistory;
 use long_index::LongIndex;
 use long_patterns::is_shown_in_long;
@@ -44,15 +44,17 @@ impl LongExplanation {
 /// found there is tested in the whole. Else it has its kind. Unknown, with no operation, exactly where values are not distinct.
 ///
 /// Fails for want of memory alone. O(n (k + log n)) for n operations of k sessions.
-pub(crate) fn explanation_of_long(
+pub(crate) fn explanation_of_long<W: SessionWork>(
+    work: &W,
     alloc: Global,
     history: &LongHistory,
 ) -> Result<LongExplanation, RunError>
+    requires { W.can_work work.now }
     ensures reasons { IfOk result (λ said. EachIsReason (AnyHistory.Memory history.now) said.explanation) }
     ensures error { IfErr result (λ e. e ≡ RunError.Memory) }
 {
     match LongIndex::of(alloc, history)? {
-        Some(index) => Ok(explanation_of_indexed(alloc, &index)?),
+        Some(index) => Ok(explanation_of_indexed(work, alloc, &index)?),
         None => Ok(LongExplanation {
             explanation: Explanation {
                 cc: Reason::Unexplained(None),
@@ -66,10 +68,15 @@ pub(crate) fn explanation_of_long(
 
 // The same of a history of distinct values.
 #[tactic(auto, using(crate::proofs::Reasons::each_reason))]
-fn explanation_of_indexed(alloc: Global, index: &LongIndex) -> Result<LongExplanation, AllocError>
+fn explanation_of_indexed<W: SessionWork>(
+    work: &W,
+    alloc: Global,
+    index: &LongIndex,
+) -> Result<LongExplanation, AllocError>
+    requires { W.can_work work.now }
     ensures { IfOk result (λ said. EachIsReason (AnyHistory.Memory index.now.history) said.explanation) }
 {
-    let decisions = decide_indexed(alloc, index)?;
+    let decisions = decide_indexed(work, alloc, index)?;
     let found = found_of(alloc, index, &decisions)?;
     let cc = reason_of(alloc, index, Criterion::Cc, decisions.cc, &found)?;
     let cm = reason_of(alloc, index, Criterion::Cm, decisions.cm, &found)?;

@@ -12,6 +12,7 @@ use crate::long_picturing::picture_of_long;
 use crate::long_words::{text_of_long, text_of_small};
 use crate::picturing::picture_of_memory;
 use command_line::{LongForm, Order, Workers};
+use long_decision::WorkerThreads;
 use long_history::LongHistory;
 use long_reader::{read_long, small};
 use objects::Memory;
@@ -49,16 +50,22 @@ fn explained_as<T: Threads + Wait + Sync>(
 {
     match small(alloc, history)? {
         Some(small) => small_as(rt, alloc, history, small, form),
-        None => larger_as(alloc, history, form),
+        None => larger_as(rt, alloc, history, form),
     }
 }
 
 // The text on a history over the limits.
-fn larger_as(alloc: Global, history: &LongHistory, form: LongForm) -> Result<String, RunError>
+fn larger_as<T: Threads + Wait + Sync>(
+    rt: &T,
+    alloc: Global,
+    history: &LongHistory,
+    form: LongForm,
+) -> Result<String, RunError>
     ensures text { IfOk result (λ text. IsExplainedAs form (AnyHistory.Memory history.now) (string_bytes text)) }
     ensures error { IfErr result (λ e. e ≡ RunError.Memory) }
 {
-    let said = explanation_of_long(alloc, history)?;
+    let work = WorkerThreads::of(rt, Workers::usual().count());
+    let said = explanation_of_long(&work, alloc, history)?;
     match form {
         LongForm::Words => Ok(text_of_long(alloc, history, &said)?),
         LongForm::Json => Ok(explanation_text(alloc, &said.explanation)?),

@@ -13,7 +13,7 @@ use crate::judging_alone::report_alone;
 use crate::report::Report;
 use cert_check::Criterion;
 use collector::Answer;
-use long_decision::{CallingThread, LongDecision, decide_long};
+use long_decision::{LongDecision, SessionWork, decide_long};
 use long_history::LongHistory;
 use long_reader::{read_long, small};
 use operations::AnyHistory;
@@ -22,22 +22,32 @@ use std::alloc::Global;
 /// The report on the memory history in an input, of any length.
 ///
 /// Refuses what is no such history, and fails for want of memory. The cost is that of reading and of [`report_on_long`].
-pub(crate) fn report_on_long_input(alloc: Global, input: &[u8]) -> Result<Report, RunError>
+pub(crate) fn report_on_long_input<W: SessionWork>(
+    work: &W,
+    alloc: Global,
+    input: &[u8],
+) -> Result<Report, RunError>
+    requires { W.can_work work.now }
     ensures report { IfOk result (IsReportOnAt Any input.now) }
     ensures error { IfErr result (IsReportError Any input.now) }
 {
     let history = read_long(alloc, input)?;
-    report_on_long(alloc, &history)
+    report_on_long(work, alloc, &history)
 }
 
-/// What is known of a memory history of any length, for each criterion. No thread is started.
+/// What is known of a memory history of any length, for each criterion. Whoever works shares the sessions, and starts threads or none.
 ///
 /// Of a history within the limits of [`History`](operations::History) it is what [`report_alone`](crate::report_alone) says. Else it is
 /// decided: `Yes` exactly where the history meets the criterion, and `No` with the kind of a bad pattern that is present exactly where
 /// it does not; `Unknown` with no operation for all three criteria where values are not distinct.
 ///
 /// Fails for want of memory alone. O(n (k + log n)) for n operations of k sessions.
-pub fn report_on_long(alloc: Global, history: &LongHistory) -> Result<Report, RunError>
+pub fn report_on_long<W: SessionWork>(
+    work: &W,
+    alloc: Global,
+    history: &LongHistory,
+) -> Result<Report, RunError>
+    requires { W.can_work work.now }
     ensures truth { IfOk result (EachIsTrueAt Any (AnyHistory.Memory history.now)) }
     ensures unknown { IfOk result (EachIsKnownOnDistinctValues (AnyHistory.Memory history.now)) }
     ensures unexplained { IfOk result (EachNamesUnexplained (AnyHistory.Memory history.now)) }
@@ -45,19 +55,24 @@ pub fn report_on_long(alloc: Global, history: &LongHistory) -> Result<Report, Ru
 {
     match small(alloc, history)? {
         Some(small) => report_alone(alloc, AnyHistory::Memory(small)),
-        None => report_on_larger(alloc, history),
+        None => report_on_larger(work, alloc, history),
     }
 }
 
 // The same of a history over the limits.
-fn report_on_larger(alloc: Global, history: &LongHistory) -> Result<Report, RunError>
+fn report_on_larger<W: SessionWork>(
+    work: &W,
+    alloc: Global,
+    history: &LongHistory,
+) -> Result<Report, RunError>
+    requires can_work { W.can_work work.now }
     requires over { ¬ IsAnyHistory (AnyHistory.Memory history.now) }
     ensures truth { IfOk result (EachIsTrueAt Any (AnyHistory.Memory history.now)) }
     ensures unknown { IfOk result (EachIsKnownOnDistinctValues (AnyHistory.Memory history.now)) }
     ensures unexplained { IfOk result (EachNamesUnexplained (AnyHistory.Memory history.now)) }
     ensures error { IfErr result (λ e. e ≡ RunError.Memory) }
 {
-    let decisions = decide_long(&CallingThread, alloc, history)?;
+    let decisions = decide_long(work, alloc, history)?;
     Ok(Report {
         cc: answer_of(history, Criterion::Cc, decisions.cc),
         cm: answer_of(history, Criterion::Cm, decisions.cm),

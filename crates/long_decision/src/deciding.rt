@@ -67,9 +67,9 @@ fn excluded_by(index: &LongIndex, kind: Kind) -> LongDecisions
     }
 }
 
-/// What is decided of an indexed history.
+/// What [`decide_long`] decides of a history of distinct values, of which an index was made. It costs the same but for the index.
 #[tactic(auto, using(crate::proofs::Firsts::first_cyclic))]
-fn decide_indexed<W: SessionWork>(
+pub fn decide_indexed<W: SessionWork>(
     work: &W,
     alloc: Global,
     index: &LongIndex,

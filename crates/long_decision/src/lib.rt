@@ -9,6 +9,6 @@ mod decisions;
 mod session_work;
 mod thin_air;
 
-pub use deciding::decide_long;
+pub use deciding::{decide_indexed, decide_long};
 pub use decisions::{LongDecision, LongDecisions};
 pub use session_work::{CallingThread, SessionWork, WorkerThreads};

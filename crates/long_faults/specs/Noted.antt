@@ -1,12 +1,11 @@
 -- The latest writes that reads missed, as they are noted: by the number of a read, 0 or the number after that of the write.
-use Rattle.std.specs.Prelude.{◌≡◌, ◌≢◌, ◌⊎◌, ℕ, ◌+◌, ◌-◌, ◌<◌, ◌≤◌, List, length, slice_index_or}
+use Rattle.std.specs.Prelude.{◌≡◌, ◌≢◌, ◌⊎◌, ℕ, ◌+◌, ◌-◌, ◌<◌, ◌≤◌, List, length, Some, slice_get, slice_index_or}
 use Rattle.history.specs.declared.op_id.OpId.{OpId}
 use Rattle.history.specs.History.{IsOp, Precedes, number}
 use Rattle.memory_order.specs.Memory.{MemoryHistory}
 use Rattle.memory_order.specs.Relations.{CO}
 use Rattle.memory_order.specs.SourceOrder.{IsCyclic}
 use Rattle.long_history.specs.Steps.{many}
-use Rattle.long_columns.specs.Swept.{IsAmongFirst}
 use Rattle.long_faults.specs.Faults.{IsLatest, Misses}
 
 module _ (h : MemoryHistory) where
@@ -24,7 +23,7 @@ module _ (h : MemoryHistory) where
 
   -- b is of one of the first i sessions of the list
   abbrev pub IsOfFirst : List ℕ → ℕ → OpId → Type 0
-  IsOfFirst sessions i b = IsAmongFirst sessions i b.session
+  IsOfFirst sessions i b = (k : ℕ) × (k < i) × (slice_get sessions k ≡ Some b.session)
 
   -- of each operation, as far as the first i sessions show
   pub record AreNoted (sessions : List ℕ) (i : ℕ) (missed : List ℕ) : Type 0 where

@@ -21,7 +21,7 @@ fn next_history(
     reader: &mut Reader<'_>,
     depth: usize,
 ) -> Result<Result<Parts, ReadError>, TextError>
-    requires { 2 < depth }
+    requires { 3 < depth }
     ensures read { IfOk result (λ r. IsList (λ ds. AreParts (parts_in ds) r) depth reader.old reader.new) }
     ensures shorter { OnOk result (length reader.new < length reader.old) }
     ensures refused { IfErr result (IsRefused depth reader.old) }
@@ -36,7 +36,7 @@ fn read_first(
     reader: &mut Reader<'_>,
     depth: usize,
 ) -> Result<Result<Parts, ReadError>, TextError>
-    requires { 2 < depth }
+    requires { 3 < depth }
     ensures read { IfOk result (λ r. IsRest (λ ds. IsFirst ds r) depth reader.old reader.new) }
     ensures refused { IfErr result (AreRefused depth reader.old) }
 {
@@ -55,7 +55,7 @@ fn read_list(
     reader: &mut Reader<'_>,
     depth: usize,
 ) -> Result<Result<Parts, ReadError>, TextError>
-    requires { 3 < depth }
+    requires { 4 < depth }
     ensures read { IfOk result (λ r. IsList (λ ds. IsFirstIn ds r) depth (token_of token.entry ∷ reader.old) reader.new) }
     ensures refused { IfErr result (IsRefused depth (token_of token.entry ∷ reader.old)) }
 {

@@ -1,10 +1,12 @@
 -- What is written of a history where its faults are listed, in each form.
-use Rattle.std.specs.Prelude.{◌≡◌, ℕ, List, ◌++◌, codes}
+use Rattle.std.specs.Prelude.{◌≡◌, ℕ, List, ◌++◌, Option, Some, None, codes}
 use Rattle.serde_json.specs.Written.{compact_text}
 use Rattle.command_line.specs.declared.form.ListForm.{ListForm}
 use Rattle.command_line.specs.declared.form.ListForm.TheVariants.{Words, Json}
 use Rattle.operations.specs.declared.any_history.AnyHistory.{AnyHistory}
+use Rattle.operations.specs.declared.any_history.AnyHistory.TheVariants as histories
 use Rattle.operations.specs.AnyForm.{IsJson}
+use Rattle.memory_order.specs.Memory.{MemoryHistory}
 use Rattle.engine.specs.declared.listing_faults.FaultReport.{FaultReport}
 use Rattle.engine.specs.declared.reason.Explanation.{Explanation}
 use Rattle.engine.specs.Explaining.{EachIsReason}
@@ -22,3 +24,10 @@ IsListOf Json most history text =
     (report : FaultReport) × IsFaultReportOf most history report
     × IsJson (compact_text (fault_report_form report)) (fault_report_form report)
     × (text ≡ compact_text (fault_report_form report) ++ codes "\n")
+
+-- a memory as a history of any length; none of another object
+abbrev pub IsLongOf : AnyHistory → Option MemoryHistory → Type 0
+IsLongOf (histories.Memory h) (Some g) = g ≡ h
+IsLongOf (histories.Memory h) None = ⊥
+IsLongOf _ (Some g) = ⊥
+IsLongOf _ None = Unit {0}
