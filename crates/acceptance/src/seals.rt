@@ -99,9 +99,22 @@ fn told_of_two(alloc: Global) -> Result<(Vec<u64>, Met), RecordError> {
     let (lanes, mut session) = one_session(alloc, 4)?;
     write(alloc, &mut session, 5)?;
     let receipt = write(alloc, &mut session, 6)?;
-    write(alloc, &mut session, 7)?;
-    begin_write(&mut session)?;
-    told_by(alloc, &lanes, &mut session, receipt)
+    told_later(alloc, &lanes, &mut session, receipt)
+}
+
+/// The same after one more write and a call that is pending.
+fn told_later(
+    alloc: Global,
+    lanes: &Lanes<Register>,
+    session: &mut Session<Register>,
+    receipt: Receipt<Register>,
+) -> Result<(Vec<u64>, Met), RecordError>
+    requires session { IsSessionOf lanes.now session.old }
+    requires receipt { IsReceiptOf lanes.now receipt }
+{
+    write(alloc, session, 7)?;
+    begin_write(session)?;
+    told_by(alloc, lanes, session, receipt)
 }
 
 /// A seal that is told of a receipt, which the session meets after the call that was pending has ended.
