@@ -156,4 +156,3 @@ module _ (text : List ℕ) (seen : Data) (of : IsSeenOf text seen) where
           let third : three.third ≡ pattern_form pattern =
           alone limit_of inside_of (InPattern patterns.Whole) three.third (pattern_form pattern) (pattern_kept pattern) (three.pattern ∙ form) in
           subst (IsJson text) (whole_is ∙ (λ i. list (form_of (kinds.Memory g) ∷ second i ∷ third i ∷ []))) of.1
-

@@ -1,6 +1,6 @@
 -- What is written of a history of any length is an output on the input in which it was read.
-use Rattle.std.proofs.Common.{◌≡◌, ◌++◌, ℕ, List, Option, Some, None, Result, Ok, Err, subst, sym, ap}
-use Rattle.std.specs.Prelude.{codes, IfOk, MatchResult, OnOk}
+use Rattle.std.proofs.Common.{◌≡◌, ◌++◌, ℕ, List, Option, Some, None, Result, Ok, Err, subst, sym}
+use Rattle.std.specs.Prelude.{codes, IfOk, OnOk}
 use Rattle.serde_json.specs.Written.{compact_text}
 use Rattle.command_line.specs.declared.form.ListForm.{ListForm}
 use Rattle.command_line.specs.declared.form.ListForm.TheVariants as list_forms
@@ -12,8 +12,6 @@ use Rattle.command_line.specs.declared.listing.Listing.{Listing}
 use Rattle.command_line.specs.declared.order.Order.TheVariants.{ExplainLong, ListFaults}
 use Rattle.operations.specs.declared.any_history.AnyHistory.{AnyHistory}
 use Rattle.operations.specs.declared.any_history.AnyHistory.TheVariants as histories
-use Rattle.operations.specs.declared.read_error.ReadError.{ReadError}
-use Rattle.operations.specs.declared.read_error.ReadError.TheVariants as errors
 use Rattle.operations.specs.AnyForm.{form_of, IsAnyHistory, IsJson}
 use Rattle.memory_order.specs.Memory.{MemoryHistory}
 use Rattle.long_history.specs.LongHistories.{IsLongHistory}
@@ -90,13 +88,13 @@ within_is_long h is =
     }
 
 -- what is read of any length of the text of a memory is that memory
-pub read_again : (input : List ℕ) (h g : MemoryHistory) (r : Result MemoryHistory ReadError) → IsAnyHistory (histories.Memory h)
-    → IsJson input (form_of (histories.Memory h)) → r ≡ Ok g
-    → ((h : MemoryHistory) → IsLongHistory h → IsJson input (form_of (histories.Memory h)) → MatchResult r (λ g. g ≡ h) (λ e. e ≡ errors.Memory))
-    → g ≡ h
-read_again input h g r is json same only =
-    let found : MatchResult (Ok g) (λ (x : MemoryHistory). x ≡ h) (λ (e : ReadError). e ≡ errors.Memory) =
-    subst (λ (x : Result MemoryHistory ReadError). MatchResult x (λ g. g ≡ h) (λ e. e ≡ errors.Memory)) same (only h (within_is_long h is) json) in found
+pub read_again : (input : List ℕ) (history : AnyHistory) (h g : MemoryHistory) → history ≡ histories.Memory h → IsAnyHistory history
+    → IsJson input (form_of history) → ((x : MemoryHistory) → IsLongHistory x → IsJson input (form_of (histories.Memory x)) → g ≡ x)
+    → IsLongOf history (Some g)
+read_again input history h g same is read only =
+    let is_memory : IsAnyHistory (histories.Memory h) = subst IsAnyHistory same is in
+    let read_memory : IsJson input (form_of (histories.Memory h)) = subst (λ (x : AnyHistory). IsJson input (form_of x)) same read in
+    subst (λ (x : AnyHistory). IsLongOf x (Some g)) (sym same) (only h (within_is_long h is_memory) read_memory)
 
 -- the faults of a memory as one of any length are those of the memory; of another object none are given
 pub faults_of_long : {E : Type 0} (most : ℕ) (history : AnyHistory) (g : MemoryHistory) (r : Result (Option Faults) E) → IsLongOf history (Some g)

@@ -56,9 +56,7 @@ pub fn list_faults<T: Threads + Wait + Sync>(
     ensures error { IfErr result (IsOutputError (Order.ListFaults listing) input.now) }
 {
     match listing.length {
-        Length::Limited => {
-            list_in_limited_input(rt, alloc, input, listing.most, listing.form)
-        }
+        Length::Limited => { list_in_limited_input(rt, alloc, input, listing.most, listing.form) }
         Length::Any => list_in_long_input(rt, alloc, input, listing.most, listing.form),
     }
 }
@@ -183,7 +181,13 @@ fn json_in_limited(
     ensures { IfOk result (λ text. IsListOf ListForm.Json most history.now (string_bytes text)) }
 {
     let faults = faults_of_any(alloc, history, long, most)?;
-    text_of_report(alloc, &FaultReport { explanation, faults })
+    text_of_report(
+        alloc,
+        &FaultReport {
+            explanation,
+            faults,
+        },
+    )
 }
 
 // The list of a history over the limits.
@@ -231,7 +235,13 @@ fn json_in_larger(
     ensures { IfOk result (λ text. IsListOf ListForm.Json most (AnyHistory.Memory history.now) (string_bytes text)) }
 {
     let faults = faults_of(alloc, history, most)?;
-    text_of_report(alloc, &FaultReport { explanation, faults })
+    text_of_report(
+        alloc,
+        &FaultReport {
+            explanation,
+            faults,
+        },
+    )
 }
 
 // The text of the reasons, and lines after it.
@@ -244,11 +254,7 @@ fn joined(alloc: Global, first: &str, lines: &[String]) -> Result<String, AllocE
 }
 
 // The faults of a memory history.
-fn faults_of(
-    alloc: Global,
-    history: &LongHistory,
-    most: u32,
-) -> Result<Option<Faults>, AllocError>
+fn faults_of(alloc: Global, history: &LongHistory, most: u32) -> Result<Option<Faults>, AllocError>
     ensures { IfOk result (AreFaultsIn most (AnyHistory.Memory history.now)) }
 {
     match LongIndex::of(alloc, history)? {

@@ -64,11 +64,7 @@ fn read_long_claim(alloc: Global, input: &[u8]) -> Result<LongClaim, RunError>
 
 // The claim of an input, of whose value this much is seen.
 
-fn claim_after_history(
-    alloc: Global,
-    input: &[u8],
-    seen: &Value,
-) -> Result<LongClaim, RunError>
+fn claim_after_history(alloc: Global, input: &[u8], seen: &Value) -> Result<LongClaim, RunError>
     requires { IsSeenOf input.now (view seen.now) }
     ensures history { IfOk result (λ claim. IsLongHistory claim.history) }
     ensures read { IfOk result (λ claim. IsJson input.now (claim_form (AnyHistory.Memory claim.history) claim.criterion claim.pattern)) }

@@ -87,12 +87,7 @@ fn lines_of_yes(
     criterion: Criterion,
 ) -> Result<Vec<String>, AllocError> {
     let mut lines = Vec::new(alloc);
-    lines.push(words_of_long_yes(
-        alloc,
-        criterion,
-        history.operations(),
-        history.sessions(),
-    )?)?;
+    lines.push(words_of_long_yes(alloc, criterion, history.operations(), history.sessions())?)?;
     Ok(lines)
 }
 

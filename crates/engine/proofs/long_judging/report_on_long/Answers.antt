@@ -7,7 +7,7 @@ use Rattle.engine.proofs.LongTruth.{within_true}
 use Rattle.engine.proofs.long_judging.report_on_long.Goals as goal
 
 pub returns-in-Some-clause-truth : goal.returns-in-Some-clause-truth
-returns-in-Some-clause-truth c =
+returns-in-Some-clause-truth g c =
     let same = rw c.in-Some.is at c.in_ok-small.ensures.same in
     subst (λ (h : MemoryHistory). IfOk c.report_alone.result (EachIsTrueAt Any (histories.Memory h))) same
     (within_true c.in-Some.small c.report_alone.result c.report_alone.ensures.truth)
