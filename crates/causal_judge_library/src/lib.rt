@@ -9,6 +9,7 @@ mod telling;
 mod tests;
 
 ghost use Rattle.command_line.specs.declared.form.Form.TheVariants.{Json};
+ghost use Rattle.command_line.specs.declared.length.Length.TheVariants.{Limited};
 ghost use Rattle.engine.specs.Alone.{judging_alone};
 ghost use Rattle.causal_judge_library.specs.Calls.{Tells};
 
@@ -90,7 +91,7 @@ pub extern "C" fn causal_judge_refute(
     answer: &mut [u8],
     needed: &mut usize,
 ) -> u8
-    ensures { Tells Order.Refute input.now answer.old answer.new needed.new result }
+    ensures { Tells (Order.Refute Limited) input.now answer.old answer.new needed.new result }
 {
     tell(alloc, engine::refute_alone(alloc, input), answer, needed)
 }

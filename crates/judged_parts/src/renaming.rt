@@ -15,11 +15,7 @@ pub fn pattern_in_whole(
     variables: &[u32],
     pattern: &Pattern,
 ) -> Result<Pattern, AllocError> {
-    renamed(
-        alloc,
-        &Places::without(alloc, history, variables)?,
-        pattern,
-    )
+    renamed(alloc, &Places::without(alloc, history, variables)?, pattern)
 }
 
 /// A pattern of a part, with the operations as the whole numbers them.
