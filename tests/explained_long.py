@@ -20,20 +20,15 @@ Each of the seven kinds has to be shown by a pattern and by a core. It prints a 
 its form is kept, and how often each thing came.
 """
 
-import argparse
 import copy
 import json
-import random
 import re
-import tempfile
-from collections import Counter
 
 import random_memories
 import reading
-from command_words import with_program
-from counting import end
 from explained import core_in, line_of, said
 from patterns import AGAINST, CRITERIA, MemoryHistory, is_pattern, shows
+from random_histories import run_random
 from random_memories import Shape
 
 MOST_SESSIONS, LENGTHS, KEYS, WIDTHS = 20, (40, 150, 400), (2, 8, 60), (1, 1, 3, 17)
@@ -256,32 +251,9 @@ def faults(program, form, rng, seen):
     return word_faults(program, whole, seen) + pattern_faults(program, whole, rng, seen)
 
 
-def kept(form):
-    """The name of a file with a form, which stays."""
-    with tempfile.NamedTemporaryFile("w", prefix="explained-long-", suffix=".json", delete=False) as file:
-        json.dump(form, file)
-    return file.name
-
-
 def main():
-    parser = argparse.ArgumentParser(description=__doc__, formatter_class=argparse.RawDescriptionHelpFormatter)
-    parser.add_argument("seed", type=int)
-    parser.add_argument("count", type=int)
-    given = with_program(parser)
-    rng, seen, wrong = random.Random(given.seed), Counter(), 0
-    for _ in range(given.count):
-        form = history(rng)
-        found = faults(given.program, form, rng, seen)
-        wrong += bool(found)
-        if found:
-            print(kept(form), *found, sep="\n  ", flush=True)
-    for what, times in sorted(seen.items()):
-        print(f"{times:8} {what}")
     named = [f"{what} of {criterion} no {kind}" for what in ("pattern", "core") for kind, some in AGAINST.items() for criterion in some]
-    missing = [what for what in named if not seen[what]]
-    for what in missing:
-        print(f"never seen: {what}")
-    end(given.count + len(named) - wrong - len(missing), wrong + len(missing))
+    run_random(__doc__, "explained-long", history, faults, named)
 
 
 if __name__ == "__main__":

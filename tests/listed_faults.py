@@ -15,21 +15,17 @@ of reads at fault.
 Each of the three kinds has to be listed in both forms. It prints a line for each history with a fault, and how often each kind came.
 """
 
-import argparse
 import json
-import random
 import re
-from collections import Counter
 
 import plain_faults
 import random_memories
 import reading
-from command_words import with_program
-from counting import end
 from explained import said
-from explained_long import kept, op_of
+from explained_long import op_of
 from patterns import MemoryHistory
 from plain_faults import KINDS
+from random_histories import run_random
 
 PLACE, READ = r"(\d+\.\d+)", r"(\d+\.\d+) reads (\d+) from variable (\d+)"
 MISSED = rf", after {PLACE} wrote (\d+) to it"
@@ -145,24 +141,8 @@ def faults_of(program, form, rng, seen):
 
 
 def main():
-    parser = argparse.ArgumentParser(description=__doc__, formatter_class=argparse.RawDescriptionHelpFormatter)
-    parser.add_argument("seed", type=int)
-    parser.add_argument("count", type=int)
-    given = with_program(parser)
-    rng, seen, wrong = random.Random(given.seed), Counter(), 0
-    for _ in range(given.count):
-        form = faulty(rng)
-        found = faults_of(given.program, form, rng, seen)
-        wrong += bool(found)
-        if found:
-            print(kept(form), *found, sep="\n  ", flush=True)
-    for what, times in sorted(seen.items()):
-        print(f"{times:8} {what}")
     named = [f"{kind} by explain --all N{words}" for kind in KINDS for words in ("", " --json", " --long", " --long --json")]
-    missing = [what for what in named if not seen[what]]
-    for what in missing:
-        print(f"never seen: {what}")
-    end(given.count + len(named) - wrong - len(missing), wrong + len(missing))
+    run_random(__doc__, "listed-faults", faulty, faults_of, named)
 
 
 if __name__ == "__main__":

@@ -47,7 +47,7 @@ enum Seen {
     Number(u32),
     Done,
     Refused(u8),
-    /// How a case stands.
+    /// The answer to a case.
     Stands(Answer),
     Piece(u32, OpId),
     Checked(u32, OpId, Outcome),

@@ -7,8 +7,8 @@ use replica::{Delivery, Replica, ReplicaError, UpdateOf, UpdateOrder};
 use std::alloc::Global;
 use std::test::Fail;
 
-/// What the replicas answer, with the stamp and the order that are told. The second pushes and pops before it receives the two
-/// pushes of the first, the later one first.
+/// The answers of two replicas, each with its stamp and its order. The second replica pushes and pops. Then it receives the two pushes of
+/// the first, the later one first.
 fn answers_of_two<P: UpdateOrder>(
     alloc: Global,
     delivery: Delivery,

@@ -11,8 +11,8 @@ use snapshot::{Cell, CutPlan, LaneLooker, Looker, walk};
 use std::alloc::{AllocError, Global};
 use std::test::Fail;
 
-/// What is sealed where two sessions record before this look, counted from 0, and how many looks there are: each cell is looked at
-/// once, and none behind one that was found empty.
+/// What a seal holds where two sessions record just before this look, counted from 0, and how many looks the seal takes. It looks at
+/// each cell once, and at none after an empty one.
 const SEALED: [(&str, usize); 4] = [
     ("[(Write(1), Some(Done))];[(Read, Some(Value(1)))];", 2),
     ("[(Write(1), None)];[(Read, Some(Value(1)))];", 3),

@@ -69,7 +69,7 @@ fn end(
     }
 }
 
-/// A seal that is told of this receipt. What memory refused is asked again.
+/// A seal that takes this receipt. A call that memory refuses is made again.
 fn seal_told(
     alloc: Global,
     lanes: &Lanes<Register>,
@@ -93,8 +93,8 @@ fn stamps_of(alloc: Global, sealed: &Sealed<Register>) -> Result<Vec<u64>, Recor
     Ok(stamps)
 }
 
-/// The stamps in a seal of two writes that a receipt stands for, of a third, and of a call that is pending; and how far the
-/// session meets it.
+/// The stamps in a seal: of two writes with a receipt, of a third write, and of a call without a return. With them, how far the session
+/// meets the seal.
 fn told_of_two(alloc: Global) -> Result<(Vec<u64>, Met), RecordError> {
     let (lanes, mut session) = one_session(alloc, 4)?;
     write(alloc, &mut session, 5)?;
@@ -117,7 +117,7 @@ fn told_later(
     told_by(alloc, lanes, session, receipt)
 }
 
-/// A seal that is told of a receipt, which the session meets after the call that was pending has ended.
+/// A seal that takes a receipt. The session meets it once its last call has returned.
 fn told_by(
     alloc: Global,
     lanes: &Lanes<Register>,

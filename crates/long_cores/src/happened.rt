@@ -15,7 +15,8 @@ const MAX_STEPS: usize = 65_536;
 /// Operations that show one of the two kinds of happened-before: of the first session that shows it, up to the least of its operations
 /// that does. None, where no session shows it.
 ///
-/// The order is one that [`long_order::causal_order`] gives. Fails for want of memory alone. O(n (k + log n)) for n operations of k sessions.
+/// The order is one that [`long_order::causal_order`] gives. Fails for want of memory alone. O(n (k + log n)) for n operations of
+/// k sessions.
 pub(crate) fn happened_before(
     alloc: Global,
     index: &LongIndex,
