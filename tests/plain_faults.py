@@ -105,12 +105,7 @@ def is_right(found, most, value):
 
 
 def main():
-    try:
-        found = faults(*reading.read_long(sys.stdin.buffer.read()))
-    except reading.Refused as refusal:
-        sys.exit("refused " + " ".join(map(str, refusal.args)))
-    if found is None:
-        sys.exit("values are not distinct")
+    found = reading.known_of_input(faults)
     listed = [[fault.kind, fault.read, fault.source, fault.latest] for fault in found.all[: int(sys.argv[1])]]
     print(json.dumps([found.has_cycle, found.counts(), found.by_session(), listed]))
 

@@ -177,13 +177,7 @@ def report(start, sessions):
 
 
 def main():
-    try:
-        text = report(*reading.read_long(sys.stdin.buffer.read()))
-    except reading.Refused as refusal:
-        sys.exit("refused " + " ".join(map(str, refusal.args)))
-    if text is None:
-        sys.exit("values are not distinct")
-    sys.stdout.write(text)
+    sys.stdout.write(reading.known_of_input(report))
 
 
 if __name__ == "__main__":

@@ -6,6 +6,7 @@ docs/guide.md. With `--long` a memory alone is read, without a limit on sessions
 
 import math
 import re
+import sys
 from typing import NamedTuple
 
 import recheck
@@ -144,3 +145,14 @@ def line_of_refute(data, is_long=False):
     if not shows(MemoryHistory(sessions, start), criterion, pattern):
         raise Refused(23)
     return f"{criterion} no {pattern[0]}\n"
+
+
+def known_of_input(known):
+    """What is known of the long history on standard input. The process ends where it is refused, or where nothing is known of it."""
+    try:
+        found = known(*read_long(sys.stdin.buffer.read()))
+    except Refused as refusal:
+        sys.exit("refused " + " ".join(map(str, refusal.args)))
+    if found is None:
+        sys.exit("values are not distinct")
+    return found
