@@ -24,9 +24,8 @@ import tempfile
 from typing import NamedTuple
 
 sys.path.insert(0, str(pathlib.Path(__file__).resolve().parent.parent / "tests"))
-from command_words import with_program  # noqa: E402
 from compare import lines_of, print_table  # noqa: E402
-from long_speed import History, make, run  # noqa: E402
+from long_speed import chosen, make, run  # noqa: E402
 
 SOURCE = pathlib.Path(__file__).with_name("vector_clocks.cpp")
 BUILD = ("g++", "-std=c++20", "-O3", "-march=x86-64-v2")
@@ -85,20 +84,9 @@ def row(history, found):
     return [f"{history.operations:,}", f"{history.sessions:,}", f"{history.store} keys{history.keys}", *cells, "; ".join(shown)]
 
 
-def arguments():
-    parser = argparse.ArgumentParser(description=__doc__, formatter_class=argparse.RawDescriptionHelpFormatter)
-    parser.add_argument("--folder", type=pathlib.Path)
-    parser.add_argument("--rounds", type=int, default=2)
-    parser.add_argument("--operations", type=int, action="append")
-    parser.add_argument("--sessions", type=int, action="append")
-    parser.add_argument("--only", default="")
-    return with_program(parser)
-
-
 def main():
-    given = arguments()
-    sizes = [(operations, sessions) for operations in given.operations or OPERATIONS for sessions in given.sessions or SESSIONS]
-    histories = [history for size in sizes for how in RUNS if given.only in (history := History(*size, *how)).name()]
+    parser = argparse.ArgumentParser(description=__doc__, formatter_class=argparse.RawDescriptionHelpFormatter)
+    given, histories = chosen(parser, 2, OPERATIONS, SESSIONS, RUNS)
     everything = {}
     with tempfile.TemporaryDirectory() as name:
         room = pathlib.Path(name)

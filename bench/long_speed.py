@@ -200,22 +200,22 @@ def print_growths(everything):
         print(f"The time grows at most {most:.2f} times as much as the prototype's ({', '.join(names)}).")
 
 
-def arguments():
-    parser = argparse.ArgumentParser(description=__doc__, formatter_class=argparse.RawDescriptionHelpFormatter)
-    parser.add_argument("prototype", type=pathlib.Path)
+def chosen(parser, rounds, operations, sessions, runs):
+    """What the words ask for, and the histories that they name, each of which has operations, sessions and the rest of a run."""
     parser.add_argument("--folder", type=pathlib.Path)
-    parser.add_argument("--rounds", type=int, default=3)
+    parser.add_argument("--rounds", type=int, default=rounds)
     parser.add_argument("--operations", type=int, action="append")
     parser.add_argument("--sessions", type=int, action="append")
     parser.add_argument("--only", default="")
-    return with_program(parser)
+    given = with_program(parser)
+    sizes = [(n, k) for n in given.operations or operations for k in given.sessions or sessions]
+    return given, [history for size in sizes for how in runs if given.only in (history := History(*size, *how)).name()]
 
 
 def main():
-    given = arguments()
-    sizes = [(operations, sessions) for operations in given.operations or OPERATIONS for sessions in given.sessions or SESSIONS]
-    histories = [History(*size, *how) for size in sizes for how in RUNS]
-    histories = [history for history in histories if given.only in history.name()]
+    parser = argparse.ArgumentParser(description=__doc__, formatter_class=argparse.RawDescriptionHelpFormatter)
+    parser.add_argument("prototype", type=pathlib.Path)
+    given, histories = chosen(parser, 3, OPERATIONS, SESSIONS, RUNS)
     everything = {}
     with tempfile.TemporaryDirectory() as name:
         room = pathlib.Path(name)
