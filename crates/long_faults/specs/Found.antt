@@ -1,6 +1,7 @@
 -- What is found of one operation, and of the first ones.
 use Rattle.std.specs.Prelude.{◌≡◌, ◌≢◌, ◌+◌, ◌≤◌, ℕ, List, length, Option, MatchOption, Some, slice_get}
 use Rattle.history.specs.declared.op_id.OpId.{OpId}
+use Rattle.history.specs.History.{IsOp, number}
 use Rattle.memory_order.specs.Memory.{MemoryHistory}
 use Rattle.memory_order.specs.SourceOrder.{IsCyclic}
 use Rattle.long_columns.specs.Sights.{IsSeen}
@@ -23,6 +24,14 @@ module _ (h : MemoryHistory) (o : OpId) where
   IsMissedBy missed = MatchOption missed
       (¬ IsCyclic h → (a : OpId) → ¬ Misses h o a)
       (λ a. Misses h o a × IsLatest h o a × ¬ IsCyclic h)
+
+-- what is found of the operation with a number
+abbrev pub IsFoundAt : MemoryHistory → ℕ → Option Fault → Type 0
+IsFoundAt h n found = (o : OpId) → IsOp h o → number h o ≡ n → IsFoundFor h o found
+
+-- the latest write that the operation with a number missed, or it missed none
+abbrev pub IsMissedAt : MemoryHistory → ℕ → Option OpId → Type 0
+IsMissedAt h n missed = (o : OpId) → IsOp h o → number h o ≡ n → IsMissedBy h o missed
 
 -- a tally of all faults of operations with numbers below n
 pub record IsTallyBelow (h : MemoryHistory) (n most : ℕ) (listed : List Fault) (counts : FaultCounts) (rows : List SessionFaults)

@@ -1,5 +1,5 @@
 -- What is told of a list of faults: some of them, and how many there are of each kind, altogether and in each session.
-use Rattle.std.specs.Prelude.{◌≡◌, ◌==◌, ℕ, ◌<◌, Bool, true, false, List, length, Some, slice_get, take}
+use Rattle.std.specs.Prelude.{◌≡◌, ◌==◌, ◌∷◌, ◌++◌, ℕ, ◌<◌, Bool, true, false, List, [], length, Some, slice_get, take}
 use Rattle.std.specs.List.{filter}
 use Rattle.memory_order.specs.Memory.{MemoryHistory}
 use Rattle.bad_patterns.specs.declared.kind.Kind.{Kind}
@@ -51,6 +51,14 @@ pub record IsBelow (counts : FaultCounts) (n : ℕ) : Type 0 where
   pub thin_air : counts.thin_air < n
   pub start : counts.start < n
   pub read : counts.read < n
+
+-- each count of each row is below n
+abbrev pub AreBelow : List SessionFaults → ℕ → Type 0
+AreBelow rows n = (j : ℕ) (row : SessionFaults) → slice_get rows j ≡ Some row → IsBelow row.counts n
+
+-- a list of the first faults, before and after one more comes
+abbrev pub IsListedWith : ℕ → Fault → List Fault → List Fault → Type 0
+IsListedWith most fault before after = (all : List Fault) → before ≡ take most all → after ≡ take most (all ++ fault ∷ [])
 
 -- a row for each session of which the list has a fault, in the order of sessions
 pub record AreSessionCounts (all : List Fault) (rows : List SessionFaults) : Type 0 where

@@ -5,7 +5,7 @@ ghost use Rattle.history.specs.declared.op_id.OpId.{OpId as Operation};
 ghost use Rattle.history.specs.History.{IsOp, number};
 ghost use Rattle.memory_order.specs.SourceOrder.{IsCyclic};
 ghost use Rattle.long_history.specs.Steps.{many};
-ghost use Rattle.long_faults.specs.Found.{IsFoundFor, IsMissedBy, IsTallyBelow};
+ghost use Rattle.long_faults.specs.Found.{IsFoundAt, IsMissedAt, IsTallyBelow};
 ghost use Rattle.long_faults.specs.Noted.{AreLatestMissed};
 ghost use Rattle.long_faults.specs.Tallies.{IsTallyOf};
 
@@ -92,7 +92,7 @@ fn add_fault(
 fn fault_of(index: &LongIndex, missed: &[u32], operation: u32) -> Option<Fault>
     requires operation { operation < many index.now.history }
     requires missed { AreLatestMissed index.now.history missed.now }
-    ensures { (o : Operation) → IsOp index.now.history o → number index.now.history o ≡ operation → IsFoundFor index.now.history o result }
+    ensures { IsFoundAt index.now.history operation result }
 {
     index.value_is_indexed();
     let read = operation_of(index, operation);
@@ -117,7 +117,7 @@ fn fault_of(index: &LongIndex, missed: &[u32], operation: u32) -> Option<Fault>
 fn missed_by(index: &LongIndex, missed: &[u32], operation: u32) -> Option<OpId>
     requires operation { operation < many index.now.history }
     requires missed { AreLatestMissed index.now.history missed.now }
-    ensures { (o : Operation) → IsOp index.now.history o → number index.now.history o ≡ operation → IsMissedBy index.now.history o result }
+    ensures { IsMissedAt index.now.history operation result }
 {
     let after = missed[operation as usize];
     if after == 0 {

@@ -1,11 +1,11 @@
 //! The faults of a history, some of them and how many.
 
-ghost use Rattle.std.specs.Prelude.{◌≡◌, ◌∷◌, ◌++◌, ◌+◌, ◌<◌, ◌≤◌, ℕ, List, [], Some, slice_get, take, OnOk};
+ghost use Rattle.std.specs.Prelude.{◌≡◌, ◌∷◌, ◌++◌, ◌+◌, ◌<◌, ◌≤◌, ℕ, List, [], Some, slice_get, OnOk};
 ghost use Rattle.long_faults.specs.declared.counts.SessionFaults.{SessionFaults as ARow};
 ghost use Rattle.long_faults.specs.declared.fault.Fault.{Fault as AFault};
 ghost use Rattle.long_faults.specs.Faults.{IsListed, read_of};
 ghost use Rattle.long_faults.specs.Found.{IsLastRow};
-ghost use Rattle.long_faults.specs.Tallies.{AreSessionCounts, IsBelow, IsTally};
+ghost use Rattle.long_faults.specs.Tallies.{AreBelow, AreSessionCounts, IsBelow, IsListedWith, IsTally};
 
 use crate::counts::{FaultCounts, SessionFaults};
 use crate::fault::Fault;
@@ -47,7 +47,7 @@ impl Faults {
     /// Fails for want of memory alone.
     pub(crate) fn add(&mut self, fault: Fault, most: usize) -> Result<(), AllocError>
         requires small { IsBelow self.old.counts 4_294_967_295 }
-        requires small_rows { (j : ℕ) (row : ARow) → slice_get self.old.by_session.items j ≡ Some row → IsBelow row.counts 4_294_967_295 }
+        requires small_rows { AreBelow self.old.by_session.items 4_294_967_295 }
         requires session { (read_of fault).session < 4_294_967_296 }
         ensures tally { OnOk result ((all : List AFault)
             → ((f : AFault) → IsListed all f → (read_of f).session ≤ (read_of fault).session)
@@ -65,7 +65,7 @@ impl Faults {
 
 /// Pushes a fault to a list of the first ones, unless it has so many.
 fn push_within(listed: &mut Vec<Fault>, fault: Fault, most: usize) -> Result<(), AllocError>
-    ensures { OnOk result ((all : List AFault) → listed.old.items ≡ take most all → listed.new.items ≡ take most (all ++ fault ∷ [])) }
+    ensures { OnOk result (IsListedWith most fault listed.old.items listed.new.items) }
 {
     if listed.len() < most {
         listed.push(fault)?;
