@@ -1,5 +1,7 @@
 pub mod LineLaws
 pub mod FeedLaws
+pub mod FeedingLaws
+pub mod FindingLaws
 pub mod ReadCallLaws
 pub mod BoundLaws
 pub mod PassLaws

@@ -3,3 +3,5 @@ pub mod Outcomes
 pub mod ReadCalls
 pub mod Lines
 pub mod Steps
+pub mod LineParts
+pub mod LineReaders

@@ -8,7 +8,7 @@ use fast_float::parse_u64;
 
 /// The number that a token of JSON writes, where it is digits alone and fits 64 bits. O(n) for n digits.
 #[inline]
-pub(crate) fn whole_number(text: &str) -> Option<u64>
+pub fn whole_number(text: &str) -> Option<u64>
     ensures { IfSome result (λ n. number_of text.now ≡ Some (unsigned n)) }
 {
     let bytes = text.as_bytes();

@@ -2,7 +2,7 @@
 //!
 //! [`read_long`] reads the text of a memory history with any number of sessions and operations, once and token by token, and keeps the
 //! operations alone; [`read_long_first`] reads the history that is the first element of a list. [`small`] copies a long history into a
-//! `History`, where it fits the limits of that type.
+//! `History`, where it fits the limits of that type. [`whole_number`] reads a number of digits alone, for readers of other texts.
 #![tactic(auto)]
 
 mod digits;
@@ -17,6 +17,7 @@ mod session;
 mod sessions;
 mod start;
 
+pub use digits::whole_number;
 pub use first::read_long_first;
 pub use limits::small;
 pub use reader::read_long;
