@@ -1,0 +1,17 @@
+pub mod CallKindsLaws
+pub mod ChainLaws
+pub mod ClientCalls
+pub mod EmptyStructs
+pub mod EventFronts
+pub mod Following
+pub mod HistoryKept
+pub mod KeptLaws
+pub mod Loops
+pub mod Numbers
+pub mod OpenCalls
+pub mod OriginsLaws
+pub mod OutcomesLaws
+pub mod PushedEvents
+pub mod Searching
+pub mod StartKeys
+pub mod Tallying

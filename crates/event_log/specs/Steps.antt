@@ -1,0 +1,4 @@
+pub mod CallKinds
+pub mod Outcomes
+pub mod Chains
+pub mod Tallies
