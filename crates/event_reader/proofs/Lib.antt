@@ -1,0 +1,11 @@
+pub mod TableLaws
+pub mod DecimalLaws
+pub mod LogSteps
+pub mod BookLaws
+pub mod FollowLaws
+pub mod TakeLaws
+pub mod ReadLaws
+pub mod OneLogLaws
+pub mod QuickLaws
+pub mod ShownLaws
+pub mod NameLaws

@@ -1,0 +1,12 @@
+pub mod Names
+pub mod NameLaw
+pub mod Forms
+pub mod Codes
+pub mod Faults
+pub mod Logs
+pub mod Readings
+pub mod Shown
+pub mod Steps
+pub mod BookSteps
+pub mod ReadSteps
+pub mod QuickSteps

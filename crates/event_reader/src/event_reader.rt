@@ -1,0 +1,165 @@
+//! Reading a log of events from a source.
+
+ghost use Rattle.std.specs.Prelude.{◌≡◌, ◌+◌, ◌<◌, ◌≤◌, max, [], IfErr, IfOk, OnOk, length, slice_get, Ok, Some};
+ghost use Rattle.event_reader.specs.ReadSteps.{Reads, ReadsLine};
+ghost use Rattle.event_reader.specs.Readings.{AreNamed, Extends, FaultsAt, HasRead};
+
+use crate::book::Book;
+use crate::limits::MAX_LINE_BYTES;
+use crate::log_fault::{LogFault, refused};
+use crate::names::Names;
+use crate::progress::Progress;
+use crate::refusal::Reason;
+use crate::taking::{take_line, take_rest};
+use event_log::EventLog;
+use json::Scratch;
+use lines::{Found, LineReader, Source};
+use std::alloc::{AllocError, Global};
+use std::marker::Model;
+
+/// Reads a log of events, line by line: each line is read, its event kept, and the line let go.
+#[derive(Drop)]
+pub struct EventReader {
+    alloc: Global,
+    lines: LineReader,
+    /// Where texts are put after their escapes are read.
+    scratch: Scratch<Global>,
+    book: Book,
+    /// How many lines were read.
+    count: u64,
+}
+
+impl Model for EventReader {
+    ghost use Rattle.std.specs.Prelude.{◌≡◌};
+    ghost use Rattle.event_reader.specs.Readings.{Reading};
+    ghost use Rattle.event_reader.specs.declared.limits.TheConstants.{MAX_LINE_BYTES};
+
+    ghost Value = { Reading };
+
+    ghost view = { λ r. record { log = r.book; held = r.lines.held; count = r.count } };
+
+    ghost invariant = { λ r. r.lines.most ≡ MAX_LINE_BYTES };
+}
+
+impl EventReader {
+    /// A reader that has read nothing.
+    pub fn new(alloc: Global) -> Result<EventReader, AllocError>
+        ensures { IfOk result (HasRead []) }
+    {
+        Ok(EventReader {
+            alloc,
+            lines: LineReader::new(alloc, MAX_LINE_BYTES)?,
+            scratch: Scratch::new(alloc),
+            book: Book::new(alloc),
+            count: 0,
+        })
+    }
+
+    // Reads the next line, or finds the end.
+    fn read_line<R: Source>(&mut self, source: &mut R) -> Result<Option<Progress>, LogFault>
+        ensures read { IfOk result (ReadsLine (R.remaining source.old) (R.remaining source.new) self.old self.new) }
+        ensures fault { IfErr result (FaultsAt (R.remaining source.old) self.old) }
+        ensures extends { Extends self.old.log self.new.log }
+        ensures few { OnOk result (length self.new.log.events ≤ length self.old.log.events + 1) }
+    {
+        let found = self.lines.next(source)?;
+        if self.count == u64::MAX {
+            return Err(LogFault::Memory);
+        }
+        let line = self.count + 1;
+        match found {
+            Found::Line => {
+                take_line(
+                    self.alloc,
+                    &mut self.scratch,
+                    &mut self.book,
+                    self.lines.line(),
+                    line,
+                )?;
+                self.count = line;
+                Ok(None)
+            }
+            Found::Rest => {
+                let torn = take_rest(self.alloc, &mut self.book, self.lines.line(), line)?;
+                Ok(Some(Progress::End { torn }))
+            }
+            Found::TooLong => Err(refused(Reason::TooLong, line)),
+            Found::End => Ok(Some(Progress::End { torn: false })),
+        }
+    }
+    /// Reads lines until the log has so many events, or to the end.
+    ///
+    /// After [`Progress::More`] call it again with a greater number, and after an end or a fault no more. It makes read calls only where no
+    /// whole line is held, and returns as soon as it has the events.
+    ///
+    /// Refused where a line does not follow those before it: the first one. `Memory` where an allocation was refused, or where there
+    /// are more events, names or lines than have numbers; `Read` where the source fails, or a line came to no end in as many read
+    /// calls as may be made for one. O(n) for n bytes, on average.
+    pub fn read<R: Source>(&mut self, source: &mut R, most: u32) -> Result<Progress, LogFault>
+        ensures read { IfOk result (Reads (R.remaining source.old) (R.remaining source.new) self.old self.new) }
+        ensures fault { IfErr result (FaultsAt (R.remaining source.old) self.old) }
+        ensures extends { Extends self.old.log self.new.log }
+        ensures enough { result ≡ Ok Progress.More → most ≤ length self.new.log.events }
+        ensures few { OnOk result (length self.new.log.events ≤ max most (length self.old.log.events)) }
+    {
+        for _ in 0..u64::MAX {
+            if self.book.events() >= most {
+                return Ok(Progress::More);
+            }
+            if let Some(progress) = self.read_line(source)? {
+                return Ok(progress);
+            }
+        }
+        Err(LogFault::Memory)
+    }
+
+    /// The events so far.
+    pub fn log(&self) -> &EventLog
+        ensures { result.now ≡ self.now.log.events }
+    {
+        self.book.log()
+    }
+
+    /// The names of the clients.
+    pub fn clients(&self) -> &Names
+        ensures { result.now ≡ self.now.log.clients }
+    {
+        self.book.clients()
+    }
+
+    /// The names of the keys.
+    pub fn keys(&self) -> &Names
+        ensures { result.now ≡ self.now.log.keys }
+    {
+        self.book.keys()
+    }
+
+    /// The names of the values.
+    pub fn values(&self) -> &Names
+        ensures { result.now ≡ self.now.log.values }
+    {
+        self.book.values()
+    }
+
+    /// The number of the line of the event at a place, from 1.
+    pub fn line_of(&self, place: usize) -> u32
+        requires { place < length self.now.log.events }
+        ensures { slice_get self.now.log.lines place ≡ Some result }
+    {
+        self.book.line_of(place)
+    }
+
+    /// Each number of an event has a name. The method does nothing: what it ensures is the law.
+    pub fn numbers_have_names(&self)
+        ensures { AreNamed self.now.log }
+    {
+        self.book.numbers_have_names();
+    }
+
+    /// The events so far: the names and the lines are let go.
+    pub fn into_log(self) -> EventLog
+        ensures { result ≡ self.log.events }
+    {
+        self.book.into_log()
+    }
+}

@@ -1,0 +1,4 @@
+//! Limits of what is read.
+
+/// The most bytes of a line of a log.
+pub const MAX_LINE_BYTES: usize = 1_000_000;
