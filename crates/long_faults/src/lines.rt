@@ -9,7 +9,7 @@ use long_history::{LongEntry, LongHistory};
 use long_index::LongIndex;
 use objects::{RegisterCall, RegisterRet};
 use std::alloc::{AllocError, Global};
-use wording::name_of;
+use wording::{Names, read_of};
 
 /// The kinds of faults, in the order of their lines.
 const KINDS: [Kind; 3] = [Kind::ThinAirRead, Kind::WriteCOInitRead, Kind::WriteCORead];
@@ -21,31 +21,32 @@ const SHOWN_SESSIONS: usize = 16;
 ///
 /// `2.117 reads 41 from variable 3 (written by 0.12), after 5.80 wrote 63 to it: WriteCORead`. Of operations that the history doesn't have
 /// it says less. Fails for want of memory alone. O(1).
-pub fn fault_line(alloc: Global, index: &LongIndex, fault: &Fault) -> Result<String, AllocError> {
+pub fn fault_line<N: Names>(
+    alloc: Global,
+    index: &LongIndex,
+    names: &N,
+    fault: &Fault,
+) -> Result<String, AllocError> {
     let h = index.history();
-    let read = name_of(alloc, fault.read())?;
     let kind = fault.kind().name();
     let Some((key, value)) = known_read(h, fault.read()) else {
+        let read = names.operation(alloc, fault.read())?;
         return format!(in alloc; "{read}: {kind}");
     };
+    let read = read_of(alloc, names, fault.read(), key, value)?;
     match *fault {
         Fault::ThinAirRead { .. } => {
-            format!(in alloc;
-                "{read} reads {value} from variable {key}, which nobody wrote: {kind}"
-            )
+            let why = names.unwritten_words(key, value);
+            format!(in alloc; "{read}, {why}: {kind}")
         }
         Fault::WriteCOInitRead { missed, .. } => {
-            let missed = missed_words(alloc, h, missed)?;
-            format!(in alloc;
-                "{read} reads {value} from variable {key} (its initial value), {missed}: {kind}"
-            )
+            let missed = missed_words(alloc, h, names, missed)?;
+            format!(in alloc; "{read} (its initial value), {missed}: {kind}")
         }
         Fault::WriteCORead { source, missed, .. } => {
-            let source = name_of(alloc, source)?;
-            let missed = missed_words(alloc, h, missed)?;
-            format!(in alloc;
-                "{read} reads {value} from variable {key} (written by {source}), {missed}: {kind}"
-            )
+            let source = names.operation(alloc, source)?;
+            let missed = missed_words(alloc, h, names, missed)?;
+            format!(in alloc; "{read} (written by {source}), {missed}: {kind}")
         }
     }
 }
@@ -69,18 +70,28 @@ fn known_read(h: &LongHistory, op: OpId) -> Option<(u32, u64)> {
 }
 
 /// What a missed write wrote.
-fn missed_words(alloc: Global, h: &LongHistory, op: OpId) -> Result<String, AllocError> {
-    let name = name_of(alloc, op)?;
-    match entry_of(h, op) {
-        Some((call, _)) => written_words(alloc, &name, call.call),
+fn missed_words<N: Names>(
+    alloc: Global,
+    h: &LongHistory,
+    names: &N,
+    op: OpId,
+) -> Result<String, AllocError> {
+    let name = names.operation(alloc, op)?;
+    match known_write(h, op) {
+        Some((key, value)) => {
+            let written = names.write_words(alloc, key, value)?;
+            format!(in alloc; "after {name} {written}")
+        }
         None => format!(in alloc; "after {name}"),
     }
 }
 
-fn written_words(alloc: Global, name: &str, call: RegisterCall) -> Result<String, AllocError> {
-    match call {
-        RegisterCall::Write(value) => format!(in alloc; "after {name} wrote {value} to it"),
-        RegisterCall::Read => format!(in alloc; "after {name}"),
+/// The variable and the value of a write.
+fn known_write(h: &LongHistory, op: OpId) -> Option<(u32, u64)> {
+    let (call, _) = entry_of(h, op)?;
+    match call.call {
+        RegisterCall::Write(value) => Some((call.key, value)),
+        RegisterCall::Read => None,
     }
 }
 
@@ -89,30 +100,39 @@ fn written_words(alloc: Global, name: &str, call: RegisterCall) -> Result<String
 ///
 /// `WriteCORead: 117 reads in 3 of 64 sessions`, `session 2: 90 reads`. Fails for want of memory alone. O(s log s) for s sessions that have
 /// a fault.
-pub fn count_lines(alloc: Global, faults: &Faults) -> Result<Vec<String>, AllocError> {
+pub fn count_lines<N: Names>(
+    alloc: Global,
+    names: &N,
+    faults: &Faults,
+) -> Result<Vec<String>, AllocError> {
     let mut lines = Vec::new(alloc);
     for kind in KINDS {
         let count = faults.counts.of(kind);
         if count > 0 {
-            lines.push(kind_line(alloc, faults, kind, count)?)?;
+            lines.push(kind_line(alloc, names, faults, kind, count)?)?;
         }
     }
-    push_session_lines(alloc, &faults.by_session, &mut lines)?;
+    push_session_lines(alloc, names, &faults.by_session, &mut lines)?;
     Ok(lines)
 }
 
 /// The line of a kind.
-fn kind_line(alloc: Global, faults: &Faults, kind: Kind, count: u32) -> Result<String, AllocError> {
+fn kind_line<N: Names>(
+    alloc: Global,
+    names: &N,
+    faults: &Faults,
+    kind: Kind,
+    count: u32,
+) -> Result<String, AllocError> {
     let sessions = faults
         .by_session
         .iter()
         .filter(|row| row.counts.of(kind) > 0)
         .count();
     let name = kind.name();
-    let all = faults.sessions;
+    let all = names.sessions_words(alloc, faults.sessions as usize)?;
     let reads = reads_words(alloc, u64::from(count))?;
-    let ending = if all == 1 { "" } else { "s" };
-    format!(in alloc; "{name}: {reads} in {sessions} of {all} session{ending}")
+    format!(in alloc; "{name}: {reads} in {sessions} of {all}")
 }
 
 /// So many reads.
@@ -122,22 +142,24 @@ fn reads_words(alloc: Global, count: u64) -> Result<String, AllocError> {
 }
 
 /// Pushes the lines of sessions.
-fn push_session_lines(
+fn push_session_lines<N: Names>(
     alloc: Global,
+    names: &N,
     rows: &[SessionFaults],
     lines: &mut Vec<String>,
 ) -> Result<(), AllocError> {
     let mut sorted = Vec::from_slice(alloc, rows)?;
     sorted.sort_unstable_by_key(|row| (u64::MAX - row.counts.total(), row.session));
     for row in sorted.iter().take(SHOWN_SESSIONS) {
-        let session = row.session;
+        let session = names.session(alloc, OpId::at(row.session as usize, 0))?;
         let reads = reads_words(alloc, row.counts.total())?;
-        lines.push(format!(in alloc; "session {session}: {reads}")?)?;
+        lines.push(format!(in alloc; "{session}: {reads}")?)?;
     }
     if sorted.len() > SHOWN_SESSIONS {
         let more = sorted.len() - SHOWN_SESSIONS;
+        let one = names.session_word();
         let ending = if more == 1 { "" } else { "s" };
-        lines.push(format!(in alloc; "and {more} more session{ending}")?)?;
+        lines.push(format!(in alloc; "and {more} more {one}{ending}")?)?;
     }
     Ok(())
 }

@@ -5,7 +5,7 @@ use bad_patterns::{Kind, Pattern};
 use cert_check::Criterion;
 use history::OpId;
 use std::alloc::{AllocError, Global};
-use wording::{Names, name_of};
+use wording::Names;
 
 /// The words at the head of a picture of a pattern: the criterion and the kind, and what the kind says.
 pub(crate) fn lines_of_pattern<N: Names>(
@@ -41,17 +41,22 @@ fn sentence_of<N: Names>(
 ) -> Result<String, AllocError> {
     match pattern {
         Pattern::WriteHBInitRead(op, _) | Pattern::CyclicHB(op, _) => {
-            sentence_about(alloc, names.in_whole(*op), words_of_kind(pattern.kind()))
+            sentence_about(alloc, names, *op, words_of_kind(pattern.kind()))
         }
         _ => String::from_str(alloc, words_of_kind(pattern.kind())),
     }
 }
 
 // What is wrong in the relation of an operation.
-fn sentence_about(alloc: Global, op: OpId, words: &str) -> Result<String, AllocError> {
-    let session = op.session;
-    let name = name_of(alloc, op)?;
-    format!(in alloc; "what session {session} has read up to {name} puts {words}")
+fn sentence_about<N: Names>(
+    alloc: Global,
+    names: &N,
+    op: OpId,
+    words: &str,
+) -> Result<String, AllocError> {
+    let session = names.session(alloc, op)?;
+    let name = names.operation(alloc, op)?;
+    format!(in alloc; "what {session} has read up to {name} puts {words}")
 }
 
 // What a kind says; for a happened-before relation, what it puts where.

@@ -11,7 +11,6 @@ use crate::marks::{Marks, Relation};
 use crate::rows::LaneRows;
 use std::alloc::{AllocError, Global};
 use std::num::Saturating;
-use wording::name_of;
 
 /// All that a picture shows.
 #[derive(Drop)]
@@ -93,7 +92,7 @@ fn draw_lane_lines(
     lanes: &[Lane],
 ) -> Result<(), AllocError> {
     for (number, lane) in lanes.iter().enumerate() {
-        draw_lane_line(alloc, svg, layout, number as u64, lane.number)?;
+        draw_lane_line(alloc, svg, layout, number as u64, &lane.name)?;
     }
     Ok(())
 }
@@ -104,13 +103,12 @@ fn draw_lane_line(
     svg: &mut String,
     layout: &Layout,
     number: u64,
-    session: u64,
+    name: &str,
 ) -> Result<(), AllocError> {
     let x = layout.middle(number);
     let y = layout.lanes_top();
-    let name = format!(in alloc; "session {session}")?;
     let style = "font-size=\"14\" font-weight=\"600\" fill=\"#374151\" text-anchor=\"middle\"";
-    push_text(alloc, svg, x, y, style, &name)?;
+    push_text(alloc, svg, x, y, style, name)?;
     let from = y + Saturating(10);
     let to = layout.lanes_bottom();
     let ends = format!(in alloc; "x1=\"{x}\" y1=\"{from}\" x2=\"{x}\" y2=\"{to}\"")?;
@@ -163,9 +161,15 @@ fn draw_operation(
 ) -> Result<(), AllocError> {
     draw_box(alloc, svg, layout, lane, row, shown.is_marked)?;
     let y = layout.top(row) + Saturating(23);
-    let name = name_of(alloc, shown.named)?;
     let style = "font-size=\"11\" fill=\"#6b7280\"";
-    push_text(alloc, svg, layout.left(lane) + PADDING, y, style, &name)?;
+    push_text(
+        alloc,
+        svg,
+        layout.left(lane) + PADDING,
+        y,
+        style,
+        &shown.name,
+    )?;
     let style = label_style(shown.is_marked);
     push_text(alloc, svg, layout.label_left(lane), y, style, &shown.label)
 }

@@ -16,7 +16,7 @@ pub trait Labelled: SeqObject {
     fn return_label(alloc: Global, ret: &Self::Ret) -> Result<Option<String>, AllocError>;
 }
 
-/// The label of an operation: its call, and behind an arrow its return, or `?` where that is not known.
+/// The label of an operation that has none of its own: its call, and behind an arrow its return, or `?` where that is not known.
 ///
 /// Fails for want of memory alone. O(1).
 pub(crate) fn label_of<O: Labelled>(

@@ -25,8 +25,8 @@ pub(crate) enum Extent {
 #[derive(Debug, Drop)]
 pub(crate) struct Shown {
     pub op: OpId,
-    /// The operation of the whole that it is.
-    pub named: OpId,
+    /// What it is called.
+    pub name: String,
     pub label: String,
     pub is_marked: bool,
 }
@@ -52,8 +52,8 @@ impl Entry {
 #[derive(Debug, Drop)]
 pub(crate) struct Lane {
     pub session: u64,
-    /// The number of the session in the whole.
-    pub number: u64,
+    /// What the session is called.
+    pub name: String,
     pub entries: Vec<Entry>,
 }
 
@@ -125,32 +125,36 @@ fn lane_of<O: Labelled, N: Names>(
         end = named.index.saturating_add(1);
         if extent == Extent::Whole || is_shown(marks, op, count) {
             push_gap(&mut entries, named.index.saturating_sub(shown_end))?;
-            let shown = shown_of::<O>(alloc, op, named, operation, marks)?;
+            let shown = shown_of::<O, N>(alloc, op, names, operation, marks)?;
             entries.push(Entry::Operation(shown))?;
             shown_end = end;
         }
     }
     push_gap(&mut entries, end.saturating_sub(shown_end))?;
-    let number = names.in_whole(OpId { session, index: 0 }).session;
+    let name = names.session(alloc, OpId { session, index: 0 })?;
     Ok(Lane {
         session,
-        number,
+        name,
         entries,
     })
 }
 
 // An operation with its label.
-fn shown_of<O: Labelled>(
+fn shown_of<O: Labelled, N: Names>(
     alloc: Global,
     op: OpId,
-    named: OpId,
+    names: &N,
     operation: &(O::Call, Option<O::Ret>),
     marks: &Marks,
 ) -> Result<Shown, AllocError> {
+    let label = match names.label(alloc, op)? {
+        Some(label) => label,
+        None => label_of::<O>(alloc, &operation.0, &operation.1)?,
+    };
     Ok(Shown {
         op,
-        named,
-        label: label_of::<O>(alloc, &operation.0, &operation.1)?,
+        name: names.operation(alloc, op)?,
+        label,
         is_marked: marks.contains(op),
     })
 }

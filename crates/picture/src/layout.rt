@@ -60,8 +60,9 @@ impl Layout {
         let lanes = rows.lanes();
         let name = Saturating(7) * longest(lanes, Text::Name);
         let label = Saturating(5) * longest(lanes, Text::Label);
+        let texts = label + Saturating(4) * longest(lanes, Text::Name) + Saturating(18);
         Layout {
-            half: label + Saturating(4) * longest(lanes, Text::Name) + Saturating(18),
+            half: greater(texts, half_of_names(lanes)),
             name,
             lines: length_of(lines.len()),
             lanes: length_of(lanes.len()),
@@ -198,15 +199,17 @@ fn letters_of(entry: &Entry, text: Text) -> Length {
         (Entry::Gap(_), Text::Name) => Saturating(0),
         (Entry::Gap(_), Text::Label) => Saturating(12),
         (Entry::Operation(shown), Text::Label) => length_of(shown.label.chars().count()),
-        (Entry::Operation(shown), Text::Name) => {
-            digits_of(shown.named.session) + Saturating(1) + digits_of(shown.named.index)
-        }
+        (Entry::Operation(shown), Text::Name) => length_of(shown.name.chars().count()),
     }
 }
 
-// How many digits a number of a session or an operation has.
-fn digits_of(number: u64) -> Length {
-    Saturating(u64::from(number.max(1).ilog10())) + Saturating(1)
+// Half the width that the longest name of a lane wants, beside which there is the room between two lanes.
+fn half_of_names(lanes: &[Lane]) -> Length {
+    let mut most = Saturating(0);
+    for lane in lanes {
+        most = greater(most, length_of(lane.name.chars().count()));
+    }
+    Saturating(4) * most - Saturating(36)
 }
 
 // How many letters the longest line has.

@@ -16,7 +16,7 @@ use history::{History, OpId};
 use memory_order::IndexedMemory;
 use objects::Memory;
 use std::alloc::{AllocError, Global};
-use wording::{Names, OwnNames};
+use wording::Names;
 
 /// The picture of a history of a memory and of a pattern against a criterion, as an SVG text.
 ///
@@ -43,17 +43,18 @@ pub fn picture_of_pattern<N: Names>(
     let lanes = lanes_of(alloc, history, names, &marks, extent_around(history))?;
     let mut lines = lines_of_pattern(alloc, names, criterion, pattern)?;
     let sessions = names.sessions(history.sessions());
-    push_left_out(alloc, &mut lines, sessions, &lanes, &marks)?;
+    push_left_out(alloc, &mut lines, names, sessions, &lanes, &marks)?;
     picture_of(alloc, &lines, &lanes, &marks, "operation of the pattern")
 }
 
-/// The picture of all operations of a history, as an SVG text, with lines at its head, of which the first is its title.
+/// The picture of all operations of a history, as an SVG text, with lines at its head, of which the first is its title, and these names.
 ///
 /// The operation is drawn out, where one is named and is in the history. Fails for want of memory alone. O(n k) for n
 /// operations of k sessions.
-pub fn picture_of_history<O: Labelled>(
+pub fn picture_of_history<O: Labelled, N: Names>(
     alloc: Global,
     history: &History<O>,
+    names: &N,
     lines: &[String],
     marked: Option<OpId>,
 ) -> Result<String, AllocError>
@@ -65,7 +66,7 @@ pub fn picture_of_history<O: Labelled>(
     {
         marks.mark(op)?;
     }
-    let lanes = lanes_of(alloc, history, &OwnNames, &marks, Extent::Whole)?;
+    let lanes = lanes_of(alloc, history, names, &marks, Extent::Whole)?;
     picture_of(alloc, lines, &lanes, &marks, "operation named above")
 }
 
@@ -90,16 +91,18 @@ fn picture_of(
 }
 
 // Says at the head what a picture leaves out besides the gaps in its lanes.
-fn push_left_out(
+fn push_left_out<N: Names>(
     alloc: Global,
     lines: &mut Vec<String>,
+    names: &N,
     sessions: usize,
     lanes: &[Lane],
     marks: &Marks,
 ) -> Result<(), AllocError> {
     let shown = lanes.len();
     if shown < sessions {
-        lines.push(format!(in alloc; "Shown: {shown} of {sessions} sessions.")?)?;
+        let all = names.sessions_words(alloc, sessions)?;
+        lines.push(format!(in alloc; "Shown: {shown} of {all}.")?)?;
     }
     if marks.is_cut() {
         lines.push(String::from_str(alloc, "Not all edges of the pattern are shown.")?)?;

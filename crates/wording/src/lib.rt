@@ -21,9 +21,10 @@ mod steps;
 mod unexplained;
 
 pub use derived_pairs::{DerivedPairs, ends_of};
-pub use long_histories::{words_of_long_yes, words_of_operations, words_of_places};
-pub use naming::{Names, OwnNames, name_of};
-pub use operation_words::Worded;
+pub use listing::listed;
+pub use long_histories::{words_of_kept, words_of_long_yes, words_of_operations, words_of_places};
+pub use naming::{Names, OwnNames, counted, name_of};
+pub use operation_words::{Worded, read_of};
 pub use pattern_words::words_of_pattern;
 pub use repeated_values::{repeated_variables, words_of_repeated_values, words_without_variables};
 pub use unexplained::push_unexplained;

@@ -5,7 +5,7 @@ use std::alloc::{AllocError, Global};
 /// Names with commas between them and `and` before the last, or before how many more there are.
 ///
 /// Fails for want of memory alone. O(n) for names of n letters.
-pub(crate) fn listed(alloc: Global, names: &[String], more: usize) -> Result<String, AllocError> {
+pub fn listed(alloc: Global, names: &[String], more: usize) -> Result<String, AllocError> {
     let mut text = String::new(alloc);
     for (place, name) in names.iter().enumerate() {
         let before = if place == 0 {

@@ -1,7 +1,7 @@
 //! Long histories in words.
 
 use crate::listing::listed;
-use crate::naming::{Names, name_in_whole, name_of};
+use crate::naming::{Names, counted, name_of};
 use cert_check::Criterion;
 use history::{History, OpId};
 use objects::Memory;
@@ -13,8 +13,9 @@ const MAX_NAMED: usize = 1000;
 /// What is said of a criterion that a history meets which has so many operations and sessions, in a line with no line feed.
 ///
 /// Fails for want of memory alone. O(1).
-pub fn words_of_long_yes(
+pub fn words_of_long_yes<N: Names>(
     alloc: Global,
+    names: &N,
     criterion: Criterion,
     operations: usize,
     sessions: usize,
@@ -25,14 +26,8 @@ pub fn words_of_long_yes(
     };
     let were = if operations == 1 { "was" } else { "were" };
     let operations = counted(alloc, operations, "operation")?;
-    let sessions = counted(alloc, sessions, "session")?;
+    let sessions = names.sessions_words(alloc, sessions)?;
     format!(in alloc; "{explained}: {operations} of {sessions} {were} judged.")
-}
-
-// A number, and what there are so many of.
-fn counted(alloc: Global, number: usize, one: &'static str) -> Result<String, AllocError> {
-    let plural = if number == 1 { "" } else { "s" };
-    format!(in alloc; "{number} {one}{plural}")
 }
 
 /// Which operations of the whole those of a part are, session by session, in a line with no line feed.
@@ -48,7 +43,8 @@ pub fn words_of_places<N: Names>(
         push_places(alloc, &mut places, names, session, part.len(session))?;
     }
     let places = listed(alloc, &places, 0)?;
-    format!(in alloc; "In the whole history, {places}.")
+    let whole = names.place_words();
+    format!(in alloc; "{whole}, {places}.")
 }
 
 // Which operations of the whole the operations of a session of a part are, which are so many.
@@ -62,24 +58,56 @@ fn push_places<N: Names>(
     for index in 0..operations {
         let op = OpId::at(session, index);
         let own = name_of(alloc, op)?;
-        let whole = name_in_whole(alloc, names, op)?;
+        let whole = names.operation(alloc, op)?;
         places.push(format!(in alloc; "{own} is {whole}")?)?;
     }
     Ok(())
+}
+
+/// Which operations of a history these are that it keeps in a part, whose sessions have their numbers in the history and its operations
+/// their order: in order, in a line with no line feed.
+///
+/// Fails for want of memory alone. O(n) for n operations.
+pub fn words_of_kept<N: Names>(
+    alloc: Global,
+    names: &N,
+    ops: &[OpId],
+) -> Result<String, AllocError> {
+    let mut places = Vec::new(alloc);
+    let mut next = OpId::at(0, 0);
+    for op in ops {
+        if op.session != next.session {
+            next = OpId {
+                session: op.session,
+                index: 0,
+            };
+        }
+        let own = name_of(alloc, next)?;
+        let whole = names.operation(alloc, *op)?;
+        places.push(format!(in alloc; "{own} is {whole}")?)?;
+        next.index = next.index.saturating_add(1);
+    }
+    let places = listed(alloc, &places, 0)?;
+    let whole = names.place_words();
+    format!(in alloc; "{whole}, {places}.")
 }
 
 /// The operations that show that a history does not meet a criterion, in order and each once, in a line with no line feed: the first
 /// 1,000, and how many more there are.
 ///
 /// Fails for want of memory alone. O(n log n) for n operations.
-pub fn words_of_operations(alloc: Global, ops: &[OpId]) -> Result<String, AllocError> {
+pub fn words_of_operations<N: Names>(
+    alloc: Global,
+    names: &N,
+    ops: &[OpId],
+) -> Result<String, AllocError> {
     let mut sorted = Vec::new(alloc);
     sorted.extend_from_slice(ops)?;
     sorted.sort_unstable();
     sorted.dedup();
     let mut named = Vec::new(alloc);
     for op in sorted.iter().take(MAX_NAMED) {
-        named.push(name_of(alloc, *op)?)?;
+        named.push(names.operation(alloc, *op)?)?;
     }
     let named = listed(alloc, &named, sorted.len().saturating_sub(MAX_NAMED))?;
     format!(in alloc; "These operations show it: {named}.")

@@ -1,11 +1,17 @@
-//! The names of operations, as texts have them.
+//! The names of operations, sessions, variables and values, as texts have them.
 
+use crate::listing::listed;
 use history::OpId;
 use std::alloc::{AllocError, Global};
 
-/// How the operations of a history are named: those of a part of a longer history have their names in the whole.
+/// Of how many variables it is told.
+pub(crate) const MAX_VARIABLES: usize = 8;
+
+/// How the operations of a history are named, and what else its texts say. Those of a part of a longer history have their names in the
+/// whole. What is left as it is here gives numbers.
 ///
-/// Nothing is asked of an answer: other names only make other texts.
+/// Nothing is asked of an answer: other names only make other texts. A name with a line feed is in no line that is shown. Each call fails
+/// for want of memory alone.
 pub trait Names {
     /// The operation of the whole that an operation of the part is.
     fn in_whole(&self, op: OpId) -> OpId;
@@ -13,6 +19,112 @@ pub trait Names {
     /// How many sessions the whole has: as many as the part, where nothing else is said.
     fn sessions(&self, part: usize) -> usize {
         part
+    }
+
+    /// Whether more is told than of numbered histories: where the operations of a small history's core are, and which writes of a long
+    /// history are of one value.
+    fn tells_more(&self) -> bool {
+        false
+    }
+
+    /// Puts after the lines of all reasons what is to be said of the whole beside them.
+    fn push_remarks(&self, _alloc: Global, _lines: &mut Vec<String>) -> Result<(), AllocError> {
+        Ok(())
+    }
+
+    /// Where the operations of the whole are, at the beginning of a sentence.
+    fn place_words(&self) -> &'static str {
+        "In the whole history"
+    }
+
+    /// What a session that reads is.
+    fn session_word(&self) -> &'static str {
+        "session"
+    }
+
+    /// So many sessions of the whole.
+    fn sessions_words(&self, alloc: Global, count: usize) -> Result<String, AllocError> {
+        counted(alloc, count, self.session_word())
+    }
+
+    /// What an operation of the part is called.
+    fn operation(&self, alloc: Global, op: OpId) -> Result<String, AllocError> {
+        name_of(alloc, self.in_whole(op))
+    }
+
+    /// What the session of an operation of the part is called.
+    fn session(&self, alloc: Global, op: OpId) -> Result<String, AllocError> {
+        let session = self.in_whole(op).session;
+        format!(in alloc; "session {session}")
+    }
+
+    /// Who does what by an operation of the part, and what is known of its return, after the operation's name and a colon. None where its
+    /// call and its return say it.
+    fn told(&self, _alloc: Global, _op: OpId) -> Result<Option<String>, AllocError> {
+        Ok(None)
+    }
+
+    /// The label of an operation of the part in a picture. None where its call and its return make it.
+    fn label(&self, _alloc: Global, _op: OpId) -> Result<Option<String>, AllocError> {
+        Ok(None)
+    }
+
+    /// What a variable is called.
+    fn variable(&self, alloc: Global, key: u32) -> Result<String, AllocError> {
+        format!(in alloc; "variable {key}")
+    }
+
+    /// What variables are called: the first 8, and how many more there are.
+    fn variables(&self, alloc: Global, keys: &[u32]) -> Result<String, AllocError> {
+        let plural = if keys.len() == 1 { "" } else { "s" };
+        let named = listed_numbers(alloc, keys)?;
+        format!(in alloc; "variable{plural} {named}")
+    }
+
+    /// How a value of a variable is written.
+    fn value(&self, alloc: Global, _key: u32, value: u64) -> Result<String, AllocError> {
+        format!(in alloc; "{value}")
+    }
+
+    /// What a read did that got the initial value of a variable, in the past tense.
+    fn initial_read_words(
+        &self,
+        alloc: Global,
+        key: u32,
+        value: u64,
+    ) -> Result<String, AllocError> {
+        let value = self.value(alloc, key, value)?;
+        let variable = self.variable(alloc, key)?;
+        format!(in alloc; "read {value}, the initial value of {variable}")
+    }
+
+    /// What a read did that got a value of a variable which nobody wrote, in the past tense.
+    fn unwritten_read_words(
+        &self,
+        alloc: Global,
+        key: u32,
+        value: u64,
+    ) -> Result<String, AllocError> {
+        let value = self.value(alloc, key, value)?;
+        let variable = self.variable(alloc, key)?;
+        format!(in alloc; "read {value}, which nobody wrote to {variable}")
+    }
+
+    /// What is wrong with such a read, after what it did.
+    fn unwritten_words(&self, _key: u32, _value: u64) -> &'static str {
+        "which nobody wrote"
+    }
+
+    /// What a write of a value did to its variable, in the past tense.
+    fn write_words(&self, alloc: Global, key: u32, value: u64) -> Result<String, AllocError> {
+        let value = self.value(alloc, key, value)?;
+        format!(in alloc; "wrote {value} to it")
+    }
+
+    /// What a variable held before the first call.
+    fn initial_words(&self, alloc: Global, key: u32, value: u64) -> Result<String, AllocError> {
+        let value = self.value(alloc, key, value)?;
+        format!(in alloc; "its initial value is {value}")
     }
 }
 
@@ -32,11 +144,17 @@ pub fn name_of(alloc: Global, op: OpId) -> Result<String, AllocError> {
     format!(in alloc; "{session}.{index}")
 }
 
-/// The name in the whole of an operation of a part. Fails for want of memory alone.
-pub(crate) fn name_in_whole<N: Names>(
-    alloc: Global,
-    names: &N,
-    op: OpId,
-) -> Result<String, AllocError> {
-    name_of(alloc, names.in_whole(op))
+/// A number, and what there are so many of. Fails for want of memory alone.
+pub fn counted(alloc: Global, number: usize, one: &'static str) -> Result<String, AllocError> {
+    let plural = if number == 1 { "" } else { "s" };
+    format!(in alloc; "{number} {one}{plural}")
+}
+
+// The first 8 numbers, and how many more there are.
+fn listed_numbers(alloc: Global, numbers: &[u32]) -> Result<String, AllocError> {
+    let mut named = Vec::new(alloc);
+    for number in numbers.iter().take(MAX_VARIABLES) {
+        named.push(format!(in alloc; "{number}")?)?;
+    }
+    listed(alloc, &named, numbers.len().saturating_sub(MAX_VARIABLES))
 }

@@ -1,6 +1,6 @@
 //! Operations in words.
 
-use crate::naming::{Names, name_in_whole};
+use crate::naming::Names;
 use history::{History, OpId};
 use object_trait::SeqObject;
 use objects::{
@@ -11,10 +11,11 @@ use std::alloc::{AllocError, Global};
 
 /// An object whose operations can be told in words.
 pub trait Worded: SeqObject {
-    /// What a session does by a call, at a key where one is given, and what it is answered where that is known. It goes on from
-    /// the name of the operation, as `reads 5 from variable 3`. Fails for want of memory alone.
-    fn told(
+    /// What a session does by a call, at a key where one is given, and what it is answered where that is known, with these names of
+    /// variables and values. It goes on from the name of the operation, as `reads 5 from variable 3`. Fails for want of memory alone.
+    fn told<N: Names>(
         alloc: Global,
+        names: &N,
         key: Option<u32>,
         call: &Self::Call,
         ret: Option<Self::Ret>,
@@ -30,16 +31,38 @@ pub(crate) fn operation_words<O: Worded, N: Names>(
     names: &N,
     op: OpId,
 ) -> Result<String, AllocError> {
-    let name = name_in_whole(alloc, names, op)?;
+    let name = names.operation(alloc, op)?;
     if !h.contains(op) {
         return format!(in alloc; "{name} is not in the history");
     }
+    if let Some(told) = names.told(alloc, op)? {
+        return format!(in alloc; "{name}: {told}");
+    }
     let ret = h.ret(op);
-    let told = O::told(alloc, None, &h.call(op), ret)?;
+    let told = O::told(alloc, names, None, &h.call(op), ret)?;
     match ret {
         Some(_) => format!(in alloc; "{name} {told}"),
         None => format!(in alloc; "{name} {told}, and its return is not known"),
     }
+}
+
+/// A read of a memory that got a value, in words, with its name in front: `2.117 reads 41 from variable 3`.
+///
+/// Fails for want of memory alone. O(1).
+pub fn read_of<N: Names>(
+    alloc: Global,
+    names: &N,
+    op: OpId,
+    key: u32,
+    value: u64,
+) -> Result<String, AllocError> {
+    let name = names.operation(alloc, op)?;
+    if let Some(told) = names.told(alloc, op)? {
+        return format!(in alloc; "{name}: {told}");
+    }
+    let value = names.value(alloc, key, value)?;
+    let variable = names.variable(alloc, key)?;
+    format!(in alloc; "{name} reads {value} from {variable}")
 }
 
 // A number behind its words, where there is one, and else nothing.
@@ -56,29 +79,61 @@ fn with_key(
 }
 
 impl Worded for Register {
-    fn told(
+    fn told<N: Names>(
         alloc: Global,
+        names: &N,
         key: Option<u32>,
         call: &RegisterCall,
         ret: Option<RegisterRet>,
     ) -> Result<String, AllocError> {
-        match (call, ret) {
-            (RegisterCall::Write(value), _) => {
-                let told = format!(in alloc; "writes {value}")?;
-                with_key(alloc, &told, " to variable ", key)
-            }
-            (RegisterCall::Read, Some(RegisterRet::Value(value))) => {
-                let told = format!(in alloc; "reads {value}")?;
-                with_key(alloc, &told, " from variable ", key)
-            }
-            (RegisterCall::Read, _) => with_key(alloc, "reads", " variable ", key),
+        match key {
+            Some(key) => told_of_variable(alloc, names, key, call, ret),
+            None => told_of_register(alloc, call, ret),
         }
     }
 }
 
+// What a session does by a call of a memory.
+fn told_of_variable<N: Names>(
+    alloc: Global,
+    names: &N,
+    key: u32,
+    call: &RegisterCall,
+    ret: Option<RegisterRet>,
+) -> Result<String, AllocError> {
+    let variable = names.variable(alloc, key)?;
+    match (call, ret) {
+        (RegisterCall::Write(value), _) => {
+            let value = names.value(alloc, key, *value)?;
+            format!(in alloc; "writes {value} to {variable}")
+        }
+        (RegisterCall::Read, Some(RegisterRet::Value(value))) => {
+            let value = names.value(alloc, key, value)?;
+            format!(in alloc; "reads {value} from {variable}")
+        }
+        (RegisterCall::Read, _) => format!(in alloc; "reads {variable}"),
+    }
+}
+
+// What a session does by a call of a register alone.
+fn told_of_register(
+    alloc: Global,
+    call: &RegisterCall,
+    ret: Option<RegisterRet>,
+) -> Result<String, AllocError> {
+    match (call, ret) {
+        (RegisterCall::Write(value), _) => format!(in alloc; "writes {value}"),
+        (RegisterCall::Read, Some(RegisterRet::Value(value))) => {
+            format!(in alloc; "reads {value}")
+        }
+        (RegisterCall::Read, _) => String::from_str(alloc, "reads"),
+    }
+}
+
 impl Worded for Counter {
-    fn told(
+    fn told<N: Names>(
         alloc: Global,
+        _names: &N,
         key: Option<u32>,
         call: &CounterCall,
         ret: Option<CounterRet>,
@@ -95,8 +150,9 @@ impl Worded for Counter {
 }
 
 impl Worded for AddRemoveSet {
-    fn told(
+    fn told<N: Names>(
         alloc: Global,
+        _names: &N,
         key: Option<u32>,
         call: &SetCall,
         ret: Option<SetRet>,
@@ -117,8 +173,9 @@ impl Worded for AddRemoveSet {
 }
 
 impl Worded for Queue {
-    fn told(
+    fn told<N: Names>(
         alloc: Global,
+        _names: &N,
         key: Option<u32>,
         call: &QueueCall,
         ret: Option<QueueRet>,
@@ -138,12 +195,13 @@ impl Worded for Queue {
 }
 
 impl<O: Worded> Worded for Keyed<O> {
-    fn told(
+    fn told<N: Names>(
         alloc: Global,
+        names: &N,
         _key: Option<u32>,
         call: &KeyedCall<O::Call>,
         ret: Option<O::Ret>,
     ) -> Result<String, AllocError> {
-        O::told(alloc, Some(call.key), &call.call, ret)
+        O::told(alloc, names, Some(call.key), &call.call, ret)
     }
 }

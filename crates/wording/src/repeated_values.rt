@@ -1,26 +1,23 @@
 //! Which values of a history of a memory are not distinct.
 
-use crate::listing::listed;
-use crate::naming::name_of;
+use crate::naming::{MAX_VARIABLES, Names};
 use bad_patterns::Kind;
 use memory_order::{IndexedMemory, Write, initial_value};
 use std::alloc::{AllocError, Global};
-
-/// Of how many variables it is told.
-const MAX_VARIABLES: usize = 8;
 
 /// Which variables of a history are written twice with one value, or with their initial value, and by which operations, in lines
 /// with no line feed: one for each of the first 8 such variables, and how many more there are. None where values are distinct.
 ///
 /// Fails for want of memory alone. O(n log m) for n operations and m initial values.
-pub fn words_of_repeated_values(
+pub fn words_of_repeated_values<N: Names>(
     alloc: Global,
     memory: &IndexedMemory,
+    names: &N,
 ) -> Result<Vec<String>, AllocError> {
     let repeated = repeated_writes(alloc, memory)?;
     let mut lines = Vec::new(alloc);
     for (place, write) in repeated.iter().take(MAX_VARIABLES) {
-        lines.push(words_of(alloc, memory, *place, write)?)?;
+        lines.push(words_of(alloc, memory, names, *place, write)?)?;
     }
     push_left_out(
         alloc,
@@ -45,24 +42,15 @@ pub fn repeated_variables(alloc: Global, memory: &IndexedMemory) -> Result<Vec<u
 /// In words, what is not met without some variables: a kind of pattern is there.
 ///
 /// The first 8 variables are named, and how many more there are. Fails for want of memory alone. O(1).
-pub fn words_without_variables(
+pub fn words_without_variables<N: Names>(
     alloc: Global,
+    names: &N,
     variables: &[u32],
     kind: Kind,
 ) -> Result<String, AllocError> {
-    let plural = if variables.len() == 1 { "" } else { "s" };
-    let named = listed_variables(alloc, variables)?;
+    let named = names.variables(alloc, variables)?;
     let kind = kind.name();
-    format!(in alloc; "Without variable{plural} {named}: no {kind}")
-}
-
-// The first 8 variables, and how many more there are.
-fn listed_variables(alloc: Global, variables: &[u32]) -> Result<String, AllocError> {
-    let mut named = Vec::new(alloc);
-    for variable in variables.iter().take(MAX_VARIABLES) {
-        named.push(format!(in alloc; "{variable}")?)?;
-    }
-    listed(alloc, &named, variables.len().saturating_sub(MAX_VARIABLES))
+    format!(in alloc; "Without {named}: no {kind}")
 }
 
 // Of each variable whose values are not distinct the first write that shows it, with its place among the writes.
@@ -100,25 +88,26 @@ fn next_alike(memory: &IndexedMemory, place: usize, write: &Write) -> Option<Wri
 }
 
 // What is said of a write of a value that is not distinct.
-fn words_of(
+fn words_of<N: Names>(
     alloc: Global,
     memory: &IndexedMemory,
+    names: &N,
     place: usize,
     write: &Write,
 ) -> Result<String, AllocError> {
     let Write { op, key, value } = *write;
-    let name = name_of(alloc, op)?;
+    let name = names.operation(alloc, op)?;
+    let variable = names.variable(alloc, key)?;
+    let value = names.value(alloc, key, value)?;
     if is_of_initial_value(memory, write) {
-        return format!(in alloc;
-            "{name} writes {value} to variable {key}, which is its initial value"
-        );
+        return format!(in alloc; "{name} writes {value} to {variable}, which is its initial value");
     }
     match next_alike(memory, place, write) {
         Some(next) => {
-            let other = name_of(alloc, next.op)?;
-            format!(in alloc; "{name} and {other} both write {value} to variable {key}")
+            let other = names.operation(alloc, next.op)?;
+            format!(in alloc; "{name} and {other} both write {value} to {variable}")
         }
-        None => format!(in alloc; "{name} writes {value} to variable {key}"),
+        None => format!(in alloc; "{name} writes {value} to {variable}"),
     }
 }
 

@@ -1,6 +1,6 @@
 //! What is wrong, in the terms of each kind of pattern.
 
-use crate::naming::{Names, name_in_whole, name_of};
+use crate::naming::Names;
 use bad_patterns::{Kind, Pair, Pattern};
 use history::{History, OpId};
 use memory_order::{initial_value, known_read};
@@ -42,7 +42,7 @@ fn sentence_on_cycle<N: Names>(
     op: OpId,
     words: &'static str,
 ) -> Result<Option<String>, AllocError> {
-    let name = name_in_whole(alloc, names, op)?;
+    let name = names.operation(alloc, op)?;
     Ok(Some(format!(in alloc; "So {name} comes before itself {words}.")?))
 }
 
@@ -58,21 +58,22 @@ fn sentence_on_read<N: Names>(
     let Some((key, value)) = known_read(h, read) else {
         return Ok(None);
     };
-    let initial = initial_value(h, key);
-    let other = name_in_whole(alloc, names, other)?;
-    let read = name_in_whole(alloc, names, read)?;
+    let other = names.operation(alloc, other)?;
+    let read = names.operation(alloc, read)?;
     let sentence = match kind {
         Kind::ThinAirRead => {
-            format!(in alloc;
-                "{read} read {value}, which nobody wrote to variable {key}, and its initial value is {initial}."
-            )?
+            let told = names.unwritten_read_words(alloc, key, value)?;
+            let initial = names.initial_words(alloc, key, initial_value(h, key))?;
+            format!(in alloc; "{read} {told}, and {initial}.")?
         }
         Kind::WriteCOInitRead => {
-            format!(in alloc;
-                "{read} read {value}, the initial value of variable {key}, which {other} had overwritten in its past."
-            )?
+            let told = names.initial_read_words(alloc, key, value)?;
+            format!(in alloc; "{read} {told}, which {other} had overwritten in its past.")?
         }
-        _ => format!(in alloc; "{read} read {value}, which {other} had overwritten in its past.")?,
+        _ => {
+            let value = names.value(alloc, key, value)?;
+            format!(in alloc; "{read} read {value}, which {other} had overwritten in its past.")?
+        }
     };
     Ok(Some(sentence))
 }
@@ -87,21 +88,20 @@ fn sentence_on_session<N: Names>(
     ends: Pair,
 ) -> Result<Option<String>, AllocError> {
     let (first, second) = ends;
-    let op = names.in_whole(op);
-    let session = op.session;
-    let op = name_of(alloc, op)?;
-    let puts = name_in_whole(alloc, names, first)?;
-    let before = name_in_whole(alloc, names, second)?;
+    let session = names.session(alloc, op)?;
+    let op = names.operation(alloc, op)?;
+    let puts = names.operation(alloc, first)?;
     if kind == Kind::CyclicHB {
         return Ok(Some(format!(in alloc;
-            "What session {session} has read up to {op} puts {puts} before itself."
+            "What {session} has read up to {op} puts {puts} before itself."
         )?));
     }
     let Some((key, value)) = known_read(h, second) else {
         return Ok(None);
     };
-    let wrong = format!(in alloc; "{before} read {value}, the initial value of variable {key}")?;
+    let before = names.operation(alloc, second)?;
+    let told = names.initial_read_words(alloc, key, value)?;
     Ok(Some(format!(in alloc;
-        "{wrong}, but what session {session} has read up to {op} puts {puts}, which writes the variable, before it."
+        "{before} {told}, but what {session} has read up to {op} puts {puts}, which writes the variable, before it."
     )?))
 }

@@ -1,6 +1,6 @@
 //! The steps of what shows a pattern.
 
-use crate::naming::{Names, name_in_whole};
+use crate::naming::Names;
 use history::OpId;
 use std::alloc::{AllocError, Global};
 
@@ -46,9 +46,9 @@ impl Step {
     /// The step in words, with the names of its operations.
     pub fn words<N: Names>(self, alloc: Global, names: &N) -> Result<String, AllocError> {
         let [first, second, third] = self.ops();
-        let a = name_in_whole(alloc, names, first)?;
-        let b = name_in_whole(alloc, names, second)?;
-        let c = name_in_whole(alloc, names, third)?;
+        let a = names.operation(alloc, first)?;
+        let b = names.operation(alloc, second)?;
+        let c = names.operation(alloc, third)?;
         match self {
             Step::Follows(_, _) => format!(in alloc; "{b} follows {a} in its session"),
             Step::ReadsFrom(_, _) => format!(in alloc; "{b} reads from {a}"),

@@ -1,6 +1,6 @@
 //! What a certificate does not explain, in words.
 
-use crate::naming::{OwnNames, name_of};
+use crate::naming::Names;
 use crate::operation_words::{Worded, operation_words};
 use crate::replayed::unlike_answer;
 use cert_check::Certificate;
@@ -11,27 +11,29 @@ use std::alloc::{AllocError, Global};
 /// was answered, and what it would have been answered in the order of the certificate, where that is something else.
 ///
 /// Fails for want of memory alone. O(n) for n operations, and one call of the object for each.
-pub fn push_unexplained<O: Worded>(
+pub fn push_unexplained<O: Worded, N: Names>(
     alloc: Global,
     lines: &mut Vec<String>,
     h: &History<O>,
+    names: &N,
     certificate: Option<&Certificate>,
     op: OpId,
 ) -> Result<(), AllocError> {
-    let name = name_of(alloc, op)?;
-    lines.push(operation_words(alloc, h, &OwnNames, op)?)?;
+    let name = names.operation(alloc, op)?;
+    lines.push(operation_words(alloc, h, names, op)?)?;
     lines.push(format!(in alloc; "The certificate that was made does not explain {name}.")?)?;
     match certificate {
-        Some(certificate) => push_answer(alloc, lines, h, certificate, op),
+        Some(certificate) => push_answer(alloc, lines, h, names, certificate, op),
         None => Ok(()),
     }
 }
 
 // What would have been answered in the order of a certificate, where that is something else.
-fn push_answer<O: Worded>(
+fn push_answer<O: Worded, N: Names>(
     alloc: Global,
     lines: &mut Vec<String>,
     h: &History<O>,
+    names: &N,
     certificate: &Certificate,
     op: OpId,
 ) -> Result<(), AllocError> {
@@ -41,8 +43,8 @@ fn push_answer<O: Worded>(
     if !h.contains(unlike) {
         return Ok(());
     }
-    let name = name_of(alloc, unlike)?;
-    let told = O::told(alloc, None, &h.call(unlike), Some(answer))?;
+    let name = names.operation(alloc, unlike)?;
+    let told = O::told(alloc, names, None, &h.call(unlike), Some(answer))?;
     lines.push(format!(in alloc; "In its order {name} {told}.")?)?;
     Ok(())
 }

@@ -1,0 +1,45 @@
+//! What is known of the operations of a log's history, and of its names.
+
+use events::{ClientCall, Ending};
+use history::OpId;
+use std::alloc::{AllocError, Global};
+
+/// A call of a log for which an operation of its history stands.
+#[derive(Clone, Copy, Debug, PartialEq, Eq)]
+pub struct StoodFor {
+    /// The client that called.
+    pub client: u32,
+    /// The place of its begin among the events of the log.
+    pub place: u32,
+    /// What was called.
+    pub call: ClientCall,
+    /// How it ended, where it did.
+    pub ending: Option<Ending>,
+}
+
+/// What is known of the operations of a log's history, and of its names.
+///
+/// Nothing is asked of an answer: other names only make other texts. Names are JSON texts with no line feed, in which no character disturbs
+/// a terminal. Each call that gives a text fails for want of memory alone.
+pub trait LogTables {
+    /// The call for which an operation of the history stands: none where the history has no such operation.
+    fn stood_for(&self, op: OpId) -> Option<StoodFor>;
+
+    /// How many sessions are those of clients: the first ones. The others are those of lost writes.
+    fn clients(&self) -> u64;
+
+    /// The number of the line on which the event at a place is, from 1.
+    fn line(&self, place: u32) -> u64;
+
+    /// The name of a client.
+    fn client_name(&self, alloc: Global, client: u32) -> Result<String, AllocError>;
+
+    /// The name of a key.
+    fn key_name(&self, alloc: Global, key: u32) -> Result<String, AllocError>;
+
+    /// A value as it is written.
+    fn value_name(&self, alloc: Global, value: u32) -> Result<String, AllocError>;
+
+    /// The keys of which reads that found nothing are left out of the history, each with how many there are.
+    fn left_out(&self) -> &[(u32, u32)];
+}
