@@ -4,7 +4,7 @@ use Rattle.std.proofs.Common.{arith, ap, sym, ◌∙◌, subst, inl, inr, ⊎_el
 use Rattle.std.proofs.Math.Nat.{mod-lt}
 use Rattle.std.proofs.lemmas.Bool.{cases_eq}
 use Rattle.std.proofs.lemmas.Option.{same_Some, slice_get_within}
-use Rattle.long_columns.specs.Swept.{IsDealt, IsDealtFrom}
+use Rattle.long_columns.specs.Swept.{IsDealt, IsDealtFrom, IsListed}
 
 above : (m p : ℕ) → p ≤ m → m ≢ p → p + 1 ≤ m
 above m p from apart = omega arith
@@ -89,3 +89,17 @@ module _ (sessions : List ℕ) (parts : ℕ) where
   -- what stands in the list is dealt to a part
   pub dealt-all : (k t : ℕ) → slice_get sessions k ≡ Some t → IsDealtFrom sessions parts 0 t
   dealt-all k t at = (k, at-least-zero (k % parts), at)
+
+-- one session more of a list
+pub listed-more : (sessions : List ℕ) (i s : ℕ) → slice_get sessions i ≡ Some s → (t : ℕ)
+    → IsListed sessions (i + 1) t ↔ (IsListed sessions i t ⊎ (t ≡ s))
+listed-more sessions i s here t = (
+  (λ (k, below, at). ⊎_elim
+      (λ (same : k ≡ i). inr (same_Some t s (sym (subst (λ (j : ℕ). slice_get sessions j ≡ Some t) same at) ∙ here)))
+      (λ (apart : k ≢ i). inl (k, omega arith, at))
+      (cases_eq k i)),
+  λ either. ⊎_elim
+      (λ (old : IsListed sessions i t). let below = old.1 in (old.0, omega arith, old.2))
+      (λ (same : t ≡ s). (i, omega arith, here ∙ ap (λ (u : ℕ). Some u) (sym same)))
+      either,
+)

@@ -20,7 +20,7 @@ pub rival-writes : (h : MemoryHistory) (a w : OpId) (x v : ℕ) → Writes h w x
 rival-writes h a w x v wrote (apart, (y, u, z, first, second)) =
     (u, subst (λ (n : ℕ). Writes h a n u) (same_written h w y z x v second wrote).0 first)
 
-rivals-turned : (h : MemoryHistory) (a b : OpId) → AreRivalWrites h a b → AreRivalWrites h b a
+pub rivals-turned : (h : MemoryHistory) (a b : OpId) → AreRivalWrites h a b → AreRivalWrites h b a
 rivals-turned h a b (apart, (x, u, v, first, second)) = (λ same. apart (sym same), (x, v, u, second, first))
 
 module _ (h : MemoryHistory) (t : ℕ) (ends : ℕ → ℕ) (column : ArePastEnds h t ends) where

@@ -100,7 +100,7 @@ module _ (h : MemoryHistory) (o : OpId) (related : OpId → OpId → Type 0) (of
 
 module _ (h : MemoryHistory) where
   -- there is one operation before another in its session, and one source of it where values are distinct
-  one-next : (u w b : OpId) → IsNext h u b → IsNext h w b → u ≡ w
+  pub one-next : (u w b : OpId) → IsNext h u b → IsNext h w b → u ≡ w
   one-next u w b first second = let one = first.1 in let two = second.1 in same_op u w (first.0 ∙ sym second.0) (omega arith)
 
   pub one-source : IsDifferentiated h → (u w r : OpId) → ReadsFrom h u r → ReadsFrom h w r → u ≡ w

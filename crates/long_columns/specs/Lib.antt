@@ -1,8 +1,11 @@
 pub mod Columns
 pub mod Conflicts
+pub mod Forks
 pub mod LastWrites
 pub mod Parts
+pub mod Shares
 pub mod Sights
 pub mod Sweeps
 pub mod Swept
 pub mod Visits
+pub mod Words

@@ -16,6 +16,10 @@ IsDealt sessions parts part i t = (k : ℕ) × (k < i) × (k % parts ≡ part) �
 abbrev pub IsDealtFrom : List ℕ → (parts p : ℕ) → ℕ → Type 0
 IsDealtFrom sessions parts p t = (k : ℕ) × (p ≤ k % parts) × (slice_get sessions k ≡ Some t)
 
+-- t stands at one of the first i places of the list
+abbrev pub IsListed : List ℕ → ℕ → ℕ → Type 0
+IsListed sessions i t = (k : ℕ) × (k < i) × (slice_get sessions k ≡ Some t)
+
 -- the list has the edge
 abbrev pub HasEdge : List (ℕ × ℕ) → ℕ → ℕ → Type 0
 HasEdge edges from to = (j : ℕ) × (slice_get edges j ≡ Some (from, to))

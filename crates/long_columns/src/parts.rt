@@ -1,13 +1,13 @@
 //! The columns of all sessions: in parts that threads sweep side by side, or as one part.
 
-ghost use Rattle.std.specs.Prelude.{◌≡◌, ◌↔◌, ◌++◌, ◌⊎◌, ◌<◌, ℕ, [], Some, length, slice_get, vec_len, IfOk, IsTrue, OnOk};
+ghost use Rattle.std.specs.Prelude.{◌≡◌, ◌↔◌, ◌<◌, ℕ, [], Some, length, slice_get, vec_len, IfOk, IsTrue};
 ghost use Rattle.memory_order.specs.OverwrittenReads.{HasOverwrittenRead, HasOverwrittenStart};
 ghost use Rattle.long_history.specs.Steps.{IsListedEdge, IsOrderBy};
 ghost use Rattle.long_columns.specs.Conflicts.{IsReducedIn};
 ghost use Rattle.long_columns.specs.Parts.{AreSweptParts, HasWriters, IsSweptOver, IsSweptPart};
 ghost use Rattle.long_columns.specs.Swept.{AreEdgesOf, IsDealtFrom};
 
-use crate::swept::{Swept, sweep_part, writing_sessions};
+use crate::swept::{Swept, join, sweep_part, writing_sessions};
 use long_index::LongIndex;
 use std::alloc::{AllocError, Global};
 use std::sync::Wait;
@@ -17,8 +17,9 @@ use std::thread::Threads;
 /// Finds whether writes overwrote what reads after them returned, and edges that stand for all conflicts of writes.
 ///
 /// The order is one that [`long_order::causal_order`] gives. No thread is started. Fails for want of memory alone. O(n k) for n operations
-/// and k sessions that write. It takes 12 bytes an operation and 4 a variable, and 8 an edge: of these there is at most one for each write
-/// that is read and each session that writes.
+/// and k sessions that write, where 64 sessions with one write each count as one. It takes 12 bytes an operation and 4 a variable, for
+/// sessions with one write 24 and 8 in their place, and 8 an edge: of these there is at most one for each write that is read and each
+/// session that writes.
 pub fn sweep(alloc: Global, index: &LongIndex, order: &[u32]) -> Result<Swept, AllocError>
     requires { IsOrderBy index.now.history [] order.now }
     ensures start { IfOk result (λ s. IsTrue s.has_overwritten_start ↔ HasOverwrittenStart index.now.history) }
@@ -35,7 +36,8 @@ pub fn sweep(alloc: Global, index: &LongIndex, order: &[u32]) -> Result<Swept, A
 
 /// The same, by threads of a runtime: the sessions are shared by so many workers, of which the calling thread is one.
 ///
-/// With one worker no thread is started. Each worker takes 12 bytes an operation and 4 a variable.
+/// With one worker no thread is started. Each worker takes 12 bytes an operation and 4 a variable, or 24 and 8 where sessions have one
+/// write each.
 pub fn sweep_in_threads<T: Threads + Wait + Sync>(
     rt: &T,
     alloc: Global,
@@ -107,28 +109,4 @@ fn join_parts(
         join(&mut whole, part?)?;
     }
     Ok(whole)
-}
-
-/// Adds what a part shows.
-fn join(whole: &mut Swept, part: Swept) -> Result<(), AllocError>
-    ensures start { OnOk result (IsTrue whole.new.has_overwritten_start
-        ↔ (IsTrue whole.old.has_overwritten_start ⊎ IsTrue part.has_overwritten_start)) }
-    ensures read { OnOk result (IsTrue whole.new.has_overwritten_read
-        ↔ (IsTrue whole.old.has_overwritten_read ⊎ IsTrue part.has_overwritten_read)) }
-    ensures edges { OnOk result (whole.new.edges.items ≡ whole.old.edges.items ++ part.edges.items) }
-{
-    whole.has_overwritten_start |= part.has_overwritten_start;
-    whole.has_overwritten_read |= part.has_overwritten_read;
-    append(&mut whole.edges, part.edges)
-}
-
-/// Puts edges after others. Where there are no others, none is copied.
-fn append(edges: &mut Vec<(u32, u32)>, mut more: Vec<(u32, u32)>) -> Result<(), AllocError>
-    ensures { OnOk result (edges.new.items ≡ edges.old.items ++ more.items) }
-{
-    if edges.is_empty() {
-        *edges = more;
-        return Ok(());
-    }
-    edges.append(&mut more)
 }

@@ -1,11 +1,14 @@
 //! The columns of some sessions, one after the other.
 
-ghost use Rattle.std.specs.Prelude.{◌≡◌, ◌⊎◌, ◌↔◌, ◌+◌, ◌%◌, ◌<◌, ℕ, List, [], Some, length, slice_get, slice_index_or, IfOk, OnOk};
+ghost use Rattle.std.specs.Prelude.{◌≡◌, ◌⊎◌, ◌↔◌, ◌+◌, ◌++◌, ◌<◌, ℕ, List, [], Some, length, slice_get, slice_index_or};
+ghost use Rattle.std.specs.Prelude.{IfOk, IsTrue, OnOk};
 ghost use Rattle.long_history.specs.Steps.{IsOrderBy, many};
 ghost use Rattle.long_columns.specs.Parts.{HasWriters, IsSweptOver, IsSweptPart};
-ghost use Rattle.long_columns.specs.Swept.{HasEdge, IsDealt};
+ghost use Rattle.long_columns.specs.Swept.{HasEdge, IsListed};
 
+use crate::forks::sweep_forks;
 use crate::passes::{fill, find_firsts, find_past_ends};
+use crate::shares::share_of;
 use crate::sweeping::sweep_column;
 use long_index::{LongIndex, Part};
 use std::alloc::{AllocError, Global};
@@ -50,7 +53,8 @@ fn add_session(sessions: &mut Vec<u32>, session: u32) -> Result<(), AllocError>
 
 /// What the sessions of a part show: those at the places `part`, `part + parts` and so on of a list.
 ///
-/// Fails for want of memory alone. O(n k / p) for n operations, k sessions in the list and p parts.
+/// Fails for want of memory alone. O(n k / p) for n operations, k sessions in the list and p parts, where 64 sessions with one write each
+/// count as one.
 pub(crate) fn sweep_part(
     alloc: Global,
     index: &LongIndex,
@@ -64,6 +68,24 @@ pub(crate) fn sweep_part(
     requires part { part < parts }
     ensures { IfOk result (IsSweptPart index.now.history sessions.now parts part) }
 {
+    let share = share_of(alloc, index, sessions, parts, part)?;
+    let mut swept = sweep_sessions(alloc, index, order, &share.sessions)?;
+    let of_forks = sweep_forks(alloc, index, order, &share.forks)?;
+    join(&mut swept, of_forks)?;
+    Ok(swept)
+}
+
+/// What the sessions of a list show, by a column each.
+fn sweep_sessions(
+    alloc: Global,
+    index: &LongIndex,
+    order: &[u32],
+    sessions: &[u32],
+) -> Result<Swept, AllocError>
+    requires order { IsOrderBy index.now.history [] order.now }
+    requires below { (k t : ℕ) → slice_get sessions.now k ≡ Some t → t < length index.now.history.1 }
+    ensures { IfOk result (IsSweptOver index.now.history (IsListed sessions.now (length sessions.now))) }
+{
     let mut arrays = Arrays::new(alloc, index)?;
     let mut swept = Swept {
         has_overwritten_start: false,
@@ -71,10 +93,7 @@ pub(crate) fn sweep_part(
         edges: Vec::new(alloc),
     };
     for i in 0..sessions.len() {
-        let session = sessions[i];
-        if i % parts == part {
-            sweep_session(index, order, session, &mut arrays, &mut swept)?;
-        }
+        sweep_session(index, order, sessions[i], &mut arrays, &mut swept)?;
     }
     Ok(swept)
 }
@@ -127,9 +146,9 @@ fn sweep_session(
     ensures firsts { length arrays.new.firsts.items ≡ many index.now.history }
     ensures last { length arrays.new.last.items ≡ index.now.bound }
     ensures late { length arrays.new.late.items ≡ many index.now.history }
-    ensures swept { OnOk result ((sessions : List ℕ) (parts part i : ℕ) → slice_get sessions i ≡ Some session → i % parts ≡ part
-        → IsSweptOver index.now.history (IsDealt sessions parts part i) swept.old
-        → IsSweptOver index.now.history (IsDealt sessions parts part (i + 1)) swept.new) }
+    ensures swept { OnOk result ((sessions : List ℕ) (i : ℕ) → slice_get sessions i ≡ Some session
+        → IsSweptOver index.now.history (IsListed sessions i) swept.old
+        → IsSweptOver index.now.history (IsListed sessions (i + 1)) swept.new) }
 {
     find_past_ends(index, order, session, &mut arrays.ends);
     find_firsts(index, order, session, &mut arrays.firsts);
@@ -173,4 +192,28 @@ fn push_edge(after: u32, to: u32, edges: &mut Vec<(u32, u32)>) -> Result<(), All
         edges.push((after - 1, to))?;
     }
     Ok(())
+}
+
+/// Adds what others show.
+pub(crate) fn join(whole: &mut Swept, part: Swept) -> Result<(), AllocError>
+    ensures start { OnOk result (IsTrue whole.new.has_overwritten_start
+        ↔ (IsTrue whole.old.has_overwritten_start ⊎ IsTrue part.has_overwritten_start)) }
+    ensures read { OnOk result (IsTrue whole.new.has_overwritten_read
+        ↔ (IsTrue whole.old.has_overwritten_read ⊎ IsTrue part.has_overwritten_read)) }
+    ensures edges { OnOk result (whole.new.edges.items ≡ whole.old.edges.items ++ part.edges.items) }
+{
+    whole.has_overwritten_start |= part.has_overwritten_start;
+    whole.has_overwritten_read |= part.has_overwritten_read;
+    append(&mut whole.edges, part.edges)
+}
+
+/// Puts edges after others. Where there are no others, none is copied.
+fn append(edges: &mut Vec<(u32, u32)>, mut more: Vec<(u32, u32)>) -> Result<(), AllocError>
+    ensures { OnOk result (edges.new.items ≡ edges.old.items ++ more.items) }
+{
+    if edges.is_empty() {
+        *edges = more;
+        return Ok(());
+    }
+    edges.append(&mut more)
 }

@@ -21,7 +21,7 @@ decided-by A B to from decided = ⊎_elim
 
 module _ (h : MemoryHistory) (v : Counts) (counts : CountsSourceOrder h v) (distinct : IsDifferentiated h) (o : OpId) (is_op : IsOp h o)
   where
-    past-decided : (a : OpId) → IsDecided (IsPast h o a)
+    pub past-decided : (a : OpId) → IsDecided (IsPast h o a)
     past-decided a = decided-by (a.index < count v o a.session) (IsPast h o a)
         (λ below. in_past-true h v counts distinct o is_op a (lt-ltb a.index (count v o a.session) below))
         (λ past. ltb-true a.index (count v o a.session) (in_past-from h v counts distinct o is_op a past))

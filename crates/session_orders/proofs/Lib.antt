@@ -1,3 +1,4 @@
+pub mod Awake
 pub mod CountSteps
 pub mod Counts
 pub mod Ended
@@ -6,6 +7,7 @@ pub mod FreeLaws
 pub mod HappenedBeforeDecided
 pub mod LeftSums
 pub mod Locks
+pub mod LoneOrders
 pub mod OrderedParts
 pub mod OutcomeLaws
 pub mod PartLaws
@@ -18,3 +20,4 @@ pub mod Starts
 pub mod Stuck
 pub mod Tests
 pub mod TurnLaws
+pub mod WriteCounts

@@ -1,32 +1,31 @@
 -- Lists of the sessions that have operations, and what they show where none of their sessions can go on.
-use Rattle.std.specs.Prelude.{◌≡◌, ◌≢◌, ◌⊎◌, ℕ, ◌+◌, ◌<◌, ◌≤◌, List, [], ◌∷◌, ◌++◌, Some, length, slice_get, slice_index_or}
-use Rattle.std.proofs.Common.{zero, suc, arith, refl, sym, ap, subst, inl, inr, ⊎_elim, ◌∙◌}
-use Rattle.std.proofs.lemmas.Bool.{cases_eq, cases_lt}
+use Rattle.std.specs.Prelude.{◌≡◌, ◌≢◌, ◌⊎◌, ℕ, ◌+◌, ◌<◌, List, [], ◌∷◌, ◌++◌, Some, length, slice_get, slice_index_or}
+use Rattle.std.proofs.Common.{zero, suc, arith, refl, sym, ap, subst, inl, inr, ⊎_elim}
+use Rattle.std.proofs.lemmas.Bool.{cases_eq}
 use Rattle.std.proofs.lemmas.Option.{same_Some, slice_get-get_or, slice_get_within, get_or_from_slice_get}
 use Rattle.history.specs.History.{session}
 use Rattle.causal_order.proofs.OrdersLaws.{session-of_history}
 use Rattle.memory_order.specs.Memory.{MemoryHistory}
 use Rattle.long_index.specs.Indexed.{Indexed}
 use Rattle.session_orders.specs.declared.backward.Backward.{Backward}
-use Rattle.session_orders.specs.Backward.{IsOpen, AreOthersBlocked}
-use Rattle.session_orders.specs.OnItsWay.{AreStopped, IsOnItsWay, IsStopped, ListsSessions, left_of}
-use Rattle.session_orders.specs.SessionOrders.{last_op}
+use Rattle.session_orders.specs.Backward.{IsOpen}
+use Rattle.session_orders.specs.OnItsWay.{IsOnItsWay, ListsSessions, left_of}
 use Rattle.session_orders.proofs.FreeLaws.{last-op}
 
 -- an item of a list with one more at its end is one of the list or the last
-pushed-cases : (xs : List ℕ) (m i t : ℕ) → slice_get (xs ++ m ∷ []) i ≡ Some t → (slice_get xs i ≡ Some t) ⊎ (t ≡ m)
+pub pushed-cases : (xs : List ℕ) (m i t : ℕ) → slice_get (xs ++ m ∷ []) i ≡ Some t → (slice_get xs i ≡ Some t) ⊎ (t ≡ m)
 pushed-cases [] m zero t at = inr (sym (same_Some _ _ at))
 pushed-cases [] m (suc i) t at = inl at
 pushed-cases (x ∷ xs) m zero t at = inl at
 pushed-cases (x ∷ xs) m (suc i) t at = pushed-cases xs m i t at
 
 -- and each of these is one of its items
-pushed-old : (xs : List ℕ) (m i t : ℕ) → slice_get xs i ≡ Some t → slice_get (xs ++ m ∷ []) i ≡ Some t
+pub pushed-old : (xs : List ℕ) (m i t : ℕ) → slice_get xs i ≡ Some t → slice_get (xs ++ m ∷ []) i ≡ Some t
 pushed-old [] m i t at = absurd cc
 pushed-old (x ∷ xs) m zero t at = at
 pushed-old (x ∷ xs) m (suc i) t at = pushed-old xs m i t at
 
-pushed-last : (xs : List ℕ) (m : ℕ) → (i : ℕ) × (slice_get (xs ++ m ∷ []) i ≡ Some m)
+pub pushed-last : (xs : List ℕ) (m : ℕ) → (i : ℕ) × (slice_get (xs ++ m ∷ []) i ≡ Some m)
 pushed-last [] m = (0, refl)
 pushed-last (x ∷ xs) m = let rest = pushed-last xs m in (suc rest.0, rest.1)
 
@@ -75,24 +74,3 @@ module _ (index : Indexed) (b : Backward) (now : IsOnItsWay index b) (xs : List 
   open-place t is_open =
       let is_op = last-op index b now t is_open in
       listed-place index.history xs lists t (omega arith)
-
-  -- where all places were passed, no other session can go on
-  pub others-stopped : (at : ℕ) → AreStopped index b xs at (length xs) → AreStopped index b xs 0 at
-      → AreOthersBlocked index.history (last_op index.history b.own) left
-  others-stopped at behind before t other is_open =
-      let place = open-place t is_open in
-      let same : slice_index_or xs place.0 0 ≡ t = place.2 in
-      subst (IsStopped index b) same (⊎_elim
-      (λ (lower : place.0 < at).
-      before place.0 (omega arith) lower (λ is. other (sym same ∙ is)) (subst (IsOpen left) (sym same) is_open))
-      (λ (higher : at ≤ place.0).
-      behind place.0 higher place.1 (λ is. other (sym same ∙ is)) (subst (IsOpen left) (sym same) is_open))
-      (cases_lt place.0 at))
-
-  -- nor any, where the session itself can't
-  pub all-stopped : AreOthersBlocked index.history (last_op index.history b.own) left → (IsOpen left b.own → IsStopped index b b.own)
-      → (t : ℕ) → IsOpen left t → IsStopped index b t
-  all-stopped others own_stopped t is_open = ⊎_elim
-      (λ (same : t ≡ b.own). subst (IsStopped index b) (sym same) (own_stopped (subst (IsOpen left) same is_open)))
-      (λ (apart : t ≢ b.own). others t apart is_open)
-      (cases_eq t b.own)

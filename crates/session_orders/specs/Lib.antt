@@ -1,8 +1,10 @@
 pub mod Backward
 pub mod BackwardOrder
+pub mod LoneSources
 pub mod OnItsWay
 pub mod OrderedParts
 pub mod Pasts
 pub mod SessionOrders
 pub mod SessionStates
 pub mod Tables
+pub mod Turns

@@ -1,8 +1,9 @@
 -- The order of a session, on its way.
-use Rattle.std.specs.Prelude.{◌≡◌, ◌≢◌, ℕ, ◌<◌, ◌≤◌, ◌⊎◌, List, Some, None, length, slice_get, slice_index_or}
+use Rattle.std.specs.Prelude.{◌≡◌, ◌≢◌, ℕ, ◌<◌, ◌≤◌, ◌⊎◌, List, Option, Some, None, length, slice_get, slice_index_or}
 use Rattle.history.specs.declared.op_id.OpId.{OpId}
 use Rattle.history.specs.History.{IsOp, number, session}
 use Rattle.memory_order.specs.Memory.{MemoryHistory, IsDifferentiated}
+use Rattle.memory_order.specs.Relations.{ReadsFrom}
 use Rattle.memory_order.specs.SourceOrder.{IsCyclic}
 use Rattle.long_history.specs.Steps.{many}
 use Rattle.long_history.specs.declared.limits.TheConstants.{MAX_NUMBERS}
@@ -10,7 +11,7 @@ use Rattle.long_index.specs.Indexed.{Indexed}
 use Rattle.long_index.specs.Parts.{AreVariables, IsPart}
 use Rattle.long_index.specs.declared.part.Part.{Part}
 use Rattle.session_orders.specs.declared.backward.Backward.{Backward}
-use Rattle.session_orders.specs.Backward.{IsOpen, IsBlocked, IsLockedOut, ReadsLockedOut, AreOthersBlocked, IsPlacing, last_left}
+use Rattle.session_orders.specs.Backward.{HasReadLeft, IsOpen, IsBlocked, IsLockedOut, ReadsLockedOut, AreOthersBlocked, IsPlacing, last_left}
 use Rattle.session_orders.specs.SessionOrders.{last_op}
 use Rattle.session_orders.specs.SessionStates.{IsSessionState}
 use Rattle.session_orders.specs.Tables.{AreCounts, AreLocks, left_counts}
@@ -100,6 +101,17 @@ abbrev pub AreStopped : Indexed → Backward → List ℕ → ℕ → ℕ → Ty
 AreStopped index b sessions i n =
     (j : ℕ) → i ≤ j → j < n → slice_index_or sessions j 0 ≢ b.own → IsOpen (left_of index.history b) (slice_index_or sessions j 0)
     → IsStopped index b (slice_index_or sessions j 0)
+
+-- each other session that can go on is on a list: on it is each open one but for those whose last operation has a read left
+pub record IsAwake (index : Indexed) (b : Backward) (awake : List ℕ) : Type 0 where
+  pub below : (k t : ℕ) → slice_get awake k ≡ Some t → t < length index.history.1
+  pub each : (t : ℕ) → t ≢ b.own → IsOpen (left_of index.history b) t → ((k : ℕ) × (slice_get awake k ≡ Some t))
+      ⊎ HasReadLeft index.history (left_of index.history b) (last_left (left_of index.history b) t)
+
+-- where the source of p is the last operation left of its session, a read of it is left, or its session is hinted
+abbrev pub IsFreed : Indexed → OpId → Backward → Option ℕ → Type 0
+IsFreed index p after hint = (w : OpId) → ReadsFrom index.history w p → IsOpen (left_of index.history after) w.session
+    → w ≡ last_left (left_of index.history after) w.session → HasReadLeft index.history (left_of index.history after) w ⊎ (hint ≡ Some w.session)
 
 -- the list has the sessions below m that have operations
 pub record ListsSessions (h : MemoryHistory) (m : ℕ) (sessions : List ℕ) : Type 0 where

@@ -7,6 +7,7 @@
 
 mod backward;
 mod free;
+mod lone_sources;
 mod numbers;
 mod ordering;
 mod parts;

@@ -1,15 +1,17 @@
 //! Orders of some sessions.
 
 ghost use Rattle.std.specs.Prelude.{◌≡◌, ◌<◌, ℕ, [], length, IfOk, IsTrue};
-ghost use Rattle.long_history.specs.Steps.{IsOrderBy};
+ghost use Rattle.long_history.specs.Steps.{IsOrderBy, many};
 ghost use Rattle.memory_order.specs.SourceOrder.{LacksSource};
 ghost use Rattle.session_orders.specs.Backward.{IsOpen};
 ghost use Rattle.session_orders.specs.declared.ordering.SessionOrder.TheVariants.{Explained};
+ghost use Rattle.session_orders.specs.LoneSources.{CountsWrites};
 ghost use Rattle.session_orders.specs.OnItsWay.{IsClear, IsKnown, IsOnItsWay, IsStopped, ListsSessions, left_of};
 ghost use Rattle.session_orders.specs.OrderedParts.{IsOrderedPart};
 ghost use Rattle.session_orders.specs.SessionOrders.{IsOutcome};
 
 use crate::backward::Backward;
+use crate::lone_sources::{count_writes, may_lack_order};
 use crate::turns::Turns;
 use long_index::LongIndex;
 use std::alloc::{AllocError, Global};
@@ -57,10 +59,11 @@ pub(crate) fn order_part(
     index.value_is_indexed();
     let mut backward = Backward::clear(alloc, index)?;
     let mut turns = Turns::of(alloc, index)?;
+    let counts = count_writes(alloc, index)?;
     for place in 0..sessions.len() {
         let own = sessions[place];
         if place % parts == part {
-            match order_session(index, order, own, &mut backward, &mut turns)? {
+            match order_where_needed(index, order, &counts, own, &mut backward, &mut turns)? {
                 SessionOrder::Explained => {}
                 SessionOrder::StartOverwritten => {
                     return Ok(Some(Unexplained {
@@ -78,6 +81,33 @@ pub(crate) fn order_part(
         }
     }
     Ok(None)
+}
+
+/// Orders one session, unless it has an order for certain. Nothing is left before, nor after if it is explained.
+fn order_where_needed(
+    index: &LongIndex,
+    order: &[u32],
+    counts: &[u32],
+    own: u32,
+    backward: &mut Backward,
+    turns: &mut Turns,
+) -> Result<SessionOrder, AllocError>
+    requires known { IsKnown index.now own }
+    requires order { IsOrderBy index.now.history [] order.now }
+    requires sources { ¬ LacksSource index.now.history }
+    requires size { length counts.now ≡ index.now.bound }
+    requires counts { CountsWrites index.now.history index.now.variables (many index.now.history) counts.now }
+    requires clear { IsClear index.now backward.old }
+    requires sessions { ListsSessions index.now.history (length index.now.history.1) turns.old.sessions.items }
+    ensures outcome { IfOk result (IsOutcome index.now.history own) }
+    ensures clear { IfOk result (λ outcome. outcome ≡ Explained → IsClear index.now backward.new) }
+    ensures sessions { IfOk result (λ _. turns.new.sessions.items ≡ turns.old.sessions.items) }
+{
+    if may_lack_order(index, counts, own) {
+        order_session(index, order, own, backward, turns)
+    } else {
+        Ok(SessionOrder::Explained)
+    }
 }
 
 /// Orders one session. Nothing is left before, nor after if it is explained.
@@ -98,9 +128,11 @@ fn order_session(
     ensures sessions { IfOk result (λ _. turns.new.sessions.items ≡ turns.old.sessions.items) }
 {
     backward.begin(index, order, own);
+    turns.wake_all()?;
     while let Some(session) = backward.next_session(index, turns) {
         let hint = backward.place(index, session);
         turns.take_hint(hint)?;
+        turns.limit()?;
     }
     Ok(backward.outcome(index, &turns.sessions))
 }

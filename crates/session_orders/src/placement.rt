@@ -1,9 +1,13 @@
 //! One operation more is placed.
 
-ghost use Rattle.std.specs.Prelude.{◌≡◌, ◌≢◌, ◌<◌, ℕ, length, None, slice_index_or};
+ghost use Rattle.std.specs.Prelude.{◌≡◌, ◌≢◌, ◌⊎◌, ◌<◌, ℕ, length, None, Some, slice_index_or, IfSome};
+ghost use Rattle.history.specs.declared.op_id.OpId.{OpId as Operation};
+ghost use Rattle.history.specs.History.{IsOp, number};
 ghost use Rattle.long_history.specs.Steps.{many};
 ghost use Rattle.long_index.specs.declared.part.Part.TheVariants.{InitialRead, SourcedRead, Write};
-ghost use Rattle.session_orders.specs.OnItsWay.{CanBePlaced, HasSizes, IsNextPart, IsPlaced};
+ghost use Rattle.long_index.specs.Parts.{IsPart};
+ghost use Rattle.session_orders.specs.Backward.{HasReadLeft, IsOpen, last_left};
+ghost use Rattle.session_orders.specs.OnItsWay.{CanBePlaced, IsFreed, IsNextPart, IsOnItsWay, IsPlaced, left_of};
 
 use crate::backward::Backward;
 use crate::numbers::take_one;
@@ -15,7 +19,9 @@ impl Backward {
     /// O(1).
     pub(crate) fn place(&mut self, index: &LongIndex, session: u32) -> Option<u32>
         requires { CanBePlaced index.now self.old session }
-        ensures { IsPlaced index.now self.old self.new session }
+        ensures placed { IsPlaced index.now self.old self.new session }
+        ensures below { IfSome result (λ s. s < length index.now.history.1) }
+        ensures freed { IsFreed index.now (last_left (left_of index.now.history self.old) session) self.new result }
     {
         let last = self.ends[session as usize] - 1;
         let part = index.part(last);
@@ -23,17 +29,39 @@ impl Backward {
         self.freed_by(index, part)
     }
 
-    /// The session of the source of a read that is placed, where that was the last one that was left.
+    /// The session of the source of a read that is placed, where that was the last read of it that was left, and nothing after it is.
     fn freed_by(&self, index: &LongIndex, part: Part) -> Option<u32>
-        requires sizes { HasSizes index.now self.now }
+        requires on_its_way { IsOnItsWay index.now self.now }
         requires below { (n : ℕ) → part ≡ SourcedRead n → n < many index.now.history }
+        ensures below { IfSome result (λ s. s < length index.now.history.1) }
+        ensures freed { (p : Operation) → IsPart index.now.history p part → IsFreed index.now p self.now result }
     {
         if let Part::SourcedRead(source) = part {
-            if self.readers[source as usize] == 0 {
-                return Some(index.session_of(source));
-            }
+            return self.freed(index, source);
         }
         None
+    }
+
+    /// The session of a write, where no read of it is left and nothing after it.
+    fn freed(&self, index: &LongIndex, write: u32) -> Option<u32>
+        requires on_its_way { IsOnItsWay index.now self.now }
+        requires below { write < many index.now.history }
+        ensures below { IfSome result (λ s. s < length index.now.history.1) }
+        ensures freed { (w : Operation) → IsOp index.now.history w → number index.now.history w ≡ write
+            → IsOpen (left_of index.now.history self.now) w.session → w ≡ last_left (left_of index.now.history self.now) w.session
+            → HasReadLeft index.now.history (left_of index.now.history self.now) w ⊎ (result ≡ Some w.session) }
+    {
+        let session = index.session_of(write);
+        if self.readers[write as usize] > 0 {
+            return None;
+        }
+        if self.ends[session as usize] <= write {
+            return None;
+        }
+        if self.ends[session as usize] - 1 > write {
+            return None;
+        }
+        Some(session)
     }
 
     /// Places it by what is known of it.

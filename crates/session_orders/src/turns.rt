@@ -1,10 +1,11 @@
 //! Which session goes on next.
 
-ghost use Rattle.std.specs.Prelude.{◌≡◌, ◌≢◌, ◌<◌, ◌≤◌, ◌+◌, ℕ, length, slice_index_or};
+ghost use Rattle.std.specs.Prelude.{◌≡◌, ◌≢◌, ◌⊎◌, ◌<◌, ◌≤◌, ◌+◌, ℕ, length, slice_index_or};
 ghost use Rattle.std.specs.Prelude.{IfNone, IfOk, IfSome, IsTrue};
-ghost use Rattle.session_orders.specs.Backward.{AreOthersBlocked, IsOpen};
-ghost use Rattle.session_orders.specs.OnItsWay.{AreStopped, CanBePlaced, IsOnItsWay, IsStopped, ListsSessions, left_of};
+ghost use Rattle.session_orders.specs.Backward.{AreOthersBlocked, HasReadLeft, IsOpen, last_left};
+ghost use Rattle.session_orders.specs.OnItsWay.{AreStopped, CanBePlaced, IsAwake, IsOnItsWay, IsStopped, ListsSessions, left_of};
 ghost use Rattle.session_orders.specs.SessionOrders.{last_op};
+ghost use Rattle.session_orders.specs.Turns.{IsTakenOut, IsWoken};
 
 use crate::backward::Backward;
 use long_index::LongIndex;
@@ -17,6 +18,8 @@ use std::alloc::{AllocError, Global};
 pub(crate) struct Turns {
     /// The sessions that have operations.
     pub(crate) sessions: Vec<u32>,
+    /// The sessions that are asked in turn. What is not among them can't go on: nothing of it is left, or a read of its last operation is.
+    pub(crate) awake: Vec<u32>,
     /// The place among them of the one that was found last.
     pub(crate) at: usize,
     /// Sessions that may be able to go on, the newest hint last.
@@ -34,17 +37,42 @@ impl Turns {
         }
         Ok(Turns {
             sessions,
+            awake: Vec::new(alloc),
             at: 0,
             hints: Vec::new(alloc),
         })
     }
 
+    /// Asks all sessions that have operations. O(k) for k of them.
+    pub(crate) fn wake_all(&mut self) -> Result<(), AllocError>
+        ensures sessions { IfOk result (λ _. self.new.sessions.items ≡ self.old.sessions.items) }
+        ensures awake { IfOk result (λ _. self.new.awake.items ≡ self.old.sessions.items) }
+    {
+        self.awake = self.sessions.clone()?;
+        Ok(())
+    }
+
     /// Takes a hint, if there is one.
     pub(crate) fn take_hint(&mut self, hint: Option<u32>) -> Result<(), AllocError>
-        ensures { IfOk result (λ _. self.new.sessions.items ≡ self.old.sessions.items) }
+        ensures sessions { IfOk result (λ _. self.new.sessions.items ≡ self.old.sessions.items) }
+        ensures awake { IfOk result (λ _. IsWoken self.old.awake.items hint self.new.awake.items) }
     {
         if let Some(session) = hint {
             self.hints.push(session)?;
+            self.awake.push(session)?;
+        }
+        Ok(())
+    }
+
+    /// Asks each session once, where some are listed so often that more are asked than there are. O(k) for k sessions, and that only
+    /// once for k hints.
+    pub(crate) fn limit(&mut self) -> Result<(), AllocError>
+        ensures sessions { IfOk result (λ _. self.new.sessions.items ≡ self.old.sessions.items) }
+        ensures awake { IfOk result (λ _. (self.new.awake.items ≡ self.old.awake.items)
+            ⊎ (self.new.awake.items ≡ self.old.sessions.items)) }
+    {
+        if self.awake.len() / 2 > self.sessions.len() {
+            return self.wake_all();
         }
         Ok(())
     }
@@ -66,21 +94,23 @@ impl Backward {
     /// The session whose last operation that is left is placed next: another one where one can go on, else the session itself, and
     /// none where that can't either.
     ///
-    /// O(1) where a hint is good, else O(k) for k sessions with operations.
+    /// O(1) where a hint is good, else O(k) for k sessions that are asked.
     pub(crate) fn next_session(&self, index: &LongIndex, turns: &mut Turns) -> Option<u32>
         requires on_its_way { IsOnItsWay index.now self.now }
-        requires sessions { ListsSessions index.now.history (length index.now.history.1) turns.old.sessions.items }
+        requires awake { IsAwake index.now self.now turns.old.awake.items }
         ensures sessions { turns.new.sessions.items ≡ turns.old.sessions.items }
+        ensures awake { IsAwake index.now self.now turns.new.awake.items }
         ensures next { IfSome result (CanBePlaced index.now self.now) }
         ensures stuck { IfNone result ((t : ℕ) → IsOpen (left_of index.now.history self.now) t → IsStopped index.now self.now t) }
     {
         if let Some(session) = self.hinted(index, &mut turns.hints) {
             return Some(session);
         }
-        if let Some(place) = self.free_other(index, &turns.sessions, turns.at) {
+        if let Some(place) = self.free_other(index, &turns.awake, turns.at) {
             turns.at = place;
-            return Some(turns.sessions[place]);
+            return Some(turns.awake[place]);
         }
+        self.let_sleep(index, &mut turns.awake);
         if self.is_free(index, self.own) {
             Some(self.own)
         } else {
@@ -105,7 +135,7 @@ impl Backward {
     /// The place of the first session from a place on, and then round, that is another one and can go on.
     fn free_other(&self, index: &LongIndex, sessions: &[u32], at: usize) -> Option<usize>
         requires on_its_way { IsOnItsWay index.now self.now }
-        requires sessions { ListsSessions index.now.history (length index.now.history.1) sessions.now }
+        requires awake { IsAwake index.now self.now sessions.now }
         ensures inside { IfSome result (λ place. place < length sessions.now) }
         ensures next { IfSome result (λ place. CanBePlaced index.now self.now (slice_index_or sessions.now place 0)) }
         ensures none { IfNone result
@@ -127,7 +157,7 @@ impl Backward {
         end: usize,
     ) -> Option<usize>
         requires on_its_way { IsOnItsWay index.now self.now }
-        requires sessions { ListsSessions index.now.history (length index.now.history.1) sessions.now }
+        requires awake { IsAwake index.now self.now sessions.now }
         requires inside { end ≤ length sessions.now }
         ensures inside { IfSome result (λ place. place < length sessions.now) }
         ensures next { IfSome result (λ place. CanBePlaced index.now self.now (slice_index_or sessions.now place 0)) }
@@ -154,4 +184,42 @@ impl Backward {
         }
         self.is_free(index, session)
     }
+
+    /// Asks no longer the sessions of which nothing is left, or whose last operation that is left has a read left.
+    fn let_sleep(&self, index: &LongIndex, awake: &mut Vec<u32>)
+        requires on_its_way { IsOnItsWay index.now self.now }
+        requires awake { IsAwake index.now self.now awake.old.items }
+        ensures { IsAwake index.now self.now awake.new.items }
+    {
+        for place in (0..awake.len()).rev() {
+            if self.is_asleep(index, awake[place]) {
+                take_out(awake, place);
+            }
+        }
+    }
+
+    /// Whether a session is such a one. O(1).
+    fn is_asleep(&self, index: &LongIndex, session: u32) -> bool
+        requires on_its_way { IsOnItsWay index.now self.now }
+        requires exists { session < length index.now.history.1 }
+        ensures { IsTrue result → IsOpen (left_of index.now.history self.now) session → HasReadLeft index.now.history
+            (left_of index.now.history self.now) (last_left (left_of index.now.history self.now) session) }
+    {
+        let end = self.ends[session as usize];
+        if end <= index.start(session) {
+            return true;
+        }
+        let last = end - 1;
+        self.readers[last as usize] > 0
+    }
+}
+
+/// Takes a number out of a list. The last one comes into its place.
+fn take_out(list: &mut Vec<u32>, place: usize)
+    requires { place < length list.old.items }
+    ensures { IsTakenOut list.old.items place list.new.items }
+{
+    let last = list.len() - 1;
+    list[place] = list[last];
+    list.truncate(last);
 }

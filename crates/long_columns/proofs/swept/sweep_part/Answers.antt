@@ -1,51 +1,32 @@
-use Rattle.std.specs.Prelude.{◌≡◌, ◌<◌, ◌+◌, ℕ, List, length, slice_index_or}
-use Rattle.std.proofs.Common.{arith, subst}
-use Rattle.std.proofs.lemmas.Option.{slice_get-get_or}
-use Rattle.long_columns.specs.Swept.{AreSwept, HasEdge, IsDealt}
-use Rattle.long_columns.proofs.Dealt.{dealt-same}
-use Rattle.long_columns.proofs.SessionsSwept.{swept-same}
+use Rattle.std.specs.Prelude.{◌⊎◌, ◌↔◌, ℕ, List, length}
+use Rattle.std.proofs.Common.{sym, subst}
+use Rattle.long_columns.specs.Forks.{IsForkBelow}
+use Rattle.long_columns.specs.Parts.{IsSweptOver}
+use Rattle.long_columns.specs.Swept.{HasEdge, IsDealt, IsListed}
+use Rattle.long_columns.proofs.PushedEdges.{edges-joined}
+use Rattle.long_columns.proofs.SessionsSwept.{swept-both}
+use Rattle.long_columns.proofs.Shared.{shares-whole}
 use Rattle.long_columns.proofs.swept.sweep_part.Goals as goal
-use Rattle.long_columns.proofs.swept.sweep_part.Goals.{then-i-parts+in_ok-sweep_session, else-i-parts}
-
-pub sweep_session-requires-clause-session : goal.sweep_session-requires-clause-session
-sweep_session-requires-clause-session c =
-    let list : List ℕ = c.args.sessions.now in
-    let i : ℕ = c.loop-i.i in
-    let inside : i < length list = grind arith in
-    c.requires.below i (slice_index_or list i 0) (slice_get-get_or list i 0 inside)
-
-pub loop-i-preserved : goal.loop-i-preserved
-loop-i-preserved c =
-    let h = c.args.index.now.history in
-    let list : List ℕ = c.args.sessions.now in
-    let parts : ℕ = c.args.parts in
-    let part : ℕ = c.args.part in
-    let i : ℕ = c.loop-i.i in
-    let was = c.loop-i.invariant in
-    let inside : i < length list = grind arith in
-    elim c.if-i-parts.branch [
-      | then-i-parts+in_ok-sweep_session w ↦ rw (w.arrays-is, w.swept-is) (record {
-        ends = w.sweep_session.ensures.ends;
-        firsts = w.sweep_session.ensures.firsts;
-        last = w.sweep_session.ensures.last;
-        late = w.sweep_session.ensures.late;
-        swept = w.in_ok-sweep_session.ensures.swept list parts part i (slice_get-get_or list i 0 inside) w.if-i-parts.true was.swept;
-      })
-      | else-i-parts w ↦ rw (w.arrays-is, w.swept-is) (record {
-        ends = was.ends;
-        firsts = was.firsts;
-        last = was.last;
-        late = was.late;
-        swept = swept-same h (IsDealt list parts part i) (IsDealt list parts part (i + 1))
-            (dealt-same list parts part i w.if-i-parts.false) c.loop-i.swept.has_overwritten_start
-            c.loop-i.swept.has_overwritten_read (HasEdge c.loop-i.swept.edges.items) was.swept;
-      })
-    ]
 
 pub returns : goal.returns
 returns c =
+    let h = c.args.index.now.history in
     let list : List ℕ = c.args.sessions.now in
-    let end : c.loop-i.i ≡ length list = grind arith in
-    subst (λ (n : ℕ). AreSwept c.args.index.now.history (IsDealt list c.args.parts c.args.part n)
-    c.loop-i.swept.has_overwritten_start c.loop-i.swept.has_overwritten_read (HasEdge c.loop-i.swept.edges.items)) end
-    c.loop-i.invariant.swept
+    let dealt : ℕ → Type 0 = IsDealt list c.args.parts c.args.part (length list) in
+    let sessions : List ℕ = c.in_ok-share.share.sessions.items in
+    let forks : List ℕ = c.in_ok-share.share.forks.items in
+    let old = c.in_ok-swept.swept in
+    let more = c.in_ok-of_forks.of_forks in
+    let whole = c.join.new.whole in
+    let first : List (ℕ × ℕ) = old.edges.items in
+    let second : List (ℕ × ℕ) = more.edges.items in
+    let alone : IsSweptOver h (IsListed sessions (length sessions)) old =
+    subst (λ (xs : List ℕ). IsSweptOver h (IsListed xs (length xs)) old) c.deref.ensures.value c.in_ok-swept.ensures in
+    let together : IsSweptOver h (IsForkBelow h forks (length forks)) more =
+    subst (λ (xs : List ℕ). IsSweptOver h (IsForkBelow h xs (length xs)) more) c.deref-2.ensures.value c.in_ok-of_forks.ensures in
+    swept-both h (IsListed sessions (length sessions)) (IsForkBelow h forks (length forks)) dealt
+    (shares-whole h sessions forks dealt c.in_ok-share.ensures.dealt) old.has_overwritten_start old.has_overwritten_read (HasEdge first)
+    alone more.has_overwritten_start more.has_overwritten_read (HasEdge second) together whole.has_overwritten_start
+    whole.has_overwritten_read (HasEdge whole.edges.items) c.in_ok-join.ensures.start c.in_ok-join.ensures.read
+    (λ from to. subst (λ (xs : List (ℕ × ℕ)). HasEdge xs from to ↔ (HasEdge first from to ⊎ HasEdge second from to))
+    (sym c.in_ok-join.ensures.edges) (edges-joined first second from to))

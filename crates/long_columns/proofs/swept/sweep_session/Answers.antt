@@ -2,8 +2,8 @@ use Rattle.std.specs.Prelude.{◌≡◌, ◌⊎◌, ◌↔◌, ℕ, ◌+◌, ◌
 use Rattle.std.proofs.Common.{arith, subst}
 use Rattle.std.proofs.lemmas.List.{get_or_past}
 use Rattle.long_order.proofs.Orders.{order_by-straight}
-use Rattle.long_columns.specs.Swept.{HasEdge, IsDealt}
-use Rattle.long_columns.proofs.Dealt.{dealt-more}
+use Rattle.long_columns.specs.Swept.{HasEdge, IsListed}
+use Rattle.long_columns.proofs.Dealt.{listed-more}
 use Rattle.long_columns.proofs.SessionsSwept.{or-either, swept-both, swept-column}
 use Rattle.long_columns.proofs.swept.sweep_session.Goals as goal
 
@@ -11,7 +11,7 @@ pub sweep_column-overwritten-requires-clause-straight : goal.sweep_column-overwr
 sweep_column-overwritten-requires-clause-straight c = order_by-straight c.args.index.now.history [] c.args.order.now c.requires.order
 
 pub returns-clause-swept : goal.returns-clause-swept
-returns-clause-swept c sessions parts part i here mine was =
+returns-clause-swept c sessions i here was =
     let h = c.args.index.now.history in
     let old = c.args.swept.now in
     let one = c.sweep_column-overwritten.result in
@@ -21,8 +21,8 @@ returns-clause-swept c sessions parts part i here mine was =
     let size = shows.late_size in
     let column = swept-column h c.args.session one.start one.read (λ n. slice_index_or late n 0) shows.start shows.read shows.edges
     (λ to past. get_or_past late to 0 (omega arith)) shows.writes in
-    swept-both h (IsDealt sessions parts part i) (λ t. t ≡ c.args.session) (IsDealt sessions parts part (i + 1))
-    (dealt-more sessions parts part i c.args.session here mine) old.has_overwritten_start old.has_overwritten_read
+    swept-both h (IsListed sessions i) (λ t. t ≡ c.args.session) (IsListed sessions (i + 1))
+    (listed-more sessions i c.args.session here) old.has_overwritten_start old.has_overwritten_read
     (HasEdge old.edges.items) was one.start one.read (λ from to. slice_index_or late to 0 ≡ from + 1) column
     (old.has_overwritten_start || one.start) (old.has_overwritten_read || one.read) (HasEdge edges)
     (or-either old.has_overwritten_start one.start) (or-either old.has_overwritten_read one.read)

@@ -5,10 +5,10 @@ use Rattle.session_orders.specs.SessionOrders.{IsOrderedSession, IsOutcome}
 use Rattle.session_orders.proofs.OrderedParts.{ordered-more, ordered-same}
 use Rattle.session_orders.proofs.TurnLaws.{listed-exists}
 use Rattle.session_orders.proofs.ordering.order_part.Goals as goal
-use Rattle.session_orders.proofs.ordering.order_part.Goals.{then-place-parts+in_ok-order_session+in-Explained, else-place-parts}
+use Rattle.session_orders.proofs.ordering.order_part.Goals.{then-place-parts+in_ok-order_where_needed+in-Explained, else-place-parts}
 
-pub order_session-requires-clause-known : goal.order_session-requires-clause-known
-order_session-requires-clause-known c =
+pub order_where_needed-requires-clause-known : goal.order_where_needed-requires-clause-known
+order_where_needed-requires-clause-known c =
     let h = c.args.index.now.history in
     let list : List ℕ = c.args.sessions.now in
     let inside : c.loop-place.place < length list = grind arith in
@@ -30,12 +30,12 @@ loop-place-preserved c =
     let place : ℕ = c.loop-place.place in
     let was = c.loop-place.invariant in
     elim c.if-place-parts.branch [
-      | then-place-parts+in_ok-order_session+in-Explained w ↦
+      | then-place-parts+in_ok-order_where_needed+in-Explained w ↦
           let explained : IsOrderedSession h (slice_index_or list place 0) =
-          subst (IsOutcome h (slice_index_or list place 0)) w.in-Explained.is w.in_ok-order_session.ensures.outcome in
+          subst (IsOutcome h (slice_index_or list place 0)) w.in-Explained.is w.in_ok-order_where_needed.ensures.outcome in
           rw (w.backward-is, w.turns-is) (record {
-            clear = w.in_ok-order_session.ensures.clear w.in-Explained.is;
-            sessions = w.in_ok-order_session.ensures.sessions ∙ was.sessions;
+            clear = w.in_ok-order_where_needed.ensures.clear w.in-Explained.is;
+            sessions = w.in_ok-order_where_needed.ensures.sessions ∙ was.sessions;
             ordered = ordered-more h list c.args.parts c.args.part place was.ordered explained;
           })
       | else-place-parts w ↦ rw (w.backward-is, w.turns-is) (record {

@@ -3,12 +3,12 @@ use Rattle.std.proofs.Common.{arith, sym, subst, ⊎_elim}
 use Rattle.std.proofs.lemmas.Bool.{cases_eq}
 use Rattle.session_orders.specs.Backward.{IsOpen}
 use Rattle.session_orders.specs.OnItsWay.{IsStopped, left_of}
-use Rattle.session_orders.proofs.TurnLaws.{listed-exists}
+use Rattle.session_orders.proofs.Awake.{awake-exists}
 use Rattle.session_orders.proofs.backward.Backward.free_among.Goals as goal
 
 pub is_free_other-requires-clause-exists : goal.is_free_other-requires-clause-exists
 is_free_other-requires-clause-exists c =
-    (listed-exists c.args.index.now.history c.args.sessions.now c.requires.sessions c.loop-place.place (omega arith)).0
+    awake-exists c.args.index.now c.args.self.now c.args.sessions.now c.requires.awake c.loop-place.place (omega arith)
 
 pub loop-place-preserved : goal.loop-place-preserved
 loop-place-preserved c j from below other is_open = ⊎_elim

@@ -1,5 +1,5 @@
 use Rattle.std.specs.Prelude.{Option, Some, None, IfNone}
-use Rattle.session_orders.proofs.TurnLaws.{others-stopped}
+use Rattle.session_orders.proofs.Awake.{awake-stopped}
 use Rattle.session_orders.proofs.backward.Backward.free_other.Goals as goal
 
 -- what follows where there is none
@@ -10,6 +10,5 @@ none-so (Some a) so holds = holds
 pub returns-in-None-clause-none : goal.returns-in-None-clause-none
 returns-in-None-clause-none c =
     none-so c.free_among-in-None.result
-    (others-stopped c.args.index.now c.args.self.now c.requires.on_its_way c.args.sessions.now c.requires.sessions c.min-at.result
-    c.in-None.ensures.none)
+    (awake-stopped c.args.index.now c.args.self.now c.args.sessions.now c.requires.awake c.min-at.result c.in-None.ensures.none)
     c.free_among-in-None.ensures.none

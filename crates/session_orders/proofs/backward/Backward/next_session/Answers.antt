@@ -1,5 +1,5 @@
 use Rattle.std.proofs.Common.{refl}
-use Rattle.session_orders.proofs.TurnLaws.{all-stopped}
+use Rattle.session_orders.proofs.Awake.{none-go_on}
 use Rattle.session_orders.proofs.backward.Backward.next_session.Goals as goal
 
 pub returns-then-is_free-clause-next : goal.returns-then-is_free-clause-next
@@ -12,5 +12,4 @@ returns-then-is_free-clause-next c = record {
 
 pub returns-else-is_free-clause-stuck : goal.returns-else-is_free-clause-stuck
 returns-else-is_free-clause-stuck c =
-    all-stopped c.args.index.now c.args.self.now c.requires.on_its_way c.args.turns.now.sessions.items c.requires.sessions
-    c.in_default-free_other.ensures.none (c.if-is_free.ensures.stopped (λ t. absurd cc))
+    none-go_on c.args.index.now c.args.self.now c.in_default-free_other.ensures.none (c.if-is_free.ensures.stopped (λ t. absurd cc))

@@ -50,3 +50,16 @@ place_part-requires-clause-part c =
       number_of = here;
       part = c.part-part.ensures.part p (last-op c.args.index.now b c.requires.on_its_way c.args.session is_open) here;
     }
+
+pub returns-clause-freed : goal.returns-clause-freed
+returns-clause-freed c =
+    let h = c.args.index.now.history in
+    let b = c.args.self.now in
+    let size = c.requires.on_its_way.sizes.ends in
+    let exists = c.requires.exists in
+    let end = get_or_read b.ends.items _ _ (omega arith) c.index.ensures 0 in
+    let is_open : IsOpen (left_of h b) c.args.session = c.requires.free.0 in
+    let p : OpId = last_left (left_of h b) c.args.session in
+    let at = last-number c.args.index.now b c.requires.on_its_way c.args.session is_open in
+    let here : number h p ≡ c.index.result.now - 1 = omega arith in
+    c.freed_by.ensures.freed p (c.part-part.ensures.part p (last-op c.args.index.now b c.requires.on_its_way c.args.session is_open) here)

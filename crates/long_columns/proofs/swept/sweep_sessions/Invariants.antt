@@ -1,8 +1,8 @@
 use Rattle.std.specs.Prelude.{◌≡◌, length}
 use Rattle.long_history.specs.Steps.{many}
 use Rattle.long_columns.specs.Parts.{IsSweptOver}
-use Rattle.long_columns.specs.Swept.{IsDealt}
-use Rattle.long_columns.proofs.swept.sweep_part.Given as goal
+use Rattle.long_columns.specs.Swept.{IsListed}
+use Rattle.long_columns.proofs.swept.sweep_sessions.Given as goal
 
 abbrev pub invariant-loop-i : goal.invariant-loop-i
 invariant-loop-i l = record {
@@ -10,5 +10,5 @@ invariant-loop-i l = record {
   firsts : length l.arrays.firsts.items ≡ many l.index.history;
   last : length l.arrays.last.items ≡ l.index.bound;
   late : length l.arrays.late.items ≡ many l.index.history;
-  swept : IsSweptOver l.index.history (IsDealt l.sessions l.parts l.part l.i) l.swept;
+  swept : IsSweptOver l.index.history (IsListed l.sessions l.i) l.swept;
 }

@@ -1,0 +1,296 @@
+//! The columns of sessions with one write each, 64 at once: a bit for each write in place of a number.
+
+ghost use Rattle.std.specs.Prelude.{◌≡◌, ◌↔◌, ◌⊎◌, ◌+◌, ◌*◌, ◌^◌, ◌<◌, ◌≤◌, ℕ, [], Some, length, slice_get, IfOk, IsTrue, OnOk};
+ghost use Rattle.memory_order.specs.SourceOrder.{IsCyclic};
+ghost use Rattle.long_history.specs.Steps.{IsOrderBy, many};
+ghost use Rattle.long_columns.specs.Forks.{AreForksFound, AreForkWords, AreOnlyWrites, HasForkSizes, IsForkBelow, IsLeftEdge, IsLeftIn};
+ghost use Rattle.long_columns.specs.Parts.{IsSweptOver};
+ghost use Rattle.long_columns.specs.Swept.{HasEdge};
+ghost use Rattle.long_columns.specs.Words.{AreVariableWords, HasBit, HasBitAt};
+
+use crate::sweeping::Overwritten;
+use crate::swept::Swept;
+use crate::words::{
+    add_word, clear, find_future_words, find_past_words, has_bit, has_some, set_bit, shared,
+    without,
+};
+use long_index::{LongIndex, Part};
+use std::alloc::{AllocError, Global};
+
+/// What up to 64 writes are before and after.
+#[derive(Drop)]
+pub(crate) struct ForkWords {
+    /// By operation: the writes in its past.
+    pub(crate) past: Vec<u64>,
+    /// By operation: the writes that have it in their past.
+    pub(crate) future: Vec<u64>,
+    /// By variable: the writes of it.
+    pub(crate) of_variable: Vec<u64>,
+}
+
+/// Looks, for each known read, at those of the writes that are of its variable and in its past.
+///
+/// Afterwards `late` has, for each write, those that conflict with it. O(n) for n operations.
+pub(crate) fn look_at_reads(
+    index: &LongIndex,
+    writes: &[u32],
+    from: usize,
+    words: &ForkWords,
+    late: &mut Vec<u64>,
+) -> Overwritten
+    requires straight { ¬ IsCyclic index.now.history }
+    requires only { AreOnlyWrites index.now.history writes.now }
+    requires words { AreForkWords index.now writes.now from words.now }
+    requires size { length late.old.items ≡ many index.now.history }
+    requires none { (n k : ℕ) → ¬ HasBitAt late.old.items n k }
+    ensures size { length late.new.items ≡ many index.now.history }
+    ensures found { AreForksFound index.now.history writes.now from (many index.now.history) result.start result.read late.new.items }
+{
+    let mut overwritten = Overwritten {
+        start: false,
+        read: false,
+    };
+    for operation in 0..index.operations() {
+        look_at(
+            index,
+            writes,
+            from,
+            words,
+            operation,
+            &mut overwritten,
+            late,
+        );
+    }
+    overwritten
+}
+
+/// Looks at those writes for one operation.
+fn look_at(
+    index: &LongIndex,
+    _writes: &[u32],
+    _from: usize,
+    words: &ForkWords,
+    operation: u32,
+    overwritten: &mut Overwritten,
+    late: &mut Vec<u64>,
+)
+    requires straight { ¬ IsCyclic index.now.history }
+    requires only { AreOnlyWrites index.now.history _writes.now }
+    requires words { AreForkWords index.now _writes.now _from words.now }
+    requires operation { operation < many index.now.history }
+    requires size { length late.old.items ≡ many index.now.history }
+    ensures size { length late.new.items ≡ many index.now.history }
+    ensures found { AreForksFound index.now.history _writes.now _from operation overwritten.old.start overwritten.old.read late.old.items
+        → AreForksFound index.now.history _writes.now _from (operation + 1) overwritten.new.start overwritten.new.read late.new.items }
+{
+    index.value_is_indexed();
+    let variable = index.variable(operation);
+    let seen = shared(
+        words.past[operation as usize],
+        words.of_variable[variable as usize],
+    );
+    match index.part(operation) {
+        Part::InitialRead => overwritten.start |= has_some(seen),
+        Part::SourcedRead(source) => leave(words, source, seen, overwritten, late),
+        Part::Write | Part::ThinAirRead | Part::UnknownRead => {}
+    }
+}
+
+/// Notes those of the writes that a read has in its past, but for what its source has there.
+fn leave(
+    words: &ForkWords,
+    source: u32,
+    seen: u64,
+    overwritten: &mut Overwritten,
+    late: &mut Vec<u64>,
+)
+    requires past { source < length words.now.past.items }
+    requires future { source < length words.now.future.items }
+    requires late { source < length late.old.items }
+    ensures size { length late.new.items ≡ length late.old.items }
+    ensures start { overwritten.new.start ≡ overwritten.old.start }
+    ensures read { IsTrue overwritten.new.read ↔ (IsTrue overwritten.old.read ⊎ ((k : ℕ) × (k < 64)
+        × (HasBit seen k × (¬ HasBitAt words.now.past.items source k) × HasBitAt words.now.future.items source k))) }
+    ensures left { (n k : ℕ) → k < 64 → HasBitAt late.new.items n k
+        ↔ (HasBitAt late.old.items n k ⊎ ((n ≡ source) × (HasBit seen k × (¬ HasBitAt words.now.past.items source k)))) }
+{
+    if has_some(seen) {
+        let rest = without(seen, words.past[source as usize]);
+        overwritten.read |= has_some(shared(rest, words.future[source as usize]));
+        add_word(late, Some(source), rest);
+    }
+}
+
+/// What up to 64 of the sessions show: those of the writes at the place `from` of a list and after it.
+fn sweep_group(
+    index: &LongIndex,
+    order: &[u32],
+    writes: &[u32],
+    from: usize,
+    words: &mut ForkWords,
+    late: &mut Vec<u64>,
+    swept: &mut Swept,
+) -> Result<(), AllocError>
+    requires order { IsOrderBy index.now.history [] order.now }
+    requires only { AreOnlyWrites index.now.history writes.now }
+    requires from { from ≤ length writes.now }
+    requires sizes { HasForkSizes index.now words.old }
+    requires late { length late.old.items ≡ many index.now.history }
+    ensures sizes { HasForkSizes index.now words.new }
+    ensures late { length late.new.items ≡ many index.now.history }
+    ensures swept { OnOk result (IsSweptOver index.now.history (IsForkBelow index.now.history writes.now from) swept.old
+        → IsSweptOver index.now.history (IsForkBelow index.now.history writes.now (from + 64)) swept.new) }
+{
+    find_words(index, order, writes, from, words);
+    clear(late);
+    let overwritten = look_at_reads(index, writes, from, words, late);
+    push_left(index, writes, from, late, &mut swept.edges)?;
+    swept.has_overwritten_start |= overwritten.start;
+    swept.has_overwritten_read |= overwritten.read;
+    Ok(())
+}
+
+/// Finds what those writes are before and after.
+fn find_words(index: &LongIndex, order: &[u32], writes: &[u32], from: usize, words: &mut ForkWords)
+    requires order { IsOrderBy index.now.history [] order.now }
+    requires only { AreOnlyWrites index.now.history writes.now }
+    requires from { from ≤ length writes.now }
+    requires sizes { HasForkSizes index.now words.old }
+    ensures sizes { HasForkSizes index.now words.new }
+    ensures words { AreForkWords index.now writes.now from words.new }
+{
+    find_past_words(index, order, writes, from, &mut words.past);
+    find_future_words(index, order, writes, from, &mut words.future);
+    mark_variables(index, writes, from, &mut words.of_variable);
+}
+
+/// Gives each variable the bits of those of the writes that are of it.
+fn mark_variables(index: &LongIndex, writes: &[u32], from: usize, words: &mut Vec<u64>)
+    requires only { AreOnlyWrites index.now.history writes.now }
+    requires from { from ≤ length writes.now }
+    requires size { length words.old.items ≡ index.now.bound }
+    ensures size { length words.new.items ≡ index.now.bound }
+    ensures words { AreVariableWords index.now.history writes.now from index.now.variables words.new.items }
+{
+    clear(words);
+    for bit in 0..64 {
+        let place = from + bit as usize;
+        if place < writes.len() {
+            set_bit(words, index.variable(writes[place]), bit);
+        }
+    }
+}
+
+/// Pushes an edge from each of the writes to each operation that has its bit.
+fn push_left(
+    index: &LongIndex,
+    writes: &[u32],
+    from: usize,
+    late: &[u64],
+    edges: &mut Vec<(u32, u32)>,
+) -> Result<(), AllocError>
+    requires from { from ≤ length writes.now }
+    requires size { length late.now ≡ many index.now.history }
+    ensures { OnOk result ((a b : ℕ) → HasEdge edges.new.items a b
+        ↔ (HasEdge edges.old.items a b ⊎ IsLeftEdge writes.now from late.now a b)) }
+{
+    for to in 0..index.operations() {
+        push_word(writes, from, late[to as usize], to, edges)?;
+    }
+    Ok(())
+}
+
+/// Pushes an edge to an operation from each of the writes that has a bit in its word.
+fn push_word(
+    writes: &[u32],
+    from: usize,
+    word: u64,
+    to: u32,
+    edges: &mut Vec<(u32, u32)>,
+) -> Result<(), AllocError>
+    requires { from ≤ length writes.now }
+    ensures { OnOk result ((a b : ℕ) → HasEdge edges.new.items a b
+        ↔ (HasEdge edges.old.items a b ⊎ ((b ≡ to) × IsLeftIn writes.now from word a))) }
+{
+    if word == 0 {
+        return Ok(());
+    }
+    for bit in 0..64 {
+        if has_bit(word, bit) {
+            push_from(writes, from + bit as usize, to, edges)?;
+        }
+    }
+    Ok(())
+}
+
+/// Pushes an edge from the write at a place, if there is one.
+fn push_from(
+    writes: &[u32],
+    place: usize,
+    to: u32,
+    edges: &mut Vec<(u32, u32)>,
+) -> Result<(), AllocError>
+    ensures { OnOk result ((a b : ℕ) → HasEdge edges.new.items a b
+        ↔ (HasEdge edges.old.items a b ⊎ ((b ≡ to) × (slice_get writes.now place ≡ Some a)))) }
+{
+    if place < writes.len() {
+        edges.push((writes[place], to))?;
+    }
+    Ok(())
+}
+
+/// What sessions with one write each show, by the numbers of these writes.
+///
+/// Fails for want of memory alone. O(n m / 64) for n operations and m sessions. It takes 24 bytes an operation and 8 a variable.
+pub(crate) fn sweep_forks(
+    alloc: Global,
+    index: &LongIndex,
+    order: &[u32],
+    writes: &[u32],
+) -> Result<Swept, AllocError>
+    requires order { IsOrderBy index.now.history [] order.now }
+    requires only { AreOnlyWrites index.now.history writes.now }
+    ensures { IfOk result (IsSweptOver index.now.history (IsForkBelow index.now.history writes.now (length writes.now))) }
+{
+    let mut swept = Swept {
+        has_overwritten_start: false,
+        has_overwritten_read: false,
+        edges: Vec::new(alloc),
+    };
+    if writes.len() == 0 {
+        return Ok(swept);
+    }
+    let operations = index.operations() as usize;
+    let mut words = ForkWords {
+        past: vec![in alloc; 0; operations]?,
+        future: vec![in alloc; 0; operations]?,
+        of_variable: vec![in alloc; 0; index.variables() as usize]?,
+    };
+    let mut late = vec![in alloc; 0; operations]?;
+    let count = groups(writes.len());
+    for group in 0..count {
+        sweep_group(
+            index,
+            order,
+            writes,
+            group * 64,
+            &mut words,
+            &mut late,
+            &mut swept,
+        )?;
+    }
+    Ok(swept)
+}
+
+/// How many groups of 64 it takes for so many.
+fn groups(count: usize) -> usize
+    ensures each { (g : ℕ) → g < result → g * 64 < count }
+    ensures fits { (g : ℕ) → g < result → g * 64 < 2 ^ 64 }
+    ensures enough { count ≤ result * 64 }
+{
+    if count % 64 == 0 {
+        count / 64
+    } else {
+        count / 64 + 1
+    }
+}
