@@ -1,7 +1,7 @@
 //! What a process answers.
 
 use crate::process::Process;
-use engine::status_of_process;
+use judge_process::status_of_process;
 use std::alloc::AllocError;
 use std::sync::Wait;
 use std::thread::Threads;

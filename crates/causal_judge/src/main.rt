@@ -5,5 +5,5 @@
 use std::process::ExitCode;
 
 fn main(rt: HostRuntime) -> ExitCode {
-    ExitCode::from(engine::status_of_process(&rt))
+    ExitCode::from(judge_process::status_of_process(&rt))
 }

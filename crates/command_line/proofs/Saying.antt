@@ -1,14 +1,14 @@
--- What the words after a command say, one by one, and the order that they give.
+-- What the words after a command say, one by one, and the task that they give.
 use Rattle.std.proofs.Common.{◌≡◌, ◌≤◌, ◌∙◌, ◌-◌, List, [], ◌∷◌, length, map, drop, take, get_or, arith, sym, ap, subst, Option, Some, None, inl, inr, ⊎_elim, MatchOption}
 use Rattle.std.proofs.lemmas.List.{take_all}
 use Rattle.std.proofs.lemmas.Option.{same_Some}
 use Rattle.clap.specs.Words.{Text}
 use Rattle.std.specs.Prelude.{◌≢◌}
-use Rattle.command_line.specs.declared.order.Order.{Order}
+use Rattle.command_line.specs.declared.order.Task.{Task}
 use Rattle.command_line.specs.declared.said.Said.{Said}
 use Rattle.command_line.specs.declared.settings.CommandName.{CommandName}
 use Rattle.command_line.specs.declared.settings.Setting.{Setting}
-use Rattle.command_line.specs.Options.{AddsAlone, AddsTogether, IsOrder, Say, SaysAlone, SaysTogether, and_also, command_word, order_for, unsaid}
+use Rattle.command_line.specs.Options.{AddsAlone, AddsTogether, IsTask, Say, SaysAlone, SaysTogether, and_also, command_word, task_for, unsaid}
 use Rattle.command_line.proofs.SettingWords.{alone_once, alone_or_together, command_once, together_once}
 
 -- a setting is added in one way
@@ -133,20 +133,20 @@ say_once before None (w ∷ words) a b (inr x) (inr y) = say_once before (Some w
 say_once before (Some name) (value ∷ words) a b x y =
     say_once y.0 None words a b (subst (λ (said : Said). Say said None words a) (adds_together_once before name value x.0 y.0 x.1 y.1) x.2) y.2
 
--- the order that is given
-pub order_given : (word : Text) (words : List Text) (command : CommandName) (said : Said) (r : Option Order) → word ≡ command_word command
-    → Say (unsaid command) None words said → r ≡ order_for said
-    → MatchOption r ((order : Order) → ¬ IsOrder order word words) (λ order. IsOrder order word words)
-order_given word words command said None is say gives = λ order asks.
+-- the task that is given
+pub task_given : (word : Text) (words : List Text) (command : CommandName) (said : Said) (r : Option Task) → word ≡ command_word command
+    → Say (unsaid command) None words said → r ≡ task_for said
+    → MatchOption r ((task : Task) → ¬ IsTask task word words) (λ task. IsTask task word words)
+task_given word words command said None is say gives = λ task asks.
     let same : command ≡ asks.0 = command_once command asks.0 (sym is ∙ asks.1) in
     let one : said ≡ asks.2 = say_once (unsaid asks.0) None words said asks.2 (subst (λ (c : CommandName). Say (unsaid c) None words said) same say) asks.3 in
-    let bad : None ≡ Some order = gives ∙ ap order_for one ∙ asks.4 in absurd (cc)
-order_given word words command said (Some order) is say gives = (command, is, said, say, sym gives)
+    let bad : None ≡ Some task = gives ∙ ap task_for one ∙ asks.4 in absurd (cc)
+task_given word words command said (Some task) is say gives = (command, is, said, say, sym gives)
 
 pub nothing_said : (word : Text) (words : List Text) (command : CommandName) → word ≡ command_word command
-    → ((after : Said) → ¬ Say (unsaid command) None words after) → (order : Order) → ¬ IsOrder order word words
-nothing_said word words command is none order asks =
+    → ((after : Said) → ¬ Say (unsaid command) None words after) → (task : Task) → ¬ IsTask task word words
+nothing_said word words command is none task asks =
     none asks.2 (subst (λ (c : CommandName). Say (unsaid c) None words asks.2) (command_once asks.0 command (sym asks.1 ∙ is)) asks.3)
 
-pub no_command : (word : Text) (words : List Text) → ((command : CommandName) → word ≢ command_word command) → (order : Order) → ¬ IsOrder order word words
-no_command word words none order asks = none asks.0 asks.1
+pub no_command : (word : Text) (words : List Text) → ((command : CommandName) → word ≢ command_word command) → (task : Task) → ¬ IsTask task word words
+no_command word words none task asks = none asks.0 asks.1

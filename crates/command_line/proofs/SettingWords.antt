@@ -15,7 +15,7 @@ use Rattle.command_line.specs.declared.settings.CommandName.TheVariants as comma
 use Rattle.command_line.specs.declared.settings.Setting.{Setting}
 use Rattle.command_line.specs.declared.settings.Setting.TheVariants as settings
 use Rattle.command_line.specs.Expected.{Lists}
-use Rattle.command_line.specs.Numerals.{IsListed, Writes}
+use Rattle.command_line.specs.Numerals.{IsEvery, IsListed, Writes}
 use Rattle.command_line.specs.Options.{SaysAlone, SaysTogether, command_word}
 use Rattle.command_line.specs.Steps.BareWords.{IsNoBareWord}
 use Rattle.command_line.proofs.Names.{list-read, listed}
@@ -24,6 +24,11 @@ use Rattle.command_line.proofs.Names.{list-read, listed}
 abbrev mark : Text → ℕ
 mark (a ∷ b ∷ c ∷ d ∷ rest) = a + (1000 * c + 1000000 * d)
 mark _ = 0
+
+-- and a fourth one tells two of them apart
+abbrev sixth : Text → ℕ
+sixth (a ∷ b ∷ c ∷ d ∷ e ∷ f ∷ rest) = f
+sixth _ = 0
 
 abbrev number_in : Text → ℕ
 number_in text = digits_value 10 (without_leading_plus text)
@@ -43,6 +48,8 @@ setting_of word value =
     if mark word == 111119045 then settings.Workers (number_in value) else
     if mark word == 116115045 then settings.Stop (number_in value) else
     if mark word == 108097045 then settings.All (number_in value) else
+    if mark word == 97110045 then settings.Names else
+    if mark word == 118101045 then (if sixth word == 110 then settings.Events else settings.Every (number_in value)) else
     settings.Expect (listed value)
 
 abbrev value_of : Text → Text
@@ -57,10 +64,13 @@ alone-read settings.Long w says = ap (λ v. setting_of v (value_of v)) says
 alone-read settings.Json w says = ap (λ v. setting_of v (value_of v)) says
 alone-read settings.Certificates w says = ap (λ v. setting_of v (value_of v)) says
 alone-read settings.Svg w says = ap (λ v. setting_of v (value_of v)) says
+alone-read settings.Events w says = ap (λ v. setting_of v (value_of v)) says
+alone-read settings.Names w says = ap (λ v. setting_of v (value_of v)) says
 alone-read (settings.Seals n) w says = ap (λ v. setting_of v (value_of v)) says.1 ∙ ap settings.Seals says.2.1
 alone-read (settings.Workers n) w says = ap (λ v. setting_of v (value_of v)) says.1 ∙ ap settings.Workers says.2.1
 alone-read (settings.Stop n) w says = ap (λ v. setting_of v (value_of v)) says.1 ∙ ap settings.Stop says.2.1
 alone-read (settings.All n) w says = ap (λ v. setting_of v (value_of v)) says.1 ∙ ap settings.All says.2.1
+alone-read (settings.Every n) w says = ap (λ v. setting_of v (value_of v)) says.1 ∙ ap settings.Every says.2.1
 alone-read (settings.Expect e) w says = ap (λ v. setting_of v (value_of v)) says.1 ∙ ap settings.Expect (sym (list-read says.0 e says.2))
 
 together-read : (s : Setting) (w value : Text) → SaysTogether s w value → setting_of w value ≡ s
@@ -68,6 +78,7 @@ together-read (settings.Seals n) w value says = ap (λ v. setting_of v value) sa
 together-read (settings.Workers n) w value says = ap (λ v. setting_of v value) says.0 ∙ ap settings.Workers says.1.1
 together-read (settings.Stop n) w value says = ap (λ v. setting_of v value) says.0 ∙ ap settings.Stop says.1.1
 together-read (settings.All n) w value says = ap (λ v. setting_of v value) says.0 ∙ ap settings.All says.1.1
+together-read (settings.Every n) w value says = ap (λ v. setting_of v value) says.0 ∙ ap settings.Every says.1.1
 together-read (settings.Expect e) w value says = ap (λ v. setting_of v value) says.0 ∙ ap settings.Expect (sym (list-read value e says.1))
 together-read (settings.Store store) w value says = absurd says
 together-read settings.Eager w value says = absurd says
@@ -76,6 +87,8 @@ together-read settings.Long w value says = absurd says
 together-read settings.Json w value says = absurd says
 together-read settings.Certificates w value says = absurd says
 together-read settings.Svg w value says = absurd says
+together-read settings.Events w value says = absurd says
+together-read settings.Names w value says = absurd says
 
 -- one word says one thing, and so do two
 pub alone_once : (s t : Setting) (w : Text) → SaysAlone s w → SaysAlone t w → s ≡ t
@@ -88,7 +101,7 @@ together_once s t w value says also = sym (together-read s w value says) ∙ tog
 abbrev names_option : Text → Bool
 names_option word =
     pointwise nat_eq (codes "--seals") word || (pointwise nat_eq (codes "--workers") word || (pointwise nat_eq (codes "--stop") word
-    || (pointwise nat_eq (codes "--expect") word || pointwise nat_eq (codes "--all") word)))
+    || (pointwise nat_eq (codes "--expect") word || (pointwise nat_eq (codes "--all") word || pointwise nat_eq (codes "--every") word))))
 
 alone-no-option : (s : Setting) (w : Text) → SaysAlone s w → names_option w ≡ false
 alone-no-option (settings.Store Causal) w says = ap names_option says
@@ -99,11 +112,14 @@ alone-no-option settings.Long w says = ap names_option says
 alone-no-option settings.Json w says = ap names_option says
 alone-no-option settings.Certificates w says = ap names_option says
 alone-no-option settings.Svg w says = ap names_option says
+alone-no-option settings.Events w says = ap names_option says
+alone-no-option settings.Names w says = ap names_option says
 alone-no-option (settings.Seals n) w says = ap names_option says.1
 alone-no-option (settings.Workers n) w says = ap names_option says.1
 alone-no-option (settings.Stop n) w says = ap names_option says.1
 alone-no-option (settings.Expect n) w says = ap names_option says.1
 alone-no-option (settings.All n) w says = ap names_option says.1
+alone-no-option (settings.Every n) w says = ap names_option says.1
 
 together-option : (s : Setting) (w value : Text) → SaysTogether s w value → names_option w ≡ true
 together-option (settings.Seals n) w value says = ap names_option says.0
@@ -111,6 +127,7 @@ together-option (settings.Workers n) w value says = ap names_option says.0
 together-option (settings.Stop n) w value says = ap names_option says.0
 together-option (settings.Expect n) w value says = ap names_option says.0
 together-option (settings.All n) w value says = ap names_option says.0
+together-option (settings.Every n) w value says = ap names_option says.0
 together-option (settings.Store store) w value says = absurd says
 together-option settings.Eager w value says = absurd says
 together-option settings.Lines w value says = absurd says
@@ -118,6 +135,8 @@ together-option settings.Long w value says = absurd says
 together-option settings.Json w value says = absurd says
 together-option settings.Certificates w value says = absurd says
 together-option settings.Svg w value says = absurd says
+together-option settings.Events w value says = absurd says
+together-option settings.Names w value says = absurd says
 
 pub alone_or_together : (s t : Setting) (w value : Text) → SaysAlone s w → SaysTogether t w value → ⊥
 alone_or_together s t w value says also = let bad : ◌≡◌ {A = Bool} true false = sym (together-option t w value also) ∙ alone-no-option s w says in absurd (cc)
@@ -157,6 +176,11 @@ no_all w number is none s says =
     let so : SaysAlone (settings.All (number_in number)) w = alone_as w (codes "--all=" ++ number) s is says in
     none (number_in number) so.3 (same_numeral so.0 number (number_in number) (ap value_of (sym so.1 ∙ is)) so.2)
 
+pub no_every : (w number : Text) → w ≡ codes "--every=" ++ number → ((n : ℕ) → IsEvery n → ¬ Writes number n) → (s : Setting) → ¬ SaysAlone s w
+no_every w number is none s says =
+    let so : SaysAlone (settings.Every (number_in number)) w = alone_as w (codes "--every=" ++ number) s is says in
+    none (number_in number) so.3 (same_numeral so.0 number (number_in number) (ap value_of (sym so.1 ∙ is)) so.2)
+
 -- the name of an option says nothing with a value that the option does not take
 pub no_seals_behind : (w number : Text) → w ≡ codes "--seals" → ((n : ℕ) → n ≤ MAX_SEALS → ¬ Writes number n) → (s : Setting) → ¬ SaysTogether s w number
 no_seals_behind w number is none s says =
@@ -178,43 +202,53 @@ pub no_all_behind : (w number : Text) → w ≡ codes "--all" → ((n : ℕ) →
 no_all_behind w number is none s says =
     let so : SaysTogether (settings.All (number_in number)) w number = together_as w (codes "--all") number s is says in none (number_in number) so.2 so.1
 
+pub no_every_behind : (w number : Text) → w ≡ codes "--every" → ((n : ℕ) → IsEvery n → ¬ Writes number n) → (s : Setting) → ¬ SaysTogether s w number
+no_every_behind w number is none s says =
+    let so : SaysTogether (settings.Every (number_in number)) w number = together_as w (codes "--every") number s is says in none (number_in number) so.2 so.1
+
 -- a word that is none of those that say something, says nothing
 pub no_alone : (w : Text) → IsNoBareWord w → ((number : Text) → w ≢ codes "--seals=" ++ number) → ((number : Text) → w ≢ codes "--workers=" ++ number)
     → ((list : Text) → w ≢ codes "--expect=" ++ list) → ((number : Text) → w ≢ codes "--all=" ++ number)
-    → ((number : Text) → w ≢ codes "--stop=" ++ number) → (s : Setting) → ¬ SaysAlone s w
-no_alone w bare _ _ _ _ _ (settings.Store Causal) says = bare.causal says
-no_alone w bare _ _ _ _ _ (settings.Store Lamport) says = bare.lamport says
-no_alone w bare _ _ _ _ _ settings.Eager says = bare.eager says
-no_alone w bare _ _ _ _ _ settings.Lines says = bare.lines says
-no_alone w bare _ _ _ _ _ settings.Long says = bare.long says
-no_alone w bare _ _ _ _ _ settings.Json says = bare.json says
-no_alone w bare _ _ _ _ _ settings.Certificates says = bare.certificates says
-no_alone w bare _ _ _ _ _ settings.Svg says = bare.svg says
-no_alone w bare is_no _ _ _ _ (settings.Seals n) says = is_no says.0 says.1
-no_alone w bare _ is_no _ _ _ (settings.Workers n) says = is_no says.0 says.1
-no_alone w bare _ _ _ _ is_no (settings.Stop n) says = is_no says.0 says.1
-no_alone w bare _ _ is_no _ _ (settings.Expect n) says = is_no says.0 says.1
-no_alone w bare _ _ _ is_no _ (settings.All n) says = is_no says.0 says.1
+    → ((number : Text) → w ≢ codes "--every=" ++ number) → ((number : Text) → w ≢ codes "--stop=" ++ number) → (s : Setting) → ¬ SaysAlone s w
+no_alone w bare _ _ _ _ _ _ (settings.Store Causal) says = bare.causal says
+no_alone w bare _ _ _ _ _ _ (settings.Store Lamport) says = bare.lamport says
+no_alone w bare _ _ _ _ _ _ settings.Eager says = bare.eager says
+no_alone w bare _ _ _ _ _ _ settings.Lines says = bare.lines says
+no_alone w bare _ _ _ _ _ _ settings.Long says = bare.long says
+no_alone w bare _ _ _ _ _ _ settings.Json says = bare.json says
+no_alone w bare _ _ _ _ _ _ settings.Certificates says = bare.certificates says
+no_alone w bare _ _ _ _ _ _ settings.Svg says = bare.svg says
+no_alone w bare _ _ _ _ _ _ settings.Events says = bare.events says
+no_alone w bare _ _ _ _ _ _ settings.Names says = bare.names says
+no_alone w bare is_no _ _ _ _ _ (settings.Seals n) says = is_no says.0 says.1
+no_alone w bare _ is_no _ _ _ _ (settings.Workers n) says = is_no says.0 says.1
+no_alone w bare _ _ _ _ _ is_no (settings.Stop n) says = is_no says.0 says.1
+no_alone w bare _ _ is_no _ _ _ (settings.Expect n) says = is_no says.0 says.1
+no_alone w bare _ _ _ is_no _ _ (settings.All n) says = is_no says.0 says.1
+no_alone w bare _ _ _ _ is_no _ (settings.Every n) says = is_no says.0 says.1
 
 pub no_together : (w value : Text) → w ≢ codes "--seals" → w ≢ codes "--workers" → w ≢ codes "--expect" → w ≢ codes "--stop" → w ≢ codes "--all"
-    → (s : Setting) → ¬ SaysTogether s w value
-no_together w value is_no _ _ _ _ (settings.Seals n) says = is_no says.0
-no_together w value _ is_no _ _ _ (settings.Workers n) says = is_no says.0
-no_together w value _ _ _ is_no _ (settings.Stop n) says = is_no says.0
-no_together w value _ _ is_no _ _ (settings.Expect n) says = is_no says.0
-no_together w value _ _ _ _ is_no (settings.All n) says = is_no says.0
-no_together w value _ _ _ _ _ (settings.Store store) says = says
-no_together w value _ _ _ _ _ settings.Eager says = says
-no_together w value _ _ _ _ _ settings.Lines says = says
-no_together w value _ _ _ _ _ settings.Long says = says
-no_together w value _ _ _ _ _ settings.Json says = says
-no_together w value _ _ _ _ _ settings.Certificates says = says
-no_together w value _ _ _ _ _ settings.Svg says = says
+    → w ≢ codes "--every" → (s : Setting) → ¬ SaysTogether s w value
+no_together w value is_no _ _ _ _ _ (settings.Seals n) says = is_no says.0
+no_together w value _ is_no _ _ _ _ (settings.Workers n) says = is_no says.0
+no_together w value _ _ _ is_no _ _ (settings.Stop n) says = is_no says.0
+no_together w value _ _ is_no _ _ _ (settings.Expect n) says = is_no says.0
+no_together w value _ _ _ _ is_no _ (settings.All n) says = is_no says.0
+no_together w value _ _ _ _ _ is_no (settings.Every n) says = is_no says.0
+no_together w value _ _ _ _ _ _ (settings.Store store) says = says
+no_together w value _ _ _ _ _ _ settings.Eager says = says
+no_together w value _ _ _ _ _ _ settings.Lines says = says
+no_together w value _ _ _ _ _ _ settings.Long says = says
+no_together w value _ _ _ _ _ _ settings.Json says = says
+no_together w value _ _ _ _ _ _ settings.Certificates says = says
+no_together w value _ _ _ _ _ _ settings.Svg says = says
+no_together w value _ _ _ _ _ _ settings.Events says = says
+no_together w value _ _ _ _ _ _ settings.Names says = says
 
 -- why a word says nothing alone, and why it says nothing with the value after it
-pub ruleset nothing_alone = (no_alone, no_seals, no_workers, no_expect, no_all, no_stop)
+pub ruleset nothing_alone = (no_alone, no_seals, no_workers, no_expect, no_all, no_every, no_stop)
 
-pub ruleset nothing_together = (no_together, no_seals_behind, no_workers_behind, no_expect_behind, no_all_behind, no_stop_behind)
+pub ruleset nothing_together = (no_together, no_seals_behind, no_workers_behind, no_expect_behind, no_all_behind, no_every_behind, no_stop_behind)
 
 -- a word names one command
 abbrev command_of : Text → CommandName
@@ -223,7 +257,8 @@ command_of word =
     if mark word == 99101099 then commands.Check else
     if mark word == 108112101 then commands.Explain else
     if mark word == 117102114 then commands.Refute else
-    if mark word == 108112114 then commands.Replay else commands.Drive
+    if mark word == 108112114 then commands.Replay else
+    if mark word == 110101101 then commands.Events else commands.Drive
 
 command-read : (c : CommandName) → command_of (command_word c) ≡ c
 command-read commands.Judge = refl
@@ -232,6 +267,7 @@ command-read commands.Explain = refl
 command-read commands.Refute = refl
 command-read commands.Replay = refl
 command-read commands.Drive = refl
+command-read commands.Events = refl
 
 pub command_once : (c d : CommandName) → command_word c ≡ command_word d → c ≡ d
 command_once c d same = sym (command-read c) ∙ ap command_of same ∙ command-read d

@@ -7,23 +7,24 @@ use Rattle.clap.specs.declared.builder.value_parser.ValueParser.TheVariants.{Uns
 use Rattle.clap.specs.declared.error.kind.ErrorKind.{ErrorKind}
 use Rattle.clap.specs.declared.error.kind.ErrorKind.TheVariants.{DisplayHelp, DisplayVersion, OutOfMemory}
 use Rattle.history.specs.declared.limits.TheConstants.{MAX_WORKERS}
-use Rattle.command_line.specs.Options.{IsOrder}
+use Rattle.command_line.specs.Options.{IsTask}
 use Rattle.command_line.specs.declared.drive.TheConstants.{MAX_SEALS}
 use Rattle.command_line.specs.declared.listing.TheConstants.{MAX_LISTED}
 use Rattle.history.specs.declared.limits.TheConstants.{MAX_SESSIONS}
-use Rattle.command_line.specs.declared.order.Order.{Order}
+use Rattle.command_line.specs.declared.log_order.TheConstants.{MAX_EVERY}
+use Rattle.command_line.specs.declared.order.Task.{Task}
 use Rattle.command_line.specs.declared.order.Usage.{Usage}
 use Rattle.command_line.specs.declared.order.Usage.TheVariants.{Fault, Help, Memory}
 
--- the command line of an order: the program's name, the word of its command, and the words after it
-abbrev pub IsCommandLine : Order → List Text → Type 0
-IsCommandLine order [] = ⊥
-IsCommandLine order (program ∷ []) = ⊥
-IsCommandLine order (program ∷ word ∷ words) = IsOrder order word words
+-- the command line of a task: the program's name, the word of its command, and the words after it
+abbrev pub IsCommandLine : Task → List Text → Type 0
+IsCommandLine task [] = ⊥
+IsCommandLine task (program ∷ []) = ⊥
+IsCommandLine task (program ∷ word ∷ words) = IsTask task word words
 
 -- words that are no command line
-abbrev pub GivesNoOrder : List Text → Type 0
-GivesNoOrder words = (order : Order) → ¬ IsCommandLine order words
+abbrev pub GivesNoTask : List Text → Type 0
+GivesNoTask words = (task : Task) → ¬ IsCommandLine task words
 
 -- `causal_judge COMMAND`, where the command can't be left out, as `clap` is told of it
 abbrev pub top : App
@@ -31,9 +32,9 @@ top =
     let app = new_app (codes "causal_judge") in
     record app { top = record app.top { subcommand_required = true; has_version = true } }
 
--- the command `judge` takes the options `--workers N`, `--expect LIST`, `--lines` and `--long`, `check` takes `--workers N`, `explain`
--- takes `--json`, `--certificates`, `--svg`, `--long` and `--all N`, `refute` takes `--long`, `replay` takes none, and `drive` takes the
--- name of a store and four options
+-- the command `judge` takes the options `--workers N`, `--expect LIST`, `--lines`, `--long`, `--events` and `--every N`, `check` takes
+-- `--workers N`, `explain` takes `--json`, `--certificates`, `--svg`, `--long`, `--all N` and `--events`, `refute` takes `--long`, `replay`
+-- takes none, `drive` takes the name of a store and four options, and `events` takes `--names`
 abbrev pub workers : Rule
 workers = record (new_rule (codes "workers")) {
   long = Some (codes "workers");
@@ -48,12 +49,23 @@ expect = record (new_rule (codes "expect")) { long = Some (codes "expect"); acti
 abbrev pub flag : Text → Rule
 flag name = record (new_rule name) { long = Some name; action = Some SetTrue }
 
--- the command `judge` without `--lines` and `--long`; and whole
+-- the command `judge` with the first two of its options; with four; and whole
 abbrev pub expecting : App
 expecting = with_rule (with_rule (new_app (codes "judge")) workers) expect
 
+abbrev pub lengthening : App
+lengthening = with_rule (with_rule expecting (flag (codes "lines"))) (flag (codes "long"))
+
+abbrev pub every : Rule
+every = record (new_rule (codes "every")) {
+  long = Some (codes "every");
+  action = Some Set;
+  parser = Some (Unsigned 1 MAX_EVERY);
+  value_names = 1;
+}
+
 abbrev pub judge : App
-judge = with_rule (with_rule expecting (flag (codes "lines"))) (flag (codes "long"))
+judge = with_rule (with_rule lengthening (flag (codes "events"))) every
 
 abbrev pub check : App
 check = with_rule (new_app (codes "check")) workers
@@ -74,7 +86,7 @@ all = record (new_rule (codes "all")) {
 }
 
 abbrev pub explain : App
-explain = with_rule drawing all
+explain = with_rule (with_rule drawing all) (flag (codes "events"))
 
 abbrev pub refute : App
 refute = with_rule (new_app (codes "refute")) (flag (codes "long"))
@@ -109,8 +121,14 @@ judging = with_subcommand (with_subcommand top judge.top) check.top
 abbrev pub explaining : App
 explaining = with_subcommand (with_subcommand judging explain.top) refute.top
 
+abbrev pub events : App
+events = with_rule (new_app (codes "events")) (flag (codes "names"))
+
+abbrev pub driving : App
+driving = with_subcommand (with_subcommand explaining replay.top) drive.top
+
 abbrev pub command_line : App
-command_line = with_subcommand (with_subcommand explaining replay.top) drive.top
+command_line = with_subcommand driving events.top
 
 -- help and the version are no faults but requests
 abbrev pub IsRequest : ErrorKind → Type 0
@@ -122,13 +140,13 @@ IsUsageOf kind (Help text) = IsRequest kind
 IsUsageOf kind (Fault text) = (¬ IsRequest kind) × (kind ≢ OutOfMemory)
 IsUsageOf kind Memory = Unit {0}
 
--- what is said of words that give no order, where `clap` finds some of these kinds of fault in them, or none
+-- what is said of words that give no task, where `clap` finds some of these kinds of fault in them, or none
 abbrev pub IsUsageFor : Kinds → Usage → Type 0
 IsUsageFor kinds (Help text) = (kind : ErrorKind) × IsAmong kind kinds × IsRequest kind
 IsUsageFor kinds (Fault text) = (kinds ≡ []) ⊎ ((kind : ErrorKind) × IsAmong kind kinds × (¬ IsRequest kind))
 IsUsageFor kinds Memory = Unit {0}
 
--- the exit status where there is no order: 2 for a fault, and for help or the version 0, or 3 where it couldn't be written (4 where
+-- the exit status where there is no task: 2 for a fault, and for help or the version 0, or 3 where it couldn't be written (4 where
 -- there was then no memory to say so)
 abbrev pub IsUsageStatus : Usage → ℕ → Type 0
 IsUsageStatus (Fault text) status = status ≡ 2

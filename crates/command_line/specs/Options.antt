@@ -18,17 +18,20 @@ use Rattle.command_line.specs.declared.form.ListForm.{ListForm}
 use Rattle.command_line.specs.declared.form.ListForm.TheVariants as list_forms
 use Rattle.command_line.specs.declared.listing.Listing.{Listing}
 use Rattle.command_line.specs.declared.judging.Judging.{Judging}
+use Rattle.command_line.specs.declared.log_order.LogJudging.{LogJudging}
+use Rattle.command_line.specs.declared.log_order.LogOrder.TheVariants as log_orders
 use Rattle.command_line.specs.declared.length.Length.{Length}
 use Rattle.command_line.specs.declared.length.Length.TheVariants as lengths
-use Rattle.command_line.specs.declared.order.Order.{Order}
 use Rattle.command_line.specs.declared.order.Order.TheVariants as orders
+use Rattle.command_line.specs.declared.order.Task.{Task}
+use Rattle.command_line.specs.declared.order.Task.TheVariants.{OfInput, OfLog}
 use Rattle.command_line.specs.declared.said.Said.{Said}
 use Rattle.command_line.specs.declared.settings.CommandName.{CommandName}
 use Rattle.command_line.specs.declared.settings.CommandName.TheVariants as commands
 use Rattle.command_line.specs.declared.settings.Setting.{Setting}
 use Rattle.command_line.specs.declared.settings.Setting.TheVariants as settings
 use Rattle.command_line.specs.Expected.{Lists, expecting_nothing}
-use Rattle.command_line.specs.Numerals.{IsListed, Writes}
+use Rattle.command_line.specs.Numerals.{IsEvery, IsListed, Writes}
 
 -- the word that names a command
 abbrev pub command_word : CommandName → Text
@@ -38,6 +41,7 @@ command_word commands.Explain = codes "explain"
 command_word commands.Refute = codes "refute"
 command_word commands.Replay = codes "replay"
 command_word commands.Drive = codes "drive"
+command_word commands.Events = codes "events"
 
 -- what a command takes
 abbrev pub takes : CommandName → Setting → Bool
@@ -45,11 +49,14 @@ takes commands.Judge (settings.Workers n) = true
 takes commands.Judge (settings.Expect expected) = true
 takes commands.Judge settings.Lines = true
 takes commands.Judge settings.Long = true
+takes commands.Judge settings.Events = true
+takes commands.Judge (settings.Every n) = true
 takes commands.Check (settings.Workers n) = true
 takes commands.Explain settings.Json = true
 takes commands.Explain settings.Certificates = true
 takes commands.Explain settings.Svg = true
 takes commands.Explain settings.Long = true
+takes commands.Explain settings.Events = true
 takes commands.Explain (settings.All n) = true
 takes commands.Refute settings.Long = true
 takes commands.Drive (settings.Store store) = true
@@ -57,6 +64,7 @@ takes commands.Drive settings.Eager = true
 takes commands.Drive (settings.Seals n) = true
 takes commands.Drive (settings.Workers n) = true
 takes commands.Drive (settings.Stop s) = true
+takes commands.Events settings.Names = true
 takes _ _ = false
 
 -- the word that names a store
@@ -73,10 +81,13 @@ SaysAlone settings.Long word = word ≡ codes "--long"
 SaysAlone settings.Json word = word ≡ codes "--json"
 SaysAlone settings.Certificates word = word ≡ codes "--certificates"
 SaysAlone settings.Svg word = word ≡ codes "--svg"
+SaysAlone settings.Events word = word ≡ codes "--events"
+SaysAlone settings.Names word = word ≡ codes "--names"
 SaysAlone (settings.Seals n) word = (number : Text) × (word ≡ codes "--seals=" ++ number) × Writes number n × (n ≤ MAX_SEALS)
 SaysAlone (settings.Workers n) word = (number : Text) × (word ≡ codes "--workers=" ++ number) × Writes number n × AreWorkers n
 SaysAlone (settings.Stop s) word = (number : Text) × (word ≡ codes "--stop=" ++ number) × Writes number s × (s < MAX_SESSIONS)
 SaysAlone (settings.All n) word = (number : Text) × (word ≡ codes "--all=" ++ number) × Writes number n × IsListed n
+SaysAlone (settings.Every n) word = (number : Text) × (word ≡ codes "--every=" ++ number) × Writes number n × IsEvery n
 SaysAlone (settings.Expect expected) word = (list : Text) × (word ≡ codes "--expect=" ++ list) × Lists list expected
 
 -- two words say something
@@ -85,6 +96,7 @@ SaysTogether (settings.Seals n) word number = (word ≡ codes "--seals") × Writ
 SaysTogether (settings.Workers n) word number = (word ≡ codes "--workers") × Writes number n × AreWorkers n
 SaysTogether (settings.Stop s) word number = (word ≡ codes "--stop") × Writes number s × (s < MAX_SESSIONS)
 SaysTogether (settings.All n) word number = (word ≡ codes "--all") × Writes number n × IsListed n
+SaysTogether (settings.Every n) word number = (word ≡ codes "--every") × Writes number n × IsEvery n
 SaysTogether (settings.Expect expected) word list = (word ≡ codes "--expect") × Lists list expected
 SaysTogether _ word value = ⊥
 
@@ -102,6 +114,9 @@ says said (settings.All n) = is_some said.all
 says said settings.Json = said.json
 says said settings.Certificates = said.certificates
 says said settings.Svg = said.svg
+says said settings.Events = said.events
+says said (settings.Every n) = is_some said.every
+says said settings.Names = said.names
 
 abbrev pub with_setting : Said → Setting → Said
 with_setting said (settings.Store store) = record said { store = Some store }
@@ -116,6 +131,9 @@ with_setting said (settings.All n) = record said { all = Some n }
 with_setting said settings.Json = record said { json = true }
 with_setting said settings.Certificates = record said { certificates = true }
 with_setting said settings.Svg = record said { svg = true }
+with_setting said settings.Events = record said { events = true }
+with_setting said (settings.Every n) = record said { every = Some n }
+with_setting said settings.Names = record said { names = true }
 
 -- what was said, and one thing more, which the command takes and which was not said before
 abbrev pub and_also : Said → Setting → Option Said
@@ -137,6 +155,9 @@ unsaid command = record {
   json = false;
   certificates = false;
   svg = false;
+  events = false;
+  every = None;
+  names = false;
 }
 
 -- one thing more is said by one word, or by two
@@ -170,9 +191,23 @@ judging_for said = record {
   length = length_for said;
 }
 
--- one history is judged, or one in each line
-abbrev pub judge_for : Said → Order
-judge_for said = if said.lines then orders.JudgeLines (judging_for said) else orders.Judge (judging_for said)
+-- how a log is judged
+abbrev pub log_judging_for : Said → LogJudging
+log_judging_for said = record {
+  workers = workers_for said;
+  expected = unwrap_or said.expected expecting_nothing;
+  every = said.every;
+}
+
+-- one history is judged, or one in each line, or a log, of any length, perhaps after each so many events
+abbrev pub judge_of : Bool → Bool → Option ℕ → Bool → Said → Option Task
+judge_of false false None long said = Some (OfInput (orders.Judge (judging_for said)))
+judge_of true false None long said = Some (OfInput (orders.JudgeLines (judging_for said)))
+judge_of false true every true said = Some (OfLog (log_orders.Judge (log_judging_for said)))
+judge_of _ _ _ _ said = None
+
+abbrev pub judge_for : Said → Option Task
+judge_for said = judge_of said.lines said.events said.every said.long said
 
 -- the form of a reason, where what was said goes together
 abbrev pub form_of : Bool → Bool → Bool → Option Form
@@ -207,14 +242,18 @@ list_form_for said = list_form_of said.json said.certificates said.svg
 abbrev pub listing_of : Said → ℕ → ListForm → Listing
 listing_of said most form = record { most = most; length = length_for said; form = form }
 
--- reads are listed where a number of them was said; else reasons are given, on a history of any length where that was said
-abbrev pub explain_of : Option ℕ → Bool → Said → Option Order
-explain_of (Some most) long said = option_map (λ form. orders.ListFaults (listing_of said most form)) (list_form_for said)
-explain_of None true said = option_map orders.ExplainLong (long_form_for said)
-explain_of None false said = option_map orders.Explain (form_for said)
+-- reads are listed where a number of them was said; else reasons are given, on a history of any length where that was said. A log is of
+-- any length
+abbrev pub explain_of : Option ℕ → Bool → Bool → Said → Option Task
+explain_of (Some most) false long said = option_map (λ form. OfInput (orders.ListFaults (listing_of said most form))) (list_form_for said)
+explain_of None false true said = option_map (λ form. OfInput (orders.ExplainLong form)) (long_form_for said)
+explain_of None false false said = option_map (λ form. OfInput (orders.Explain form)) (form_for said)
+explain_of (Some most) true true said = option_map (λ form. OfLog (log_orders.ListFaults most form)) (list_form_for said)
+explain_of None true true said = option_map (λ form. OfLog (log_orders.Explain form)) (long_form_for said)
+explain_of _ true false said = None
 
-abbrev pub explain_for : Said → Option Order
-explain_for said = explain_of said.all said.long said
+abbrev pub explain_for : Said → Option Task
+explain_for said = explain_of said.all said.events said.long said
 
 -- the drive that is asked for, where a store is named: with no seal while clients run, where nothing is said
 abbrev pub delivery_for : Said → Delivery
@@ -232,20 +271,25 @@ drive_of said store = record {
 abbrev pub drive_for : Said → Option Drive
 drive_for said = option_map (drive_of said) said.store
 
--- the order that all that was said to a command gives
-abbrev pub order_to : CommandName → Said → Option Order
-order_to commands.Judge said = Some (judge_for said)
-order_to commands.Check said = Some (orders.Check (workers_for said))
-order_to commands.Explain said = explain_for said
-order_to commands.Refute said = Some (orders.Refute (length_for said))
-order_to commands.Replay said = Some orders.Replay
-order_to commands.Drive said = option_map orders.Drive (drive_for said)
+-- the history of a log is written, or its names
+abbrev pub events_for : Said → Task
+events_for said = if said.names then OfLog log_orders.WriteNames else OfLog log_orders.WriteHistory
 
-abbrev pub order_for : Said → Option Order
-order_for said = order_to said.command said
+-- the task that all that was said to a command gives
+abbrev pub task_to : CommandName → Said → Option Task
+task_to commands.Judge said = judge_for said
+task_to commands.Check said = Some (OfInput (orders.Check (workers_for said)))
+task_to commands.Explain said = explain_for said
+task_to commands.Refute said = Some (OfInput (orders.Refute (length_for said)))
+task_to commands.Replay said = Some (OfInput orders.Replay)
+task_to commands.Drive said = option_map (λ drive. OfInput (orders.Drive drive)) (drive_for said)
+task_to commands.Events said = Some (events_for said)
 
--- a command's word, and the words after it, give an order
-abbrev pub IsOrder : Order → Text → List Text → Type 0
-IsOrder order word words =
+abbrev pub task_for : Said → Option Task
+task_for said = task_to said.command said
+
+-- a command's word, and the words after it, give a task
+abbrev pub IsTask : Task → Text → List Text → Type 0
+IsTask task word words =
     (command : CommandName) × (word ≡ command_word command)
-    × (said : Said) × Say (unsaid command) None words said × (order_for said ≡ Some order)
+    × (said : Said) × Say (unsaid command) None words said × (task_for said ≡ Some task)

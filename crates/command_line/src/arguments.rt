@@ -1,10 +1,12 @@
 //! The options of commands, as `clap` is told of them.
 ghost use Rattle.std.specs.Prelude.{◌≡◌, ◌-◌, codes, false};
 ghost use Rattle.clap.specs.Words.{rule_of};
-ghost use Rattle.command_line.specs.CommandLine.{all, expect, flag, number_option, store, workers};
+ghost use Rattle.command_line.specs.CommandLine.{all, every, expect, flag, number_option, store, workers};
 
 use crate::drive::MAX_SEALS;
+use crate::help::EVERY;
 use crate::listing::MAX_LISTED;
+use crate::log_order::MAX_EVERY;
 use clap::builder::ValueParser;
 use clap::{Arg, ArgAction};
 use history::{MAX_SESSIONS, MAX_WORKERS};
@@ -105,4 +107,17 @@ pub fn all_option<'a>(alloc: Global) -> Arg<'a>
         .help(
             "Lists up to N reads that show a fault, from 1 to 1000000, and counts them by kind and by session",
         )
+}
+
+/// After how many events a log is judged again.
+pub fn every_option<'a>(alloc: Global) -> Arg<'a>
+    ensures rule { rule_of result ≡ every }
+    ensures local { result.global ≡ false }
+{
+    Arg::new(alloc, "every")
+        .long("every")
+        .value_name("N")
+        .action(ArgAction::Set)
+        .value_parser(ValueParser::unsigned(1, MAX_EVERY as u64))
+        .help(EVERY)
 }

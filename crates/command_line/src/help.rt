@@ -1,7 +1,7 @@
 //! What the help says beside the commands and their options.
 
 /// The version of the program, as in the file VERSION, and the kit that proves it.
-pub const VERSION: &str = "0.1.0 (rattle-kit-13b logic dac8208d650f15bf)";
+pub const VERSION: &str = "0.1.0 (rattle-kit-13f logic dac8208d650f15bf)";
 
 /// What the program is for.
 pub const ABOUT: &str =
@@ -18,6 +18,22 @@ pub const LONG_REASON: &str =
 /// What `--long` lets `refute` take.
 pub const LONG_PATTERN: &str =
     "Checks the pattern in a memory, and no other object, with any number of sessions and operations";
+
+/// What `--events` lets `judge` take.
+pub const EVENTS: &str =
+    "With --long: the input is a log of events, one in each line, and the history that it stands for is judged";
+
+/// What `--events` lets `explain` take.
+pub const EVENTS_REASON: &str =
+    "With --long: the input is a log of events, and operations are shown by their lines, clients, keys and values by their names";
+
+/// What `--every` lets `judge` do.
+pub const EVERY: &str =
+    "With --events: judges after each N events and at the end, each time all so far, and writes a line; with --expect it ends at the first that fails";
+
+/// What `--names` lets `events` write.
+pub const NAMES: &str =
+    "Writes the clients, the keys and the values of the log as JSON, each in the order of its numbers";
 
 /// What is read and written, with an example, and what statuses and refusals mean.
 pub const MANUAL: &str =
@@ -69,4 +85,20 @@ a line was refused, else with --expect as above for the worst of all lines.
   operation   5 a known return after an unknown one   6 too many sessions
   7 too many operations   9 over 64 MiB   29 bad first values
 With --long 6 and 7 never come, and 3 comes for any NAME but memory.
-The other commands have more of them: docs/guide.md tells of all."#;
+The other commands have more of them: docs/guide.md tells of all.
+
+judge --long --events and explain --long --events read a log of a memory, with
+one event in each line. A KEY, a CLIENT and a VALUE are texts or whole numbers:
+
+  ["start",KEY,VALUE]                   the value before the first call
+  ["begin",CLIENT,["w",KEY,VALUE]]      a write, ["r",KEY] a read, ["d",KEY] a
+                                        delete: before the call is made
+  ["end",CLIENT,"ok"]                   a write or a delete was answered
+  ["end",CLIENT,VALUE]                  a read was; null where it found nothing
+  ["fail",CLIENT]   ["lost",CLIENT]     no effect for certain; no answer came
+
+A log is refused by 'refused N LINE', 30 for no event or one that may not be
+there. --every N is for a log in the order in which things happened. A no of its
+first events is a no of the run, also where a later delete makes the whole log
+ask less; with N a tenth of the run, all together take some five times what the
+last takes. docs/events.md says all of it."#;

@@ -2,10 +2,11 @@
 
 ghost use Rattle.std.specs.Prelude.{◌<◌, ◌≤◌, ℕ, MatchOption};
 ghost use Rattle.history.specs.Workers.{AreWorkers};
-ghost use Rattle.command_line.specs.Numerals.{IsListed, Writes};
+ghost use Rattle.command_line.specs.Numerals.{IsEvery, IsListed, Writes};
 
 use crate::drive::MAX_SEALS;
 use crate::listing::MAX_LISTED;
+use crate::log_order::MAX_EVERY;
 use crate::workers::Workers;
 use history::MAX_SESSIONS;
 
@@ -45,6 +46,16 @@ pub fn listed_in(text: &str) -> Option<u32>
 {
     match text.parse::<u32>() {
         Ok(most) if 1 <= most && most <= MAX_LISTED => Some(most),
+        _ => None,
+    }
+}
+
+/// The number of events after which a log is judged that a text writes.
+pub fn every_in(text: &str) -> Option<u32>
+    ensures { MatchOption result ((n : ℕ) → IsEvery n → ¬ Writes text.now n) (λ n. Writes text.now n × IsEvery n) }
+{
+    match text.parse::<u32>() {
+        Ok(every) if 1 <= every && every <= MAX_EVERY => Some(every),
         _ => None,
     }
 }

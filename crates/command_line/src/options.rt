@@ -1,22 +1,22 @@
 //! The words after a command.
 
 ghost use Rattle.std.specs.Prelude.{MatchOption, None, Some, map};
-ghost use Rattle.command_line.specs.Options.{AddsAlone, AddsTogether, IsOrder, Say};
+ghost use Rattle.command_line.specs.Options.{AddsAlone, AddsTogether, IsTask, Say};
 
-use crate::order::Order;
+use crate::order::Task;
 use crate::said::Said;
 use crate::settings::{command_named, setting_alone, setting_together};
 use std::convert::AsStr;
 
-/// The order that the word of a command and the words after it give. O(1): it stops at the first thing that is said twice.
-#[tactic(auto, using(crate::proofs::Saying::order_given, crate::proofs::Saying::nothing_said, crate::proofs::Saying::no_command))]
-pub fn order_of<S: AsStr>(word: &str, words: &[S]) -> Option<Order>
-    ensures { MatchOption result ((order : Order) → ¬ IsOrder order word.now (map S.text words.now))
-        (λ order. IsOrder order word.now (map S.text words.now)) }
+/// The task that the word of a command and the words after it give. O(1): it stops at the first thing that is said twice.
+#[tactic(auto, using(crate::proofs::Saying::task_given, crate::proofs::Saying::nothing_said, crate::proofs::Saying::no_command))]
+pub fn task_of<S: AsStr>(word: &str, words: &[S]) -> Option<Task>
+    ensures { MatchOption result ((task : Task) → ¬ IsTask task word.now (map S.text words.now))
+        (λ task. IsTask task word.now (map S.text words.now)) }
 {
     match command_named(word) {
         Some(command) => match said_in(&Said::nothing(command), words) {
-            Some(said) => said.order(),
+            Some(said) => said.task(),
             None => None,
         },
         None => None,

@@ -1,14 +1,15 @@
 //! The command line.
 ghost use Rattle.std.specs.Prelude.{◌≡◌, [], IfErr, IfOk, MatchOption, MatchResult, map};
 ghost use Rattle.clap.specs.Words.{HasKind, fault_of, kind_of};
-ghost use Rattle.command_line.specs.CommandLine.{GivesNoOrder, IsCommandLine, IsUsageFor, IsUsageOf, command_line};
+ghost use Rattle.command_line.specs.CommandLine.{GivesNoTask, IsCommandLine, IsUsageFor, IsUsageOf, command_line};
 
 use crate::drive::Drive;
 use crate::form::{Form, LongForm};
 use crate::judging::Judging;
 use crate::length::Length;
 use crate::listing::Listing;
-use crate::options::order_of;
+use crate::log_order::LogOrder;
+use crate::options::task_of;
 use crate::program::program;
 use crate::workers::Workers;
 use clap::error::ErrorKind;
@@ -16,7 +17,16 @@ use clap::{ArgMatches, Error};
 use std::alloc::Global;
 use std::convert::AsStr;
 
-/// A command, with its options.
+/// What a command line asks for.
+#[derive(Clone, Copy, Debug, PartialEq, Eq)]
+pub enum Task {
+    /// An order on an input, which is read whole, or line by line.
+    OfInput(Order),
+    /// An order on a log of events, which is read event by event.
+    OfLog(LogOrder),
+}
+
+/// A command on an input, with its options.
 #[derive(Clone, Copy, Debug, PartialEq, Eq)]
 pub enum Order {
     /// Judges the history in the input.
@@ -39,7 +49,7 @@ pub enum Order {
     Drive(Drive),
 }
 
-/// Why a command line gives no order.
+/// Why a command line gives no task.
 #[derive(Debug, Drop)]
 pub enum Usage {
     /// It is no command line of this program: what is wrong with it, and how the program is used.
@@ -50,15 +60,16 @@ pub enum Usage {
     Memory,
 }
 
-/// The order that a command line gives. A command line is the program's name, the word of a command, and then what the command takes,
+/// The task that a command line gives. A command line is the program's name, the word of a command, and then what the command takes,
 /// in any order and each at most once.
 ///
 /// - `judge` takes `--workers N` for a number from 1 to 16, or nothing for 2; and `--expect LIST`, where the list is one or more of
-///   `cc`, `cm` and `ccv`, each at most once, joined by commas; and `--lines`; and `--long`.
+///   `cc`, `cm` and `ccv`, each at most once, joined by commas; and `--lines`; and `--long`; and with `--long` and without `--lines`,
+///   `--events`, and then `--every N` for a number from 1 to 2,147,483,647.
 /// - `check` takes `--workers N`.
 /// - `explain` takes nothing, `--json`, `--json` and `--certificates`, or `--svg`; with `--long` besides, `--certificates` is left out;
-///   and with `--all N`, for a number from 1 to 1,000,000, `--svg` too.
-/// - `refute` takes `--long`, and `replay` takes nothing.
+///   and with `--all N`, for a number from 1 to 1,000,000, `--svg` too. With `--long` it takes `--events`.
+/// - `refute` takes `--long`, `replay` takes nothing, and `events` takes `--names`.
 /// - `drive` takes `causal` or `lamport`, which can't be left out, `--eager`, `--seals N` for a number from 0 to 8, or nothing for 0,
 ///   `--workers N`, and `--stop S` for a number from 0 to 15.
 ///
@@ -67,36 +78,104 @@ pub enum Usage {
 /// Any other words give a `Usage`. It is `Help` where `clap` finds a request for help or for the version, and `Fault` for all else: an
 /// unknown command, option or further word, no command, or a number or list that is missing or that the option doesn't take. `Memory`
 /// comes in the place of either where memory ran out.
-pub fn command_of<S: AsStr>(alloc: Global, words: &[S]) -> Result<Order, Usage>
-    ensures order { MatchResult result (λ order. IsCommandLine order (map S.text words.now))
-        (λ _. GivesNoOrder (map S.text words.now)) }
+pub fn command_of<S: AsStr>(alloc: Global, words: &[S]) -> Result<Task, Usage>
+    ensures task { MatchResult result (λ task. IsCommandLine task (map S.text words.now))
+        (λ _. GivesNoTask (map S.text words.now)) }
     ensures usage { IfErr result (IsUsageFor (fault_of command_line (map S.text words.now))) }
 {
-    match order_in(words) {
-        Some(order) => Ok(order),
+    match task_in(words) {
+        Some(task) => Ok(task),
         None => Err(usage_of(alloc, words)),
     }
 }
 
-// The order of a command line, where it is one.
-fn order_in<S: AsStr>(words: &[S]) -> Option<Order>
-    ensures { MatchOption result (GivesNoOrder (map S.text words.now)) (λ order. IsCommandLine order (map S.text words.now)) }
+// The task of a command line, where it is one.
+fn task_in<S: AsStr>(words: &[S]) -> Option<Task>
+    ensures { MatchOption result (GivesNoTask (map S.text words.now)) (λ task. IsCommandLine task (map S.text words.now)) }
 {
     let [_, word, further @ ..] = words else {
         return None;
     };
-    order_of(word.as_str(), further)
+    task_of(word.as_str(), further)
 }
 
-// What is said of words that give no order. `clap` would take a few of them, as `judge --`.
+// What is said of words that give no task. `clap` would take a few of them, as `judge --`.
 fn usage_of<S: AsStr>(alloc: Global, words: &[S]) -> Usage
     ensures { IsUsageFor (fault_of command_line (map S.text words.now)) result }
 {
     match matches_of(alloc, words) {
-        Ok(_) => fault_with(alloc, UNEXPECTED_WORDS),
+        Ok(_) => fault_with(alloc, unfitting(words)),
         Err(error) => usage_by(alloc, &error),
     }
 }
+
+// The text on words that `clap` takes, and that give no task.
+fn unfitting<S: AsStr>(words: &[S]) -> &'static str {
+    let events = says(words, "--events");
+    if events && says(words, "--lines") {
+        EVENTS_WITH_LINES
+    } else if events && says(words, "--certificates") {
+        EVENTS_WITH_CERTIFICATES
+    } else if events && !says(words, "--long") {
+        EVENTS_WITHOUT_LONG
+    } else if !events && (says(words, "--every") || begins_one(words, "--every=")) {
+        EVERY_WITHOUT_EVENTS
+    } else {
+        UNEXPECTED_WORDS
+    }
+}
+
+// Whether one of the words is this one.
+fn says<S: AsStr>(words: &[S], wanted: &str) -> bool {
+    for word in words {
+        if word.as_str() == wanted {
+            return true;
+        }
+    }
+    false
+}
+
+// Whether one of the words begins so.
+fn begins_one<S: AsStr>(words: &[S], front: &str) -> bool {
+    for word in words {
+        if word.as_str().starts_with(front) {
+            return true;
+        }
+    }
+    false
+}
+
+const EVENTS_WITH_LINES: &str =
+    r#"error: '--events' and '--lines' exclude one another: a log has one event a line, and stands for one history
+
+Usage: causal_judge judge --long --events [OPTIONS]
+
+For more information, try '--help'.
+"#;
+
+const EVENTS_WITH_CERTIFICATES: &str =
+    r#"error: '--events' and '--certificates' exclude one another: no certificates are made of histories of any length
+
+Usage: causal_judge explain --long --events [OPTIONS]
+
+For more information, try '--help'.
+"#;
+
+const EVENTS_WITHOUT_LONG: &str =
+    r#"error: '--events' asks for '--long': the history of a log may have any length
+
+Usage: causal_judge <judge|explain> --long --events [OPTIONS]
+
+For more information, try '--help'.
+"#;
+
+const EVERY_WITHOUT_EVENTS: &str =
+    r#"error: '--every' asks for '--events': it counts the events of a log
+
+Usage: causal_judge judge --long --events --every <N>
+
+For more information, try '--help'.
+"#;
 
 const UNEXPECTED_WORDS: &str =
     r#"error: unexpected words, options that don't go together, or no list of cc, cm and ccv after '--expect'

@@ -2,21 +2,30 @@
 ghost use Rattle.std.specs.Prelude.{◌≡◌, false, IfOk};
 ghost use Rattle.clap.specs.Words.{app_of};
 ghost use Rattle.clap.specs.declared.builder.Command.TheViews.{out-Command};
-ghost use Rattle.command_line.specs.CommandLine.{certifying, check, command_line, drawing, drive, explain, explaining};
-ghost use Rattle.command_line.specs.CommandLine.{judge, judging, refute, replay};
-ghost use Rattle.command_line.specs.CommandLine.{expecting, sealing, storing};
+ghost use Rattle.command_line.specs.CommandLine.{certifying, check, command_line, drawing, drive, driving, events, explain};
+ghost use Rattle.command_line.specs.CommandLine.{expecting, explaining, judge, judging, lengthening, refute, replay};
+ghost use Rattle.command_line.specs.CommandLine.{sealing, storing};
 
 use crate::arguments::{
-    all_option, expect_option, flag_option, seals_option, stop_option, store_argument,
-    workers_option,
+    all_option, every_option, expect_option, flag_option, seals_option, stop_option,
+    store_argument, workers_option,
 };
-use crate::help::{ABOUT, LONG, LONG_PATTERN, LONG_REASON, MANUAL, VERSION};
+use crate::help::{
+    ABOUT, EVENTS, EVENTS_REASON, LONG, LONG_PATTERN, LONG_REASON, MANUAL, NAMES, VERSION,
+};
 use clap::Command;
 use std::alloc::{AllocError, Global};
 
 /// The command line that the program takes.
 pub fn program<'a>(alloc: Global) -> Result<Command<'a>, AllocError>
     ensures { IfOk result (λ command. app_of command ≡ command_line) }
+{
+    driving_program(alloc)?.subcommand(events_command(alloc)?)
+}
+
+// The same without `events`.
+fn driving_program<'a>(alloc: Global) -> Result<Command<'a>, AllocError>
+    ensures { IfOk result (λ command. app_of command ≡ driving) }
 {
     explaining_program(alloc)?
         .subcommand(replay_command(alloc)?)?
@@ -47,6 +56,16 @@ fn judging_program<'a>(alloc: Global) -> Result<Command<'a>, AllocError>
 
 fn judge_command<'a>(alloc: Global) -> Result<Command<'a>, AllocError>
     ensures app { IfOk result (λ command. app_of command ≡ judge) }
+    ensures local { IfOk result (λ command. (out-Command command).has_globals ≡ false) }
+{
+    lengthening_command(alloc)?
+        .arg(flag_option(alloc, "events", EVENTS))?
+        .arg(every_option(alloc))
+}
+
+// The same without `--events` and `--every`.
+fn lengthening_command<'a>(alloc: Global) -> Result<Command<'a>, AllocError>
+    ensures app { IfOk result (λ command. app_of command ≡ lengthening) }
     ensures local { IfOk result (λ command. (out-Command command).has_globals ≡ false) }
 {
     expecting_command(alloc)?
@@ -82,10 +101,12 @@ fn explain_command<'a>(alloc: Global) -> Result<Command<'a>, AllocError>
     ensures app { IfOk result (λ command. app_of command ≡ explain) }
     ensures local { IfOk result (λ command. (out-Command command).has_globals ≡ false) }
 {
-    drawing_command(alloc)?.arg(all_option(alloc))
+    drawing_command(alloc)?
+        .arg(all_option(alloc))?
+        .arg(flag_option(alloc, "events", EVENTS_REASON))
 }
 
-// The same without `--all`.
+// The same without `--all` and `--events`.
 fn drawing_command<'a>(alloc: Global) -> Result<Command<'a>, AllocError>
     ensures app { IfOk result (λ command. app_of command ≡ drawing) }
     ensures local { IfOk result (λ command. (out-Command command).has_globals ≡ false) }
@@ -126,6 +147,15 @@ fn replay_command<'a>(alloc: Global) -> Result<Command<'a>, AllocError>
     Ok(Command::new(alloc, "replay").about(
         "Reads a script of sessions, sealers and workers, and runs it",
     ))
+}
+
+fn events_command<'a>(alloc: Global) -> Result<Command<'a>, AllocError>
+    ensures app { IfOk result (λ command. app_of command ≡ events) }
+    ensures local { IfOk result (λ command. (out-Command command).has_globals ≡ false) }
+{
+    Command::new(alloc, "events")
+        .about("Reads a log of events, and writes the history that it stands for")
+        .arg(flag_option(alloc, "names", NAMES))
 }
 
 fn drive_command<'a>(alloc: Global) -> Result<Command<'a>, AllocError>

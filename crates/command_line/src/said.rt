@@ -1,9 +1,10 @@
 //! All that the words after a command say, and the order that they give.
 
-ghost use Rattle.std.specs.Prelude.{◌≡◌};
-ghost use Rattle.command_line.specs.Options.{and_also, delivery_for, drive_for, drive_of, explain_for, form_for, judge_for};
-ghost use Rattle.command_line.specs.Options.{judging_for, length_for, list_form_for, listing_of, long_form_for};
-ghost use Rattle.command_line.specs.Options.{order_for, says, unsaid, with_setting, workers_for};
+ghost use Rattle.std.specs.Prelude.{◌≡◌, false, option_map, true};
+ghost use Rattle.command_line.specs.declared.order.Task.TheVariants.{OfInput, OfLog};
+ghost use Rattle.command_line.specs.Options.{and_also, delivery_for, drive_for, drive_of, events_for, explain_for, explain_of};
+ghost use Rattle.command_line.specs.Options.{form_for, judge_for, judging_for, length_for, list_form_for, listing_of};
+ghost use Rattle.command_line.specs.Options.{log_judging_for, long_form_for, says, task_for, unsaid, with_setting, workers_for};
 
 use crate::drive::{Drive, Store};
 use crate::expected::Expected;
@@ -11,7 +12,8 @@ use crate::form::{Form, ListForm, LongForm};
 use crate::judging::Judging;
 use crate::length::Length;
 use crate::listing::Listing;
-use crate::order::Order;
+use crate::log_order::{LogJudging, LogOrder};
+use crate::order::{Order, Task};
 use crate::settings::{CommandName, Setting};
 use crate::workers::Workers;
 use replica::Delivery;
@@ -32,6 +34,9 @@ pub struct Said {
     json: bool,
     certificates: bool,
     svg: bool,
+    events: bool,
+    every: Option<u32>,
+    names: bool,
 }
 
 impl Said {
@@ -53,6 +58,9 @@ impl Said {
             json: false,
             certificates: false,
             svg: false,
+            events: false,
+            every: None,
+            names: false,
         }
     }
 
@@ -84,6 +92,9 @@ impl Said {
             Setting::Json => self.json,
             Setting::Certificates => self.certificates,
             Setting::Svg => self.svg,
+            Setting::Events => self.events,
+            Setting::Every(_) => self.every.is_some(),
+            Setting::Names => self.names,
         }
     }
 
@@ -137,31 +148,66 @@ impl Said {
                 ..*self
             },
             Setting::Svg => Said { svg: true, ..*self },
+            Setting::Events => Said {
+                events: true,
+                ..*self
+            },
+            Setting::Every(events) => Said {
+                every: Some(*events),
+                ..*self
+            },
+            Setting::Names => Said {
+                names: true,
+                ..*self
+            },
         }
     }
 
-    /// The order that was given; none where a store is missing, or what was said doesn't go together.
-    pub fn order(&self) -> Option<Order>
-        ensures { result ≡ order_for self.now }
+    /// The task that was given; none where a store is missing, or what was said doesn't go together.
+    pub fn task(&self) -> Option<Task>
+        ensures { result ≡ task_for self.now }
     {
         match self.command {
-            CommandName::Judge => Some(self.judge()),
-            CommandName::Check => Some(Order::Check(self.workers())),
+            CommandName::Judge => self.judge(),
+            CommandName::Check => Some(Task::OfInput(Order::Check(self.workers()))),
             CommandName::Explain => self.explain(),
-            CommandName::Refute => Some(Order::Refute(self.length())),
-            CommandName::Replay => Some(Order::Replay),
-            CommandName::Drive => Some(Order::Drive(self.drive()?)),
+            CommandName::Refute => Some(Task::OfInput(Order::Refute(self.length()))),
+            CommandName::Replay => Some(Task::OfInput(Order::Replay)),
+            CommandName::Drive => Some(Task::OfInput(Order::Drive(self.drive()?))),
+            CommandName::Events => Some(self.events()),
         }
     }
 
-    // The order to judge one history, or one in each line.
-    fn judge(&self) -> Order
+    // The task to judge one history, or one in each line, or a log; none where what was said doesn't go together.
+    fn judge(&self) -> Option<Task>
         ensures { result ≡ judge_for self.now }
     {
-        if self.lines {
-            Order::JudgeLines(self.judging())
+        match (self.lines, self.events, self.every, self.long) {
+            (false, false, None, _) => Some(Task::OfInput(Order::Judge(self.judging()))),
+            (true, false, None, _) => Some(Task::OfInput(Order::JudgeLines(self.judging()))),
+            (false, true, _, true) => Some(Task::OfLog(LogOrder::Judge(self.log_judging()))),
+            _ => None,
+        }
+    }
+
+    fn log_judging(&self) -> LogJudging
+        ensures { result ≡ log_judging_for self.now }
+    {
+        LogJudging {
+            workers: self.workers(),
+            expected: self.expected.unwrap_or(Expected::nothing()),
+            every: self.every,
+        }
+    }
+
+    // The task to write what a log has.
+    fn events(&self) -> Task
+        ensures { result ≡ events_for self.now }
+    {
+        if self.names {
+            Task::OfLog(LogOrder::WriteNames)
         } else {
-            Order::Judge(self.judging())
+            Task::OfLog(LogOrder::WriteHistory)
         }
     }
 
@@ -191,14 +237,35 @@ impl Said {
         self.workers.unwrap_or(Workers::usual())
     }
 
-    // The order to explain; none where what was said doesn't go together.
-    fn explain(&self) -> Option<Order>
+    // The task to explain; none where what was said doesn't go together.
+    fn explain(&self) -> Option<Task>
         ensures { result ≡ explain_for self.now }
+    {
+        match (self.events, self.long) {
+            (true, false) => None,
+            (true, true) => Some(Task::OfLog(self.explain_log()?)),
+            (false, _) => Some(Task::OfInput(self.explain_input()?)),
+        }
+    }
+
+    // The order to explain a history; none where what was said doesn't go together.
+    fn explain_input(&self) -> Option<Order>
+        ensures { explain_of self.now.all false self.now.long self.now ≡ option_map (λ order. OfInput order) result }
     {
         match (self.all, self.long) {
             (Some(most), _) => Some(Order::ListFaults(self.listing_of(most, self.list_form()?))),
             (None, true) => Some(Order::ExplainLong(self.long_form()?)),
             (None, false) => Some(Order::Explain(self.form()?)),
+        }
+    }
+
+    // The order to explain a log; none where what was said doesn't go together.
+    fn explain_log(&self) -> Option<LogOrder>
+        ensures { explain_of self.now.all true true self.now ≡ option_map (λ order. OfLog order) result }
+    {
+        match self.all {
+            Some(most) => Some(LogOrder::ListFaults(most, self.list_form()?)),
+            None => Some(LogOrder::Explain(self.long_form()?)),
         }
     }
 

@@ -6,7 +6,7 @@ ghost use Rattle.command_line.specs.Steps.BareWords.{IsNoBareWord};
 
 use crate::drive::Store;
 use crate::expected::{Expected, expected_in};
-use crate::numerals::{listed_in, seals_in, session_in, workers_in};
+use crate::numerals::{every_in, listed_in, seals_in, session_in, workers_in};
 use crate::workers::Workers;
 
 /// The name of a command.
@@ -24,6 +24,8 @@ pub enum CommandName {
     Replay,
     /// `drive`.
     Drive,
+    /// `events`.
+    Events,
 }
 
 /// One thing that the words after a command say.
@@ -45,6 +47,12 @@ pub enum Setting {
     Lines,
     /// A history may have any length.
     Long,
+    /// The input is a log of events.
+    Events,
+    /// The log is judged after each so many events.
+    Every(u32),
+    /// The names of a log are written.
+    Names,
     /// At most so many reads that show a fault are listed.
     All(u32),
     /// A reason is given as JSON.
@@ -67,6 +75,7 @@ pub fn command_named(word: &str) -> Option<CommandName>
         "refute" => Some(CommandName::Refute),
         "replay" => Some(CommandName::Replay),
         "drive" => Some(CommandName::Drive),
+        "events" => Some(CommandName::Events),
         _ => None,
     }
 }
@@ -76,7 +85,12 @@ impl Setting {
         ensures { result ≡ takes CommandName.Judge self.now }
     {
         match self {
-            Setting::Workers(_) | Setting::Expect(_) | Setting::Lines | Setting::Long => true,
+            Setting::Workers(_)
+            | Setting::Expect(_)
+            | Setting::Lines
+            | Setting::Long
+            | Setting::Events
+            | Setting::Every(_) => true,
             _ => false,
         }
     }
@@ -98,6 +112,7 @@ impl Setting {
             | Setting::Certificates
             | Setting::Svg
             | Setting::Long
+            | Setting::Events
             | Setting::All(_) => true,
             _ => false,
         }
@@ -108,6 +123,15 @@ impl Setting {
     {
         match self {
             Setting::Long => true,
+            _ => false,
+        }
+    }
+
+    fn is_of_events(&self) -> bool
+        ensures { result ≡ takes CommandName.Events self.now }
+    {
+        match self {
+            Setting::Names => true,
             _ => false,
         }
     }
@@ -138,6 +162,7 @@ impl CommandName {
             CommandName::Refute => setting.is_of_refute(),
             CommandName::Replay => false,
             CommandName::Drive => setting.is_of_drive(),
+            CommandName::Events => setting.is_of_events(),
         }
     }
 }
@@ -152,6 +177,8 @@ pub fn setting_alone(word: &str) -> Option<Setting>
         "--eager" => Some(Setting::Eager),
         "--lines" => Some(Setting::Lines),
         "--long" => Some(Setting::Long),
+        "--events" => Some(Setting::Events),
+        "--names" => Some(Setting::Names),
         "--json" => Some(Setting::Json),
         "--certificates" => Some(Setting::Certificates),
         "--svg" => Some(Setting::Svg),
@@ -177,6 +204,9 @@ fn value_alone(word: &str) -> Option<Setting>
     if let Some(number) = word.strip_prefix("--all=") {
         return Some(Setting::All(listed_in(number)?));
     }
+    if let Some(number) = word.strip_prefix("--every=") {
+        return Some(Setting::Every(every_in(number)?));
+    }
     match word.strip_prefix("--stop=") {
         Some(number) => Some(Setting::Stop(session_in(number)?)),
         None => None,
@@ -194,6 +224,7 @@ pub fn setting_together(word: &str, value: &str) -> Option<Setting>
         "--workers" => Some(Setting::Workers(workers_in(value)?)),
         "--expect" => Some(Setting::Expect(expected_in(value)?)),
         "--all" => Some(Setting::All(listed_in(value)?)),
+        "--every" => Some(Setting::Every(every_in(value)?)),
         "--stop" => Some(Setting::Stop(session_in(value)?)),
         _ => None,
     }

@@ -18,6 +18,7 @@ use operations::{AnyHistory, PlainHistory, read_history};
 use std::alloc::{AllocError, Global};
 use std::sync::Wait;
 use std::thread::Threads;
+use wording::OwnNames;
 
 /// The reasons on the history in the input, in words: for each criterion the line of `judge`, and behind it what shows it, in
 /// lines that begin with two spaces.
@@ -98,7 +99,7 @@ fn text_of_reason(
 ) -> Result<String, AllocError>
     ensures { IfOk result (λ text. Tells criterion reason.now (string_bytes text)) }
 {
-    let lines = lines_of_reason(alloc, history, criterion, reason)?;
+    let lines = lines_of_reason(alloc, history, &OwnNames, criterion, reason)?;
     text_with_lines(alloc, criterion, reason, &lines)
 }
 

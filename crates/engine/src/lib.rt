@@ -9,6 +9,7 @@ mod check_place;
 mod checking;
 mod checking_alone;
 mod claim_place;
+mod core_names;
 mod drivable;
 mod driving;
 mod expecting;
@@ -29,13 +30,13 @@ mod long_forms;
 mod long_judging;
 mod long_picturing;
 mod long_refuting;
+mod long_repeated;
 mod long_words;
 mod making;
 mod memory_judging;
 mod output;
 mod part_lines;
 mod picturing;
-mod program;
 mod reason;
 mod reason_lines;
 mod refuting;
@@ -43,7 +44,6 @@ mod replaying;
 mod report;
 mod running;
 mod showing;
-mod waiting;
 mod written;
 
 pub use alone::{check_alone, explain_alone, judge_alone, refute_alone};
@@ -54,7 +54,7 @@ pub use checking_alone::answer_of_certificate_alone;
 pub use collector::{Answer, Gate, OpenGate};
 pub use command_line::{
     Delivery, Drive, Expected, Form, Judging, Length, ListForm, Listing, LongForm, MAX_LISTED,
-    MAX_SEALS, Order, Store, Usage, Workers, command_of,
+    MAX_SEALS, Order, Store, Workers,
 };
 pub use drivable::Drivable;
 pub use driving::drive_with;
@@ -66,14 +66,15 @@ pub use failure::{RunError, fault_line, status_of};
 pub use input::{MAX_INPUT_BYTES, read_input};
 pub use judging::report_on;
 pub use judging_alone::report_alone;
+pub use line_answers::joined_text;
 pub use line_judge::judge_lines;
 pub use lines::{MAX_READ_CALLS, Outcome, Source};
+pub use listing_faults::list_in_long;
 pub use long_decision::{CallingThread, SessionWork, WorkerThreads};
-pub use long_forms::explain_long;
+pub use long_forms::{explain_long, explained_as};
 pub use long_judging::report_on_long;
 pub use output::write_output;
 pub use picturing::explain_as_picture;
-pub use program::status_of_process;
 pub use reason::{Explanation, Reason};
 pub use report::{Report, report_line, report_text};
 pub use running::{answer_to, run};

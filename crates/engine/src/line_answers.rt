@@ -60,8 +60,10 @@ fn append_report(alloc: Global, report: &Report, text: &mut Vec<u8>) -> Result<(
     text.extend_from_slice(joined.as_slice())
 }
 
-// The lines of a report, joined to one, and a line feed.
-fn joined_text(alloc: Global, report: &Report) -> Result<Vec<u8>, AllocError>
+/// The lines of a report, joined by `; `, and a line feed.
+///
+/// Fails for want of memory alone. O(1).
+pub fn joined_text(alloc: Global, report: &Report) -> Result<Vec<u8>, AllocError>
     ensures { IfOk result (λ text. text.items ≡ ended (joined_for report.now)) }
 {
     let cc = report_line(alloc, Criterion::Cc, report.cc)?;

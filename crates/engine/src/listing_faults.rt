@@ -32,6 +32,7 @@ use serde_json::Value;
 use std::alloc::{AllocError, Global};
 use std::sync::Wait;
 use std::thread::Threads;
+use wording::{Names, OwnNames};
 
 /// Why a history meets each criterion or does not, and its reads that show a fault; none where values are not distinct, and of objects
 /// that have no keys to read.
@@ -74,7 +75,7 @@ fn list_in_limited_input<T: Threads + Wait + Sync>(
 {
     let history = read_history(alloc, input)?;
     let long = long_of(alloc, input, &history)?;
-    list_in_limited(rt, alloc, history, long.as_ref(), most, form)
+    list_in_limited(rt, alloc, history, long.as_ref(), &OwnNames, most, form)
 }
 
 // The history in an input as one of any length, where it is one of a memory.
@@ -109,14 +110,17 @@ fn list_in_long_input<T: Threads + Wait + Sync>(
     ensures error { IfErr result (IsReportError Length.Any input.now) }
 {
     let history = read_long(alloc, input)?;
-    list_in_long(rt, alloc, &history, most, form)
+    list_in_long(rt, alloc, &history, &OwnNames, most, form)
 }
 
-// The list of a memory history of any length.
-fn list_in_long<T: Threads + Wait + Sync>(
+/// The list of a memory history of any length, with these names.
+///
+/// Fails for want of memory alone. It costs what the reasons cost, and O(n k) for n operations of k sessions.
+pub fn list_in_long<T: Threads + Wait + Sync, N: Names>(
     rt: &T,
     alloc: Global,
     history: &LongHistory,
+    names: &N,
     most: u32,
     form: ListForm,
 ) -> Result<String, RunError>
@@ -126,18 +130,19 @@ fn list_in_long<T: Threads + Wait + Sync>(
     match small(alloc, history)? {
         Some(small) => {
             let small = AnyHistory::Memory(small);
-            list_in_limited(rt, alloc, small, Some(history), most, form)
+            list_in_limited(rt, alloc, small, Some(history), names, most, form)
         }
-        None => list_in_larger(rt, alloc, history, most, form),
+        None => list_in_larger(rt, alloc, history, names, most, form),
     }
 }
 
 // The list of a history within the limits, and the same as one of any length where it is one of a memory.
-fn list_in_limited<T: Threads + Wait + Sync>(
+fn list_in_limited<T: Threads + Wait + Sync, N: Names>(
     rt: &T,
     alloc: Global,
     history: AnyHistory,
     long: Option<&LongHistory>,
+    names: &N,
     most: u32,
     form: ListForm,
 ) -> Result<String, RunError>
@@ -147,24 +152,26 @@ fn list_in_limited<T: Threads + Wait + Sync>(
 {
     let explanation = explanation_of_copy(rt, alloc, &history)?;
     let text = match form {
-        ListForm::Words => words_in_limited(alloc, &history, long, &explanation, most)?,
+        ListForm::Words => words_in_limited(alloc, &history, long, names, &explanation, most)?,
         ListForm::Json => json_in_limited(alloc, &history, long, explanation, most)?,
     };
     Ok(text)
 }
 
 // That list in words.
-fn words_in_limited(
+fn words_in_limited<N: Names>(
     alloc: Global,
     history: &AnyHistory,
     long: Option<&LongHistory>,
+    names: &N,
     explanation: &Explanation,
     most: u32,
 ) -> Result<String, AllocError>
     ensures { IfOk result (λ text. AreLinesAfter explanation.now (string_bytes text)) }
 {
-    let first = text_in_list(alloc, history, explanation)?;
-    let lines = fault_lines_of_any(alloc, long, most)?;
+    let first = text_in_list(alloc, history, names, explanation)?;
+    let mut lines = fault_lines_of_any(alloc, long, names, most)?;
+    names.push_remarks(alloc, &mut lines)?;
     joined(alloc, &first, &lines)
 }
 
@@ -191,10 +198,11 @@ fn json_in_limited(
 }
 
 // The list of a history over the limits.
-fn list_in_larger<T: Threads + Wait + Sync>(
+fn list_in_larger<T: Threads + Wait + Sync, N: Names>(
     rt: &T,
     alloc: Global,
     history: &LongHistory,
+    names: &N,
     most: u32,
     form: ListForm,
 ) -> Result<String, RunError>
@@ -204,23 +212,25 @@ fn list_in_larger<T: Threads + Wait + Sync>(
     let work = WorkerThreads::of(rt, Workers::usual().count());
     let said = explanation_of_long(&work, alloc, history)?;
     let text = match form {
-        ListForm::Words => words_in_larger(alloc, history, &said, most)?,
+        ListForm::Words => words_in_larger(alloc, history, names, &said, most)?,
         ListForm::Json => json_in_larger(alloc, history, said.explanation, most)?,
     };
     Ok(text)
 }
 
 // That list in words.
-fn words_in_larger(
+fn words_in_larger<N: Names>(
     alloc: Global,
     history: &LongHistory,
+    names: &N,
     said: &LongExplanation,
     most: u32,
 ) -> Result<String, AllocError>
     ensures { IfOk result (λ text. AreLinesAfter said.now.explanation (string_bytes text)) }
 {
-    let first = long_text_in_list(alloc, history, said)?;
-    let lines = fault_lines_of(alloc, history, most)?;
+    let first = long_text_in_list(alloc, history, names, said)?;
+    let mut lines = fault_lines_of(alloc, history, names, most)?;
+    names.push_remarks(alloc, &mut lines)?;
     joined(alloc, &first, &lines)
 }
 
@@ -281,21 +291,23 @@ fn faults_of_any(
 }
 
 // The lines on the faults of a history of any object.
-fn fault_lines_of_any(
+fn fault_lines_of_any<N: Names>(
     alloc: Global,
     long: Option<&LongHistory>,
+    names: &N,
     most: u32,
 ) -> Result<Vec<String>, AllocError> {
     match long {
-        Some(long) => fault_lines_of(alloc, long, most),
+        Some(long) => fault_lines_of(alloc, long, names, most),
         None => one_line(alloc, "No faults of single reads are known of this object."),
     }
 }
 
 // The lines on the faults of a memory history: how many there are, and some of them.
-fn fault_lines_of(
+fn fault_lines_of<N: Names>(
     alloc: Global,
     history: &LongHistory,
+    names: &N,
     most: u32,
 ) -> Result<Vec<String>, AllocError> {
     let Some(index) = LongIndex::of(alloc, history)? else {
@@ -305,9 +317,9 @@ fn fault_lines_of(
         );
     };
     let found = find_faults(alloc, &index, most as usize)?;
-    let mut lines = count_lines(alloc, &found)?;
+    let mut lines = count_lines(alloc, names, &found)?;
     for fault in &found.listed {
-        lines.push(fault_line(alloc, &index, fault)?)?;
+        lines.push(fault_line(alloc, &index, names, fault)?)?;
     }
     Ok(lines)
 }
@@ -350,67 +362,73 @@ fn value_of_faults(alloc: Global, faults: &Option<Faults>) -> Result<Value, Allo
 }
 
 // The text of the reasons on a history within the limits.
-fn text_in_list(
+fn text_in_list<N: Names>(
     alloc: Global,
     history: &AnyHistory,
+    names: &N,
     said: &Explanation,
 ) -> Result<String, AllocError>
     ensures { IfOk result (λ text. TellsEach said.now (string_bytes text)) }
 {
-    let lines = lines_in_list(alloc, history, Criterion::Cc, &said.cc, None)?;
+    let lines = lines_in_list(alloc, history, names, Criterion::Cc, &said.cc, None)?;
     let cc = text_with_lines(alloc, Criterion::Cc, &said.cc, &lines)?;
     let before = kind_in(&said.cc);
-    let lines = lines_in_list(alloc, history, Criterion::Cm, &said.cm, before)?;
+    let lines = lines_in_list(alloc, history, names, Criterion::Cm, &said.cm, before)?;
     let cm = text_with_lines(alloc, Criterion::Cm, &said.cm, &lines)?;
-    let lines = lines_in_list(alloc, history, Criterion::Ccv, &said.ccv, before)?;
+    let lines = lines_in_list(alloc, history, names, Criterion::Ccv, &said.ccv, before)?;
     let ccv = text_with_lines(alloc, Criterion::Ccv, &said.ccv, &lines)?;
     format!(in alloc; "{cc}{cm}{ccv}")
 }
 
 // The lines of a reason: none where the list has the reads that show it, or the kind was shown before.
-fn lines_in_list(
+fn lines_in_list<N: Names>(
     alloc: Global,
     history: &AnyHistory,
+    names: &N,
     criterion: Criterion,
     reason: &Reason,
     before: Option<Kind>,
 ) -> Result<Vec<String>, AllocError> {
     if is_shown_apart(reason, before) {
-        lines_of_reason(alloc, history, criterion, reason)
+        lines_of_reason(alloc, history, names, criterion, reason)
     } else {
         Ok(Vec::new(alloc))
     }
 }
 
 // The text of the reasons on a history over the limits.
-fn long_text_in_list(
+fn long_text_in_list<N: Names>(
     alloc: Global,
     history: &LongHistory,
+    names: &N,
     said: &LongExplanation,
 ) -> Result<String, AllocError>
     ensures { IfOk result (λ text. TellsEach said.now.explanation (string_bytes text)) }
 {
     let reasons = &said.explanation;
-    let lines = long_lines_in_list(alloc, history, said, &reasons.cc, None)?;
+    let lines = long_lines_in_list(alloc, history, names, said, &reasons.cc, None)?;
     let cc = text_with_lines(alloc, Criterion::Cc, &reasons.cc, &lines)?;
     let before = kind_in(&reasons.cc);
-    let lines = long_lines_in_list(alloc, history, said, &reasons.cm, before)?;
+    let lines = long_lines_in_list(alloc, history, names, said, &reasons.cm, before)?;
     let cm = text_with_lines(alloc, Criterion::Cm, &reasons.cm, &lines)?;
-    let lines = long_lines_in_list(alloc, history, said, &reasons.ccv, before)?;
+    let lines = long_lines_in_list(alloc, history, names, said, &reasons.ccv, before)?;
     let ccv = text_with_lines(alloc, Criterion::Ccv, &reasons.ccv, &lines)?;
     format!(in alloc; "{cc}{cm}{ccv}")
 }
 
 // The lines of a reason on a history over the limits, as above.
-fn long_lines_in_list(
+fn long_lines_in_list<N: Names>(
     alloc: Global,
     history: &LongHistory,
+    names: &N,
     said: &LongExplanation,
     reason: &Reason,
     before: Option<Kind>,
 ) -> Result<Vec<String>, AllocError> {
     match kind_in(reason) {
-        Some(kind) if is_shown_apart(reason, before) => lines_of_found(alloc, history, said, kind),
+        Some(kind) if is_shown_apart(reason, before) => {
+            lines_of_found(alloc, history, names, said, kind)
+        }
         _ => Ok(Vec::new(alloc)),
     }
 }

@@ -20,6 +20,7 @@ use operations::{AnyHistory, History};
 use std::alloc::Global;
 use std::sync::Wait;
 use std::thread::Threads;
+use wording::{Names, OwnNames};
 
 /// Why the memory history in the input, of any length, meets each criterion or does not, in a form.
 ///
@@ -35,30 +36,34 @@ pub fn explain_long<T: Threads + Wait + Sync>(
     ensures error { IfErr result (IsOutputError (Order.ExplainLong form) input.now) }
 {
     let history = read_long(alloc, input)?;
-    explained_as(rt, alloc, &history, form)
+    explained_as(rt, alloc, &history, &OwnNames, form)
 }
 
-// The text on a history, in a form.
-fn explained_as<T: Threads + Wait + Sync>(
+/// The text on a history, in a form, with these names.
+///
+/// Fails for want of memory alone. The cost is that of [`explanation_of_long`].
+pub fn explained_as<T: Threads + Wait + Sync, N: Names>(
     rt: &T,
     alloc: Global,
     history: &LongHistory,
+    names: &N,
     form: LongForm,
 ) -> Result<String, RunError>
     ensures text { IfOk result (λ text. IsExplainedAs form (AnyHistory.Memory history.now) (string_bytes text)) }
     ensures error { IfErr result (λ e. e ≡ RunError.Memory) }
 {
     match small(alloc, history)? {
-        Some(small) => small_as(rt, alloc, history, small, form),
-        None => larger_as(rt, alloc, history, form),
+        Some(small) => small_as(rt, alloc, history, small, names, form),
+        None => larger_as(rt, alloc, history, names, form),
     }
 }
 
 // The text on a history over the limits.
-fn larger_as<T: Threads + Wait + Sync>(
+fn larger_as<T: Threads + Wait + Sync, N: Names>(
     rt: &T,
     alloc: Global,
     history: &LongHistory,
+    names: &N,
     form: LongForm,
 ) -> Result<String, RunError>
     ensures text { IfOk result (λ text. IsExplainedAs form (AnyHistory.Memory history.now) (string_bytes text)) }
@@ -67,44 +72,46 @@ fn larger_as<T: Threads + Wait + Sync>(
     let work = WorkerThreads::of(rt, Workers::usual().count());
     let said = explanation_of_long(&work, alloc, history)?;
     match form {
-        LongForm::Words => Ok(text_of_long(alloc, history, &said)?),
+        LongForm::Words => Ok(text_of_long(alloc, history, names, &said)?),
         LongForm::Json => Ok(explanation_text(alloc, &said.explanation)?),
-        LongForm::Picture => Ok(picture_of_long(alloc, history, &said)?),
+        LongForm::Picture => Ok(picture_of_long(alloc, history, names, &said)?),
     }
 }
 
 // The text on a history within the limits.
-fn small_as<T: Threads + Wait + Sync>(
+fn small_as<T: Threads + Wait + Sync, N: Names>(
     rt: &T,
     alloc: Global,
     history: &LongHistory,
     small: History<Memory>,
+    names: &N,
     form: LongForm,
 ) -> Result<String, RunError>
     ensures text { IfOk result (λ text. IsExplainedAs form (AnyHistory.Memory small) (string_bytes text)) }
     ensures error { IfErr result (λ e. e ≡ RunError.Memory) }
 {
     match form {
-        LongForm::Words => words_of_small(rt, alloc, history, small),
+        LongForm::Words => words_of_small(rt, alloc, history, small, names),
         LongForm::Json => {
             let said = explanation_of_memory(rt, alloc, small, Workers::usual())?;
             Ok(explanation_text(alloc, &said)?)
         }
-        LongForm::Picture => picture_of_memory(rt, alloc, small),
+        LongForm::Picture => picture_of_memory(rt, alloc, small, names),
     }
 }
 
 // The words on a history within the limits.
-fn words_of_small<T: Threads + Wait + Sync>(
+fn words_of_small<T: Threads + Wait + Sync, N: Names>(
     rt: &T,
     alloc: Global,
     history: &LongHistory,
     small: History<Memory>,
+    names: &N,
 ) -> Result<String, RunError>
     ensures words { IfOk result (λ text. IsWordsOf (AnyHistory.Memory small) (string_bytes text)) }
     ensures error { IfErr result (λ e. e ≡ RunError.Memory) }
 {
     let said = explanation_of_memory(rt, alloc, small.copy(alloc)?, Workers::usual())?;
     let small = AnyHistory::Memory(small);
-    Ok(text_of_small(alloc, history, &small, &said)?)
+    Ok(text_of_small(alloc, history, &small, names, &said)?)
 }

@@ -3,8 +3,8 @@
 ghost use Rattle.std.specs.Prelude.{IfOk, IfSome, string_bytes};
 ghost use Rattle.picture.specs.Markup.{IsSvgElement};
 
+use crate::core_names::CoreNames;
 use crate::long_explaining::LongExplanation;
-use crate::long_words::CoreNames;
 use crate::picturing::title_of;
 use crate::reason::Reason;
 use cert_check::Criterion;
@@ -14,35 +14,45 @@ use objects::{Memory, Table};
 use operations::History;
 use picture::{picture_of_history, picture_of_pattern};
 use std::alloc::{AllocError, Global};
+use wording::{Names, OwnNames};
 
-/// The picture of the pattern of the first criterion that is not met, with the sessions of its operations alone and how many operations
-/// are left out between them. Where no pattern is at hand, what is known of each criterion is all that it shows.
+/// The picture of the pattern of the first criterion that is not met, with these names, the sessions of its operations alone and how many
+/// operations are left out between them. Where no pattern is at hand, what is known of each criterion is all that it shows.
 ///
 /// Fails for want of memory alone. What [`picture_of_pattern`] takes for a few operations.
-pub(crate) fn picture_of_long(
+pub(crate) fn picture_of_long<N: Names>(
     alloc: Global,
     history: &LongHistory,
+    names: &N,
     said: &LongExplanation,
 ) -> Result<String, AllocError>
     ensures { IfOk result (λ svg. IsSvgElement (string_bytes svg)) }
 {
     let reasons = &said.explanation;
-    if let Some(svg) = picture_of_found(alloc, history, said, Criterion::Cc, &reasons.cc)? {
+    if let Some(svg) = picture_of_found(alloc, history, names, said, Criterion::Cc, &reasons.cc)? {
         return Ok(svg);
     }
-    if let Some(svg) = picture_of_found(alloc, history, said, Criterion::Cm, &reasons.cm)? {
+    if let Some(svg) = picture_of_found(alloc, history, names, said, Criterion::Cm, &reasons.cm)? {
         return Ok(svg);
     }
-    if let Some(svg) = picture_of_found(alloc, history, said, Criterion::Ccv, &reasons.ccv)? {
+    if let Some(svg) = picture_of_found(
+        alloc,
+        history,
+        names,
+        said,
+        Criterion::Ccv,
+        &reasons.ccv,
+    )? {
         return Ok(svg);
     }
     picture_of_title(alloc, said)
 }
 
 // The picture of what was gathered of a reason, where it shows a pattern.
-fn picture_of_found(
+fn picture_of_found<N: Names>(
     alloc: Global,
     history: &LongHistory,
+    names: &N,
     said: &LongExplanation,
     criterion: Criterion,
     reason: &Reason,
@@ -58,6 +68,7 @@ fn picture_of_found(
     let names = CoreNames {
         core,
         sessions: history.sessions(),
+        whole: names,
     };
     let svg = picture_of_pattern(alloc, core.history(), &names, criterion, core.pattern())?;
     Ok(Some(svg))
@@ -70,5 +81,5 @@ fn picture_of_title(alloc: Global, said: &LongExplanation) -> Result<String, All
     let mut lines = Vec::new(alloc);
     lines.push(title_of(alloc, &said.explanation.report())?)?;
     let none: History<Memory> = History::of(Table::new(alloc), Vec::new(alloc));
-    picture_of_history(alloc, &none, lines.as_slice(), None)
+    picture_of_history(alloc, &none, &OwnNames, lines.as_slice(), None)
 }

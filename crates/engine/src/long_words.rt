@@ -1,99 +1,91 @@
 //! The words that say why a memory history of any length meets each criterion, or does not.
 
 ghost use Rattle.std.specs.Prelude.{IfOk, string_bytes};
-ghost use Rattle.engine.specs.ExplainingInWords.{Tells, TellsEach};
+ghost use Rattle.engine.specs.ExplainingInWords.{TellsEach};
 
+use crate::core_names::CoreNames;
 use crate::explaining_in_words::text_with_lines;
 use crate::long_explaining::LongExplanation;
+use crate::long_repeated::push_repeated;
 use crate::reason::{Explanation, Reason};
 use crate::reason_lines::{lines_of_kind, lines_of_reason};
 use bad_patterns::Kind;
 use cert_check::Criterion;
 use long_cores::{Gathered, LongCore};
 use long_history::LongHistory;
-use operations::{AnyHistory, OpId, write_history};
+use operations::{AnyHistory, write_history};
 use std::alloc::{AllocError, Global};
 use wording::{Names, words_of_long_yes, words_of_operations, words_of_pattern, words_of_places};
-
-/// The names in the whole history of the operations of a core.
-#[derive(Clone, Copy)]
-pub(crate) struct CoreNames<'a> {
-    pub core: &'a LongCore,
-    /// How many sessions the whole has.
-    pub sessions: usize,
-}
-
-impl<'a> Names for CoreNames<'a> {
-    fn in_whole(&self, op: OpId) -> OpId {
-        self.core.in_whole(op)
-    }
-
-    fn sessions(&self, _part: usize) -> usize {
-        self.sessions
-    }
-}
 
 /// The text that gives the reasons of a long history: for each criterion the line of `judge`, and after it what shows it.
 ///
 /// Fails for want of memory alone. O(n) for n operations of the cores, beside their words.
-pub(crate) fn text_of_long(
+pub(crate) fn text_of_long<N: Names>(
     alloc: Global,
     history: &LongHistory,
+    names: &N,
     said: &LongExplanation,
 ) -> Result<String, AllocError>
     ensures { IfOk result (λ text. TellsEach said.now.explanation (string_bytes text)) }
 {
     let reasons = &said.explanation;
-    let cc = text_of_long_reason(alloc, history, said, Criterion::Cc, &reasons.cc)?;
-    let cm = text_of_long_reason(alloc, history, said, Criterion::Cm, &reasons.cm)?;
-    let ccv = text_of_long_reason(alloc, history, said, Criterion::Ccv, &reasons.ccv)?;
+    let lines = lines_of_long_reason(alloc, history, names, said, Criterion::Cc, &reasons.cc)?;
+    let cc = text_with_lines(alloc, Criterion::Cc, &reasons.cc, &lines)?;
+    let lines = lines_of_long_reason(alloc, history, names, said, Criterion::Cm, &reasons.cm)?;
+    let cm = text_with_lines(alloc, Criterion::Cm, &reasons.cm, &lines)?;
+    let mut lines = lines_of_long_reason(
+        alloc,
+        history,
+        names,
+        said,
+        Criterion::Ccv,
+        &reasons.ccv,
+    )?;
+    names.push_remarks(alloc, &mut lines)?;
+    let ccv = text_with_lines(alloc, Criterion::Ccv, &reasons.ccv, &lines)?;
     format!(in alloc; "{cc}{cm}{ccv}")
 }
 
-// The text of one reason.
-fn text_of_long_reason(
-    alloc: Global,
-    history: &LongHistory,
-    said: &LongExplanation,
-    criterion: Criterion,
-    reason: &Reason,
-) -> Result<String, AllocError>
-    ensures { IfOk result (λ text. Tells criterion reason.now (string_bytes text)) }
-{
-    let lines = lines_of_long_reason(alloc, history, said, criterion, reason)?;
-    text_with_lines(alloc, criterion, reason, &lines)
-}
-
 // The lines of one reason.
-fn lines_of_long_reason(
+fn lines_of_long_reason<N: Names>(
     alloc: Global,
     history: &LongHistory,
+    names: &N,
     said: &LongExplanation,
     criterion: Criterion,
     reason: &Reason,
 ) -> Result<Vec<String>, AllocError> {
     match reason {
-        Reason::Explained => lines_of_yes(alloc, history, criterion),
-        Reason::Shown(pattern) => lines_of_found(alloc, history, said, pattern.kind()),
-        Reason::Present(kind) => lines_of_found(alloc, history, said, *kind),
-        Reason::Unexplained(_) => lines_of_repeated(alloc),
+        Reason::Explained => lines_of_yes(alloc, history, names, criterion),
+        Reason::Shown(pattern) => lines_of_found(alloc, history, names, said, pattern.kind()),
+        Reason::Present(kind) => lines_of_found(alloc, history, names, said, *kind),
+        Reason::Unexplained(_) => lines_of_repeated(alloc, history, names),
     }
 }
 
 // The line on what is met.
-fn lines_of_yes(
+fn lines_of_yes<N: Names>(
     alloc: Global,
     history: &LongHistory,
+    names: &N,
     criterion: Criterion,
 ) -> Result<Vec<String>, AllocError> {
+    let operations = history.operations();
     let mut lines = Vec::new(alloc);
-    lines.push(words_of_long_yes(alloc, criterion, history.operations(), history.sessions())?)?;
+    lines.push(words_of_long_yes(alloc, names, criterion, operations, history.sessions())?)?;
     Ok(lines)
 }
 
 // The lines on values that are not distinct.
-fn lines_of_repeated(alloc: Global) -> Result<Vec<String>, AllocError> {
+fn lines_of_repeated<N: Names>(
+    alloc: Global,
+    history: &LongHistory,
+    names: &N,
+) -> Result<Vec<String>, AllocError> {
     let mut lines = Vec::new(alloc);
+    if names.tells_more() {
+        push_repeated(alloc, &mut lines, history, names)?;
+    }
     lines.push(String::from_str(
         alloc,
         "A variable is written twice with one value, or with its initial value. So a read does not name its write, and nothing is known.",
@@ -104,17 +96,18 @@ fn lines_of_repeated(alloc: Global) -> Result<Vec<String>, AllocError> {
 /// The lines on a kind that a long history shows: the words of the pattern and its core, or the operations that were gathered.
 ///
 /// Fails for want of memory alone. O(n) for n operations of the core, beside its words.
-pub(crate) fn lines_of_found(
+pub(crate) fn lines_of_found<N: Names>(
     alloc: Global,
     history: &LongHistory,
+    names: &N,
     said: &LongExplanation,
     kind: Kind,
 ) -> Result<Vec<String>, AllocError> {
     match said.gathered(kind) {
-        Some(Gathered::Core(core)) => lines_of_core(alloc, history, core),
+        Some(Gathered::Core(core)) => lines_of_core(alloc, history, names, core),
         Some(Gathered::Operations(ops)) => {
             let mut lines = lines_of_kind(alloc, kind)?;
-            lines.push(words_of_operations(alloc, ops)?)?;
+            lines.push(words_of_operations(alloc, names, ops)?)?;
             Ok(lines)
         }
         None => lines_of_kind(alloc, kind),
@@ -122,14 +115,16 @@ pub(crate) fn lines_of_found(
 }
 
 // The words of a core: its pattern, the core as a history, and which operations of the whole it has.
-fn lines_of_core(
+fn lines_of_core<N: Names>(
     alloc: Global,
     history: &LongHistory,
+    names: &N,
     core: &LongCore,
 ) -> Result<Vec<String>, AllocError> {
     let names = CoreNames {
         core,
         sessions: history.sessions(),
+        whole: names,
     };
     let mut lines = words_of_pattern(alloc, core.history(), &names, core.pattern())?;
     let text = write_history(alloc, &AnyHistory::Memory(core.history().copy(alloc)?))?;
@@ -141,35 +136,38 @@ fn lines_of_core(
 /// The text that gives the reasons of a history within the limits, which was asked for as one of any length.
 ///
 /// Fails for want of memory alone. The cost is that of the words of `explain`.
-pub(crate) fn text_of_small(
+pub(crate) fn text_of_small<N: Names>(
     alloc: Global,
     history: &LongHistory,
     small: &AnyHistory,
+    names: &N,
     said: &Explanation,
 ) -> Result<String, AllocError>
     ensures { IfOk result (λ text. TellsEach said.now (string_bytes text)) }
 {
-    let cc = text_of_small_reason(alloc, history, small, Criterion::Cc, &said.cc)?;
-    let cm = text_of_small_reason(alloc, history, small, Criterion::Cm, &said.cm)?;
-    let ccv = text_of_small_reason(alloc, history, small, Criterion::Ccv, &said.ccv)?;
+    let lines = lines_of_small_reason(alloc, history, small, names, Criterion::Cc, &said.cc)?;
+    let cc = text_with_lines(alloc, Criterion::Cc, &said.cc, &lines)?;
+    let lines = lines_of_small_reason(alloc, history, small, names, Criterion::Cm, &said.cm)?;
+    let cm = text_with_lines(alloc, Criterion::Cm, &said.cm, &lines)?;
+    let mut lines = lines_of_small_reason(alloc, history, small, names, Criterion::Ccv, &said.ccv)?;
+    names.push_remarks(alloc, &mut lines)?;
+    let ccv = text_with_lines(alloc, Criterion::Ccv, &said.ccv, &lines)?;
     format!(in alloc; "{cc}{cm}{ccv}")
 }
 
-// The text of one of them.
-fn text_of_small_reason(
+// The lines of one of them.
+fn lines_of_small_reason<N: Names>(
     alloc: Global,
     history: &LongHistory,
     small: &AnyHistory,
+    names: &N,
     criterion: Criterion,
     reason: &Reason,
-) -> Result<String, AllocError>
-    ensures { IfOk result (λ text. Tells criterion reason.now (string_bytes text)) }
-{
-    let lines = match reason {
-        Reason::Explained => lines_of_yes(alloc, history, criterion)?,
+) -> Result<Vec<String>, AllocError> {
+    match reason {
+        Reason::Explained => lines_of_yes(alloc, history, names, criterion),
         Reason::Shown(_) | Reason::Present(_) | Reason::Unexplained(_) => {
-            lines_of_reason(alloc, small, criterion, reason)?
+            lines_of_reason(alloc, small, names, criterion, reason)
         }
-    };
-    text_with_lines(alloc, criterion, reason, &lines)
+    }
 }

@@ -4,24 +4,27 @@ use crate::reason_lines::lines_of_kind;
 use bad_patterns::Pattern;
 use cert_check::Criterion;
 use decision::Decision;
-use judged_parts::{Excluded, core_text, excluded_without, pattern_in_whole};
+use judged_parts::{Excluded, core_text, excluded_without, ops_with_sources, pattern_in_whole};
 use memory_order::IndexedMemory;
 use objects::Memory;
 use operations::History;
 use std::alloc::{AllocError, Global};
-use wording::{OwnNames, repeated_variables, words_of_pattern, words_without_variables};
+use wording::{
+    Names, OwnNames, repeated_variables, words_of_kept, words_of_pattern, words_without_variables,
+};
 
 /// The lines on a pattern of a history of a memory: its words, and its core where it has one.
 ///
 /// Fails for want of memory alone. What the words take, and what [`core_text`] takes.
-pub(crate) fn lines_with_core(
+pub(crate) fn lines_with_core<N: Names>(
     alloc: Global,
     history: &History<Memory>,
+    names: &N,
     criterion: Criterion,
     pattern: &Pattern,
 ) -> Result<Vec<String>, AllocError> {
-    let mut lines = words_of_pattern(alloc, history, &OwnNames, pattern)?;
-    push_core(alloc, &mut lines, history, criterion, pattern)?;
+    let mut lines = words_of_pattern(alloc, history, names, pattern)?;
+    push_core(alloc, &mut lines, history, names, criterion, pattern)?;
     Ok(lines)
 }
 
@@ -29,41 +32,44 @@ pub(crate) fn lines_with_core(
 /// where that is so.
 ///
 /// Fails for want of memory alone. What [`excluded_without`] takes, and the lines on a pattern.
-pub(crate) fn push_without_variables(
+pub(crate) fn push_without_variables<N: Names>(
     alloc: Global,
     lines: &mut Vec<String>,
     memory: &IndexedMemory,
+    names: &N,
     criterion: Criterion,
 ) -> Result<(), AllocError> {
     let history = memory.history();
     let variables = repeated_variables(alloc, memory)?;
     match excluded_without(alloc, history, &variables, criterion)? {
-        Some(excluded) => push_excluded(alloc, lines, history, criterion, &variables, &excluded),
+        Some(excluded) => {
+            push_excluded(
+                alloc, lines, history, names, criterion, &variables, &excluded,
+            )
+        }
         None => Ok(()),
     }
 }
 
 // Puts what shows that a part does not meet a criterion behind other lines.
-fn push_excluded(
+fn push_excluded<N: Names>(
     alloc: Global,
     lines: &mut Vec<String>,
     history: &History<Memory>,
+    names: &N,
     criterion: Criterion,
     variables: &[u32],
     excluded: &Excluded,
 ) -> Result<(), AllocError> {
     match &excluded.decision {
         Decision::Excluded(pattern) => {
-            lines.push(words_without_variables(alloc, variables, pattern.kind())?)?;
+            lines.push(words_without_variables(alloc, names, variables, pattern.kind())?)?;
             let renamed = pattern_in_whole(alloc, history, variables, pattern)?;
-            push_all(
-                lines,
-                words_of_pattern(alloc, history, &OwnNames, &renamed)?,
-            )?;
-            push_core(alloc, lines, &excluded.part, criterion, pattern)
+            push_all(lines, words_of_pattern(alloc, history, names, &renamed)?)?;
+            push_core(alloc, lines, &excluded.part, &OwnNames, criterion, pattern)
         }
         Decision::ExcludedBy(kind) => {
-            lines.push(words_without_variables(alloc, variables, *kind)?)?;
+            lines.push(words_without_variables(alloc, names, variables, *kind)?)?;
             push_all(lines, lines_of_kind(alloc, *kind)?)
         }
         Decision::Meets | Decision::Open => Ok(()),
@@ -71,15 +77,20 @@ fn push_excluded(
 }
 
 // Puts the core of a pattern behind other lines, where it has one.
-fn push_core(
+fn push_core<N: Names>(
     alloc: Global,
     lines: &mut Vec<String>,
     history: &History<Memory>,
+    names: &N,
     criterion: Criterion,
     pattern: &Pattern,
 ) -> Result<(), AllocError> {
     if let Some(core) = core_text(alloc, history, criterion, pattern)? {
         lines.push(format!(in alloc; "These operations alone are a no: {core}")?)?;
+        if names.tells_more() {
+            let ops = ops_with_sources(alloc, history, pattern)?;
+            lines.push(words_of_kept(alloc, names, &ops)?)?;
+        }
     }
     Ok(())
 }

@@ -20,7 +20,7 @@ use picture::{Labelled, picture_of_history, picture_of_pattern};
 use std::alloc::{AllocError, Global};
 use std::sync::Wait;
 use std::thread::Threads;
-use wording::{OwnNames, name_of};
+use wording::{Names, OwnNames};
 
 /// The picture of the history in the input, as an SVG text: with the pattern of the first criterion that is not met, where one is
 /// at hand, and else all of the history, with the first operation that a certificate does not explain drawn out.
@@ -53,7 +53,7 @@ fn picture_of_any<T: Threads + Wait + Sync>(
         AnyHistory::Counter(plain) => picture_of_object(rt, alloc, plain.into_history()),
         AnyHistory::Set(plain) => picture_of_object(rt, alloc, plain.into_history()),
         AnyHistory::Queue(plain) => picture_of_object(rt, alloc, plain.into_history()),
-        AnyHistory::Memory(history) => picture_of_memory(rt, alloc, history),
+        AnyHistory::Memory(history) => picture_of_memory(rt, alloc, history, &OwnNames),
         AnyHistory::Counters(history) => picture_of_object(rt, alloc, history),
         AnyHistory::Sets(history) => picture_of_object(rt, alloc, history),
         AnyHistory::Queues(history) => picture_of_object(rt, alloc, history),
@@ -70,46 +70,49 @@ fn picture_of_object<O: Judged + Labelled + Send + Sync, T: Threads + Wait + Syn
     ensures error { IfErr result (λ e. e ≡ RunError.Memory) }
 {
     let report = report_on_object(rt, alloc, history.copy(alloc)?, &[], Workers::usual())?;
-    Ok(picture_with_report(alloc, &history, &report)?)
+    Ok(picture_with_report(alloc, &history, &OwnNames, &report)?)
 }
 
-/// The picture of a history of a memory. It costs what [`explain_as_picture`] costs but for reading.
-pub(crate) fn picture_of_memory<T: Threads + Wait + Sync>(
+/// The picture of a history of a memory, with these names. It costs what [`explain_as_picture`] costs but for reading.
+pub(crate) fn picture_of_memory<T: Threads + Wait + Sync, N: Names>(
     rt: &T,
     alloc: Global,
     history: History<Memory>,
+    names: &N,
 ) -> Result<String, RunError>
     ensures svg { IfOk result (λ svg. IsSvgElement (string_bytes svg)) }
     ensures error { IfErr result (λ e. e ≡ RunError.Memory) }
 {
     let explanation = explanation_of_memory(rt, alloc, history.copy(alloc)?, Workers::usual())?;
-    match picture_of_first(alloc, &history, &explanation)? {
+    match picture_of_first(alloc, &history, names, &explanation)? {
         Some(svg) => Ok(svg),
-        None => Ok(picture_with_report(alloc, &history, &explanation.report())?),
+        None => Ok(picture_with_report(alloc, &history, names, &explanation.report())?),
     }
 }
 
 // The picture of the pattern of the first criterion that is not met, where a reason has one.
-fn picture_of_first(
+fn picture_of_first<N: Names>(
     alloc: Global,
     history: &History<Memory>,
+    names: &N,
     explanation: &Explanation,
 ) -> Result<Option<String>, AllocError>
     ensures { IfOk result (λ made. IfSome made (λ svg. IsSvgElement (string_bytes svg))) }
 {
-    if let Some(svg) = picture_of_reason(alloc, history, Criterion::Cc, &explanation.cc)? {
+    if let Some(svg) = picture_of_reason(alloc, history, names, Criterion::Cc, &explanation.cc)? {
         return Ok(Some(svg));
     }
-    if let Some(svg) = picture_of_reason(alloc, history, Criterion::Cm, &explanation.cm)? {
+    if let Some(svg) = picture_of_reason(alloc, history, names, Criterion::Cm, &explanation.cm)? {
         return Ok(Some(svg));
     }
-    picture_of_reason(alloc, history, Criterion::Ccv, &explanation.ccv)
+    picture_of_reason(alloc, history, names, Criterion::Ccv, &explanation.ccv)
 }
 
 // The picture of the pattern of a reason, where it has one.
-fn picture_of_reason(
+fn picture_of_reason<N: Names>(
     alloc: Global,
     history: &History<Memory>,
+    names: &N,
     criterion: Criterion,
     reason: &Reason,
 ) -> Result<Option<String>, AllocError>
@@ -117,7 +120,7 @@ fn picture_of_reason(
 {
     match reason {
         Reason::Shown(pattern) => {
-            let svg = picture_of_pattern(alloc, history, &OwnNames, criterion, pattern)?;
+            let svg = picture_of_pattern(alloc, history, names, criterion, pattern)?;
             Ok(Some(svg))
         }
         Reason::Explained | Reason::Present(_) | Reason::Unexplained(_) => Ok(None),
@@ -125,9 +128,10 @@ fn picture_of_reason(
 }
 
 // The picture of all of a history, with what is known of it at its head.
-fn picture_with_report<O: Labelled>(
+fn picture_with_report<O: Labelled, N: Names>(
     alloc: Global,
     history: &History<O>,
+    names: &N,
     report: &Report,
 ) -> Result<String, AllocError>
     ensures { IfOk result (λ svg. IsSvgElement (string_bytes svg)) }
@@ -136,9 +140,9 @@ fn picture_with_report<O: Labelled>(
     lines.push(title_of(alloc, report)?)?;
     let marked = first_unexplained(report);
     if let Some(op) = marked {
-        lines.push(sentence_about(alloc, op)?)?;
+        lines.push(sentence_about(alloc, names, op)?)?;
     }
-    picture_of_history(alloc, history, lines.as_slice(), marked)
+    picture_of_history(alloc, history, names, lines.as_slice(), marked)
 }
 
 /// The lines of a report in one.
@@ -153,8 +157,8 @@ pub(crate) fn title_of(alloc: Global, report: &Report) -> Result<String, AllocEr
 }
 
 // What is said of an operation that is not explained.
-fn sentence_about(alloc: Global, op: OpId) -> Result<String, AllocError> {
-    let name = name_of(alloc, op)?;
+fn sentence_about<N: Names>(alloc: Global, names: &N, op: OpId) -> Result<String, AllocError> {
+    let name = names.operation(alloc, op)?;
     format!(in alloc; "The certificate that was made does not explain {name}.")
 }
 

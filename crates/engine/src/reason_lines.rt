@@ -9,24 +9,25 @@ use memory_order::IndexedMemory;
 use objects::Memory;
 use operations::{AnyHistory, History, OpId};
 use std::alloc::{AllocError, Global};
-use wording::{Worded, push_unexplained, words_of_repeated_values};
+use wording::{Names, Worded, push_unexplained, words_of_repeated_values};
 
 /// The lines that say why a history meets a criterion, does not, or why that is not known.
 ///
 /// What they say is no promise, but for the parts of the history in them: each is judged by itself before it is told. Fails for
 /// want of memory alone. The cost is that of the words and the core of a pattern, or that of a certificate where one does not
 /// explain an operation or a memory meets causal memory, and of the history without the variables whose values are not distinct.
-pub(crate) fn lines_of_reason(
+pub(crate) fn lines_of_reason<N: Names>(
     alloc: Global,
     history: &AnyHistory,
+    names: &N,
     criterion: Criterion,
     reason: &Reason,
 ) -> Result<Vec<String>, AllocError> {
     match reason {
         Reason::Explained => lines_of_met(alloc, history, criterion),
-        Reason::Shown(pattern) => lines_of_pattern(alloc, history, criterion, pattern),
+        Reason::Shown(pattern) => lines_of_pattern(alloc, history, names, criterion, pattern),
         Reason::Present(kind) => lines_of_kind(alloc, *kind),
-        Reason::Unexplained(place) => lines_of_unknown(alloc, history, criterion, *place),
+        Reason::Unexplained(place) => lines_of_unknown(alloc, history, names, criterion, *place),
     }
 }
 
@@ -66,14 +67,17 @@ fn one_line(alloc: Global, words: &'static str) -> Result<Vec<String>, AllocErro
 }
 
 // The lines on a pattern: patterns are known for memories alone.
-fn lines_of_pattern(
+fn lines_of_pattern<N: Names>(
     alloc: Global,
     history: &AnyHistory,
+    names: &N,
     criterion: Criterion,
     pattern: &Pattern,
 ) -> Result<Vec<String>, AllocError> {
     match history {
-        AnyHistory::Memory(history) => lines_with_core(alloc, history, criterion, pattern),
+        AnyHistory::Memory(history) => {
+            lines_with_core(alloc, history, names, criterion, pattern)
+        }
         _ => lines_of_kind(alloc, pattern.kind()),
     }
 }
@@ -89,48 +93,57 @@ pub(crate) fn lines_of_kind(alloc: Global, kind: Kind) -> Result<Vec<String>, Al
 }
 
 // The lines on what is not known.
-fn lines_of_unknown(
+fn lines_of_unknown<N: Names>(
     alloc: Global,
     history: &AnyHistory,
+    names: &N,
     criterion: Criterion,
     place: Option<OpId>,
 ) -> Result<Vec<String>, AllocError> {
     match history {
-        AnyHistory::Register(plain) => lines_of_object(alloc, plain.history(), criterion, place),
-        AnyHistory::Counter(plain) => lines_of_object(alloc, plain.history(), criterion, place),
-        AnyHistory::Set(plain) => lines_of_object(alloc, plain.history(), criterion, place),
-        AnyHistory::Queue(plain) => lines_of_object(alloc, plain.history(), criterion, place),
-        AnyHistory::Memory(history) => lines_of_memory(alloc, history, criterion, place),
-        AnyHistory::Counters(history) => lines_of_object(alloc, history, criterion, place),
-        AnyHistory::Sets(history) => lines_of_object(alloc, history, criterion, place),
-        AnyHistory::Queues(history) => lines_of_object(alloc, history, criterion, place),
+        AnyHistory::Register(plain) => {
+            lines_of_object(alloc, plain.history(), names, criterion, place)
+        }
+        AnyHistory::Counter(plain) => {
+            lines_of_object(alloc, plain.history(), names, criterion, place)
+        }
+        AnyHistory::Set(plain) => lines_of_object(alloc, plain.history(), names, criterion, place),
+        AnyHistory::Queue(plain) => {
+            lines_of_object(alloc, plain.history(), names, criterion, place)
+        }
+        AnyHistory::Memory(history) => lines_of_memory(alloc, history, names, criterion, place),
+        AnyHistory::Counters(history) => lines_of_object(alloc, history, names, criterion, place),
+        AnyHistory::Sets(history) => lines_of_object(alloc, history, names, criterion, place),
+        AnyHistory::Queues(history) => lines_of_object(alloc, history, names, criterion, place),
     }
 }
 
 // The lines on what is not known of a memory, whose values are not distinct: which these are, what the certificate that is made
 // does not explain, and what the other variables show.
-fn lines_of_memory(
+fn lines_of_memory<N: Names>(
     alloc: Global,
     history: &History<Memory>,
+    names: &N,
     criterion: Criterion,
     place: Option<OpId>,
 ) -> Result<Vec<String>, AllocError> {
     let memory = IndexedMemory::of(alloc, history)?;
-    let mut lines = words_of_repeated_values(alloc, &memory)?;
+    let mut lines = words_of_repeated_values(alloc, &memory, names)?;
     push_line(
         alloc,
         &mut lines,
         "So a read does not tell its write: only a certificate can decide, and only for a yes.",
     )?;
-    push_certificate(alloc, &mut lines, history, criterion, place)?;
-    push_without_variables(alloc, &mut lines, &memory, criterion)?;
+    push_certificate(alloc, &mut lines, history, names, criterion, place)?;
+    push_without_variables(alloc, &mut lines, &memory, names, criterion)?;
     Ok(lines)
 }
 
 // The lines on what is not known of an object that has no patterns.
-fn lines_of_object<O: Judged + Worded>(
+fn lines_of_object<O: Judged + Worded, N: Names>(
     alloc: Global,
     history: &History<O>,
+    names: &N,
     criterion: Criterion,
     place: Option<OpId>,
 ) -> Result<Vec<String>, AllocError> {
@@ -138,7 +151,7 @@ fn lines_of_object<O: Judged + Worded>(
         alloc,
         "No patterns are known of this object: only a certificate can decide, and only for a yes.",
     )?;
-    push_certificate(alloc, &mut lines, history, criterion, place)?;
+    push_certificate(alloc, &mut lines, history, names, criterion, place)?;
     Ok(lines)
 }
 
@@ -153,10 +166,11 @@ fn push_line(
 }
 
 // Puts what the certificate that is made does not explain behind other lines.
-fn push_certificate<O: Judged + Worded>(
+fn push_certificate<O: Judged + Worded, N: Names>(
     alloc: Global,
     lines: &mut Vec<String>,
     history: &History<O>,
+    names: &N,
     criterion: Criterion,
     place: Option<OpId>,
 ) -> Result<(), AllocError> {
@@ -164,5 +178,5 @@ fn push_certificate<O: Judged + Worded>(
         return push_line(alloc, lines, "No certificate was made.");
     };
     let made = O::make(alloc, history, &[], criterion)?;
-    push_unexplained(alloc, lines, history, made.as_ref(), op)
+    push_unexplained(alloc, lines, history, names, made.as_ref(), op)
 }

@@ -12,3 +12,5 @@ pub record IsNoBareWord (word : Text) : Type 0 where
   pub json : word ≢ codes "--json"
   pub certificates : word ≢ codes "--certificates"
   pub svg : word ≢ codes "--svg"
+  pub events : word ≢ codes "--events"
+  pub names : word ≢ codes "--names"

@@ -3,12 +3,10 @@ ghost use Rattle.std.specs.Prelude.{◌≡◌, ◌≤◌, ◌⊎◌};
 ghost use Rattle.engine.specs.Failure.{status_for};
 ghost use Rattle.command_line.specs.CommandLine.{IsUsageStatus};
 
-use crate::expecting::judge_expecting;
-use crate::failure::{RunError, fault_line, status_of};
-use crate::line_judge::judge_lines;
-use crate::running::run;
+use crate::log_process::follow_log_of_process;
 use crate::waiting::Waiting;
-use command_line::{Judging, Order, Usage, command_of, fault_with};
+use command_line::{Judging, Order, Task, Usage, command_of, fault_with};
+use engine::{RunError, fault_line, judge_expecting, judge_lines, run, status_of};
 use lines::Outcome;
 use std::rt::Env;
 use std::sync::Wait;
@@ -28,15 +26,28 @@ pub fn status_of_process<
 >(rt: &P) -> u8
     ensures { result ≤ 6 }
 {
-    match order_of_process(rt) {
-        Ok(Order::Judge(judging)) => report_judged(rt, judge(rt, judging)),
-        Ok(Order::JudgeLines(judging)) => report_judged(rt, judge_each_line(rt, judging)),
-        Ok(order) => {
+    match task_of_process(rt) {
+        Ok(Task::OfInput(order)) => status_of_order(rt, &order),
+        Ok(Task::OfLog(order)) => follow_log_of_process(rt, order),
+        Err(usage) => report_usage(rt, usage),
+    }
+}
+
+// Does what is ordered of an input.
+fn status_of_order<P: Threads + Wait + Sync + AllocGlobal + Input + Print + Eprint + Clock>(
+    rt: &P,
+    order: &Order,
+) -> u8
+    ensures { result ≤ 6 }
+{
+    match order {
+        Order::Judge(judging) => report_judged(rt, judge(rt, *judging)),
+        Order::JudgeLines(judging) => report_judged(rt, judge_each_line(rt, *judging)),
+        _ => {
             let mut reader = Waiting::by(rt, rt.reader());
-            let outcome = run(rt, &mut reader, &mut io::writer(rt), &order);
+            let outcome = run(rt, &mut reader, &mut io::writer(rt), order);
             report(rt, outcome)
         }
-        Err(usage) => report_usage(rt, usage),
     }
 }
 
@@ -68,7 +79,7 @@ fn report_judged<P: AllocGlobal + Eprint>(rt: &P, judged: Result<Outcome, RunErr
     }
 }
 
-// Writes what is said of words that give no order, and returns the exit status.
+// Writes what is said of words that give no task, and returns the exit status.
 fn report_usage<P: AllocGlobal + Print + Eprint>(rt: &P, usage: Usage) -> u8
     ensures { IsUsageStatus usage result }
 {
@@ -82,7 +93,7 @@ fn report_usage<P: AllocGlobal + Print + Eprint>(rt: &P, usage: Usage) -> u8
     }
 }
 
-fn order_of_process<P: Env + AllocGlobal>(rt: &P) -> Result<Order, Usage> {
+fn task_of_process<P: Env + AllocGlobal>(rt: &P) -> Result<Task, Usage> {
     let words = words_of_process(rt)?;
     command_of(rt.alloc(), words.as_slice())
 }
@@ -99,9 +110,9 @@ fn words_of_process<P: Env + AllocGlobal>(rt: &P) -> Result<Vec<String>, Usage> 
 const BAD_WORDS: &str =
     "error: invalid UTF-8 was detected in one or more arguments\n\nFor more information, try '--help'.\n";
 
-// Writes the line of a run that failed, and returns the exit status. Where there is no memory for the line, that is
-// what the process ends with.
-fn report<P: AllocGlobal + Eprint>(rt: &P, outcome: Result<(), RunError>) -> u8
+/// Writes the line of a run that failed, and returns the exit status. Where there is no memory for the line, that is
+/// what the process ends with.
+pub(crate) fn report<P: AllocGlobal + Eprint>(rt: &P, outcome: Result<(), RunError>) -> u8
     ensures status { (result ≡ status_for outcome) ⊎ (result ≡ 4) }
     ensures few { result ≤ 4 }
 {

@@ -1,0 +1,34 @@
+//! What is done with a log of events.
+
+use crate::expected::Expected;
+use crate::form::{ListForm, LongForm};
+use crate::workers::Workers;
+
+/// The most events after which a log may be judged again.
+pub const MAX_EVERY: u32 = 2_147_483_647;
+
+/// What is done with a log of events, which has one event a line.
+#[derive(Clone, Copy, Debug, PartialEq, Eq)]
+pub enum LogOrder {
+    /// Judges the history that the log stands for.
+    Judge(LogJudging),
+    /// Says in this form why each criterion is met or not met.
+    Explain(LongForm),
+    /// Lists at most so many reads that show a fault, in this form.
+    ListFaults(u32, ListForm),
+    /// Writes the history that the log stands for.
+    WriteHistory,
+    /// Writes the clients, keys and values of the log, in the order of their numbers.
+    WriteNames,
+}
+
+/// How a log is judged.
+#[derive(Clone, Copy, Debug, PartialEq, Eq)]
+pub struct LogJudging {
+    /// How many threads judge.
+    pub workers: Workers,
+    /// The criteria that are expected to be met.
+    pub expected: Expected,
+    /// After each so many events what was read so far is judged.
+    pub every: Option<u32>,
+}

@@ -1,0 +1,121 @@
+//! Which writes of a memory history of any length are of values that are not distinct.
+
+ghost use Rattle.std.specs.Prelude.{◌<◌, length};
+
+use long_history::LongHistory;
+use objects::RegisterCall;
+use operations::OpId;
+use std::alloc::{AllocError, Global};
+use wording::Names;
+
+/// How many such writes are told of.
+const MAX_TOLD: usize = 8;
+
+/// A write of a history.
+#[derive(Clone, Copy, Debug, PartialEq, Eq, PartialOrd, Ord)]
+struct LongWrite {
+    key: u32,
+    value: u64,
+    op: OpId,
+}
+
+/// Puts behind other lines which variables are written twice with one value, or with their initial value: a line for each of the first
+/// eight writes that show it.
+///
+/// Fails for want of memory alone. O(n log n) for n operations, and 32 bytes for each write.
+pub(crate) fn push_repeated<N: Names>(
+    alloc: Global,
+    lines: &mut Vec<String>,
+    history: &LongHistory,
+    names: &N,
+) -> Result<(), AllocError> {
+    let writes = writes_of(alloc, history)?;
+    let mut told: usize = 0;
+    let mut before: Option<LongWrite> = None;
+    for write in &writes {
+        if told < MAX_TOLD
+            && let Some(line) = line_of(alloc, history, names, before, *write)?
+        {
+            lines.push(line)?;
+            told = told.saturating_add(1);
+        }
+        before = Some(*write);
+    }
+    Ok(())
+}
+
+// The writes of a history, in the order of variables, values and operations.
+fn writes_of(alloc: Global, history: &LongHistory) -> Result<Vec<LongWrite>, AllocError> {
+    let mut writes = Vec::new(alloc);
+    for session in 0..history.sessions() {
+        push_writes(&mut writes, history, session)?;
+    }
+    writes.sort_unstable();
+    Ok(writes)
+}
+
+// Puts the writes of a session behind others.
+fn push_writes(
+    writes: &mut Vec<LongWrite>,
+    history: &LongHistory,
+    session: usize,
+) -> Result<(), AllocError>
+    requires { session < length history.now.1 }
+{
+    for (index, (call, _)) in history.session(session).iter().enumerate() {
+        if let RegisterCall::Write(value) = call.call {
+            writes.push(LongWrite {
+                key: call.key,
+                value,
+                op: OpId::at(session, index),
+            })?;
+        }
+    }
+    Ok(())
+}
+
+// What is said of a write: that it is one of the initial value, or that the one before it is of the same value.
+fn line_of<N: Names>(
+    alloc: Global,
+    history: &LongHistory,
+    names: &N,
+    before: Option<LongWrite>,
+    write: LongWrite,
+) -> Result<Option<String>, AllocError> {
+    let LongWrite { key, value, op } = write;
+    if value == initial_value(history, key) {
+        let name = names.operation(alloc, op)?;
+        let variable = names.variable(alloc, key)?;
+        let value = names.value(alloc, key, value)?;
+        return Ok(Some(format!(in alloc;
+            "{name} writes {value} to {variable}, which is its initial value"
+        )?));
+    }
+    match before {
+        Some(other) if other.key == key && other.value == value => {
+            Ok(Some(line_of_two(alloc, names, other.op, write)?))
+        }
+        _ => Ok(None),
+    }
+}
+
+// What is said of two writes of one value.
+fn line_of_two<N: Names>(
+    alloc: Global,
+    names: &N,
+    other: OpId,
+    write: LongWrite,
+) -> Result<String, AllocError> {
+    let LongWrite { key, value, op } = write;
+    let other = names.operation(alloc, other)?;
+    let name = names.operation(alloc, op)?;
+    let variable = names.variable(alloc, key)?;
+    let value = names.value(alloc, key, value)?;
+    format!(in alloc; "{other} and {name} both write {value} to {variable}")
+}
+
+// What a variable holds before the first call.
+fn initial_value(history: &LongHistory, key: u32) -> u64 {
+    history.value_is_history();
+    history.start().get(key).copied().unwrap_or(0)
+}

@@ -1,0 +1,47 @@
+//! A log of events on standard input.
+
+ghost use Rattle.std.specs.Prelude.{◌≤◌};
+
+use crate::waiting::Waiting;
+use command_line::LogOrder;
+use log_engine::{LogError, error_lines, follow_log, status_of_error};
+use std::io;
+use std::sync::Wait;
+use std::thread::Threads;
+use std::time::Clock;
+
+/// What is said of a last line that is not whole.
+const TORN: &str = "last line is not whole: passed over";
+
+/// Does what is ordered of the log on standard input, and returns the exit status.
+///
+/// What is wrong goes to standard error: the lines of a log that had no answer, and that a last line is not whole.
+pub(crate) fn follow_log_of_process<
+    P: Threads + Wait + Sync + AllocGlobal + Input + Print + Eprint + Clock,
+>(rt: &P, order: LogOrder) -> u8
+    ensures { result ≤ 6 }
+{
+    let mut source = Waiting::by(rt, rt.reader());
+    match follow_log(rt, &mut source, &mut io::writer(rt), &order) {
+        Ok(followed) => {
+            if followed.torn {
+                let _ = rt.eprintln(TORN);
+            }
+            followed.outcome.status()
+        }
+        Err(error) => report_error(rt, &error),
+    }
+}
+
+// Writes the lines of a log that had no answer, and returns the exit status. Where there is no memory for the lines, that is what the
+// process ends with.
+fn report_error<P: AllocGlobal + Eprint>(rt: &P, error: &LogError) -> u8
+    ensures { result ≤ 4 }
+{
+    let Ok(lines) = error_lines(rt.alloc(), error) else {
+        let _ = rt.eprintln("no memory");
+        return status_of_error(&LogError::Memory);
+    };
+    let _ = rt.eprintln(lines);
+    status_of_error(error)
+}

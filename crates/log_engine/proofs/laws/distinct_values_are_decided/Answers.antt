@@ -1,0 +1,15 @@
+-- A report on distinct values says of each criterion whether the history meets it.
+use Rattle.engine.specs.Report.{answer_for}
+use Rattle.engine.proofs.Decided.{decided-excluded, decided-met, says-long_true}
+use Rattle.events.specs.Histories.{history_of}
+use Rattle.log_engine.proofs.laws.distinct_values_are_decided.Goals as goal
+
+pub returns-clause-met : goal.returns-clause-met
+returns-clause-met c = λ events report on distinct criterion.
+    let answer = answer_for report criterion in
+    decided-met (history_of events) criterion distinct answer (says-long_true (history_of events) criterion answer (on.true_of.each criterion)) (on.unknown criterion)
+
+pub returns-clause-excluded : goal.returns-clause-excluded
+returns-clause-excluded c = λ events report on distinct criterion.
+    let answer = answer_for report criterion in
+    decided-excluded (history_of events) criterion distinct answer (says-long_true (history_of events) criterion answer (on.true_of.each criterion)) (on.unknown criterion)

@@ -1,0 +1,37 @@
+-- A turn goes on, or ends the log.
+use Rattle.std.proofs.Common.{◌∙◌, Ok, ap, length, subst}
+use Rattle.std.proofs.lemmas.Result.{err_from_is_err_and}
+use Rattle.event_reader.specs.ReadSteps.{Reads}
+use Rattle.event_reader.specs.declared.progress.Progress.{Progress}
+use Rattle.log_engine.proofs.Faults.{later-fault}
+use Rattle.log_engine.proofs.Watched.{turned-end, turned-more}
+use Rattle.log_engine.proofs.watching.Watch.turn.Goals as goal
+
+pub returns-in_err-read-clause-error : goal.returns-in_err-read-clause-error
+returns-in_err-read-clause-error g c = λ first written count watched.
+    let p = err_from_is_err_and c.from_residual-in_err-read.result c.from_residual-in_err-read.ensures.1 in
+    rw (p.1, p.2)
+    (later-fault first (g.R.Source.remaining c.args.source.now) watched.text c.args.reader.now c.in_err-read.field-0.0 watched.consumed watched.read
+    c.in_err-read.ensures.fault)
+
+pub returns-in_ok-outcome-in-More-clause-turn : goal.returns-in_ok-outcome-in-More-clause-turn
+returns-in_ok-outcome-in-More-clause-turn g c = λ first written count watched.
+    let before = g.R.Source.remaining c.args.source.now in
+    let after = g.R.Source.remaining c.read.new.source in
+    turned-more c.args.self.now.every c.args.self.now.expected first written before after (g.W.Write.contents c.args.writer.now)
+    (g.W.Write.contents c.write_cut.new.writer) c.args.reader.now c.read.new.self count c.events-judged.result c.in_ok-wanted.wanted c.log-in-More.result.now
+    c.in_ok-outcome-in-More.outcome c.stopped.result watched
+    (subst (λ (p : Progress). Reads before after c.args.reader.now c.read.new.self p) c.in-More.is c.in_ok-read.ensures.read) c.read.ensures.extends
+    (c.events-judged.ensures.count ∙ ap length c.log.ensures) c.in_ok-wanted.ensures.next (c.in_ok-read.ensures.enough (ap (λ p. Ok p) c.in-More.is))
+    c.in_ok-read.ensures.few c.log-in-More.ensures c.in_ok-outcome-in-More.ensures.written c.stopped.ensures.some c.stopped.ensures.none
+
+pub returns-in_ok-outcome-in-End-clause-turn : goal.returns-in_ok-outcome-in-End-clause-turn
+returns-in_ok-outcome-in-End-clause-turn g c = λ first written count watched.
+    let before = g.R.Source.remaining c.args.source.now in
+    let after = g.R.Source.remaining c.read.new.source in
+    turned-end c.args.self.now.every c.args.self.now.expected first written before after (g.W.Write.contents c.args.writer.now)
+    (g.W.Write.contents c.write_last.new.writer) c.args.reader.now c.read.new.self count c.events-judged.result c.in_ok-wanted.wanted c.log-in-End.result.now
+    c.in_ok-outcome-in-End.outcome c.in-End.torn watched
+    (subst (λ (p : Progress). Reads before after c.args.reader.now c.read.new.self p) c.in-End.is c.in_ok-read.ensures.read) c.read.ensures.extends
+    (c.events-judged.ensures.count ∙ ap length c.log.ensures) c.in_ok-wanted.ensures.next c.in_ok-read.ensures.few c.log-in-End.ensures
+    c.in_ok-outcome-in-End.ensures.written

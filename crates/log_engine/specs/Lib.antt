@@ -1,0 +1,4 @@
+pub mod Failure
+pub mod Reports
+pub mod LogAnswers
+pub mod Steps

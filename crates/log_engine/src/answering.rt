@@ -1,0 +1,101 @@
+//! Answering a log that is read to its end.
+
+ghost use Rattle.std.specs.Prelude.{◌≡◌, ◌≢◌, IfErr, IfOk, string_bytes};
+ghost use Rattle.event_reader.specs.Logs.{Log};
+ghost use Rattle.log_engine.specs.LogAnswers.{AnswersLog, IsLogAnswer, IsLogError};
+
+use crate::explaining::{explained_log, listed_log};
+use crate::failure::LogError;
+use crate::following::Followed;
+use crate::judging::report_on_last_log;
+use crate::reading::read_log;
+use crate::writing::{history_text, names_text};
+use command_line::{LogJudging, LogOrder};
+use engine::{WorkerThreads, outcome_of, report_text, write_output};
+use event_reader::EventReader;
+use lines::{Outcome, Source};
+use std::alloc::Global;
+use std::io::Write;
+use std::sync::Wait;
+use std::thread::Threads;
+
+/// An answer, and what came of it.
+#[derive(Drop)]
+pub(crate) struct LogAnswer {
+    pub text: String,
+    pub outcome: Outcome,
+}
+
+/// Reads a log to its end, makes the whole answer, and then writes it.
+///
+/// Nothing is written before the answer is made: after every error but a write fault the writer is as it was.
+pub(crate) fn answer_log<P: Threads + Wait + Sync + AllocGlobal, R: Source, W: Write>(
+    rt: &P,
+    source: &mut R,
+    writer: &mut W,
+    order: &LogOrder,
+) -> Result<Followed, LogError>
+    ensures answered { IfOk result (AnswersLog order.now (R.remaining source.old) (W.contents writer.old) (W.contents writer.new)) }
+    ensures error { IfErr result (IsLogError (R.remaining source.old)) }
+    ensures unwritten { IfErr result (λ e. e ≢ LogError.WriteFault → writer.new ≡ writer.old) }
+{
+    let whole = read_log(rt.alloc(), source)?;
+    let torn = whole.torn;
+    let answer = answer_to(rt, rt.alloc(), whole.reader, order)?;
+    write_output(writer, answer.text.as_bytes())?;
+    Ok(Followed {
+        outcome: answer.outcome,
+        torn,
+    })
+}
+
+// The answer to a log.
+fn answer_to<T: Threads + Wait + Sync>(
+    rt: &T,
+    alloc: Global,
+    reader: EventReader,
+    order: &LogOrder,
+) -> Result<LogAnswer, LogError>
+    ensures answer { IfOk result (λ answer. IsLogAnswer order.now reader.log (string_bytes answer.text) answer.outcome) }
+    ensures error { IfErr result (λ e. e ≡ LogError.Memory) }
+{
+    match order {
+        LogOrder::Judge(judging) => judged_log(rt, alloc, reader, *judging),
+        LogOrder::Explain(form) => Ok(met(explained_log(rt, alloc, &reader, *form)?)),
+        LogOrder::ListFaults(most, form) => {
+            Ok(met(listed_log(rt, alloc, &reader, *most, *form)?))
+        }
+        LogOrder::WriteHistory => Ok(met(history_text(alloc, reader)?)),
+        LogOrder::WriteNames => Ok(met(names_text(alloc, &reader)?)),
+    }
+}
+
+// An answer of which nothing is expected.
+fn met(text: String) -> LogAnswer
+    ensures text { string_bytes result.text ≡ string_bytes text }
+    ensures outcome { result.outcome ≡ Outcome.Met }
+{
+    LogAnswer {
+        text,
+        outcome: Outcome::Met,
+    }
+}
+
+// The report on a log, whose names are let go before its history is made.
+fn judged_log<T: Threads + Wait + Sync>(
+    rt: &T,
+    alloc: Global,
+    reader: EventReader,
+    judging: LogJudging,
+) -> Result<LogAnswer, LogError>
+    ensures answer { IfOk result (λ answer.
+        IsLogAnswer (LogOrder.Judge judging) reader.log (string_bytes answer.text) answer.outcome) }
+    ensures error { IfErr result (λ e. e ≡ LogError.Memory) }
+{
+    let work = WorkerThreads::of(rt, judging.workers.count());
+    let report = report_on_last_log(&work, alloc, reader.into_log())?;
+    Ok(LogAnswer {
+        text: report_text(alloc, &report)?,
+        outcome: outcome_of(&report, judging.expected),
+    })
+}

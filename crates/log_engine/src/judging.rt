@@ -1,0 +1,41 @@
+//! Judging the history that a log stands for.
+
+ghost use Rattle.std.specs.Prelude.{◌≡◌, IfErr, IfOk};
+ghost use Rattle.log_engine.specs.Reports.{IsReportOn};
+
+use engine::{Report, RunError, SessionWork, report_on_long};
+use event_log::EventLog;
+use std::alloc::Global;
+
+/// What is known of the history that a log stands for, for each criterion. Whoever works shares the sessions, and starts threads or
+/// none.
+///
+/// It is decided: `Unknown` exactly where values are not distinct, as [`report_on_long`] has it. Fails for want of memory alone.
+/// O(n (k + log n)) for n calls of k clients and lost writes that were read.
+pub fn report_on_log<W: SessionWork>(
+    work: &W,
+    alloc: Global,
+    log: &EventLog,
+) -> Result<Report, RunError>
+    requires { W.can_work work.now }
+    ensures report { IfOk result (IsReportOn log.now) }
+    ensures error { IfErr result (λ e. e ≡ RunError.Memory) }
+{
+    let history = log.history(alloc)?;
+    report_on_long(work, alloc, &history)
+}
+
+/// The same of a log that is let go before its history is judged, and so takes less memory.
+pub(crate) fn report_on_last_log<W: SessionWork>(
+    work: &W,
+    alloc: Global,
+    log: EventLog,
+) -> Result<Report, RunError>
+    requires { W.can_work work.now }
+    ensures report { IfOk result (IsReportOn log) }
+    ensures error { IfErr result (λ e. e ≡ RunError.Memory) }
+{
+    let history = log.history(alloc)?;
+    drop(log);
+    report_on_long(work, alloc, &history)
+}

@@ -1,0 +1,24 @@
+//! Laws of answers to logs: the contract of each function is the law, and the function does nothing.
+
+ghost use Rattle.std.specs.Prelude.{List, ◌≡◌, ◌↔◌, ℕ};
+ghost use Rattle.memory_order.specs.Memory.{IsDifferentiated, memory_answer};
+ghost use Rattle.cert_check.specs.Criteria.{Meets};
+ghost use Rattle.events.specs.Histories.{history_of};
+ghost use Rattle.engine.specs.Report.{answer_for};
+ghost use Rattle.engine.specs.declared.report.Report.{Report};
+ghost use Rattle.log_engine.specs.Reports.{IsReportOn};
+
+use bad_patterns::Kind;
+use cert_check::Criterion;
+use collector::Answer;
+use events::Event;
+
+/// A report on a log whose history has distinct values leaves nothing unknown: a line is a yes exactly where the history meets the
+/// criterion, and a no exactly where it does not.
+pub fn distinct_values_are_decided()
+    ensures met { (events : List Event) (report : Report) → IsReportOn events report → IsDifferentiated (history_of events)
+        → (criterion : Criterion) → answer_for report criterion ≡ Answer.Yes ↔ Meets memory_answer (history_of events) criterion }
+    ensures excluded { (events : List Event) (report : Report) → IsReportOn events report → IsDifferentiated (history_of events)
+        → (criterion : Criterion)
+        → ((kind : Kind) × (answer_for report criterion ≡ Answer.No kind)) ↔ ¬ Meets memory_answer (history_of events) criterion }
+{}

@@ -1,0 +1,84 @@
+//! What a log that was read knows of the operations of its history, and of its names.
+
+use causal_order::Rows;
+use event_log::LoggedCall;
+use event_names::{LogTables, StoodFor};
+use event_reader::{EventReader, Names};
+use operations::OpId;
+use std::alloc::{AllocError, Global};
+
+/// What a log that was read knows of the operations of its history, and of its names.
+#[derive(Drop)]
+pub(crate) struct Tables<'a> {
+    reader: &'a EventReader,
+    /// For each session of the history the calls for which its operations stand.
+    calls: Rows<LoggedCall>,
+    /// The keys of which reads are left out, each with how many.
+    left_out: Vec<(u32, u32)>,
+}
+
+impl<'a> Tables<'a> {
+    /// The tables of a log.
+    ///
+    /// Fails for want of memory alone. O(n log n) for n calls.
+    pub(crate) fn of(alloc: Global, reader: &'a EventReader) -> Result<Tables<'a>, AllocError> {
+        Ok(Tables {
+            reader,
+            calls: reader.log().origins(alloc)?,
+            left_out: reader.log().left_out(alloc)?,
+        })
+    }
+}
+
+// The name of this number, or the number itself where there is none.
+fn name_in(alloc: Global, names: &Names, number: u32) -> Result<String, AllocError> {
+    if (number as usize) < names.len() {
+        names.text(alloc, number)
+    } else {
+        format!(in alloc; "{number}")
+    }
+}
+
+impl LogTables for Tables<'_> {
+    fn stood_for(&self, op: OpId) -> Option<StoodFor> {
+        let session = op.session_place();
+        if session >= self.calls.len() {
+            return None;
+        }
+        let call = self.calls.get(session).get(op.place())?;
+        Some(StoodFor {
+            client: call.client(),
+            place: call.place(),
+            call: call.call(),
+            ending: call.ending(),
+        })
+    }
+
+    fn clients(&self) -> u64 {
+        u64::from(self.reader.log().clients())
+    }
+
+    fn line(&self, place: u32) -> u64 {
+        if place < self.reader.log().events() {
+            u64::from(self.reader.line_of(place as usize))
+        } else {
+            0
+        }
+    }
+
+    fn client_name(&self, alloc: Global, client: u32) -> Result<String, AllocError> {
+        name_in(alloc, self.reader.clients(), client)
+    }
+
+    fn key_name(&self, alloc: Global, key: u32) -> Result<String, AllocError> {
+        name_in(alloc, self.reader.keys(), key)
+    }
+
+    fn value_name(&self, alloc: Global, value: u32) -> Result<String, AllocError> {
+        name_in(alloc, self.reader.values(), value)
+    }
+
+    fn left_out(&self) -> &[(u32, u32)] {
+        self.left_out.as_slice()
+    }
+}

@@ -1,0 +1,46 @@
+//! One turn of judging a log while it is read: to the next cut, and the line on it.
+
+ghost use Rattle.std.specs.Prelude.{◌≡◌, ◌≢◌, ◌⊎◌, IfErr, IfOk};
+ghost use Rattle.std.specs.Io.KnownBytes.{Appends};
+ghost use Rattle.engine.specs.Expecting.{outcome_for};
+ghost use Rattle.log_engine.specs.Reports.{IsReportOn, cut_line};
+ghost use Rattle.log_engine.specs.Steps.Watching.{WritesCut};
+
+use crate::failure::LogError;
+use crate::judging::report_on_log;
+use command_line::Expected;
+use engine::{Report, SessionWork, joined_text, outcome_of, write_output};
+use event_log::EventLog;
+use lines::Outcome;
+use std::alloc::{AllocError, Global};
+use std::io::Write;
+
+/// Judges the log so far, and writes the line on it.
+pub(crate) fn write_cut<K: SessionWork, W: Write>(
+    work: &K,
+    alloc: Global,
+    writer: &mut W,
+    log: &EventLog,
+    expected: Expected,
+) -> Result<Outcome, LogError>
+    requires { K.can_work work.now }
+    ensures written { IfOk result (WritesCut expected log.now (W.contents writer.old) (W.contents writer.new)) }
+    ensures error { IfErr result (λ e. e ≢ LogError.WriteFault → writer.new ≡ writer.old) }
+    ensures refused { IfErr result (λ e. (e ≡ LogError.Memory) ⊎ (e ≡ LogError.WriteFault)) }
+{
+    let report = report_on_log(work, alloc, log)?;
+    let line = line_of_cut(alloc, log.events(), &report)?;
+    write_output(writer, line.as_slice())?;
+    Ok(outcome_of(&report, expected))
+}
+
+// How many events there are, and the lines of a report, joined.
+fn line_of_cut(alloc: Global, events: u32, report: &Report) -> Result<Vec<u8>, AllocError>
+    ensures { IfOk result (λ line. line.items ≡ cut_line events report.now) }
+{
+    let count = format!(in alloc; "{events} ")?;
+    let joined = joined_text(alloc, report)?;
+    let mut line = count.into_bytes();
+    line.extend_from_slice(joined.as_slice())?;
+    Ok(line)
+}
