@@ -1,7 +1,8 @@
 #!/usr/bin/env python3
 """Makes a memory history of any length on standard output, the same one each time.
 
-    python3 bench/long_runs.py [--fault KIND] [--width N] [--writes PERCENT] [--gap N] STORE SESSIONS OPERATIONS KEYS SEED > HISTORY
+    python3 bench/long_runs.py [--fault KIND] [--width N] [--lost N] [--writes PERCENT] [--gap N] \
+        STORE SESSIONS OPERATIONS KEYS SEED > HISTORY
 
 Each history is a run of a replicated store. Every session has a replica, and now and then, each N of its own operations on average (8
 unless given), it takes in all that another replica has and it has not, in the order in which this was written: so it takes in a write
@@ -16,6 +17,9 @@ unless given) are writes, of KEYS keys at random. Few keys are hot; of many, eac
 
 With `--fault`, operations of new keys are added, as planted.py has them: at the beginning of some sessions, before all else, and at the
 end. They show a kind, or two, and of a wide fault through many sessions: N is its width.
+
+With `--lost N`, N of the writes that were read got no answer. Each forks off: in its session stands a write of a key of its own in its
+place, and a session of its own reads that key and then has the write, with an unknown return. All that is sure of the lines stays sure.
 """
 
 import argparse
@@ -134,25 +138,53 @@ def run_of(store, sessions, operations, keys, rng, writes=50, gap=8):
     return found
 
 
+def read_writes(sessions):
+    """The places of the writes that were read."""
+    read = {(key, value) for operations in sessions for word, key, value in operations if word == "r"}
+    return [
+        (s, place)
+        for s, operations in enumerate(sessions)
+        for place, (word, *written) in enumerate(operations)
+        if word == "w" and tuple(written) in read
+    ]
+
+
+def lose(sessions, lost, rng):
+    """Forks off so many writes that were read."""
+    places = read_writes(sessions)
+    if len(places) < lost:
+        raise SystemExit(f"only {len(places)} writes were read")
+    mark = 1 + max((key for operations in sessions for _, key, _ in operations), default=-1)
+    for number, (s, place) in enumerate(sorted(rng.sample(places, lost)), mark):
+        _, key, value = sessions[s][place]
+        sessions[s][place] = ("w", number, value)
+        sessions.append([("r", number, value), ("w", key, value, "?")])
+
+
 def sure_lines(store, fault=None):
     """What is sure of the lines of a run: of a criterion `yes` or `no KIND`. Of what is not named nothing is known but that it is decided."""
     return planted.lines_with(MET[store], fault) if fault else MET[store]
 
 
-def history(store, sessions, operations, keys, seed, fault=None, width=1, writes=50, gap=8):
+def history(store, sessions, operations, keys, seed, fault=None, width=1, writes=50, gap=8, lost=0):
     """The operations of the history of a seed."""
     rng = random.Random(f"{store} {sessions} {operations} {keys} {seed}")
     found = run_of(store, sessions, operations, keys, rng, writes, gap)
     if fault and not planted.plant(found, fault, width, keys, rng):
         raise SystemExit(f"{sessions} sessions are too few for this fault")
+    if lost:
+        lose(found, lost, rng)
     return found
+
+
+FORMS = {3: '["%s",%d,%d]', 4: '["%s",%d,%d,"%s"]'}
 
 
 def pieces(sessions):
     """The text of a history, a piece for each session and one before and behind them."""
     yield '["memory",['
     for s, operations in enumerate(sessions):
-        yield "," * (s > 0) + "[" + ",".join(['["%s",%d,%d]' % operation for operation in operations]) + "]"
+        yield "," * (s > 0) + "[" + ",".join([FORMS[len(operation)] % operation for operation in operations]) + "]"
     yield "]]\n"
 
 
@@ -163,6 +195,7 @@ def arguments():
         parser.add_argument(name, type=int)
     parser.add_argument("--fault", choices=planted.FAULTS)
     parser.add_argument("--width", type=int, default=1, metavar="N")
+    parser.add_argument("--lost", type=int, default=0, metavar="N")
     parser.add_argument("--writes", type=float, default=50, metavar="PERCENT")
     parser.add_argument("--gap", type=float, default=8, metavar="N")
     return parser.parse_args()

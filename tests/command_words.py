@@ -4,14 +4,16 @@ import sys
 
 STORES = ("causal", "lamport")
 CRITERIA = ("cc", "cm", "ccv")
-RANGES = {"--workers": range(1, 17), "--seals": range(9), "--stop": range(16), "--all": range(1, 1_000_001)}
+RANGES = {"--workers": range(1, 17), "--seals": range(9), "--stop": range(16), "--all": range(1, 1_000_001), "--every": range(1, 2**31)}
 WITH_VALUE = (*RANGES, "--expect")
-ANY_LENGTH = ((), ("--json",), ("--svg",), ("--all",), ("--all", "--json"))
-FORMS = (*ANY_LENGTH, *(tuple(sorted((*form, "--long"))) for form in ANY_LENGTH), ("--certificates", "--json"))
+LENGTHS = ((), ("--long",), ("--events", "--long"))
+FORMS = (*((*form, *length) for form in ((), ("--json",), ("--svg",), ("--all",), ("--all", "--json")) for length in LENGTHS),)
+FORMS = (*(tuple(sorted(form)) for form in FORMS), ("--certificates", "--json"))
 OPTIONS = {
-    "judge": ("--workers", "--expect", "--long"),
+    "judge": ("--workers", "--expect", "--long", "--events", "--every"),
     "check": ("--workers",),
-    "explain": ("--json", "--certificates", "--svg", "--long", "--all"),
+    "explain": ("--json", "--certificates", "--svg", "--long", "--all", "--events"),
+    "events": ("--names",),
     "refute": ("--long",),
     "replay": (),
     "drive": ("--eager", "--seals", "--workers", "--stop"),
@@ -69,7 +71,14 @@ def is_whole(order):
     """Whether a command has all that it needs, and nothing that does not go together."""
     if order["command"] == "drive":
         return "store" in order
+    if order["command"] == "judge":
+        return ("--long" in order or "--events" not in order) and ("--events" in order or "--every" not in order)
     return order["command"] != "explain" or tuple(sorted(set(order) - {"command"})) in FORMS
+
+
+def reads_log(order):
+    """Whether a command reads a log of events."""
+    return order["command"] == "events" or "--events" in order
 
 
 def order_of(words):

@@ -16,8 +16,9 @@ Lines that begin with `> ` right after a command belong to it, as those of a her
 
 Each link of a page leads to a file that is there, and README.md has at most 1,500 words.
 
-The files of examples/ are judged, explained, checked, refuted, replayed and driven. What is said of them is below, or in the file of
-the same name that ends in .txt, or in the picture of that name in docs/. A file of which nothing is said is a failure.
+The files of examples/ are judged, explained, checked, refuted, replayed and driven; those that end in .jsonl are logs of events. What is
+said of them is below, or in the file of the same name that ends in .txt, or in the picture of that name in docs/. A file of which nothing is
+said is a failure.
 """
 
 import argparse
@@ -32,6 +33,7 @@ import tempfile
 from typing import NamedTuple
 
 import driven
+import plain_events
 from command_words import STORES, order_of, with_program
 from counting import end
 from reading import read_driven
@@ -76,6 +78,7 @@ SAID = {
     ),
 }
 DRIVEN = ("many_clients",)
+LOGGED = {"events_lost_write": (INITIAL, ""), "events_deletes": (STALE, ""), "events_torn": (YES, plain_events.NOT_WHOLE)}
 
 
 class Command(NamedTuple):
@@ -186,6 +189,21 @@ def outcome(program, words, path):
     return done.returncode, done.stdout.decode(), done.stderr.decode()
 
 
+def report_of(words):
+    """The three lines in which these words stand for the criteria."""
+    return "".join(f"{criterion} {word}\n" for criterion, word in zip(("cc", "cm", "ccv"), words))
+
+
+def wanted_of_log(path):
+    """The command lines for a log of events in examples/, with what is written to both outputs."""
+    if path.stem in LOGGED:
+        words, errors = LOGGED[path.stem]
+        yield ["judge", "--long", "--events"], report_of(words), errors
+        yield ["events"], plain_events.text_of(plain_events.history_of(plain_events.read_log(path.read_bytes()).events)), errors
+        if path.with_suffix(".txt").is_file():
+            yield ["explain", "--long", "--events"], path.with_suffix(".txt").read_text(encoding="utf-8"), errors
+
+
 def wanted_of(path):
     """The command lines for a file of examples/ whose answer is known, with that answer."""
     name = path.stem
@@ -193,8 +211,7 @@ def wanted_of(path):
         command, lines = SAID[name]
         yield command.split(), lines.replace(";", "\n") + "\n"
     if name in JUDGED:
-        lines = "".join(f"{criterion} {word}\n" for criterion, word in zip(("cc", "cm", "ccv"), JUDGED[name]))
-        yield from ((["judge", "--workers", str(workers)], lines) for workers in (1, 2, 16))
+        yield from ((["judge", "--workers", str(workers)], report_of(JUDGED[name])) for workers in (1, 2, 16))
     for words, shown in ((["explain"], path.with_suffix(".txt")), (["explain", "--svg"], path.parent.parent / "docs" / f"{name}.svg")):
         if shown.is_file():
             yield words, shown.read_text(encoding="utf-8")
@@ -202,11 +219,11 @@ def wanted_of(path):
 
 def runs_of(given):
     """The faults of each run over a file of examples/."""
-    for path in sorted((given.root / "examples").glob("*.json")):
+    for path in sorted((given.root / "examples").glob("*.json*")):
         is_known = False
-        for words, wanted in wanted_of(path):
-            is_known, found = True, outcome(given.program, words, path)
-            yield [] if found == (0, wanted, "") else [f"{' '.join(words)} < examples/{path.name}: {found!r}, wanted {wanted!r}"]
+        for words, wanted, *errors in wanted_of_log(path) if path.suffix == ".jsonl" else wanted_of(path):
+            is_known, found, due = True, outcome(given.program, words, path), (0, wanted, *(errors or [""]))
+            yield [] if found == due else [f"{' '.join(words)} < examples/{path.name}: {found!r}, wanted {due!r}"]
         for store in STORES if path.stem in DRIVEN else ():
             is_known, words = True, ["drive", store]
             status, text, error = outcome(given.program, words, path)

@@ -10,8 +10,9 @@
   `judge` says without these, but for the kind of a `cm no`, and those of the plain judge.
 - A history for each fault of bench/planted.py and each of some stores, of more sessions and of more operations than `judge` takes, and one
   that writes an initial value, get the lines that are sure of them.
-- HISTORIES random histories of up to 40 sessions, or with sessions of 257 to some 400 operations, get the lines of the plain judge. Each of
-  the seven kinds is named among all these by each line that it is against, and each line says `yes` and `unknown` somewhere.
+- HISTORIES random histories of up to 40 sessions and one more for each of up to 100 lost writes, or with sessions of 257 to some 400
+  operations, get the lines of the plain judge. Each of the seven kinds is named among all these by each line that it is against, and each
+  line says `yes` and `unknown` somewhere.
 - Refusals, long tables, `--expect`, `--lines` with long lines, and words that are no command line.
 - With `--long`: histories of a million operations, each within 300 seconds, and 22 million empty sessions, within 60; ten times as long for
   a program that `rt try` built.
@@ -50,10 +51,11 @@ MEMORY = b'["memory"'
 LONG_LINE = 60_000
 FEW = 600
 MILLIONS = (
-    ("arrival", 16, 64, None, 1),
-    ("stamps", 16, 10_000, None, 1),
-    ("copy", 16, 64, "WriteCORead", 4),
-    ("copy", 100, 64, "CyclicHB", 8),
+    ("arrival", 16, 64, None, 1, 0),
+    ("stamps", 16, 10_000, None, 1, 0),
+    ("copy", 16, 64, "WriteCORead", 4, 0),
+    ("copy", 100, 64, "CyclicHB", 8, 0),
+    ("arrival", 64, 10_000, None, 1, 5_000),
 )
 
 
@@ -392,8 +394,8 @@ def of_full_size(program):
     words, times = ["judge", "--long"], UNPROVED_TIMES if is_unproved(program) else 1
     data = b'["memory",[' + b"[]," * (EMPTY_SESSIONS - 1) + b"[]]]"
     yield Case(words, data, outcome(program, words, data, times * READING_SECONDS), (0, MET, ""))
-    for store, sessions, keys, fault, width in MILLIONS:
-        options = ["--fault", fault, "--width", str(width)] if fault else []
+    for store, sessions, keys, fault, width, lost in MILLIONS:
+        options = ["--lost", str(lost), *(["--fault", fault, "--width", str(width)] if fault else [])]
         made = [sys.executable, long_runs.__file__, *options, store, *map(str, (sessions, MILLION, keys, 1))]
         data = subprocess.run(made, stdout=subprocess.PIPE, check=True).stdout
         found, lines = outcome(program, words, data, times * MILLION_SECONDS), long_runs.sure_lines(store, fault)

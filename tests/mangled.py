@@ -3,12 +3,13 @@
 
     python3 tests/mangled.py SEED [--count N] [--minutes M] -- PROGRAM
 
-A history, a history with a certificate or with a pattern, or a script is made at random, and then its value or its text is spoilt
-in one to three places: a part is replaced, taken out, doubled or put elsewhere, a number is put at a limit, a byte is changed. The
+A history, a history with a certificate or with a pattern, a script or a log of events is made at random, and then its value or its text is
+spoilt in one to three places: a part is replaced, taken out, doubled or put elsewhere, a number is put at a limit, a byte is changed. The
 words of the command line are spoilt too, now and then. The status, what is written and the line on standard error have to be those of
 the plain reader; of `judge` the lines have to be three lines of a report, with the status that `--expect` asks for, of `explain` the
 text has to look like the form that is asked for, of `drive` what driven.py asks for, and words that are no command line have to be
-answered by an error. Where they are not, the input is written to a file and named, and the end is status 1.
+answered by an error. Of a log the lines of `judge` and of each cut have to be those of plain_events.py, where it knows any. Where they are
+not, the input is written to a file and named, and the end is status 1.
 
 It tries N inputs (1,000 unless given), or as many as it can within M minutes. One seed gives the same inputs each time.
 """
@@ -24,9 +25,11 @@ import tempfile
 import time
 
 import driven
+import plain_events
+import random_logs
 import reading
 import replay
-from command_words import OPTIONS, RANGES, STORES, WITH_VALUE, order_of, with_program
+from command_words import OPTIONS, RANGES, STORES, WITH_VALUE, order_of, reads_log, with_program
 from counting import end
 from objects import DONE, KEYED, MOST_NUMBER, OBJECTS, UNKNOWN, State, operation
 from patterns import AGAINST, CRITERIA, MemoryHistory
@@ -39,6 +42,8 @@ WORDS = (b"-0", b"1e2", b"1e400", b"1.0", b"01", b"+1", b"NaN", b"\\u0077", b"\\
 WORDS += (b"[" * 130,)
 OPTION_WORDS = ("", "-", "--", "judge", *STORES, "--eager", "--eager=1", "--seals", "--stop=16", "--workers=0", "--speed", "9", "17")
 OPTION_WORDS += ("cc,ccv", "--json", "--certificates", "--svg", "--expect", "--expect=cc,cc", "--expect=cm,", "--expect=CC", "cc")
+OPTION_WORDS += ("--events", "--every", "--every=0", "--names", "events")
+NEEDED = (("--every", "--events"), ("--events", "--long"))
 
 
 def random_history(rng):
@@ -154,6 +159,8 @@ def random_value(rng, option):
     """A value of an option: the names of criteria, or a number."""
     if option == "--expect":
         return ",".join(rng.sample(CRITERIA, rng.randint(1, len(CRITERIA))))
+    if option == "--every":
+        return str(rng.choice((1, 2, 3, 5, 10, 1_000, 2**31 - 1)))
     return rng.choice(("", "", "+", "0")) + str(rng.choice(RANGES[option]))
 
 
@@ -165,9 +172,18 @@ def option_words(rng, option):
     return [option, value] if rng.random() < 0.5 else [f"{option}={value}"]
 
 
+def random_options(rng, command):
+    """Some options of a command, mostly with those that they need."""
+    chosen = [option for option in OPTIONS[command] if rng.random() < 0.3]
+    for option, needed in NEEDED:
+        if option in chosen and needed not in chosen and rng.random() < 0.9:
+            chosen.append(needed)
+    return chosen
+
+
 def random_words(rng, command):
     """The words of a command line, spoilt now and then."""
-    parts = [option_words(rng, option) for option in OPTIONS[command] if rng.random() < 0.3]
+    parts = [option_words(rng, option) for option in random_options(rng, command)]
     parts += [[rng.choice(STORES)]] if command == "drive" else []
     rng.shuffle(parts)
     words = [command, *sum(parts, [])]
@@ -192,6 +208,20 @@ def mangled(rng, command):
     return text
 
 
+def mangled_log(rng):
+    """A log of events, mostly spoilt in its bytes."""
+    data = random_logs.log(rng)
+    for _ in range(rng.choice((0, 0, 1, 1, 2, 3)) if len(data) < random_logs.LONG_LINE else 0):
+        data = spoilt_text(rng, data)
+    return data
+
+
+def data_for(rng, command, words):
+    """An input for words: what their command reads, and now and then what another one does."""
+    is_log = command == "events" or "--events" in words
+    return mangled_log(rng) if is_log != (rng.random() < 0.02) else mangled(rng, "judge" if command == "events" else command)
+
+
 def answer_due(order, data):
     """What is due to an input, where one thing alone is."""
     if order["command"] == "replay":
@@ -213,6 +243,9 @@ def wanted(order, data):
     """The status, what is written, where one thing alone may be, and the line on standard error, where it is known."""
     if order is None:
         return 2, "", None
+    if reads_log(order):
+        refusal = plain_events.read_log(data).refusal
+        return (1, None, "refused {} {}\n".format(*refusal)) if refusal else (0, None, "")
     try:
         return 0, answer_due(order, data), ""
     except replay.Refused as refusal:
@@ -250,8 +283,44 @@ def is_line(answer, due):
     return f"{answer}\n" == due[2] if due[0] == 1 else reading.REPORT.fullmatch(answer.replace("; ", "\n") + "\n") is not None
 
 
+def is_report_on(events, text):
+    """Whether a text is the report on some events, or, where the plain judge knows none, any report."""
+    return reading.REPORT.fullmatch(text) is not None and text == (plain_events.report_on(events) or text)
+
+
+def is_right_of_cuts(order, read, found):
+    """Whether an outcome is due to the cuts of a log."""
+    status, written, errors = found
+    cuts = plain_events.cuts_of(read, order["--every"])
+    for many, line in itertools.zip_longest(cuts, written.splitlines()):
+        number, _, answer = (line or "").partition(" ")
+        if number != str(many) or not is_report_on(read.events[:many], answer.replace("; ", "\n") + "\n"):
+            return False
+        if status_of(order, [answer]):
+            is_last = many == cuts[-1] and plain_events.is_said(read, errors)
+            return written.endswith(f"{line}\n") and ((status, errors) == (status_of(order, [answer]), "") or is_last)
+    return plain_events.is_said(read, errors) and status == int(read.refusal is not None)
+
+
+def is_right_of_log(order, data, found):
+    """Whether an outcome is one that is due to a log."""
+    read, (status, written, errors) = plain_events.read_log(data), found
+    if "--every" in order:
+        return is_right_of_cuts(order, read, found)
+    if not plain_events.is_said(read, errors) or read.refusal:
+        return plain_events.is_said(read, errors) and (status, written) == (1, "")
+    if order["command"] == "events":
+        due = plain_events.names_of(read) if "--names" in order else plain_events.history_of(read.events)
+        return status == 0 and json.dumps(json.loads(written)) == json.dumps(due)
+    if order["command"] == "judge":
+        return is_report_on(read.events, written) and status == status_of(order, ["; ".join(written.splitlines())])
+    return status == 0 and is_reason(order, written)
+
+
 def is_right(program, order, data, found, due):
     """Whether an outcome is one that is due."""
+    if order and reads_log(order):
+        return is_right_of_log(order, data, found)
     if due[2] is None:
         return found[:2] == due[:2] and found[2].startswith("error: ")
     if due[1] is None:
@@ -297,8 +366,8 @@ def main():
     seen, wrong = collections.Counter(), 0
     for _ in rounds(given):
         command = rng.choice(list(OPTIONS))
-        words, data = random_words(rng, command), mangled(rng, command)
-        order = order_of(words)
+        words = random_words(rng, command)
+        order, data = order_of(words), data_for(rng, command, words)
         due, found = wanted(order, data), outcome(given.program, words, data)
         seen[order["command"] if order else command, kind_of(due)] += 1
         if not is_right(given.program, order, data, found, due):

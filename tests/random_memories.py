@@ -156,6 +156,13 @@ def plant(rng, sessions, key, widest):
     return found
 
 
+def fork(rng, sessions, most):
+    """Lets up to so many writes that were read get no answer: each forks off into a session of its own."""
+    long_runs.lose(sessions, min(most, len(long_runs.read_writes(sessions))), rng)
+    for session in sessions:
+        session[:] = map(list, session)
+
+
 def hide_returns(rng, sessions):
     """Leaves the last operations of some sessions without an answer."""
     for session in sessions:
@@ -206,8 +213,8 @@ def double(rng, sessions):
         sessions[s][i][1:3] = key, value
 
 
-def memory(rng, shape, widest=1):
-    """The form of a memory, and the faults that were planted."""
+def memory(rng, shape, widest=1, lost=0):
+    """The form of a memory, of which up to so many writes were lost, and the faults that were planted."""
     how = rng.random()
     if how < 0.1 and shape.operations <= MOST_WILD:
         sessions = wild(rng, shape)
@@ -218,6 +225,7 @@ def memory(rng, shape, widest=1):
     faults = plant(rng, sessions, shape.keys, widest) if rng.random() < 0.4 else []
     if rng.random() < 0.3:
         spoil(rng, sessions)
+    fork(rng, sessions, lost)
     if rng.random() < 0.3:
         hide_returns(rng, sessions)
     if rng.random() < 0.03:
@@ -232,8 +240,9 @@ def small(rng):
 
 
 def wide(rng):
-    """A memory of 17 to 40 sessions."""
-    return memory(rng, Shape(rng.randint(17, 40), rng.choice((2, 4, 8, 20)), rng.choice((1, 2, 4, 8, 30))), 6)
+    """A memory of 17 to 40 sessions, and of one more for each write that was lost."""
+    lost = rng.choice((0, 0, 5, 100))
+    return memory(rng, Shape(rng.randint(17, 40), rng.choice((2, 4, 8, 20)), rng.choice((1, 2, 4, 8, 30))), 6, lost)
 
 
 def tall(rng):

@@ -1,5 +1,5 @@
 #!/usr/bin/env python3
-"""Records runs of correct stores by the recipes of docs/recording.md, and wants no `no` about any of them.
+"""Records runs of correct stores by the rules of docs/recording.md, and wants no `no` about any of them.
 
     python3 tests/recorded_stores.py RUNS -- PROGRAM
 
@@ -10,18 +10,24 @@ effect long after its client gave it up. Replicas refuse some writes, keys are d
     as it comes  three replicas, each write after all that it depends on, the last one wins   cc and cm
     by stamp     the same, and the write with the greatest stamp wins                         cc and ccv
 
-The recorder is that of examples/python. A try without an answer is given up, and the next one is a write of its own with a new value. A
-delete is a write of a new value, and a read that finds nothing is left out, but for the keys that no run deletes: there it is a read of 0.
+Each run is recorded twice. First as a log of events: a try without an answer is lost, and the next one is a call of its own, of a write with a
+new value. Then as a history, by the recorder of examples/python: a try without an answer is given up, a delete is a write of a new value, and a
+read that finds nothing is left out, but for the keys that no run deletes: there it is a read of 0.
 
-Then 100 of these runs are recorded by each of two recipes that blame correct stores: a retry as one operation with its first try, and
-each read that finds nothing as a read of 0. Some of them have to be a `no`, else such runs could not tell a wrong recipe.
+Then 100 of these runs are recorded by each of three recipes that blame correct stores: a retry as one call with its first try, in a log and in
+a history, and each read that finds nothing as a read of 0 in a history. Some of them have to be a `no`, else such runs could not tell a wrong
+recipe.
 """
 
 import argparse
+import itertools
+import json
+import os
 import pathlib
 import random
 import subprocess
 import sys
+from concurrent.futures import ThreadPoolExecutor
 from typing import NamedTuple
 
 from command_words import with_program
@@ -49,15 +55,61 @@ class Kind(NamedTuple):
 
 
 class Recipe(NamedTuple):
-    """How clients record: a retry as a write of its own, and what a read that finds nothing is for these keys: left out."""
+    """How clients record: a retry as a write of its own, and for which keys a read that finds nothing is left out of a history; or as a log."""
 
     is_retry_of_its_own: bool
-    left_out: tuple
+    left_out: tuple = ()
+    is_log: bool = False
 
 
 KINDS = (Kind(1, False, ("cc", "cm", "ccv")), Kind(3, False, ("cc", "cm")), Kind(3, True, ("cc", "ccv")))
-RIGHT = Recipe(True, DELETED_KEYS)
-WRONG = {"a retry as one operation": Recipe(False, DELETED_KEYS), "finding nothing as a read of 0": Recipe(True, ())}
+RIGHT = (Recipe(True, is_log=True), Recipe(True, DELETED_KEYS))
+WRONG = {
+    "a retry as one call of a log": Recipe(False, is_log=True),
+    "a retry as one operation": Recipe(False, DELETED_KEYS),
+    "finding nothing as a read of 0": Recipe(True),
+}
+
+
+class Log:
+    """A log of events, to which the clients of a run append."""
+
+    def __init__(self):
+        self.lines, self.values, self.clients = [], itertools.count(1), itertools.count()
+
+    def session(self):
+        return Client(self, f"client {next(self.clients)}")
+
+    def new_value(self):
+        return next(self.values)
+
+    def text(self):
+        return "".join(f"{json.dumps(line)}\n" for line in self.lines)
+
+
+class Client:
+    """A client of a log, and its pending call."""
+
+    def __init__(self, log, name):
+        self.log, self.name, self.is_over = log, name, True
+
+    def begin(self, *call):
+        self.log.lines.append(["begin", self.name, list(call)])
+        self.is_over = False
+        return self
+
+    def close(self, *event):
+        self.log.lines.append(list(event))
+        self.is_over = True
+
+    def end(self, answer="ok"):
+        self.close("end", self.name, answer)
+
+    def give_up(self):
+        self.close("lost", self.name)
+
+    def drop(self):
+        self.close("fail", self.name)
 
 
 class Update(NamedTuple):
@@ -141,7 +193,7 @@ def write(store, history, session, at, key, is_delete, recipe):
     for _ in range(TRIES):
         if recipe.is_retry_of_its_own or call is None:
             value = history.new_value()
-            call = session.begin("w", key, value)
+            call = session.begin("d", key) if is_delete and recipe.is_log else session.begin("w", key, value)
         try:
             is_taken = yield from store.ask(lambda value=value: store.write(at, key, None if is_delete else value))
         except TimedOut:
@@ -168,7 +220,9 @@ def read(store, session, at, key, recipe):
     except TimedOut:
         call.give_up()
         return
-    if value is None and key in recipe.left_out:
+    if recipe.is_log:
+        call.end(value)
+    elif value is None and key in recipe.left_out:
         call.drop()
     else:
         call.end(value or 0)
@@ -200,9 +254,9 @@ def stopping(process):
 
 
 def recorded(seed, recipe):
-    """The history of one run."""
+    """The log or the history of one run."""
     kind = KINDS[seed % len(KINDS)]
-    simulation, history = Simulation(), History("memory")
+    simulation, history = Simulation(), Log() if recipe.is_log else History("memory")
     store = Store(kind, simulation, random.Random(seed))
     for number in range(CLIENTS):
         simulation.start(stopping(client(store, history, number % kind.replicas, recipe)))
@@ -210,10 +264,24 @@ def recorded(seed, recipe):
     return history.text()
 
 
-def verdicts(program, texts):
-    """For each history its three lines."""
+def lines_of(text):
+    """What the lines of a report say of each criterion."""
+    return dict(word.split(" ", 1) for word in text.split("; ")) if "; " in text else {}
+
+
+def verdict_of_log(program, text):
+    """The lines of a log."""
+    done = subprocess.run([*program, "judge", "--long", "--events"], input=text, capture_output=True, check=False, text=True, timeout=800)
+    return lines_of("; ".join(done.stdout.splitlines()))
+
+
+def verdicts(program, texts, recipe):
+    """For each log or history its three lines."""
+    if recipe.is_log:
+        with ThreadPoolExecutor(os.cpu_count() or 2) as pool:
+            return list(pool.map(lambda text: verdict_of_log(program, text), texts))
     done = subprocess.run([*program, "judge", "--lines"], input="\n".join(texts), capture_output=True, check=False, text=True, timeout=800)
-    lines = [dict(word.split(" ", 1) for word in line.split("; ")) if "; " in line else {} for line in done.stdout.splitlines()]
+    lines = [lines_of(line) for line in done.stdout.splitlines()]
     return lines + [{}] * (len(texts) - len(lines))
 
 
@@ -227,14 +295,15 @@ def main():
     parser.add_argument("runs", type=int)
     given = with_program(parser)
     passed = failed = 0
-    texts = [recorded(seed, RIGHT) for seed in range(given.runs)]
-    for seed, lines in enumerate(verdicts(given.program, texts)):
-        found = faults(seed, lines)
-        passed, failed = passed + (not found), failed + bool(found)
-        if found:
-            print(f"seed {seed}: {'; '.join(found)}: {texts[seed]}", flush=True)
+    for recipe in RIGHT:
+        texts = [recorded(seed, recipe) for seed in range(given.runs)]
+        for seed, lines in enumerate(verdicts(given.program, texts, recipe)):
+            found = faults(seed, lines)
+            passed, failed = passed + (not found), failed + bool(found)
+            if found:
+                print(f"seed {seed}: {'; '.join(found)}: {texts[seed]}", flush=True)
     for name, recipe in WRONG.items():
-        found = verdicts(given.program, [recorded(seed, recipe) for seed in range(BLAMING_RUNS)])
+        found = verdicts(given.program, [recorded(seed, recipe) for seed in range(BLAMING_RUNS)], recipe)
         blamed = sum(" no " in "; ".join(faults(seed, lines)) for seed, lines in enumerate(found))
         print(f"{name}: {blamed} of {BLAMING_RUNS} runs are a no", flush=True)
         passed, failed = passed + (blamed >= LEAST_BLAMED), failed + (blamed < LEAST_BLAMED)

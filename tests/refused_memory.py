@@ -4,8 +4,8 @@
     python3 tests/refused_memory.py [--threads N] [--tests PROGRAM] -- PROGRAM
 
 Each input below is run again and again, with the next allocation refused each time, until a run makes no more. A run has to end with
-its usual answer, or with status 4, `no memory` on standard error and nothing written. `judge --lines` may have written the answers of
-some first lines before. What `drive` writes may differ from run to run: driven.py has to find no fault in it.
+its usual answer, or with status 4, `no memory` on standard error and nothing written. `judge --lines` and `judge --every` may have written
+some first lines of their answer before. What `drive` writes may differ from run to run: driven.py has to find no fault in it.
 
 The same is done with the tests below of crates/acceptance, which repeat a call where memory was refused to it. Each has to pass in
 each run, and `abandoned` has to print each answer that a refusal can lead to. `rt ci` leaves the program that has these tests; without
@@ -17,6 +17,7 @@ C compiler everything is skipped, and so is a program that `rt try` built, whose
 
 import argparse
 import itertools
+import json
 import os
 import pathlib
 import shutil
@@ -45,6 +46,26 @@ CYCLIC = '["memory",[[["w",0,1]],[["w",0,2],["r",0,1],["r",0,2]]]]'
 REPEATED = '["memory",[[["w",0,1],["r",0,0]],[["w",3,1]],[["w",3,1]]]]'
 POPS = '["queue",[[["push",5]],[["pop",5],["pop",null]]]]'
 LOGGED = "\n".join((PLAIN, "[]", STALE, '["memory"', POPS, AGAINST_CM, ""))
+
+
+def logged(*calls):
+    """A log of calls, each a client, what it calls, and the event that ends it with its answer, if any."""
+    events = [event for client, call, *end in calls for event in (["begin", client, call], [end[0], client, *end[1:]] if end else None)]
+    return "".join(f"{json.dumps(event)}\n" for event in events if event)
+
+
+WRITTEN = ("alice", ["w", "user:5", "v1"], "end", "ok")
+LOST_LOG = logged(WRITTEN, ("bob", ["w", 7, True], "lost"), ("carol", ["r", 7], "end", True), ("carol", ["d", 7]))
+STALE_LOG = logged(
+    WRITTEN,
+    ("alice", ["w", "user:5", "v2"], "end", "ok"),
+    ("bob", ["d", "k"], "end", "ok"),
+    ("bob", ["r", "k"], "end", None),
+    ("bob", ["r", "user:5"], "end", "v2"),
+    ("bob", ["r", "user:5"], "end", "v1"),
+)
+STARTED_LOG = '["start","user:5",-1]\n' + logged(("alice", ["r", "user:5"], "end", -1)) + '["begin"'
+REFUSED_LOG = LOST_LOG + '["end","nobody","ok"]\n'
 
 
 def long(text):
@@ -81,6 +102,15 @@ INPUTS = (
     ("judge --long", long(REPEATED), "cc unknown\ncm unknown\nccv unknown\n"),
     ("judge --long", long('["memory",[[["r",0,5],["w",0,1]],[["r",0,1]]]]').removesuffix("]") + ",[[0,5]]]", YES),
     ("judge --long --lines", "\n".join((LOGGED, long(PLAIN), long(CYCLIC))), "ccv no WriteCORead\nrefused 1\nrefused 3\ncc yes; cm no WriteHBInitRead"),
+    ("judge --long --events", LOST_LOG, YES),
+    ("judge --long --events", STALE_LOG, "cc no WriteCORead\ncm no WriteCORead\nccv no WriteCORead\n"),
+    ("judge --long --events", STARTED_LOG, YES),
+    ("judge --long --events", REFUSED_LOG, ""),
+    ("judge --long --events --every 3", STALE_LOG, "3 cc yes; cm yes; ccv yes\n"),
+    ("judge --long --events --every 2 --expect cc", STALE_LOG, "12 cc no WriteCORead; cm no WriteCORead; ccv no WriteCORead\n"),
+    ("events", LOST_LOG, '["memory",[[["w",0,1]],[["w",5,1]],'),
+    ("events", STARTED_LOG, '["memory",[[["r",0,1]]],[[0,1]]]'),
+    ("events --names", LOST_LOG, '[["alice","bob","carol"],["user:5",7],["v1",true]]'),
     (
         "check",
         '[["queue",[[["push",5]],[["pop",5]],[["pop",5]]]],["cc",[[[1,0,0]],[[1,1,0]],[[1,0,1]]],[[[0]],[[0,1]],[[0,2]]]]]',
@@ -103,6 +133,11 @@ INPUTS = (
     ("explain --long --json", long(CYCLIC), '["cm","no",["CyclicHB",'),
     ("explain --long --json", long(AGAINST_CCV), '["ccv","no",["CyclicCF",'),
     ("explain --long --svg", long(STALE), "<title>cc no WriteCORead"),
+    ("explain --long --events", LOST_LOG, "cm yes\n"),
+    ("explain --long --events", STALE_LOG, "cc no WriteCORead\n"),
+    ("explain --long --events --json", STALE_LOG, '["ccv","no",["WriteCORead",'),
+    ("explain --long --events --svg", STALE_LOG, "<title>cc no WriteCORead"),
+    ("explain --long --events --all 3", STALE_LOG, "WriteCORead: 1 read in 1 of "),
     ("explain --all 3", STALE, "  WriteCORead: 1 read in 1 of 3 sessions\n"),
     ("explain --long --all 3 --json", long(STALE), '["WriteCORead",[2,1],[0,0],[1,1]]'),
     ("refute --long", f'[{long(STALE)},"cc",["WriteCORead",[[0,0],[0,1],[1,0],[1,1]],[[1,1],[2,0],[2,1]]]]', "cc no WriteCORead\n"),
@@ -267,7 +302,7 @@ def is_right(program, words, data, usual, found):
     may differ from run to run."""
     if found in (usual, NO_MEMORY):
         return True
-    if "--lines" in words:
+    if "--lines" in words or "--every" in words:
         return (found[0], found[2]) == (4, b"no memory\n") and is_first_lines(found[1], usual[1])
     if words[0] != "drive" or (found[0], found[2]) != (0, b""):
         return False

@@ -54,11 +54,11 @@ def levels(value):
     return deepest
 
 
-def read_json(data):
-    """The value that the bytes are the text of."""
+def read_json(data, number=number_of):
+    """The value that the bytes are the text of, with numbers as the function reads them."""
     try:
         text = data.decode("utf-8")
-        value = json.loads(text, parse_int=number_of, parse_float=number_of, parse_constant=refuse_constant)
+        value = json.loads(text, parse_int=number, parse_float=number, parse_constant=refuse_constant)
         json.dumps(value, ensure_ascii=False, default=str).encode("utf-8")
     except (ValueError, RecursionError):
         raise Refused(1) from None
