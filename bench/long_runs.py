@@ -18,8 +18,8 @@ unless given) are writes, of KEYS keys at random. Few keys are hot; of many, eac
 With `--fault`, operations of new keys are added, as planted.py has them: at the beginning of some sessions, before all else, and at the
 end. They show a kind, or two, and of a wide fault through many sessions: N is its width.
 
-With `--lost N`, N of the writes that were read got no answer. Each forks off: in its session stands a write of a key of its own in its
-place, and a session of its own reads that key and then has the write, with an unknown return. All that is sure of the lines stays sure.
+`--lost N` takes the answer away from N writes whose values are read. Each of them gets a session of its own. A write of a new key stands in
+its old place; the new session reads that key and then has the write, with an unknown return. All that is sure of the lines stays sure.
 """
 
 import argparse
