@@ -1,8 +1,8 @@
 //! Tests of what no contract says and no table of `cases` can see: calls that succeed, desks and their workers, recorders and their
-//! seals, clients that run at the same time, and what is found where memory was refused before.
+//! seals, clients that run at the same time, what is found where memory was refused before, and runs of the whole engine over readers and
+//! writers in memory, which give or take some bytes a call, or fail.
 //!
-//! What the words of a command line and an input give is a case of the crate `cases`, and runs over readers and writers that
-//! fail are tests of `whole_runs`. What a contract says of every input has no test.
+//! What the words of a command line and an input give is a case of the crate `cases`. What a contract says of every input has no test.
 #![tactic(auto)]
 
 #[cfg(test)]
@@ -14,9 +14,15 @@ mod counters;
 #[cfg(test)]
 mod desks;
 #[cfg(test)]
+mod devices;
+#[cfg(test)]
+mod failures;
+#[cfg(test)]
 mod histories;
 #[cfg(test)]
 mod judgements;
+#[cfg(test)]
+mod line_runs;
 #[cfg(test)]
 mod many_pairs;
 #[cfg(test)]
@@ -27,6 +33,10 @@ mod receipts;
 mod recordings;
 #[cfg(test)]
 mod replicas;
+#[cfg(test)]
+mod running;
+#[cfg(test)]
+mod runs;
 #[cfg(test)]
 mod seal_cut;
 #[cfg(test)]

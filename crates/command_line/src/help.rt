@@ -9,27 +9,24 @@ pub const ABOUT: &str =
 
 /// What `--long` lets `judge` take.
 pub const LONG: &str =
-    "Judges a memory, and no other object, with any number of sessions and operations, in the same three lines; made for 10 to 1,000 sessions";
+    "Judges a memory, and no other object, of any length; made for 10 to 1,000 sessions";
 
 /// What `--long` lets `explain` take.
-pub const LONG_REASON: &str =
-    "Explains a memory, and no other object, with any number of sessions and operations";
+pub const LONG_REASON: &str = "Explains a memory, and no other object, of any length";
 
 /// What `--long` lets `refute` take.
-pub const LONG_PATTERN: &str =
-    "Checks the pattern in a memory, and no other object, with any number of sessions and operations";
+pub const LONG_PATTERN: &str = "Checks the pattern in a memory, and no other object, of any length";
 
 /// What `--events` lets `judge` take.
-pub const EVENTS: &str =
-    "With --long: the input is a log of events, one in each line, and the history that it stands for is judged";
+pub const EVENTS: &str = "With --long: the input is a log, with one event in each line";
 
 /// What `--events` lets `explain` take.
 pub const EVENTS_REASON: &str =
-    "With --long: the input is a log of events, and operations are shown by their lines, clients, keys and values by their names";
+    "With --long: the input is a log, and operations are shown by their lines and names";
 
 /// What `--every` lets `judge` do.
 pub const EVERY: &str =
-    "With --events: judges after each N events and at the end, each time all so far, and writes a line; with --expect it ends at the first that fails";
+    "With --events: judges the log so far after every N events; with --expect ends at the first fault";
 
 /// What `--names` lets `events` write.
 pub const NAMES: &str =
@@ -37,17 +34,33 @@ pub const NAMES: &str =
 
 /// What is read and written, with an example, and what statuses and refusals mean.
 pub const MANUAL: &str =
-    r#"The input is read from standard input, and the answer is written to standard
-output. Here a client reads the old value after its own write:
+    r#"Write down what the clients of a store call and are answered, an event in each
+line, while they run. Judge the log, and have a no explained:
 
-  $ echo '["memory",[[["w",0,1],["r",0,0]]]]' | causal_judge judge
+  $ cat > run.jsonl <<'END'
+  > ["begin","alice",["w","user:5","v1"]]
+  > ["end","alice","ok"]
+  > ["begin","alice",["r","user:5"]]
+  > ["end","alice",null]
+  > END
+  $ causal_judge judge --long --events < run.jsonl
   cc no WriteCOInitRead
   cm no WriteCOInitRead
   ccv no WriteCOInitRead
-  $ causal_judge judge < FILE
+  $ causal_judge explain --long --events < run.jsonl
+  cc no WriteCOInitRead
+    line 1: "alice" writes "v1" to "user:5"
+    line 3: "alice" finds nothing at "user:5"
+    line 3 follows line 1 in its session
+    line 3 found nothing at "user:5", which line 1 had overwritten in its past.
+  ...
 
-A history is ["NAME",SESSIONS]. SESSIONS is a list with, for each client, the
-list of its operations in order: each is a call with what it returned.
+The input is read from standard input, and the answer is written to standard
+output. The help of each command has an example.
+
+A run may also be a history, ["NAME",SESSIONS]. SESSIONS is a list with, for each
+client, the list of its operations in order: each is a call with what it
+returned.
 
   register  ["w",V]     ["r",V]             a register V, at first 0
   counter   ["inc"]     ["get",N]

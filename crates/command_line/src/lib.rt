@@ -10,6 +10,8 @@ mod judging;
 mod length;
 mod listing;
 mod log_order;
+mod manuals;
+mod misuse;
 mod numerals;
 mod options;
 mod order;

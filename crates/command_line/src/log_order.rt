@@ -10,13 +10,13 @@ pub const MAX_EVERY: u32 = 2_147_483_647;
 /// What is done with a log of events, which has one event a line.
 #[derive(Clone, Copy, Debug, PartialEq, Eq)]
 pub enum LogOrder {
-    /// Judges the history that the log stands for.
+    /// Judges the run that the log records.
     Judge(LogJudging),
     /// Says in this form why each criterion is met or not met.
     Explain(LongForm),
     /// Lists at most so many reads that show a fault, in this form.
     ListFaults(u32, ListForm),
-    /// Writes the history that the log stands for.
+    /// Writes the log as a history, in the form that `judge` reads.
     WriteHistory,
     /// Writes the clients, keys and values of the log, in the order of their numbers.
     WriteNames,
@@ -29,6 +29,6 @@ pub struct LogJudging {
     pub workers: Workers,
     /// The criteria that are expected to be met.
     pub expected: Expected,
-    /// After each so many events what was read so far is judged.
+    /// The log so far is judged after every so many events, where a number is given.
     pub every: Option<u32>,
 }

@@ -9,6 +9,7 @@ use crate::judging::Judging;
 use crate::length::Length;
 use crate::listing::Listing;
 use crate::log_order::LogOrder;
+use crate::misuse::text_of_misuse;
 use crate::options::task_of;
 use crate::program::program;
 use crate::workers::Workers;
@@ -104,86 +105,20 @@ fn usage_of<S: AsStr>(alloc: Global, words: &[S]) -> Usage
     ensures { IsUsageFor (fault_of command_line (map S.text words.now)) result }
 {
     match matches_of(alloc, words) {
-        Ok(_) => fault_with(alloc, unfitting(words)),
+        Ok(_) => fault_of_misuse(alloc, words),
         Err(error) => usage_by(alloc, &error),
     }
 }
 
-// The text on words that `clap` takes, and that give no task.
-fn unfitting<S: AsStr>(words: &[S]) -> &'static str {
-    let events = says(words, "--events");
-    if events && says(words, "--lines") {
-        EVENTS_WITH_LINES
-    } else if events && says(words, "--certificates") {
-        EVENTS_WITH_CERTIFICATES
-    } else if events && !says(words, "--long") {
-        EVENTS_WITHOUT_LONG
-    } else if !events && (says(words, "--every") || begins_one(words, "--every=")) {
-        EVERY_WITHOUT_EVENTS
-    } else {
-        UNEXPECTED_WORDS
+// What is said of words that `clap` takes, and that give no task.
+fn fault_of_misuse<S: AsStr>(alloc: Global, words: &[S]) -> Usage
+    ensures { IsUsageFor [] result }
+{
+    match text_of_misuse(alloc, words) {
+        Ok(text) => Usage::Fault(text),
+        Err(_) => Usage::Memory,
     }
 }
-
-// Whether one of the words is this one.
-fn says<S: AsStr>(words: &[S], wanted: &str) -> bool {
-    for word in words {
-        if word.as_str() == wanted {
-            return true;
-        }
-    }
-    false
-}
-
-// Whether one of the words begins so.
-fn begins_one<S: AsStr>(words: &[S], front: &str) -> bool {
-    for word in words {
-        if word.as_str().starts_with(front) {
-            return true;
-        }
-    }
-    false
-}
-
-const EVENTS_WITH_LINES: &str =
-    r#"error: '--events' and '--lines' exclude one another: a log has one event a line, and stands for one history
-
-Usage: causal_judge judge --long --events [OPTIONS]
-
-For more information, try '--help'.
-"#;
-
-const EVENTS_WITH_CERTIFICATES: &str =
-    r#"error: '--events' and '--certificates' exclude one another: no certificates are made of histories of any length
-
-Usage: causal_judge explain --long --events [OPTIONS]
-
-For more information, try '--help'.
-"#;
-
-const EVENTS_WITHOUT_LONG: &str =
-    r#"error: '--events' asks for '--long': the history of a log may have any length
-
-Usage: causal_judge <judge|explain> --long --events [OPTIONS]
-
-For more information, try '--help'.
-"#;
-
-const EVERY_WITHOUT_EVENTS: &str =
-    r#"error: '--every' asks for '--events': it counts the events of a log
-
-Usage: causal_judge judge --long --events --every <N>
-
-For more information, try '--help'.
-"#;
-
-const UNEXPECTED_WORDS: &str =
-    r#"error: unexpected words, options that don't go together, or no list of cc, cm and ccv after '--expect'
-
-Usage: causal_judge <COMMAND>
-
-For more information, try '--help'.
-"#;
 
 /// The fault that this text tells of, or `Memory`.
 pub fn fault_with(alloc: Global, text: &str) -> Usage

@@ -13,6 +13,7 @@ use crate::arguments::{
 use crate::help::{
     ABOUT, EVENTS, EVENTS_REASON, LONG, LONG_PATTERN, LONG_REASON, MANUAL, NAMES, VERSION,
 };
+use crate::manuals;
 use clap::Command;
 use std::alloc::{AllocError, Global};
 
@@ -84,6 +85,7 @@ fn expecting_command<'a>(alloc: Global) -> Result<Command<'a>, AllocError>
 {
     Command::new(alloc, "judge")
         .about("Reads a history and judges it")
+        .after_help(manuals::JUDGE)
         .arg(workers_option(alloc))?
         .arg(expect_option(alloc))
 }
@@ -94,6 +96,7 @@ fn check_command<'a>(alloc: Global) -> Result<Command<'a>, AllocError>
 {
     Command::new(alloc, "check")
         .about("Reads a history and a certificate of it, and checks it")
+        .after_help(manuals::CHECK)
         .arg(workers_option(alloc))
 }
 
@@ -123,6 +126,7 @@ fn certifying_command<'a>(alloc: Global) -> Result<Command<'a>, AllocError>
 {
     Command::new(alloc, "explain")
         .about("Reads a history, and shows why it meets each criterion or does not")
+        .after_help(manuals::EXPLAIN)
         .arg(flag_option(alloc, "json", "Shows it as JSON"))?
         .arg(flag_option(
             alloc,
@@ -137,6 +141,7 @@ fn refute_command<'a>(alloc: Global) -> Result<Command<'a>, AllocError>
 {
     Command::new(alloc, "refute")
         .about("Reads a history, the name of a criterion and a pattern, and checks it")
+        .after_help(manuals::REFUTE)
         .arg(flag_option(alloc, "long", LONG_PATTERN))
 }
 
@@ -144,9 +149,11 @@ fn replay_command<'a>(alloc: Global) -> Result<Command<'a>, AllocError>
     ensures app { IfOk result (λ command. app_of command ≡ replay) }
     ensures local { IfOk result (λ command. (out-Command command).has_globals ≡ false) }
 {
-    Ok(Command::new(alloc, "replay").about(
-        "Reads a script of sessions, sealers and workers, and runs it",
-    ))
+    Ok(
+        Command::new(alloc, "replay")
+            .about("Reads a script of sessions, sealers and workers, and runs it")
+            .after_help(manuals::REPLAY),
+    )
 }
 
 fn events_command<'a>(alloc: Global) -> Result<Command<'a>, AllocError>
@@ -155,6 +162,7 @@ fn events_command<'a>(alloc: Global) -> Result<Command<'a>, AllocError>
 {
     Command::new(alloc, "events")
         .about("Reads a log of events, and writes the history that it stands for")
+        .after_help(manuals::EVENTS)
         .arg(flag_option(alloc, "names", NAMES))
 }
 
@@ -182,6 +190,7 @@ fn storing_command<'a>(alloc: Global) -> Result<Command<'a>, AllocError>
 {
     Command::new(alloc, "drive")
         .about("Drives a store with the calls of a history, and judges what was recorded")
+        .after_help(manuals::DRIVE)
         .arg(store_argument(alloc))?
         .arg(flag_option(
             alloc,

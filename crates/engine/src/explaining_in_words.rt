@@ -12,6 +12,7 @@ use crate::failure::RunError;
 use crate::reason::{Explanation, Reason};
 use crate::reason_lines::lines_of_reason;
 use crate::report::report_line;
+use crate::three_reasons::{ReasonLines, text_of_reasons};
 use cert_check::Criterion;
 use command_line::{Order, Workers};
 use operations::{AnyHistory, PlainHistory, read_history};
@@ -20,8 +21,8 @@ use std::sync::Wait;
 use std::thread::Threads;
 use wording::OwnNames;
 
-/// The reasons on the history in the input, in words: for each criterion the line of `judge`, and behind it what shows it, in
-/// lines that begin with two spaces.
+/// The reasons on the history in the input, in words: for each criterion the line of `judge`, and after it what shows it, in lines that
+/// begin with two spaces. What shows two criteria is given once.
 ///
 /// Refuses what is no history, and fails for want of memory. It judges as [`report_on`](crate::report_on) does. Where a
 /// certificate does not explain an operation it is made once more, and the piece of the operation is replayed. Beside that, O(n)
@@ -84,26 +85,15 @@ fn text_of_explanation(
 ) -> Result<String, AllocError>
     ensures { IfOk result (λ text. TellsEach explanation.now (string_bytes text)) }
 {
-    let cc = text_of_reason(alloc, history, Criterion::Cc, &explanation.cc)?;
-    let cm = text_of_reason(alloc, history, Criterion::Cm, &explanation.cm)?;
-    let ccv = text_of_reason(alloc, history, Criterion::Ccv, &explanation.ccv)?;
-    format!(in alloc; "{cc}{cm}{ccv}")
+    let lines = ReasonLines {
+        cc: lines_of_reason(alloc, history, &OwnNames, Criterion::Cc, &explanation.cc)?,
+        cm: lines_of_reason(alloc, history, &OwnNames, Criterion::Cm, &explanation.cm)?,
+        ccv: lines_of_reason(alloc, history, &OwnNames, Criterion::Ccv, &explanation.ccv)?,
+    };
+    text_of_reasons(alloc, &OwnNames, explanation, lines)
 }
 
-// The text of one reason.
-fn text_of_reason(
-    alloc: Global,
-    history: &AnyHistory,
-    criterion: Criterion,
-    reason: &Reason,
-) -> Result<String, AllocError>
-    ensures { IfOk result (λ text. Tells criterion reason.now (string_bytes text)) }
-{
-    let lines = lines_of_reason(alloc, history, &OwnNames, criterion, reason)?;
-    text_with_lines(alloc, criterion, reason, &lines)
-}
-
-/// The text of one reason, with these lines after the line of `judge`. A line in which a line feed stands is left out.
+/// The text of one reason, with these lines after the line of `judge`. A line that has a line feed is left out.
 pub(crate) fn text_with_lines(
     alloc: Global,
     criterion: Criterion,
@@ -117,7 +107,7 @@ pub(crate) fn text_with_lines(
     format!(in alloc; "{line}{words}")
 }
 
-/// Lines, each after two spaces. A line in which a line feed stands is left out.
+/// Lines, each after two spaces. A line that has a line feed is left out.
 pub(crate) fn indented_text(alloc: Global, lines: &[String]) -> Result<String, AllocError>
     ensures { IfOk result (λ text. IsIndented (string_bytes text)) }
 {
@@ -128,7 +118,7 @@ pub(crate) fn indented_text(alloc: Global, lines: &[String]) -> Result<String, A
     Ok(text)
 }
 
-// Puts a line behind others, unless a line feed stands in it.
+// Adds a line, unless it has a line feed.
 fn push_indented(text: &mut String, line: &str) -> Result<(), AllocError>
     ensures { OnOk result (IsIndented (string_bytes text.old) → IsIndented (string_bytes text.new)) }
 {
@@ -138,7 +128,7 @@ fn push_indented(text: &mut String, line: &str) -> Result<(), AllocError>
     Ok(())
 }
 
-// Puts a line behind others.
+// Adds a line.
 fn push_line(text: &mut String, line: &str) -> Result<(), AllocError>
     ensures { OnOk result (string_bytes text.new ≡ string_bytes text.old ++ indented line.now) }
 {
@@ -147,7 +137,7 @@ fn push_line(text: &mut String, line: &str) -> Result<(), AllocError>
     text.push_str("\n")
 }
 
-// Whether no line feed stands in a line.
+// Whether a line has no line feed.
 fn is_one_line(line: &str) -> bool
     ensures { IsTrue result ↔ LacksByte 0x0A line.now }
 {

@@ -44,6 +44,7 @@ mod replaying;
 mod report;
 mod running;
 mod showing;
+mod three_reasons;
 mod written;
 
 pub use alone::{check_alone, explain_alone, judge_alone, refute_alone};

@@ -8,8 +8,8 @@ use operations::OpId;
 use std::alloc::{AllocError, Global};
 use wording::Names;
 
-/// How many such writes are told of.
-const MAX_TOLD: usize = 8;
+/// The most writes that are listed.
+const MAX_LISTED: usize = 8;
 
 /// A write of a history.
 #[derive(Clone, Copy, Debug, PartialEq, Eq, PartialOrd, Ord)]
@@ -19,8 +19,7 @@ struct LongWrite {
     op: OpId,
 }
 
-/// Puts behind other lines which variables are written twice with one value, or with their initial value: a line for each of the first
-/// eight writes that show it.
+/// Adds a line for each write of a value that its variable was written before, or has at first: for the first eight of them.
 ///
 /// Fails for want of memory alone. O(n log n) for n operations, and 32 bytes for each write.
 pub(crate) fn push_repeated<N: Names>(
@@ -30,14 +29,14 @@ pub(crate) fn push_repeated<N: Names>(
     names: &N,
 ) -> Result<(), AllocError> {
     let writes = writes_of(alloc, history)?;
-    let mut told: usize = 0;
+    let mut listed: usize = 0;
     let mut before: Option<LongWrite> = None;
     for write in &writes {
-        if told < MAX_TOLD
+        if listed < MAX_LISTED
             && let Some(line) = line_of(alloc, history, names, before, *write)?
         {
             lines.push(line)?;
-            told = told.saturating_add(1);
+            listed = listed.saturating_add(1);
         }
         before = Some(*write);
     }
@@ -54,7 +53,7 @@ fn writes_of(alloc: Global, history: &LongHistory) -> Result<Vec<LongWrite>, All
     Ok(writes)
 }
 
-// Puts the writes of a session behind others.
+// Adds the writes of a session.
 fn push_writes(
     writes: &mut Vec<LongWrite>,
     history: &LongHistory,

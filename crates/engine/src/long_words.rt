@@ -4,11 +4,11 @@ ghost use Rattle.std.specs.Prelude.{IfOk, string_bytes};
 ghost use Rattle.engine.specs.ExplainingInWords.{TellsEach};
 
 use crate::core_names::CoreNames;
-use crate::explaining_in_words::text_with_lines;
 use crate::long_explaining::LongExplanation;
 use crate::long_repeated::push_repeated;
 use crate::reason::{Explanation, Reason};
 use crate::reason_lines::{lines_of_kind, lines_of_reason};
+use crate::three_reasons::{ReasonLines, text_of_reasons};
 use bad_patterns::Kind;
 use cert_check::Criterion;
 use long_cores::{Gathered, LongCore};
@@ -29,21 +29,12 @@ pub(crate) fn text_of_long<N: Names>(
     ensures { IfOk result (λ text. TellsEach said.now.explanation (string_bytes text)) }
 {
     let reasons = &said.explanation;
-    let lines = lines_of_long_reason(alloc, history, names, said, Criterion::Cc, &reasons.cc)?;
-    let cc = text_with_lines(alloc, Criterion::Cc, &reasons.cc, &lines)?;
-    let lines = lines_of_long_reason(alloc, history, names, said, Criterion::Cm, &reasons.cm)?;
-    let cm = text_with_lines(alloc, Criterion::Cm, &reasons.cm, &lines)?;
-    let mut lines = lines_of_long_reason(
-        alloc,
-        history,
-        names,
-        said,
-        Criterion::Ccv,
-        &reasons.ccv,
-    )?;
-    names.push_remarks(alloc, &mut lines)?;
-    let ccv = text_with_lines(alloc, Criterion::Ccv, &reasons.ccv, &lines)?;
-    format!(in alloc; "{cc}{cm}{ccv}")
+    let lines = ReasonLines {
+        cc: lines_of_long_reason(alloc, history, names, said, Criterion::Cc, &reasons.cc)?,
+        cm: lines_of_long_reason(alloc, history, names, said, Criterion::Cm, &reasons.cm)?,
+        ccv: lines_of_long_reason(alloc, history, names, said, Criterion::Ccv, &reasons.ccv)?,
+    };
+    text_of_reasons(alloc, names, reasons, lines)
 }
 
 // The lines of one reason.
@@ -145,14 +136,12 @@ pub(crate) fn text_of_small<N: Names>(
 ) -> Result<String, AllocError>
     ensures { IfOk result (λ text. TellsEach said.now (string_bytes text)) }
 {
-    let lines = lines_of_small_reason(alloc, history, small, names, Criterion::Cc, &said.cc)?;
-    let cc = text_with_lines(alloc, Criterion::Cc, &said.cc, &lines)?;
-    let lines = lines_of_small_reason(alloc, history, small, names, Criterion::Cm, &said.cm)?;
-    let cm = text_with_lines(alloc, Criterion::Cm, &said.cm, &lines)?;
-    let mut lines = lines_of_small_reason(alloc, history, small, names, Criterion::Ccv, &said.ccv)?;
-    names.push_remarks(alloc, &mut lines)?;
-    let ccv = text_with_lines(alloc, Criterion::Ccv, &said.ccv, &lines)?;
-    format!(in alloc; "{cc}{cm}{ccv}")
+    let lines = ReasonLines {
+        cc: lines_of_small_reason(alloc, history, small, names, Criterion::Cc, &said.cc)?,
+        cm: lines_of_small_reason(alloc, history, small, names, Criterion::Cm, &said.cm)?,
+        ccv: lines_of_small_reason(alloc, history, small, names, Criterion::Ccv, &said.ccv)?,
+    };
+    text_of_reasons(alloc, names, said, lines)
 }
 
 // The lines of one of them.

@@ -155,7 +155,7 @@ fn lines_of_object<O: Judged + Worded, N: Names>(
     Ok(lines)
 }
 
-// Puts a line behind others.
+// Adds a line.
 fn push_line(
     alloc: Global,
     lines: &mut Vec<String>,
@@ -165,7 +165,7 @@ fn push_line(
     Ok(())
 }
 
-// Puts what the certificate that is made does not explain behind other lines.
+// Adds what the certificate that is made does not explain.
 fn push_certificate<O: Judged + Worded, N: Names>(
     alloc: Global,
     lines: &mut Vec<String>,

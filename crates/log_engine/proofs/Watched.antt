@@ -1,7 +1,7 @@
 -- What a turn of judging a log while it is read comes to.
 use Rattle.std.proofs.Common.{◌≡◌, ◌⊎◌, ◌<◌, ◌≤◌, ◌+◌, ◌*◌, ℕ, zero, suc, List, [], ◌∷◌, ◌++◌, length, Bool, true, false, Option, Some, None, IfSome, inl, inr, refl, sym, ap, subst, ◌∙◌, append_assoc, arith, ⊎_elim}
 use Rattle.std.specs.Prelude.{◌≢◌, max}
-use Rattle.std.specs.Io.KnownBytes.{Appends, Consumes}
+use Rattle.std.specs.Io.KnownBytes.{Appends, Consumes, IsAtEnd}
 use Rattle.std.proofs.lemmas.Bool.{cases_lt}
 use Rattle.std.proofs.lemmas.List.{length-append}
 use Rattle.std.proofs.KnownBytes.{Appends-nil, Appends-trans, Consumes-nil, Consumes-trans}
@@ -13,7 +13,7 @@ use Rattle.event_reader.specs.Logs.{BeginsBy, Follow, IsLogOf, Log, ended_lines,
 use Rattle.event_reader.specs.ReadSteps.{ReadsAll, ReadsMore}
 use Rattle.event_reader.specs.Readings.{Extends, HasRead, Reading}
 use Rattle.log_engine.specs.declared.following.Followed.{Followed}
-use Rattle.log_engine.specs.LogAnswers.{IsLogOfFront, WatchesLog}
+use Rattle.log_engine.specs.LogAnswers.{IsLogOfFront, WatchesLog, WritesFirstCuts}
 use Rattle.engine.specs.declared.report.Report.{Report}
 use Rattle.engine.specs.Expecting.{outcome_for}
 use Rattle.log_engine.specs.Reports.{AreCuts, AreCutLines, IsReportOn, cut_line, multiples}
@@ -79,6 +79,12 @@ nothing-read (line ∷ lines) log held whole follow =
     let front : length (line ++ 10 ∷ ended_lines lines) ≡ length line + length (10 ∷ ended_lines lines) = length-append line (10 ∷ ended_lines lines) in
     let more : 0 < length (10 ∷ ended_lines lines) = omega arith in absurd (omega arith)
 
+-- no line is the front of any text
+none-front : (first : Option (List ℕ)) → IfSome first (λ bytes. IsLogOfFront bytes no_log)
+unfolding Follow
+none-front None = tt
+none-front (Some bytes) = ([], bytes, record { whole = refl; free = λ k d less. absurd (omega arith); follow = refl })
+
 module _ (every : ℕ) (expected : Expected) (first written : Option (List ℕ)) where
   -- nothing was watched yet
   pub watched-none : (reading : Reading) → HasRead [] reading → HasWatched every expected first first written written reading 0
@@ -136,7 +142,7 @@ module _ (every : ℕ) (expected : Expected) (first written : Option (List ℕ))
       → Consumes before source_after taken → HasRead (watched.text ++ taken) new → Extends old.log new.log
       → length new.log.events ≡ every * suc count → WritesCut expected new.log.events writer_before writer_after followed.outcome
       → followed.outcome ≢ Met → followed.torn ≡ false
-      → WatchesLog every expected first written writer_after followed
+      → WatchesLog every expected first source_after written writer_after followed
   stops before source_after writer_before writer_after old new count taken followed watched consumed read extends events cut early whole =
       let more = watched-more before source_after source_after writer_before writer_after old new count taken followed.outcome watched consumed read extends events cut in
       inr record {
@@ -151,27 +157,29 @@ module _ (every : ℕ) (expected : Expected) (first written : Option (List ℕ))
         whole_line = whole;
       }
 
-  pub ends : (before writer_before writer_after : Option (List ℕ)) (old new : Reading) (count : ℕ) (followed : Followed)
+  pub ends : (before source_after writer_before writer_after : Option (List ℕ)) (old new : Reading) (count : ℕ) (followed : Followed)
       → (watched : HasWatched every expected first before written writer_before old count)
-      → IfSome before (λ bytes. IsLogOf (watched.text ++ bytes) new.log followed.torn) → Extends old.log new.log
+      → IfSome before (λ bytes. IsLogOf (watched.text ++ bytes) new.log followed.torn) → IsAtEnd source_after → Extends old.log new.log
       → length new.log.events ≤ every * suc count → WritesLast expected new.log.events (every * count) writer_before writer_after followed.outcome
-      → WatchesLog every expected first written writer_after followed
-  ends before writer_before writer_after old new count followed watched whole extends few (inl kept) = inl record {
+      → WatchesLog every expected first source_after written writer_after followed
+  ends before source_after writer_before writer_after old new count followed watched whole end extends few (inl kept) = inl record {
     log = new.log;
     cuts = multiples every count;
     text = watched.said;
     whole = whole-log first before watched.text new.log followed.torn watched.consumed whole;
+    end = end;
     are_cuts = inl (count, count-above every count kept.some, kept.all, refl);
     lines = subst (λ (o : Outcome). AreCutLines expected new.log.events (multiples every count) watched.said o) (sym kept.comes)
         (subst (λ (es : List Event). AreCutLines expected es (multiples every count) watched.said Met) (sym extends.events.1)
         (multiples-kept expected old.log.events extends.events.0 every count watched.said Met watched.events watched.lines));
     written = subst (λ (w : Option (List ℕ)). Appends written w watched.said) (sym kept.same) watched.written;
   }
-  ends before writer_before writer_after old new count followed watched whole extends few (inr cut) = inl record {
+  ends before source_after writer_before writer_after old new count followed watched whole end extends few (inr cut) = inl record {
     log = new.log;
     cuts = multiples every count ++ (length new.log.events ∷ []);
     text = watched.said ++ cut_line (length new.log.events) cut.1.report;
     whole = whole-log first before watched.text new.log followed.torn watched.consumed whole;
+    end = end;
     are_cuts = all_cuts every count (length new.log.events) (extends-up every count old.log.events extends.events.0 new.log.events watched.events extends.events.1) few cut.0;
     lines =
         subst (λ (o : Outcome). AreCutLines expected new.log.events (multiples every count ++ (length new.log.events ∷ []))
@@ -181,6 +189,32 @@ module _ (every : ℕ) (expected : Expected) (first written : Option (List ℕ))
         (multiples-kept expected old.log.events extends.events.0 every count watched.said Met watched.events watched.lines)) cut.1.on);
     written = Appends-trans written writer_before writer_after watched.said (cut_line (length new.log.events) cut.1.report) watched.written cut.1.written;
   }
+
+  -- what was written stays where something fails
+  pub first-cuts : (after writer_after : Option (List ℕ)) (reading : Reading) (count : ℕ)
+      → HasWatched every expected first after written writer_after reading count → WritesFirstCuts every expected first written writer_after
+  first-cuts after writer_after reading count watched = record {
+    log = reading.log;
+    count = count;
+    text = watched.said;
+    front = front-log first after watched.text reading watched.consumed watched.read;
+    events = watched.events;
+    lines = watched.lines;
+    written = watched.written;
+  }
+
+  -- nothing was read yet, and nothing was written
+  pub no-cuts : WritesFirstCuts every expected first written written
+  no-cuts =
+      let zero_times : 0 ≡ every * 0 = omega arith in record {
+        log = no_log;
+        count = 0;
+        text = [];
+        front = none-front first;
+        events = zero_times;
+        lines = lines-none expected [] every;
+        written = Appends-nil written;
+      }
 
   -- ---- a turn, by what its calls ensure
 
@@ -203,7 +237,7 @@ module _ (every : ℕ) (expected : Expected) (first written : Option (List ℕ))
       (subst (λ (l : List Event). WritesCut expected l writer_before writer_after outcome) same cut) (none refl)
   turned-more before source_after writer_before writer_after old new count judged wanted es outcome (Some followed) watched reads extends so_far is enough few same cut some none =
       let more = reads watched.text watched.read in
-      subst (λ (f : Followed). WatchesLog every expected first written writer_after f) (sym some.0)
+      subst (λ (f : Followed). WatchesLog every expected first source_after written writer_after f) (sym some.0)
       (stops before source_after writer_before writer_after old new count more.0 (record { outcome = outcome; torn = false }) watched more.1 more.2 extends
       (next-count count wanted old.log.events new.log.events watched.events (is ∙ ap (λ n. n + every) so_far) enough few)
       (subst (λ (l : List Event). WritesCut expected l writer_before writer_after outcome) same cut) some.1 refl)
@@ -217,9 +251,10 @@ module _ (every : ℕ) (expected : Expected) (first written : Option (List ℕ))
       → ReadsAll before source_after old new torn → Extends old.log new.log → judged ≡ length old.log.events → wanted ≡ judged + every
       → length new.log.events ≤ max wanted (length old.log.events)
       → es ≡ new.log.events → WritesLast expected es judged writer_before writer_after outcome
-      → WatchesLog every expected first written writer_after (record { outcome = outcome; torn = torn })
+      → WatchesLog every expected first source_after written writer_after (record { outcome = outcome; torn = torn })
   turned-end before source_after writer_before writer_after old new count judged wanted es outcome torn watched reads extends so_far is few same last =
-      ends before writer_before writer_after old new count (record { outcome = outcome; torn = torn }) watched (reads.log watched.text watched.read) extends
+      ends before source_after writer_before writer_after old new count (record { outcome = outcome; torn = torn }) watched (reads.log watched.text watched.read)
+      reads.end extends
       (at-most count wanted old.log.events new.log.events watched.events (is ∙ ap (λ n. n + every) so_far) few)
       (subst (λ (n : ℕ). WritesLast expected new.log.events n writer_before writer_after outcome) (so_far ∙ watched.events)
       (subst (λ (l : List Event). WritesLast expected l judged writer_before writer_after outcome) same last))

@@ -1,6 +1,6 @@
 -- What is answered to a log, and when it has no answer.
 use Rattle.std.specs.Prelude.{◌≡◌, ◌≢◌, ◌⊎◌, ⊤, ◌*◌, ℕ, List, ◌++◌, Bool, false, Option, None, Some, IfSome, codes, length}
-use Rattle.std.specs.Io.KnownBytes.{Appends}
+use Rattle.std.specs.Io.KnownBytes.{Appends, IsAtEnd}
 use Rattle.serde_json.specs.Written.{compact_text}
 use Rattle.command_line.specs.declared.expected.Expected.{Expected}
 use Rattle.command_line.specs.Expected.{expecting_nothing}
@@ -30,10 +30,11 @@ IsLogAnswer WriteHistory log text outcome = (text ≡ compact_text (form_of (any
 IsLogAnswer WriteNames log text outcome = outcome ≡ Met
 
 -- a log was read whole, and the answer to it was written after what the writer held: where the reader and the writer tell their bytes
-pub record AnswersLog (order : LogOrder) (reader writer_before writer_after : Option (List ℕ)) (followed : Followed) : Type 0 where
+pub record AnswersLog (order : LogOrder) (reader_before reader_after writer_before writer_after : Option (List ℕ)) (followed : Followed) : Type 0 where
   pub log : Log
   pub text : List ℕ
-  pub whole : IfSome reader (λ bytes. IsLogOf bytes log followed.torn)
+  pub whole : IfSome reader_before (λ bytes. IsLogOf bytes log followed.torn)
+  pub end : IsAtEnd reader_after
   pub answer : IsLogAnswer order log text followed.outcome
   pub written : Appends writer_before writer_after text
 
@@ -55,19 +56,31 @@ pub record WritesCutsUpTo (every : ℕ) (expected : Expected) (reader writer_bef
   pub whole_line : followed.torn ≡ false
 
 -- a log was read to its end, and a line was written for each of its cuts
-pub record WritesAllCuts (every : ℕ) (expected : Expected) (reader writer_before writer_after : Option (List ℕ)) (followed : Followed) : Type 0 where
+pub record WritesAllCuts (every : ℕ) (expected : Expected) (reader_before reader_after writer_before writer_after : Option (List ℕ)) (followed : Followed) : Type 0 where
   pub log : Log
   pub cuts : List ℕ
   pub text : List ℕ
-  pub whole : IfSome reader (λ bytes. IsLogOf bytes log followed.torn)
+  pub whole : IfSome reader_before (λ bytes. IsLogOf bytes log followed.torn)
+  pub end : IsAtEnd reader_after
   pub are_cuts : AreCuts every (length log.events) cuts
   pub lines : AreCutLines expected log.events cuts text followed.outcome
   pub written : Appends writer_before writer_after text
 
 -- a log was judged while it was read: to its end, or to the first cut of which something else came than was expected
-abbrev pub WatchesLog : ℕ → Expected → Option (List ℕ) → Option (List ℕ) → Option (List ℕ) → Followed → Type 0
-WatchesLog every expected reader before after followed =
-    WritesAllCuts every expected reader before after followed ⊎ WritesCutsUpTo every expected reader before after followed
+abbrev pub WatchesLog : ℕ → Expected → Option (List ℕ) → Option (List ℕ) → Option (List ℕ) → Option (List ℕ) → Followed → Type 0
+WatchesLog every expected reader_before reader_after writer_before writer_after followed =
+    WritesAllCuts every expected reader_before reader_after writer_before writer_after followed
+    ⊎ WritesCutsUpTo every expected reader_before writer_before writer_after followed
+
+-- some first lines of a log were read, and a line was written on each of these cuts of it, each as expected, before something failed
+pub record WritesFirstCuts (every : ℕ) (expected : Expected) (reader writer_before writer_after : Option (List ℕ)) : Type 0 where
+  pub log : Log
+  pub count : ℕ
+  pub text : List ℕ
+  pub front : IfSome reader (λ bytes. IsLogOfFront bytes log)
+  pub events : length log.events ≡ every * count
+  pub lines : AreCutLines expected log.events (multiples every count) text Met
+  pub written : Appends writer_before writer_after text
 
 -- after how many events a log is judged again, where that was ordered
 abbrev pub every_in : LogOrder → Option ℕ
@@ -79,12 +92,15 @@ expected_in (Judge judging) = judging.expected
 expected_in order = expecting_nothing
 
 -- what is done with a log, as it is ordered
-abbrev pub FollowsBy : Option ℕ → LogOrder → Option (List ℕ) → Option (List ℕ) → Option (List ℕ) → Followed → Type 0
-FollowsBy (Some every) order reader before after followed = WatchesLog every (expected_in order) reader before after followed
-FollowsBy None order reader before after followed = AnswersLog order reader before after followed
+abbrev pub FollowsBy : Option ℕ → LogOrder → Option (List ℕ) → Option (List ℕ) → Option (List ℕ) → Option (List ℕ) → Followed → Type 0
+FollowsBy (Some every) order reader_before reader_after writer_before writer_after followed =
+    WatchesLog every (expected_in order) reader_before reader_after writer_before writer_after followed
+FollowsBy None order reader_before reader_after writer_before writer_after followed =
+    AnswersLog order reader_before reader_after writer_before writer_after followed
 
-abbrev pub FollowsLog : LogOrder → Option (List ℕ) → Option (List ℕ) → Option (List ℕ) → Followed → Type 0
-FollowsLog order reader before after followed = FollowsBy (every_in order) order reader before after followed
+abbrev pub FollowsLog : LogOrder → Option (List ℕ) → Option (List ℕ) → Option (List ℕ) → Option (List ℕ) → Followed → Type 0
+FollowsLog order reader_before reader_after writer_before writer_after followed =
+    FollowsBy (every_in order) order reader_before reader_after writer_before writer_after followed
 
 -- why a log has no answer: a line is refused, as the reader tells its bytes; or memory, the reader or the writer failed
 abbrev pub IsLogError : Option (List ℕ) → LogError → Type 0

@@ -35,7 +35,8 @@ pub(crate) fn answer_log<P: Threads + Wait + Sync + AllocGlobal, R: Source, W: W
     writer: &mut W,
     order: &LogOrder,
 ) -> Result<Followed, LogError>
-    ensures answered { IfOk result (AnswersLog order.now (R.remaining source.old) (W.contents writer.old) (W.contents writer.new)) }
+    ensures answered { IfOk result (AnswersLog order.now (R.remaining source.old) (R.remaining source.new)
+        (W.contents writer.old) (W.contents writer.new)) }
     ensures error { IfErr result (IsLogError (R.remaining source.old)) }
     ensures unwritten { IfErr result (λ e. e ≢ LogError.WriteFault → writer.new ≡ writer.old) }
 {

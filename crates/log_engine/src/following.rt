@@ -1,7 +1,7 @@
 //! What is done with a log.
 
-ghost use Rattle.std.specs.Prelude.{◌≡◌, ◌≢◌, IfErr, IfOk};
-ghost use Rattle.log_engine.specs.LogAnswers.{FollowsLog, IsLogError};
+ghost use Rattle.std.specs.Prelude.{◌≡◌, ◌≢◌, ℕ, None, Some, IfErr, IfOk};
+ghost use Rattle.log_engine.specs.LogAnswers.{FollowsLog, IsLogError, WritesFirstCuts, every_in, expected_in};
 
 use crate::answering::answer_log;
 use crate::failure::LogError;
@@ -29,16 +29,20 @@ pub struct Followed {
 /// and the whole answer is made before it is written.
 ///
 /// Fails with the first line that is refused, for want of memory, and where the source or the writer fails; with `Memory` too where
-/// `every` is 0, which no command line gives. Lines on cuts that were written before stay written. O(n (k + log n)) for a history of n
-/// operations in k sessions, for each cut, and the cost of reading.
+/// `every` is 0, which no command line gives. After every error but a write fault nothing was written, or with `every` the lines on some
+/// first cuts, each as expected. O(n (k + log n)) for a history of n operations in k sessions, for each cut, and the cost of reading.
 pub fn follow_log<P: Threads + Wait + Sync + AllocGlobal, R: Source, W: Write>(
     rt: &P,
     source: &mut R,
     writer: &mut W,
     order: &LogOrder,
 ) -> Result<Followed, LogError>
-    ensures followed { IfOk result (FollowsLog order.now (R.remaining source.old) (W.contents writer.old) (W.contents writer.new)) }
+    ensures followed { IfOk result (FollowsLog order.now (R.remaining source.old) (R.remaining source.new)
+        (W.contents writer.old) (W.contents writer.new)) }
     ensures error { IfErr result (IsLogError (R.remaining source.old)) }
+    ensures unwritten { every_in order.now ≡ None → IfErr result (λ e. e ≢ LogError.WriteFault → writer.new ≡ writer.old) }
+    ensures first_cuts { (every : ℕ) → every_in order.now ≡ Some every → IfErr result (λ e. e ≢ LogError.WriteFault
+        → WritesFirstCuts every (expected_in order.now) (R.remaining source.old) (W.contents writer.old) (W.contents writer.new)) }
 {
     match order {
         LogOrder::Judge(

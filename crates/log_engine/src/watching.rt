@@ -2,7 +2,7 @@
 
 ghost use Rattle.std.specs.Prelude.{◌≡◌, ◌≢◌, ◌⊎◌, ◌*◌, ◌+◌, ◌<◌, ◌≤◌, ℕ, List, Option, IfErr, IfOk, IfSome, None, false};
 ghost use Rattle.event_reader.specs.Readings.{Reading};
-ghost use Rattle.log_engine.specs.LogAnswers.{IsLogError, WatchesLog};
+ghost use Rattle.log_engine.specs.LogAnswers.{IsLogError, WatchesLog, WritesFirstCuts};
 ghost use Rattle.log_engine.specs.Steps.Watching.{HasWatched, IsTurn, WritesLast};
 
 use crate::failure::LogError;
@@ -35,9 +35,11 @@ pub(crate) fn watch_log<K: SessionWork, R: Source, W: Write>(
     writer: &mut W,
 ) -> Result<Followed, LogError>
     requires { K.can_work watch.now.work.now }
-    ensures watched { IfOk result (WatchesLog watch.now.every watch.now.expected (R.remaining source.old)
+    ensures watched { IfOk result (WatchesLog watch.now.every watch.now.expected (R.remaining source.old) (R.remaining source.new)
         (W.contents writer.old) (W.contents writer.new)) }
     ensures error { IfErr result (IsLogError (R.remaining source.old)) }
+    ensures first_cuts { IfErr result (λ e. e ≢ LogError.WriteFault → WritesFirstCuts watch.now.every watch.now.expected
+        (R.remaining source.old) (W.contents writer.old) (W.contents writer.new)) }
 {
     let mut reader = EventReader::new(watch.alloc)?;
     'cuts: for _ in 0..=MAX_EVENTS {
@@ -75,6 +77,10 @@ impl<K: SessionWork> Watch<'_, K> {
         ensures error { (first written : Option (List ℕ)) (count : ℕ)
             → HasWatched self.now.every self.now.expected first (R.remaining source.old) written (W.contents writer.old) reader.old count
             → IfErr result (IsLogError first) }
+        ensures first_cuts { (first written : Option (List ℕ)) (count : ℕ)
+            → HasWatched self.now.every self.now.expected first (R.remaining source.old) written (W.contents writer.old) reader.old count
+            → IfErr result (λ e. e ≢ LogError.WriteFault
+            → WritesFirstCuts self.now.every self.now.expected first written (W.contents writer.new)) }
     {
         let judged = reader.log().events();
         let wanted = next_cut(judged, self.every)?;
@@ -106,6 +112,7 @@ impl<K: SessionWork> Watch<'_, K> {
         requires { K.can_work self.now.work.now }
         ensures written { IfOk result (WritesLast self.now.expected log.now judged (W.contents writer.old) (W.contents writer.new)) }
         ensures error { IfErr result (λ e. (e ≡ LogError.Memory) ⊎ (e ≡ LogError.WriteFault)) }
+        ensures unwritten { IfErr result (λ e. e ≢ LogError.WriteFault → writer.new ≡ writer.old) }
     {
         if judged > 0 && log.events() == judged {
             return Ok(Outcome::Met);

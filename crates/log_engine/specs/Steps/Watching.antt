@@ -45,4 +45,4 @@ module _ (every : ℕ) (expected : Expected) (source_before source_after writer_
   -- one cut more was, or that was the end
   abbrev pub IsTurn : Reading → ℕ → Option Followed → Type 0
   IsTurn reading count None = HasWatched reading (suc count)
-  IsTurn reading count (Some followed) = WatchesLog every expected source_before writer_before writer_after followed
+  IsTurn reading count (Some followed) = WatchesLog every expected source_before source_after writer_before writer_after followed
