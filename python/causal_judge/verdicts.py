@@ -1,0 +1,140 @@
+"""What is said of a run: the three lines of `judge`, and the reasons of `explain`."""
+
+from __future__ import annotations
+
+import os
+import pathlib
+import textwrap
+from collections.abc import Mapping
+from dataclasses import dataclass, field
+from functools import cached_property
+from typing import TypeAlias
+
+from causal_judge.program import find_program, run_program
+from causal_judge.recorder import Recorder
+
+CRITERIA = ("cc", "cm", "ccv")
+AS_FOR = "  as for "
+JUDGE = ["judge", "--long", "--events"]
+EXPLAIN = ["explain", "--long", "--events"]
+
+Log: TypeAlias = str | os.PathLike[str] | Recorder
+
+
+@dataclass(frozen=True)
+class Line:
+    """What is said of one criterion: "yes", "no" or "unknown"; of a no, the kind of the pattern that shows it."""
+
+    criterion: str
+    answer: str
+    kind: str | None = None
+
+    def __str__(self) -> str:
+        return " ".join(word for word in (self.criterion, self.answer, self.kind) if word)
+
+
+@dataclass(frozen=True)
+class Verdict:
+    """The lines about a log. Why they are so is asked for later: the log has to be there then, as it was."""
+
+    cc: Line
+    cm: Line
+    ccv: Line
+    log: pathlib.Path
+    program: str
+    timeout: float | None = field(default=None, repr=False)
+
+    @property
+    def lines(self) -> tuple[Line, ...]:
+        """The three lines, in the order in which the program writes them."""
+        return self.cc, self.cm, self.ccv
+
+    @cached_property
+    def explanation(self) -> str:
+        """What `explain --long --events` says of the log. It is run once, when asked for first, and raises what `judge` raises."""
+        return run_program(self.program, EXPLAIN, self.log, self.timeout)
+
+    @property
+    def reasons(self) -> Mapping[str, str]:
+        """For each criterion what the explanation says below its line; where that is "as for" another one, what it says below that one's."""
+        found: dict[str, list[str]] = {criterion: [] for criterion in CRITERIA}
+        criterion = CRITERIA[0]
+        for line in self.explanation.splitlines():
+            if not line.startswith(" "):
+                criterion = _line_of(line).criterion
+            elif line.startswith(AS_FOR):
+                found[criterion] += found[line.removeprefix(AS_FOR)]
+            else:
+                found[criterion].append(line)
+        return {criterion: textwrap.dedent("\n".join(lines)) for criterion, lines in found.items()}
+
+    def meets(self, *criteria: str) -> bool:
+        """Whether these criteria are met, or all three where none is named. An unknown is not met. ValueError names one there is not."""
+        return not self.unmet(*criteria)
+
+    def unmet(self, *criteria: str) -> tuple[Line, ...]:
+        """The lines of these criteria, or of all three where none is named, that are no yes. ValueError names a criterion there is not."""
+        wanted = checked_criteria(criteria)
+        return tuple(line for line in self.lines if line.criterion in wanted and line.answer != "yes")
+
+    def __str__(self) -> str:
+        return "\n".join(map(str, self.lines))
+
+
+def checked_criteria(criteria: tuple[str, ...]) -> tuple[str, ...]:
+    """These criteria, or all three where none is named. ValueError names one there is not."""
+    for criterion in criteria:
+        if criterion not in CRITERIA:
+            raise ValueError(f"there is no criterion {criterion!r}: there are cc, cm and ccv")
+    return criteria or CRITERIA
+
+
+def judge(log: Log, *, program: str | os.PathLike[str] | None = None, timeout: float | None = None) -> Verdict:
+    """Has a log judged: one of a path, or of a recorder, which may still be open.
+
+    Raises ProgramMissing, Refused with what is wrong in the log, TimeoutError after so many seconds, RuntimeError where the program fails
+    otherwise, and OSError.
+    """
+    path, found = _path_of(log), find_program(program)
+    said = run_program(found, JUDGE, path, timeout)
+    lines = {line.criterion: line for line in map(_line_of, said.splitlines())}
+    if set(lines) != set(CRITERIA):
+        raise RuntimeError(f"{found} says nothing that this package knows of {path}: {said!r}")
+    return Verdict(lines["cc"], lines["cm"], lines["ccv"], path, found, timeout)
+
+
+def assert_met(log: Log, *criteria: str, program: str | os.PathLike[str] | None = None, timeout: float | None = None) -> Verdict:
+    """Has a log judged, and raises AssertionError with the explanation where one of these criteria is no yes.
+
+    Where no criterion is named, all three have to be met. It raises besides what `judge` raises, and ValueError for a criterion there is
+    not.
+    """
+    __tracebackhide__ = True
+    checked_criteria(criteria)
+    verdict = judge(log, program=program, timeout=timeout)
+    unmet = verdict.unmet(*criteria)
+    if unmet:
+        raise AssertionError(f"{verdict.explanation}{verdict.log} {_lack_of(unmet)}.")
+    return verdict
+
+
+def explain(log: Log, *, program: str | os.PathLike[str] | None = None, timeout: float | None = None) -> str:
+    """What `explain --long --events` says of a log, as a text. It raises what `judge` raises."""
+    return run_program(find_program(program), EXPLAIN, _path_of(log), timeout)
+
+
+def _lack_of(unmet: tuple[Line, ...]) -> str:
+    """What a log lacks of which these lines are no yes."""
+    answers = {answer: ", ".join(line.criterion for line in unmet if line.answer == answer) for answer in ("no", "unknown")}
+    lacks = [f"does not meet {answers['no']}"] if answers["no"] else []
+    return " and ".join([*lacks, f"is not known to meet {answers['unknown']}"] if answers["unknown"] else lacks)
+
+
+def _path_of(log: Log) -> pathlib.Path:
+    return log.path if isinstance(log, Recorder) else pathlib.Path(log)
+
+
+def _line_of(text: str) -> Line:
+    """The line of a criterion that a text writes."""
+    criterion, answer, kind = (*text.split(" ", 2), "", "")[:3]
+    return Line(criterion, answer, kind or None)
