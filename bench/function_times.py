@@ -11,6 +11,7 @@ what is in no function, as the crate's definitions and lemmas.
 """
 
 import os
+import pathlib
 import re
 import subprocess
 import sys
@@ -60,9 +61,14 @@ def used(process):
     return sum(map(int, fields[11:15])) / TICKS + sum(used(int(child)) for child in started)
 
 
+def has_tests(name):
+    """Whether a crate has functions that are tests."""
+    return any("#[test]" in path.read_text(encoding="utf-8") for path in pathlib.Path("crates", name, "src").rglob("*.rt"))
+
+
 def prove(name, log):
-    """Proves a crate, writes what the check prints into a log, each line after the time taken, and returns the status."""
-    words = ["rt", "check", "--jobs", "1"]
+    """Proves a crate with its tests, writes what the check prints into a log, each line after the time taken, and returns the status."""
+    words = ["rt", "check", "--jobs", "1", *(["--test"] if has_tests(name) else [])]
     how = {"cwd": f"crates/{name}", "stdout": subprocess.PIPE, "stderr": subprocess.STDOUT, "errors": "replace"}
     with open(log, "w", encoding="utf-8") as kept, subprocess.Popen(words, **how) as ran:
         taken = 0.0

@@ -162,7 +162,7 @@ done
 put() { install -D -m "$1" "$2" "$3"; }
 
 # The pages and the examples, once: as the commit has them, or, where files differ from it, as they are now.
-PAGES="README.md LICENSE CHANGELOG.md CITATION.cff CONTRIBUTING.md docs embed examples release/README.md tests/README.md bench/README.md"
+PAGES="README.md LICENSE CHANGELOG.md CITATION.cff CONTRIBUTING.md VERSION docs embed examples python release/README.md tests/README.md bench/README.md"
 mkdir "$ROOM/pages"
 # shellcheck disable=SC2086
 if [ -z "$CHANGED" ]; then
@@ -261,7 +261,7 @@ wheel() {
     put_pages "$below/share/doc/causal-judge"
     mkdir -p "$below/share"
     for file in "$ROOM"/man/*.1; do put 644 "$file" "$below/share/man/man1/${file##*/}"; done
-    python3 "$HERE/wheel.py" "$PROGRAM" "$below" "$WHEEL" "$(depends "$PROGRAM" | sed -n 's/.*>= 2\.\([0-9]*\).*/\1/p')" "$OUT"
+    python3 "$HERE/wheel.py" "$PROGRAM" "$ROOM/pages/python/causal_judge" "$below" "$WHEEL" "$(depends "$PROGRAM" | sed -n 's/.*>= 2\.\([0-9]*\).*/\1/p')" "$OUT"
 }
 
 tarball

@@ -78,6 +78,18 @@ python_sample() {
     compared python3 "$DOC/embed/causal_judge.py"
 }
 
+# The package, as the wheel installs it or as the pages have it: it finds the program, and writes and judges a log.
+python_package() {
+    [ "$NAME" = wheel ] || export PYTHONPATH="$DOC/python"
+    python3 - <<'END'
+from causal_judge import Recorder, assert_met
+
+with Recorder("package.jsonl") as recorder, recorder.client("alice") as alice:
+    alice.write("key", alice.new_value(), lambda: None)
+assert_met("package.jsonl")
+END
+}
+
 go_sample() {
     cp "$DOC/embed/judge.go" . && go build -tags installed -o judge_go judge.go && compared ./judge_go
 }
@@ -100,6 +112,7 @@ try "no kit" no_kit
 try "the program is found" found
 try "its version" says_version
 try "its BUILD" says_build
+try "the Python package" python_package
 try "man causal_judge" has_page causal_judge "Judges a recorded history"
 try "man causal_judge-judge" has_page causal_judge-judge "Judges a history in each line"
 if [ "$NAME" = wheel ]; then

@@ -1,10 +1,10 @@
 #!/usr/bin/env python3
-"""Makes a Python wheel that carries the program, with the same bytes each time.
+"""Makes a Python wheel that carries the program and the package causal_judge, with the same bytes each time.
 
-    python3 release/wheel.py PROGRAM DATA VERSION GLIBC_MINOR OUTDIR
+    python3 release/wheel.py PROGRAM PACKAGE DATA VERSION GLIBC_MINOR OUTDIR
 
-DATA is a folder whose files are installed below the prefix of the environment. GLIBC_MINOR is the least minor version of the C library that
-the program wants, as 34. Times are those of SOURCE_DATE_EPOCH, and files are sorted.
+PACKAGE is the folder of the package, and DATA one whose files are installed below the prefix of the environment. GLIBC_MINOR is the least
+minor version of the C library that the program wants, as 34. Times are those of SOURCE_DATE_EPOCH, and files are sorted.
 """
 
 import base64
@@ -16,6 +16,7 @@ import time
 import zipfile
 
 NAME = "causal_judge"
+PLUGIN = "[pytest11]\ncausal_judge = causal_judge.pytest_plugin\n"
 
 
 def record(data):
@@ -23,7 +24,14 @@ def record(data):
     return "sha256=" + base64.urlsafe_b64encode(hashlib.sha256(data).digest()).rstrip(b"=").decode()
 
 
-def files_of(program, data, version, tag):
+def below(folder):
+    """The files of a folder with their paths below it, without what Python compiles."""
+    for path in folder.rglob("*"):
+        if path.is_file() and "__pycache__" not in path.parts:
+            yield path.relative_to(folder), path.read_bytes()
+
+
+def files_of(program, package, data, version, tag):
     """The files of the wheel: their names, their bytes and their modes, without RECORD."""
     info, carried = f"{NAME}-{version}.dist-info", f"{NAME}-{version}.data"
     lines = [
@@ -36,16 +44,19 @@ def files_of(program, data, version, tag):
     ]
     yield f"{info}/METADATA", "\n".join(lines).encode(), 0o644
     yield f"{info}/WHEEL", f"Wheel-Version: 1.0\nGenerator: release/wheel.py\nRoot-Is-Purelib: false\nTag: {tag}\n".encode(), 0o644
+    yield f"{info}/entry_points.txt", PLUGIN.encode(), 0o644
     yield f"{carried}/scripts/{NAME}", program.read_bytes(), 0o755
-    for path in data.rglob("*"):
-        if path.is_file():
-            yield f"{carried}/data/{path.relative_to(data)}", path.read_bytes(), 0o644
+    for path, content in below(package):
+        yield f"{NAME}/{path}", content, 0o644
+    for path, content in below(data):
+        yield f"{carried}/data/{path}", content, 0o644
 
 
 def main():
-    program, data, version, minor, out = sys.argv[1:]
+    program, package, data = map(pathlib.Path, sys.argv[1:4])
+    version, minor, out = sys.argv[4:]
     tag = f"py3-none-manylinux_2_{minor}_x86_64"
-    files = sorted(files_of(pathlib.Path(program), pathlib.Path(data), version, tag))
+    files = sorted(files_of(program, package, data, version, tag))
     name = f"{NAME}-{version}.dist-info/RECORD"
     rows = [f"{path},{record(content)},{len(content)}" for path, content, _ in files] + [f"{name},,"]
     files.append((name, ("\n".join(rows) + "\n").encode(), 0o644))

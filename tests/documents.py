@@ -14,7 +14,8 @@ Lines that begin with `> ` right after a command belong to it, as those of a her
     <!-- installs: deb -->                       before a block: left out here, and run by release/test.sh
     <!-- long, any kind: threads take turns -->  before a block: run with --long alone, and `no KIND` stands for a no of any kind
 
-Each link of a page leads to a file that is there, and README.md has at most 1,500 words.
+Each link of a page leads to a file that is there, and README.md has at most 1,500 words. The commands that the program's own help shows,
+that of each command too, are run in the same way.
 
 The files of examples/ are judged, explained, checked, refuted, replayed and driven; those that end in .jsonl are logs of events. What is
 said of them is below, or in the file of the same name that ends in .txt, or in the picture of that name in docs/. A file of which nothing is
@@ -48,6 +49,7 @@ COMMAND = re.compile(r"( {4,})\$ (.*)")
 LEFT_OUT = ("not run", "installs")
 KIND = re.compile(r"(?<= no )[A-Z]\w+")
 SECONDS = 300
+HELPED = ("judge", "check", "explain", "refute", "replay", "drive", "events")
 
 # Of each file of examples/: the words of a command line, its lines, and its status where it is not 0.
 YES, INITIAL, STALE, THIN = ("yes",) * 3, ("no WriteCOInitRead",) * 3, ("no WriteCORead",) * 3, ("no ThinAirRead",) * 3
@@ -183,6 +185,20 @@ def try_pages(given):
                 yield from try_page(page, given, pathlib.Path(room))
 
 
+def try_helps(given):
+    """The faults of each command that the help shows."""
+    for command in ("", *HELPED):
+        words = [*given.program, *command.split(), "--help"]
+        text = subprocess.run(words, capture_output=True, check=False, text=True, timeout=SECONDS).stdout
+        with tempfile.TemporaryDirectory() as room:
+            page = pathlib.Path(room, f"help {command}".strip())
+            page.write_text("".join(f"  {line}\n" for line in text.splitlines()), encoding="utf-8")
+            copy, environment = copy_of(given.root, given.program[0], pathlib.Path(room, "run"))
+            shown = list(commands_of(page, page.name))
+            yield [] if shown else [f"{page.name}: no command is shown"]
+            yield from (fault_of(one, copy, environment) for one in shown)
+
+
 def outcome(program, words, path):
     """The status and both outputs of a run over a file."""
     done = subprocess.run([*program, *words], input=path.read_bytes(), capture_output=True, check=False, timeout=SECONDS)
@@ -253,7 +269,7 @@ def main():
         return
     given = with_program(parser)
     passed = failed = 0
-    for faults in (*try_pages(given), *([] if given.page else runs_of(given))):
+    for faults in (*try_pages(given), *(() if given.page else (*try_helps(given), *runs_of(given)))):
         passed, failed = passed + (not faults), failed + bool(faults)
         if faults:
             print(*faults, sep="\n", flush=True)

@@ -117,24 +117,51 @@ def core_in(words):
     return json.loads(words[start:]) if start >= 0 else None
 
 
+def written_sections(text):
+    """Each line that is not indented, with the indented ones after it."""
+    found = []
+    for line in text.splitlines():
+        if line.startswith("  ") and found:
+            found[-1][1].append(line.strip())
+        else:
+            found.append((line, []))
+    return found
+
+
+def sections(text):
+    """The same, with the lines of a criterion in full where one says that they are those of a criterion before."""
+    found = written_sections(text)
+    own = {line.split(" ")[0]: reason for line, reason in found}
+    return [(line, [part for words in reason for part in own.get(words.removeprefix("as for "), [words])]) for line, reason in found]
+
+
+def repeated_reasons(text):
+    """What is given twice: reasons of several lines that are those of a criterion before."""
+    reasons = [reason for _, reason in written_sections(text) if len(reason) > 1]
+    return [f"given twice: {reason!r}" for at, reason in enumerate(reasons) if reason in reasons[:at]]
+
+
+def core_faults(program, line, words, accepted):
+    """What is wrong with a line of words that ends with a core: `judge` says `no` of it, of the same criterion."""
+    core = core_in(words)
+    if core is None:
+        return []
+    criterion, word = line.split()[:2]
+    accepted[f"{criterion} core" if word == "no" else f"{criterion} core without variables"] += 1
+    judged = [line.split()[:2] for line in said(program, ["judge"], core)[1].splitlines()]
+    return [] if [criterion, "no"] in judged else [f"the core of {criterion} is {json.dumps(core)}, of which judge says {judged}"]
+
+
 def word_faults(program, form, lines, accepted):
     """What is wrong with the words on a history: the lines of `judge` stand there in order, each before its indented reason."""
     status, text = said(program, ["explain"], form)
     if status != 0 or text.startswith("["):
         return [] if status in (0, USAGE) else [f"status {status} of explain"]
-    found, heads = [], []
-    for line in text.splitlines():
-        if not line.startswith("  "):
-            heads.append(line)
-        elif (core := core_in(line)) is not None and heads:
-            criterion, word = heads[-1].split()[:2]
-            judged = [line.split()[:2] for line in said(program, ["judge"], core)[1].splitlines()]
-            if [criterion, "no"] not in judged:
-                found.append(f"the core of {criterion} is {json.dumps(core)}, of which judge says {judged}")
-            accepted[f"{criterion} core" if word == "no" else f"{criterion} core without variables"] += 1
-    if heads != lines.splitlines():
-        found.append(f"judge says {lines!r}, and the words begin with {heads!r}")
-    return found
+    parts = sections(text)
+    found = [fault for line, reason in parts for words in reason for fault in core_faults(program, line, words, accepted)]
+    if [line for line, _ in parts] != lines.splitlines():
+        found.append(f"judge says {lines!r}, and the words begin with {[line for line, _ in parts]!r}")
+    return found + repeated_reasons(text)
 
 
 def picture_faults(program, form):

@@ -26,7 +26,7 @@ import re
 
 import random_memories
 import reading
-from explained import core_in, line_of, said
+from explained import core_in, line_of, repeated_reasons, said, sections
 from patterns import AGAINST, CRITERIA, MemoryHistory, is_pattern, shows
 from random_histories import run_random
 from random_memories import Shape
@@ -96,17 +96,6 @@ def is_true(known, line):
     return True
 
 
-def sections(text):
-    """Each line that is not indented, with the indented ones behind it."""
-    found = []
-    for line in text.splitlines():
-        if line.startswith("  ") and found:
-            found[-1][1].append(line.strip())
-        else:
-            found.append((line, []))
-    return found
-
-
 def place_faults(whole, core, places):
     """What is wrong with the places that the operations of a core have in the whole."""
     start, sessions = reading.read_history(core)[1:]
@@ -142,7 +131,7 @@ def word_faults(program, whole, seen):
     status, text = said(program, ["explain", "--long"], whole.form)
     if status != 0:
         return [f"status {status} of explain --long"]
-    found, parts = [], sections(text)
+    found, parts = repeated_reasons(text), sections(text)
     if [line for line, _ in parts] != whole.lines:
         found.append(f"judge says {whole.lines!r}, and the words begin with {[line for line, _ in parts]!r}")
     if whole.is_small:

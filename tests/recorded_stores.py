@@ -11,8 +11,8 @@ effect long after its client gave it up. Replicas refuse some writes, keys are d
     by stamp     the same, and the write with the greatest stamp wins                         cc and ccv
 
 Each run is recorded twice. First as a log of events: a try without an answer is lost, and the next one is a call of its own, of a write with a
-new value. Then as a history, by the recorder of examples/python: a try without an answer is given up, a delete is a write of a new value, and a
-read that finds nothing is left out, but for the keys that no run deletes: there it is a read of 0.
+new value. Then as a history, by history_recorder.py: a try without an answer is given up, a delete is a write of a new value, and a read that
+finds nothing is left out, but for the keys that no run deletes: there it is a read of 0.
 
 Then 100 of these runs are recorded by each of three recipes that blame correct stores: a retry as one call with its first try, in a log and in
 a history, and each read that finds nothing as a read of 0 in a history. Some of them have to be a `no`, else such runs could not tell a wrong
@@ -32,12 +32,13 @@ from typing import NamedTuple
 
 from command_words import with_program
 from counting import end
+from history_recorder import History
 
 sys.dont_write_bytecode = True
-sys.path.insert(0, str(pathlib.Path(__file__).resolve().parent.parent / "examples" / "python"))
+sys.path.insert(0, str(pathlib.Path(__file__).resolve().parent.parent / "examples" / "replicated_store"))
 
-from recorder import History  # noqa: E402
-from store import Simulation, TimedOut  # noqa: E402
+from simulation import Simulation  # noqa: E402
+from store import TimedOut  # noqa: E402
 
 CLIENTS, CALLS, TRIES = 4, 20, 3
 KEYS, DELETED_KEYS = 4, (2, 3)
@@ -256,7 +257,7 @@ def stopping(process):
 def recorded(seed, recipe):
     """The log or the history of one run."""
     kind = KINDS[seed % len(KINDS)]
-    simulation, history = Simulation(), Log() if recipe.is_log else History("memory")
+    simulation, history = Simulation(), Log() if recipe.is_log else History()
     store = Store(kind, simulation, random.Random(seed))
     for number in range(CLIENTS):
         simulation.start(stopping(client(store, history, number % kind.replicas, recipe)))
