@@ -72,12 +72,22 @@ fn words_of_kind(kind: Kind) -> &'static str {
     }
 }
 
-/// What the legend says of a relation.
+/// What the legend says of an edge of a relation.
 pub(crate) fn words_of_relation(relation: Relation) -> &'static str {
     match relation {
-        Relation::ProgramOrder => "program order",
-        Relation::ReadsFrom => "reads-from: a write to its read",
-        Relation::Conflict => "conflict: the overwritten write first",
-        Relation::HappenedBefore => "happened-before",
+        Relation::ProgramOrder => "session order: later in the same session",
+        Relation::ReadsFrom => "reads from: a write to a read of its value",
+        Relation::Conflict => "overwritten: must come before the other",
+        Relation::HappenedBefore => "must come before, by what was read",
+    }
+}
+
+/// What the legend says of an operation that is wrong by a kind.
+pub(crate) fn words_of_wrong(kind: Kind) -> &'static str {
+    match kind {
+        Kind::CyclicCO | Kind::CyclicCF | Kind::CyclicHB => "wrong: each comes before the next",
+        Kind::ThinAirRead | Kind::WriteCOInitRead | Kind::WriteCORead | Kind::WriteHBInitRead => {
+            "wrong: this read"
+        }
     }
 }

@@ -1,101 +1,31 @@
 //! The edges of a picture, which run between the boxes.
 
-use crate::drawing_head::push_edge;
-use crate::layout::{BOX_HEIGHT, Layout, Length};
-use crate::marks::{Joint, Marks, Relation};
-use crate::rows::{LaneRows, Place};
+use crate::edges::Edge;
+use crate::layout::{Layout, Length, lesser};
+use crate::marks::Relation;
+use crate::ports::{Part, Ports, track_of};
 use std::alloc::{AllocError, Global};
 use std::num::Saturating;
 
-/// Draws the joints whose operations are shown.
-pub(crate) fn draw_joints(
+/// Draws the edges, which begin and end at these ports.
+pub(crate) fn draw_edges(
     alloc: Global,
     svg: &mut String,
     layout: &Layout,
-    rows: &LaneRows,
-    marks: &Marks,
+    ports: &Ports,
+    edges: &[Edge],
 ) -> Result<(), AllocError> {
-    for joint in marks.joints() {
-        draw_joint(alloc, svg, layout, rows, joint)?;
+    svg.push_str("<g class=\"edges\">\n")?;
+    for (number, edge) in edges.iter().enumerate() {
+        let ends = ends_of(layout, ports, number, edge);
+        let track = track_of(edges, number, edge);
+        let path = path_of(alloc, layout, edge, ends, track)?;
+        push_edge(alloc, svg, &path, edge.relation)?;
     }
-    Ok(())
+    svg.push_str("</g>\n")
 }
 
-// Draws a joint, where both its operations are shown.
-fn draw_joint(
-    alloc: Global,
-    svg: &mut String,
-    layout: &Layout,
-    rows: &LaneRows,
-    joint: &Joint,
-) -> Result<(), AllocError> {
-    match (rows.place(joint.from), rows.place(joint.to)) {
-        (Some(from), Some(to)) => {
-            let path = path_of(alloc, layout, from, to, joint.relation)?;
-            push_edge(alloc, svg, &path, joint.relation)
-        }
-        _ => Ok(()),
-    }
-}
-
-// The path of an edge from one box to another.
-fn path_of(
-    alloc: Global,
-    layout: &Layout,
-    from: Place,
-    to: Place,
-    relation: Relation,
-) -> Result<String, AllocError> {
-    if from.lane == to.lane {
-        path_in_lane(alloc, layout, from, to, relation)
-    } else if from.lane.saturating_add(1) == to.lane || to.lane.saturating_add(1) == from.lane {
-        path_to_neighbour(alloc, layout, from, to, relation)
-    } else {
-        path_across(alloc, layout, from, to, relation)
-    }
-}
-
-// Down from a box to the next by program order, or else in a bow beside the lane.
-fn path_in_lane(
-    alloc: Global,
-    layout: &Layout,
-    from: Place,
-    to: Place,
-    relation: Relation,
-) -> Result<String, AllocError> {
-    if relation == Relation::ProgramOrder && from.entry.saturating_add(1) == to.entry {
-        let x = layout.middle(from.lane as u64);
-        let y = layout.top(from.row) + BOX_HEIGHT;
-        let end = layout.top(to.row);
-        return format!(in alloc; "M{x} {y}V{end}");
-    }
-    let (x, bend) = bow(layout, from.lane as u64, relation);
-    let (y, end) = if from.row < to.row {
-        (layout.top(from.row) + LOWER, layout.top(to.row) + UPPER)
-    } else {
-        (layout.top(from.row) + UPPER, layout.top(to.row) + LOWER)
-    };
-    format!(in alloc; "M{x} {y}C{bend} {y} {bend} {end} {x} {end}")
-}
-
-// Where in the height of a box bows begin and end.
-const UPPER: Length = Saturating(10);
-
-const LOWER: Length = Saturating(26);
-
-// The edge of a lane's boxes at which a bow begins and ends, and how far it bends.
-fn bow(layout: &Layout, lane: u64, relation: Relation) -> (Length, Length) {
-    let left = layout.left(lane);
-    let right = layout.right(lane);
-    match relation {
-        Relation::ProgramOrder => (left, left - Saturating(36)),
-        Relation::ReadsFrom => (right, right + Saturating(44)),
-        Relation::Conflict => (right, right + Saturating(60)),
-        Relation::HappenedBefore => (right, right + Saturating(76)),
-    }
-}
-
-// Where two boxes of different lanes are joined: at the sides that face each other.
+// The points at which an edge begins and ends.
 #[derive(Clone, Copy, Debug, PartialEq, Eq)]
 struct Ends {
     x: Length,
@@ -104,41 +34,62 @@ struct Ends {
     end_y: Length,
 }
 
-fn ends_of(layout: &Layout, from: Place, to: Place, relation: Relation) -> Ends {
-    let port = port_of(relation, from.lane < to.lane);
-    let y = layout.top(from.row) + port;
-    let end_y = layout.top(to.row) + port;
-    let (x, end_x) = if from.lane < to.lane {
-        (layout.right(from.lane as u64), layout.left(to.lane as u64))
-    } else {
-        (layout.left(from.lane as u64), layout.right(to.lane as u64))
-    };
-    Ends { x, y, end_x, end_y }
+fn ends_of(layout: &Layout, ports: &Ports, number: usize, edge: &Edge) -> Ends {
+    let (side, end_side) = edge.sides();
+    Ends {
+        x: layout.side(edge.from.lane as u64, side),
+        y: layout.port(edge.from.row, ports.begin(edge)),
+        end_x: layout.side(edge.to.lane as u64, end_side),
+        end_y: layout.port(edge.to.row, ports.end(number, edge)),
+    }
 }
 
-// Where in the height of a box the edges of a relation begin and end. Those to the left stand apart from those to the right,
-// since two operations may be joined both ways.
-fn port_of(relation: Relation, is_to_right: bool) -> Length {
-    match relation {
-        Relation::ReadsFrom | Relation::ProgramOrder => Saturating(7),
-        Relation::HappenedBefore | Relation::Conflict if is_to_right => Saturating(17),
-        Relation::HappenedBefore | Relation::Conflict => Saturating(30),
+// The path of an edge from one box to another.
+fn path_of(
+    alloc: Global,
+    layout: &Layout,
+    edge: &Edge,
+    ends: Ends,
+    track: Part,
+) -> Result<String, AllocError> {
+    if edge.is_straight() {
+        path_down(alloc, layout, edge)
+    } else if edge.from.lane == edge.to.lane {
+        path_in_lane(alloc, edge, ends)
+    } else if edge.is_across() {
+        path_across(alloc, layout, edge, ends, track)
+    } else {
+        path_to_neighbour(alloc, edge, ends)
     }
+}
+
+// Down from a box to the next.
+fn path_down(alloc: Global, layout: &Layout, edge: &Edge) -> Result<String, AllocError> {
+    let x = layout.middle(edge.from.lane as u64);
+    let y = layout.bottom(edge.from.row);
+    let end = layout.top(edge.to.row);
+    format!(in alloc; "M{x} {y}V{end}")
+}
+
+// A bow beside the lane: the longer, the farther.
+fn path_in_lane(alloc: Global, edge: &Edge, ends: Ends) -> Result<String, AllocError> {
+    let Ends { x, y, end_x, end_y } = ends;
+    let length = Saturating(edge.from.row.abs_diff(edge.to.row));
+    let bend = if edge.relation == Relation::ProgramOrder {
+        x - lesser(Saturating(20) + Saturating(8) * length, Saturating(48))
+    } else {
+        x + lesser(Saturating(40) + Saturating(10) * length, Saturating(100))
+    };
+    format!(in alloc; "M{x} {y}C{bend} {y} {bend} {end_y} {end_x} {end_y}")
 }
 
 // How far a curve keeps level where it begins and ends.
 const LEVEL: Length = Saturating(60);
 
 // A curve through the room between two lanes.
-fn path_to_neighbour(
-    alloc: Global,
-    layout: &Layout,
-    from: Place,
-    to: Place,
-    relation: Relation,
-) -> Result<String, AllocError> {
-    let Ends { x, y, end_x, end_y } = ends_of(layout, from, to, relation);
-    let (bend, end_bend) = if from.lane < to.lane {
+fn path_to_neighbour(alloc: Global, edge: &Edge, ends: Ends) -> Result<String, AllocError> {
+    let Ends { x, y, end_x, end_y } = ends;
+    let (bend, end_bend) = if edge.from.lane < edge.to.lane {
         (x + LEVEL, end_x - LEVEL)
     } else {
         (x - LEVEL, end_x + LEVEL)
@@ -146,47 +97,45 @@ fn path_to_neighbour(
     format!(in alloc; "M{x} {y}C{bend} {y} {end_bend} {end_y} {end_x} {end_y}")
 }
 
-// A curve to the room between two rows, along it past the lanes between, and a curve to the other box.
+// A curve to the room above the lower box, along it past the lanes between, and a curve to the other box.
 fn path_across(
     alloc: Global,
     layout: &Layout,
-    from: Place,
-    to: Place,
-    relation: Relation,
+    edge: &Edge,
+    ends: Ends,
+    track: Part,
 ) -> Result<String, AllocError> {
-    let Ends { x, y, end_x, end_y } = ends_of(layout, from, to, relation);
-    let way = way_of(layout, from, to, relation);
-    let (first, last, bends) = if from.lane < to.lane {
-        let first = layout.left((from.lane as u64).saturating_add(1));
-        let last = layout.right((to.lane as u64).saturating_sub(1));
-        (
-            first,
-            last,
-            [x + LEVEL, first - LEVEL, last + LEVEL, end_x - LEVEL],
-        )
+    let Ends { x, y, end_x, end_y } = ends;
+    let way = layout.track(edge.lower_row(), track);
+    let (lane, end_lane) = (edge.from.lane as u64, edge.to.lane as u64);
+    let (first, last, bends) = if lane < end_lane {
+        let first = layout.left(lane.saturating_add(1));
+        let last = layout.right(end_lane.saturating_sub(1));
+        let away = [x + LEVEL, first - LEVEL];
+        (first, last, (away, [last + LEVEL, end_x - LEVEL]))
     } else {
-        let first = layout.right((from.lane as u64).saturating_sub(1));
-        let last = layout.left((to.lane as u64).saturating_add(1));
-        (
-            first,
-            last,
-            [x - LEVEL, first + LEVEL, last - LEVEL, end_x + LEVEL],
-        )
+        let first = layout.right(lane.saturating_sub(1));
+        let last = layout.left(end_lane.saturating_add(1));
+        let away = [x - LEVEL, first + LEVEL];
+        (first, last, (away, [last - LEVEL, end_x + LEVEL]))
     };
-    let [a, b, c, d] = bends;
+    let ([a, b], [c, d]) = bends;
     let away = format!(in alloc; "M{x} {y}C{a} {y} {b} {way} {first} {way}")?;
     format!(in alloc; "{away}H{last}C{c} {way} {d} {end_y} {end_x} {end_y}")
 }
 
-// The height of the room between two rows that an edge runs along: above the lower one of its boxes.
-fn way_of(layout: &Layout, from: Place, to: Place, relation: Relation) -> Length {
-    let above = match (relation, from.lane < to.lane) {
-        (Relation::ReadsFrom | Relation::ProgramOrder, true) => Saturating(28),
-        (Relation::ReadsFrom | Relation::ProgramOrder, false) => Saturating(22),
-        (Relation::HappenedBefore | Relation::Conflict, true) => Saturating(15),
-        (Relation::HappenedBefore | Relation::Conflict, false) => Saturating(8),
-    };
-    layout.top(from.row.max(to.row)) - above
+/// Draws an edge of a relation along a path.
+pub(crate) fn push_edge(
+    alloc: Global,
+    svg: &mut String,
+    path: &str,
+    relation: Relation,
+) -> Result<(), AllocError> {
+    let color = color_of(relation);
+    let dashes = dashes_of(relation);
+    let marker = marker_of(relation);
+    let line = format!(in alloc; "fill=\"none\" stroke=\"{color}\" stroke-width=\"2\"{dashes}")?;
+    svg.push_str(&format!(in alloc; "<path d=\"{path}\" {line} marker-end=\"url(#{marker})\"/>\n")?)
 }
 
 /// The colour of a relation.
@@ -194,13 +143,13 @@ pub(crate) fn color_of(relation: Relation) -> &'static str {
     match relation {
         Relation::ProgramOrder => "#4b5563",
         Relation::ReadsFrom => "#0072b2",
-        Relation::Conflict => "#d55e00",
+        Relation::Conflict => "#b45309",
         Relation::HappenedBefore => "#8e3fa8",
     }
 }
 
-/// How the lines of a relation are broken, as an attribute with a space before it.
-pub(crate) fn dashes_of(relation: Relation) -> &'static str {
+// How the lines of a relation are broken, as an attribute with a space before it.
+fn dashes_of(relation: Relation) -> &'static str {
     match relation {
         Relation::ProgramOrder | Relation::ReadsFrom => "",
         Relation::Conflict => " stroke-dasharray=\"8 4\"",

@@ -9,8 +9,14 @@ use wording::Names;
 /// The most operations of a history that is shown whole around a pattern.
 const MAX_WHOLE: u64 = 40;
 
+/// The most operations of a history without a pattern that is shown whole.
+const MAX_UNFOLDED: u64 = 60;
+
 /// How many operations before and behind a marked one are shown, where a history is not shown whole.
 const NEAR: u64 = 1;
+
+/// How many operations are shown at each end of a session that is folded.
+const ENDS: u64 = 2;
 
 /// How much of a history is shown.
 #[derive(Clone, Copy, Debug, PartialEq, Eq)]
@@ -19,6 +25,8 @@ pub(crate) enum Extent {
     Whole,
     /// What is near the marked operations, in their sessions.
     Near,
+    /// What is near the marked operations, and both ends of each session.
+    Folded,
 }
 
 /// An operation that is shown.
@@ -29,6 +37,8 @@ pub(crate) struct Shown {
     pub name: String,
     pub label: String,
     pub is_marked: bool,
+    /// What is wrong with it, where something is.
+    pub fault: Option<String>,
 }
 
 /// What stands in a lane: an operation, or how many are left out.
@@ -69,19 +79,33 @@ impl Lane {
 
 /// How much of a history is shown around its marks: all of a small one.
 pub(crate) fn extent_around<O: Labelled>(history: &History<O>) -> Extent {
-    let mut count: u64 = 0;
-    for session in 0..history.sessions() {
-        count = count.saturating_add(history.len(session) as u64);
-    }
-    if count <= MAX_WHOLE {
+    if operations_of(history) <= MAX_WHOLE {
         Extent::Whole
     } else {
         Extent::Near
     }
 }
 
-/// The lanes of a history: of all sessions, or of those with marked operations. A gap in a lane counts the operations of the whole
-/// that it leaves out, whether the history has them or not.
+/// How much of a history is shown where no pattern is: all of a small one.
+pub(crate) fn extent_without_pattern<O: Labelled>(history: &History<O>) -> Extent {
+    if operations_of(history) <= MAX_UNFOLDED {
+        Extent::Whole
+    } else {
+        Extent::Folded
+    }
+}
+
+// How many operations a history has.
+fn operations_of<O: Labelled>(history: &History<O>) -> u64 {
+    let mut count: u64 = 0;
+    for session in 0..history.sessions() {
+        count = count.saturating_add(history.len(session) as u64);
+    }
+    count
+}
+
+/// The lanes of a history: of all sessions, or near marks alone of those with marked operations. A gap in a lane counts the operations
+/// of the whole that it leaves out, whether the history has them or not.
 ///
 /// Fails for want of memory alone. O(n m) for n operations and m marks.
 pub(crate) fn lanes_of<O: Labelled, N: Names>(
@@ -95,7 +119,7 @@ pub(crate) fn lanes_of<O: Labelled, N: Names>(
     for session in 0..history.sessions() {
         let operations = history.session(session);
         let lane = lane_of::<O, N>(alloc, session as u64, operations, names, marks, extent)?;
-        if extent == Extent::Whole || lane.is_marked() {
+        if extent != Extent::Near || lane.is_marked() {
             lanes.push(lane)?;
         }
     }
@@ -123,7 +147,7 @@ fn lane_of<O: Labelled, N: Names>(
         };
         let named = names.in_whole(op);
         end = named.index.saturating_add(1);
-        if extent == Extent::Whole || is_shown(marks, op, count) {
+        if is_shown(marks, extent, op, count) {
             push_gap(&mut entries, named.index.saturating_sub(shown_end))?;
             let shown = shown_of::<O, N>(alloc, op, names, operation, marks)?;
             entries.push(Entry::Operation(shown))?;
@@ -151,12 +175,22 @@ fn shown_of<O: Labelled, N: Names>(
         Some(label) => label,
         None => label_of::<O>(alloc, &operation.0, &operation.1)?,
     };
+    let name = names.operation(alloc, op)?;
     Ok(Shown {
         op,
-        name: names.operation(alloc, op)?,
+        name,
         label,
         is_marked: marks.contains(op),
+        fault: fault_of(alloc, marks, op)?,
     })
+}
+
+// What is said of an operation that is wrong, as a text of its own.
+fn fault_of(alloc: Global, marks: &Marks, op: OpId) -> Result<Option<String>, AllocError> {
+    match marks.fault(op) {
+        Some(words) => Ok(Some(String::from_str(alloc, words)?)),
+        None => Ok(None),
+    }
 }
 
 // Puts a gap behind the entries, where operations are left out.
@@ -167,9 +201,24 @@ fn push_gap(entries: &mut Vec<Entry>, left_out: u64) -> Result<(), AllocError> {
     Ok(())
 }
 
-// Whether an operation is near a marked one, or would be left out alone. Its session has `count` operations.
-fn is_shown(marks: &Marks, op: OpId, count: u64) -> bool {
-    is_near(marks, op) || (is_near_before(marks, op) && is_near_behind(marks, op, count))
+// Whether an operation is kept, or would be left out alone. Its session has `count` operations.
+fn is_shown(marks: &Marks, extent: Extent, op: OpId, count: u64) -> bool {
+    is_kept(marks, extent, op, count)
+        || (is_kept_before(marks, extent, op, count) && is_kept_behind(marks, extent, op, count))
+}
+
+// Whether an operation belongs to what is shown.
+fn is_kept(marks: &Marks, extent: Extent, op: OpId, count: u64) -> bool {
+    match extent {
+        Extent::Whole => true,
+        Extent::Near => is_near(marks, op),
+        Extent::Folded => is_at_end(op, count) || is_near(marks, op),
+    }
+}
+
+// Whether an operation is among the first or the last of its session.
+fn is_at_end(op: OpId, count: u64) -> bool {
+    op.index < ENDS || op.index.saturating_add(ENDS) >= count
 }
 
 // Whether an operation of the same session is marked that is near.
@@ -181,19 +230,19 @@ fn is_near(marks: &Marks, op: OpId) -> bool {
     })
 }
 
-// Whether the operation before it is near a marked one, or there is none.
-fn is_near_before(marks: &Marks, op: OpId) -> bool {
+// Whether the operation before it is kept, or there is none.
+fn is_kept_before(marks: &Marks, extent: Extent, op: OpId, count: u64) -> bool {
     match op.before() {
-        Some(before) => is_near(marks, before),
+        Some(before) => is_kept(marks, extent, before, count),
         None => true,
     }
 }
 
-// Whether the operation behind it is near a marked one, or there is none.
-fn is_near_behind(marks: &Marks, op: OpId, count: u64) -> bool {
+// Whether the operation behind it is kept, or there is none.
+fn is_kept_behind(marks: &Marks, extent: Extent, op: OpId, count: u64) -> bool {
     let behind = OpId {
         session: op.session,
         index: op.index.saturating_add(1),
     };
-    behind.index >= count || is_near(marks, behind)
+    behind.index >= count || is_kept(marks, extent, behind, count)
 }

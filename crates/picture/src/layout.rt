@@ -1,6 +1,8 @@
 //! Where things stand in a picture, in whole pixels.
 
+use crate::edges::Side;
 use crate::lanes::{Entry, Lane};
+use crate::ports::{Part, Ports};
 use crate::rows::LaneRows;
 use std::num::Saturating;
 
@@ -11,16 +13,25 @@ pub(crate) type Length = Saturating<u64>;
 pub(crate) const MARGIN: Length = Saturating(40);
 
 /// The room right of the last lane, where edges bend.
-const RIGHT_MARGIN: Length = Saturating(72);
+const RIGHT_MARGIN: Length = Saturating(96);
 
-/// The room between two lanes.
+/// The room between two lanes with edges, and the room between two without.
 const GUTTER: Length = Saturating(120);
 
-/// The height of a box.
-pub(crate) const BOX_HEIGHT: Length = Saturating(36);
+const NARROW_GUTTER: Length = Saturating(48);
 
-/// The room between two boxes.
+/// The height of a box, and that of one in which a fault is told.
+const BOX_HEIGHT: Length = Saturating(36);
+
+const TELLING_HEIGHT: Length = Saturating(44);
+
+/// The room that a box wants for each arrowhead at a side.
+const PORT_HEIGHT: Length = Saturating(10);
+
+/// The room between two boxes, and what of it the edges along it keep free at either end.
 const ROW_GAP: Length = Saturating(34);
+
+const ROW_GAP_END: Length = Saturating(4);
 
 /// The height of a line at the head, and of one of the legend.
 pub(crate) const LINE_HEIGHT: Length = Saturating(24);
@@ -29,7 +40,7 @@ pub(crate) const LINE_HEIGHT: Length = Saturating(24);
 pub(crate) const PADDING: Length = Saturating(10);
 
 /// The width of an entry of the legend.
-const LEGEND_WIDTH: Length = Saturating(330);
+const LEGEND_WIDTH: Length = Saturating(340);
 
 /// The least width of a picture, so that the legend and the sentences at the head have room.
 const LEAST_WIDTH: Length = Saturating(720);
@@ -42,6 +53,11 @@ const LETTER: Length = Saturating(8);
 pub(crate) struct Layout {
     /// Half the width of a box.
     half: Length,
+    /// The height of a box.
+    height: Length,
+    /// The room between two lanes, and right of the last.
+    gutter: Length,
+    right_margin: Length,
     /// The room for the name of an operation in its box.
     name: Length,
     /// How many lines stand at the head.
@@ -55,15 +71,17 @@ pub(crate) struct Layout {
 }
 
 impl Layout {
-    /// The measures of a picture with these rows and these lines at its head.
-    pub fn of(rows: &LaneRows, lines: &[String], legend: usize) -> Layout {
+    /// The measures of a picture with these rows, these lines at its head, and edges that end at these ports.
+    pub fn of(rows: &LaneRows, lines: &[String], legend: usize, ports: &Ports) -> Layout {
         let lanes = rows.lanes();
-        let name = Saturating(7) * longest(lanes, Text::Name);
-        let label = Saturating(5) * longest(lanes, Text::Label);
-        let texts = label + Saturating(4) * longest(lanes, Text::Name) + Saturating(18);
+        let has_edges = ports.most() > 0;
+        let gutter = if has_edges { GUTTER } else { NARROW_GUTTER };
         Layout {
-            half: greater(texts, half_of_names(lanes)),
-            name,
+            half: greater(half_of_boxes(lanes), half_of_names(lanes, gutter)),
+            height: box_height(lanes, ports),
+            gutter,
+            right_margin: if has_edges { RIGHT_MARGIN } else { MARGIN },
+            name: Saturating(7) * longest(lanes, Text::Name),
             lines: length_of(lines.len()),
             lanes: length_of(lanes.len()),
             rows: Saturating(rows.count()),
@@ -74,7 +92,7 @@ impl Layout {
 
     /// The width of the picture.
     pub fn width(&self) -> Length {
-        let lanes = self.left(self.lanes.0) - GUTTER + RIGHT_MARGIN;
+        let lanes = self.left(self.lanes.0) - self.gutter + self.right_margin;
         let head = MARGIN + self.head + MARGIN;
         greater(LEAST_WIDTH, greater(lanes, head))
     }
@@ -96,7 +114,7 @@ impl Layout {
 
     // The height of a box and of the room below it.
     fn row(&self) -> Length {
-        BOX_HEIGHT + ROW_GAP
+        self.height + ROW_GAP
     }
 
     /// The upper edge of the boxes of a row.
@@ -106,7 +124,7 @@ impl Layout {
 
     /// The left edge of the boxes of a lane.
     pub fn left(&self, lane: u64) -> Length {
-        MARGIN + Saturating(lane) * (self.half + self.half + GUTTER)
+        MARGIN + Saturating(lane) * (self.half + self.half + self.gutter)
     }
 
     /// The middle of the boxes of a lane.
@@ -119,9 +137,44 @@ impl Layout {
         self.middle(lane) + self.half
     }
 
+    /// Where a side of the boxes of a lane is, and for their upper and lower edges the middle.
+    pub fn side(&self, lane: u64, side: Side) -> Length {
+        match side {
+            Side::Left => self.left(lane),
+            Side::Right => self.right(lane),
+            Side::Top | Side::Bottom => self.middle(lane),
+        }
+    }
+
     /// The width of a box.
     pub fn box_width(&self) -> Length {
         self.half + self.half
+    }
+
+    /// The height of a box.
+    pub fn box_height(&self) -> Length {
+        self.height
+    }
+
+    /// The lower edge of the boxes of a row.
+    pub fn bottom(&self, row: u64) -> Length {
+        self.top(row) + self.height
+    }
+
+    /// The height in the middle of the boxes of a row.
+    pub fn center(&self, row: u64) -> Length {
+        self.top(row) + Saturating(self.height.0 / 2)
+    }
+
+    /// The height of the middle of a part of a side of the boxes of a row.
+    pub fn port(&self, row: u64, part: Part) -> Length {
+        self.top(row) + middle_of(self.height, part)
+    }
+
+    /// The height of a track above the boxes of a row.
+    pub fn track(&self, row: u64, part: Part) -> Length {
+        let room = ROW_GAP - ROW_GAP_END - ROW_GAP_END;
+        self.top(row) - ROW_GAP_END - middle_of(room, part)
     }
 
     /// Where the label stands in a box of a lane, behind the name.
@@ -168,11 +221,45 @@ impl Layout {
     }
 }
 
+// Where the middle of a part of a length is.
+fn middle_of(length: Length, part: Part) -> Length {
+    let halves = Saturating(part.number) + Saturating(part.number) + Saturating(1);
+    let all = part.count.saturating_mul(2).max(1);
+    Saturating((length * halves).0 / all)
+}
+
+// The height of a box that has room for its texts and for the arrowheads at its sides.
+fn box_height(lanes: &[Lane], ports: &Ports) -> Length {
+    let texts = if longest(lanes, Text::Fault) > Saturating(0) {
+        TELLING_HEIGHT
+    } else {
+        BOX_HEIGHT
+    };
+    greater(texts, PORT_HEIGHT * Saturating(ports.most()))
+}
+
+// Half the width that the texts in a box want.
+fn half_of_boxes(lanes: &[Lane]) -> Length {
+    let names = Saturating(4) * longest(lanes, Text::Name);
+    let labels = Saturating(5) * longest(lanes, Text::Label);
+    let faults = Saturating(4) * longest(lanes, Text::Fault);
+    greater(names + labels + Saturating(18), faults)
+}
+
 // Which text of an operation is measured.
 #[derive(Clone, Copy, Debug, PartialEq, Eq)]
 enum Text {
     Name,
     Label,
+    Fault,
+}
+
+// The least number of letters of such a text, in a lane with entries.
+fn least_letters(text: Text) -> Length {
+    match text {
+        Text::Name | Text::Label => Saturating(3),
+        Text::Fault => Saturating(0),
+    }
 }
 
 // How many letters the longest such text of all operations has.
@@ -186,7 +273,7 @@ fn longest(lanes: &[Lane], text: Text) -> Length {
 
 // The same of one lane.
 fn longest_in(entries: &[Entry], text: Text) -> Length {
-    let mut most = Saturating(3);
+    let mut most = least_letters(text);
     for entry in entries {
         most = greater(most, letters_of(entry, text));
     }
@@ -196,20 +283,24 @@ fn longest_in(entries: &[Entry], text: Text) -> Length {
 // How many letters a text of an entry has.
 fn letters_of(entry: &Entry, text: Text) -> Length {
     match (entry, text) {
-        (Entry::Gap(_), Text::Name) => Saturating(0),
-        (Entry::Gap(_), Text::Label) => Saturating(12),
+        (Entry::Gap(_), Text::Name | Text::Fault) => Saturating(0),
+        (Entry::Gap(_), Text::Label) => Saturating(8),
         (Entry::Operation(shown), Text::Label) => length_of(shown.label.chars().count()),
         (Entry::Operation(shown), Text::Name) => length_of(shown.name.chars().count()),
+        (Entry::Operation(shown), Text::Fault) => match &shown.fault {
+            Some(words) => length_of(words.chars().count()),
+            None => Saturating(0),
+        },
     }
 }
 
 // Half the width that the longest name of a lane wants, beside which there is the room between two lanes.
-fn half_of_names(lanes: &[Lane]) -> Length {
+fn half_of_names(lanes: &[Lane], gutter: Length) -> Length {
     let mut most = Saturating(0);
     for lane in lanes {
         most = greater(most, length_of(lane.name.chars().count()));
     }
-    Saturating(4) * most - Saturating(36)
+    Saturating(4) * most + Saturating(24) - Saturating(gutter.0 / 2)
 }
 
 // How many letters the longest line has.
@@ -229,4 +320,9 @@ fn length_of(number: usize) -> Length {
 /// The greater of two lengths.
 pub(crate) fn greater(a: Length, b: Length) -> Length {
     if a < b { b } else { a }
+}
+
+/// The lesser of two lengths.
+pub(crate) fn lesser(a: Length, b: Length) -> Length {
+    if a < b { a } else { b }
 }

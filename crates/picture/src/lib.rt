@@ -1,5 +1,5 @@
-//! Pictures of histories as SVG texts: sessions as lanes side by side, and in colour the operations of a pattern with what
-//! joins them.
+//! Pictures of histories as SVG texts: sessions as lanes side by side, in colour the operations of a pattern with what joins them,
+//! and in red those that are wrong.
 //!
 //! Nobody trusts a picture: what shows that a criterion is not met is the pattern. A picture has no scripts and no fonts of
 //! its own, and all its lengths are whole numbers.
@@ -9,14 +9,19 @@ mod captions;
 mod drawing;
 mod drawing_edges;
 mod drawing_head;
+mod drawing_lanes;
+mod edges;
 mod escaping;
+mod faults;
 mod gathering;
 mod label;
 mod lanes;
 pub mod laws;
 mod layout;
+mod legend;
 mod marks;
 mod pictures;
+mod ports;
 mod rows;
 
 pub use escaping::escaped;

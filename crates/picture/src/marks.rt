@@ -40,10 +40,18 @@ pub(crate) struct Joint {
     pub relation: Relation,
 }
 
+/// An operation that is wrong, with what is said of it in its box.
+#[derive(Debug, Drop)]
+struct Fault {
+    op: OpId,
+    words: String,
+}
+
 /// The operations and the joints that a picture draws out, each once.
 #[derive(Debug, Drop)]
 pub(crate) struct Marks {
     ops: Vec<OpId>,
+    faults: Vec<Fault>,
     joints: Vec<Joint>,
     is_cut: bool,
 }
@@ -53,6 +61,7 @@ impl Marks {
     pub fn none(alloc: Global) -> Marks {
         Marks {
             ops: Vec::new(alloc),
+            faults: Vec::new(alloc),
             joints: Vec::new(alloc),
             is_cut: false,
         }
@@ -78,9 +87,14 @@ impl Marks {
         self.ops.contains(&op)
     }
 
-    /// Whether some operations are joined so.
-    pub fn shows(&self, relation: Relation) -> bool {
-        self.joints.iter().any(|joint| joint.relation == relation)
+    /// What is said of an operation that is wrong.
+    pub fn fault(&self, op: OpId) -> Option<&str> {
+        for fault in &self.faults {
+            if fault.op == op {
+                return Some(fault.words.as_str());
+            }
+        }
+        None
     }
 
     /// Marks an operation.
@@ -89,6 +103,15 @@ impl Marks {
             self.ops.push(op)?;
         }
         Ok(())
+    }
+
+    /// Marks an operation that is wrong, with what is said of it. What was said of it first stays.
+    pub fn blame(&mut self, op: OpId, words: String) -> Result<(), AllocError> {
+        if self.fault(op).is_some() {
+            return Ok(());
+        }
+        self.mark(op)?;
+        Ok(self.faults.push(Fault { op, words })?)
     }
 
     /// Joins two operations, and marks both.

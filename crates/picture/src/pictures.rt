@@ -3,11 +3,13 @@
 ghost use Rattle.std.specs.Prelude.{IfOk, string_bytes};
 ghost use Rattle.picture.specs.Markup.{IsSvgElement};
 
-use crate::captions::lines_of_pattern;
+use crate::captions::{lines_of_pattern, words_of_wrong};
 use crate::drawing::{Scene, drawing_of};
+use crate::faults::blame_pattern;
 use crate::gathering::marks_of;
 use crate::label::Labelled;
-use crate::lanes::{Extent, Lane, extent_around, lanes_of};
+use crate::lanes::{Lane, extent_around, extent_without_pattern, lanes_of};
+use crate::legend::LegendWords;
 use crate::marks::Marks;
 use crate::rows::rows_of;
 use bad_patterns::Pattern;
@@ -22,7 +24,7 @@ use wording::Names;
 ///
 /// A history of at most 40 operations is shown whole, and of a larger one what is near the operations of the pattern: one
 /// operation before and behind each, in their sessions alone. At most 256 edges are drawn. What of the pattern is no operation
-/// of the history is left out.
+/// of the history is left out. The read that is wrong, or the operations of the cycle, are drawn in red, and say what is wrong.
 ///
 /// Sessions and operations have these names. Where the history is a part of a longer one, each lane says how many operations of the
 /// whole are left out before each that is shown. What follows the part's last operation of a session is not known, and not shown.
@@ -39,18 +41,24 @@ pub fn picture_of_pattern<N: Names>(
     ensures { IfOk result (λ svg. IsSvgElement (string_bytes svg)) }
 {
     let memory = IndexedMemory::of(alloc, history)?;
-    let marks = marks_of(alloc, &memory, pattern)?;
+    let mut marks = marks_of(alloc, &memory, pattern)?;
+    blame_pattern(alloc, &mut marks, names, &memory, pattern)?;
     let lanes = lanes_of(alloc, history, names, &marks, extent_around(history))?;
     let mut lines = lines_of_pattern(alloc, names, criterion, pattern)?;
     let sessions = names.sessions(history.sessions());
     push_left_out(alloc, &mut lines, names, sessions, &lanes, &marks)?;
-    picture_of(alloc, &lines, &lanes, &marks, "operation of the pattern")
+    let words = LegendWords {
+        wrong: words_of_wrong(pattern.kind()),
+        marked: "operation that shows it",
+    };
+    picture_of(alloc, &lines, &lanes, &marks, words)
 }
 
-/// The picture of all operations of a history, as an SVG text, with lines at its head, of which the first is its title, and these names.
+/// The picture of a history, as an SVG text, with lines at its head, of which the first is its title, and these names.
 ///
-/// The operation is drawn out, where one is named and is in the history. Fails for want of memory alone. O(n k) for n
-/// operations of k sessions.
+/// A history of at most 60 operations is shown whole, and of a larger one the first two and the last two operations of each session. The
+/// operation is drawn out, where one is named and is in the history, and one before and behind it are shown. Fails for want of memory
+/// alone. O(n k) for n operations of k sessions.
 pub fn picture_of_history<O: Labelled, N: Names>(
     alloc: Global,
     history: &History<O>,
@@ -66,8 +74,18 @@ pub fn picture_of_history<O: Labelled, N: Names>(
     {
         marks.mark(op)?;
     }
-    let lanes = lanes_of(alloc, history, names, &marks, Extent::Whole)?;
-    picture_of(alloc, lines, &lanes, &marks, "operation named above")
+    let lanes = lanes_of(
+        alloc,
+        history,
+        names,
+        &marks,
+        extent_without_pattern(history),
+    )?;
+    let words = LegendWords {
+        wrong: "wrong",
+        marked: "operation named above",
+    };
+    picture_of(alloc, lines, &lanes, &marks, words)
 }
 
 // The picture of lanes with what is drawn out in them.
@@ -76,7 +94,7 @@ fn picture_of(
     lines: &[String],
     lanes: &[Lane],
     marks: &Marks,
-    mark_words: &'static str,
+    words: LegendWords,
 ) -> Result<String, AllocError>
     ensures { IfOk result (λ svg. IsSvgElement (string_bytes svg)) }
 {
@@ -85,7 +103,7 @@ fn picture_of(
         lines,
         rows: &rows,
         marks,
-        mark_words,
+        words,
     };
     drawing_of(alloc, &scene)
 }

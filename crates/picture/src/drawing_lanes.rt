@@ -1,0 +1,204 @@
+//! The lanes of a picture, with their boxes.
+
+use crate::drawing_head::push_text;
+use crate::lanes::{Entry, Lane, Shown};
+use crate::layout::{Layout, PADDING};
+use crate::rows::LaneRows;
+use std::alloc::{AllocError, Global};
+use std::num::Saturating;
+
+/// How a box stands out.
+#[derive(Clone, Copy, Debug, PartialEq, Eq)]
+pub(crate) enum Emphasis {
+    Plain,
+    /// It is marked.
+    Marked,
+    /// It is marked, and wrong.
+    Wrong,
+}
+
+/// How the box of an operation stands out.
+pub(crate) fn emphasis_of(shown: &Shown) -> Emphasis {
+    if shown.fault.is_some() {
+        Emphasis::Wrong
+    } else if shown.is_marked {
+        Emphasis::Marked
+    } else {
+        Emphasis::Plain
+    }
+}
+
+/// Draws the name and the line of each lane.
+pub(crate) fn draw_lane_lines(
+    alloc: Global,
+    svg: &mut String,
+    layout: &Layout,
+    lanes: &[Lane],
+) -> Result<(), AllocError> {
+    for (number, lane) in lanes.iter().enumerate() {
+        draw_lane_line(alloc, svg, layout, number as u64, &lane.name)?;
+    }
+    Ok(())
+}
+
+// Draws the name and the line of a lane.
+fn draw_lane_line(
+    alloc: Global,
+    svg: &mut String,
+    layout: &Layout,
+    number: u64,
+    name: &str,
+) -> Result<(), AllocError> {
+    let x = layout.middle(number);
+    let y = layout.lanes_top();
+    let style = "font-size=\"14\" font-weight=\"600\" fill=\"#374151\" text-anchor=\"middle\"";
+    push_text(alloc, svg, x, y, style, name)?;
+    let from = y + Saturating(10);
+    let to = layout.lanes_bottom();
+    let ends = format!(in alloc; "x1=\"{x}\" y1=\"{from}\" x2=\"{x}\" y2=\"{to}\"")?;
+    let line = format!(in alloc; "<line {ends} stroke=\"#d1d5db\" stroke-width=\"2\"/>\n")?;
+    svg.push_str(&line)
+}
+
+/// Draws the entries of all lanes.
+pub(crate) fn draw_lanes(
+    alloc: Global,
+    svg: &mut String,
+    layout: &Layout,
+    rows: &LaneRows,
+) -> Result<(), AllocError> {
+    for (number, lane) in rows.lanes().iter().enumerate() {
+        draw_lane(alloc, svg, layout, rows, number, lane)?;
+    }
+    Ok(())
+}
+
+// Draws the entries of a lane.
+fn draw_lane(
+    alloc: Global,
+    svg: &mut String,
+    layout: &Layout,
+    rows: &LaneRows,
+    number: usize,
+    lane: &Lane,
+) -> Result<(), AllocError> {
+    for (place, entry) in lane.entries.iter().enumerate() {
+        let row = rows.row(number, place).unwrap_or(0);
+        match entry {
+            Entry::Operation(shown) => {
+                draw_operation(alloc, svg, layout, number as u64, row, shown)?;
+            }
+            Entry::Gap(count) => draw_gap(alloc, svg, layout, number as u64, row, *count)?,
+        }
+    }
+    Ok(())
+}
+
+// Draws the box of an operation, with its name and its label, and below them what is wrong with it.
+fn draw_operation(
+    alloc: Global,
+    svg: &mut String,
+    layout: &Layout,
+    lane: u64,
+    row: u64,
+    shown: &Shown,
+) -> Result<(), AllocError> {
+    let emphasis = emphasis_of(shown);
+    draw_box(alloc, svg, layout, lane, row, emphasis)?;
+    let x = layout.left(lane) + PADDING;
+    let y = match emphasis {
+        Emphasis::Wrong => layout.center(row) - Saturating(3),
+        Emphasis::Marked | Emphasis::Plain => layout.center(row) + Saturating(5),
+    };
+    let style = "font-size=\"11\" fill=\"#6b7280\"";
+    push_text(alloc, svg, x, y, style, &shown.name)?;
+    let style = label_style(emphasis);
+    push_text(alloc, svg, layout.label_left(lane), y, style, &shown.label)?;
+    match &shown.fault {
+        Some(words) => draw_fault(alloc, svg, layout, lane, row, words),
+        None => Ok(()),
+    }
+}
+
+// Writes what is wrong with an operation, in the lower part of its box.
+fn draw_fault(
+    alloc: Global,
+    svg: &mut String,
+    layout: &Layout,
+    lane: u64,
+    row: u64,
+    words: &str,
+) -> Result<(), AllocError> {
+    let x = layout.left(lane) + PADDING;
+    let y = layout.center(row) + Saturating(14);
+    let style = "font-size=\"11\" font-weight=\"700\" fill=\"#b91c1c\"";
+    push_text(alloc, svg, x, y, style, words)
+}
+
+// How the label of an operation is written.
+fn label_style(emphasis: Emphasis) -> &'static str {
+    match emphasis {
+        Emphasis::Wrong => {
+            "font-family=\"ui-monospace, Menlo, Consolas, monospace\" font-size=\"14\" font-weight=\"700\" fill=\"#7f1d1d\""
+        }
+        Emphasis::Marked => {
+            "font-family=\"ui-monospace, Menlo, Consolas, monospace\" font-size=\"14\" font-weight=\"600\" fill=\"#111827\""
+        }
+        Emphasis::Plain => {
+            "font-family=\"ui-monospace, Menlo, Consolas, monospace\" font-size=\"14\" fill=\"#4b5563\""
+        }
+    }
+}
+
+// Draws an empty box.
+fn draw_box(
+    alloc: Global,
+    svg: &mut String,
+    layout: &Layout,
+    lane: u64,
+    row: u64,
+    emphasis: Emphasis,
+) -> Result<(), AllocError> {
+    let x = layout.left(lane);
+    let y = layout.top(row);
+    let width = layout.box_width();
+    let height = layout.box_height();
+    let place = format!(in alloc; "x=\"{x}\" y=\"{y}\" width=\"{width}\" height=\"{height}\"")?;
+    let style = box_style(emphasis);
+    let drawn = format!(in alloc; "<rect {place} rx=\"7\" {style}/>\n")?;
+    svg.push_str(&drawn)
+}
+
+/// How a box is drawn.
+pub(crate) fn box_style(emphasis: Emphasis) -> &'static str {
+    match emphasis {
+        Emphasis::Wrong => {
+            "class=\"wrong\" fill=\"#fee2e2\" stroke=\"#b91c1c\" stroke-width=\"4\""
+        }
+        Emphasis::Marked => {
+            "class=\"marked\" fill=\"#fff4d6\" stroke=\"#c98a00\" stroke-width=\"2\""
+        }
+        Emphasis::Plain => "class=\"plain\" fill=\"#f9fafb\" stroke=\"#d1d5db\"",
+    }
+}
+
+// Draws how many operations are left out.
+fn draw_gap(
+    alloc: Global,
+    svg: &mut String,
+    layout: &Layout,
+    lane: u64,
+    row: u64,
+    count: u64,
+) -> Result<(), AllocError> {
+    let x = layout.left(lane);
+    let y = layout.center(row) - Saturating(12);
+    let width = layout.box_width();
+    let place = format!(in alloc; "x=\"{x}\" y=\"{y}\" width=\"{width}\" height=\"24\"")?;
+    let drawn = format!(in alloc; "<rect {place} fill=\"#ffffff\"/>\n")?;
+    svg.push_str(&drawn)?;
+    let words = format!(in alloc; "⋮ {count} left out")?;
+    let style = "font-size=\"13\" font-style=\"italic\" fill=\"#6b7280\" text-anchor=\"middle\"";
+    let y = layout.center(row) + Saturating(5);
+    push_text(alloc, svg, layout.middle(lane), y, style, &words)
+}

@@ -1,0 +1,144 @@
+//! Which operations of a pattern are wrong, and what a picture says in their boxes.
+
+use crate::marks::Marks;
+use bad_patterns::{Derivation, Line, Link, Links, Pair, Path, Pattern};
+use history::OpId;
+use memory_order::IndexedMemory;
+use std::alloc::{AllocError, Global};
+use wording::{DerivedPairs, Names, ends_of};
+
+/// Marks the read that is wrong, or the operations of the cycle.
+///
+/// Fails for want of memory alone. O(n) for n writes of the memory, and operations, links and lines of the pattern.
+pub(crate) fn blame_pattern<N: Names>(
+    alloc: Global,
+    marks: &mut Marks,
+    names: &N,
+    memory: &IndexedMemory,
+    pattern: &Pattern,
+) -> Result<(), AllocError> {
+    match pattern {
+        Pattern::ThinAirRead(read) => {
+            marks.blame(*read, String::from_str(alloc, "nobody wrote this value")?)
+        }
+        Pattern::WriteCOInitRead(path) | Pattern::WriteCORead(_, path) => {
+            blame_read(alloc, marks, names, memory, ends_of(path))
+        }
+        Pattern::WriteHBInitRead(_, derivation) => {
+            let pairs = DerivedPairs::of(alloc, memory, derivation)?;
+            blame_read(alloc, marks, names, memory, pairs.last())
+        }
+        Pattern::CyclicCO(path) => blame_path(alloc, marks, path),
+        Pattern::CyclicCF(links) => blame_links(alloc, marks, links),
+        Pattern::CyclicHB(_, derivation) => blame_derivation(alloc, marks, memory, derivation),
+    }
+}
+
+// Marks a read that does not show a write which comes before it.
+fn blame_read<N: Names>(
+    alloc: Global,
+    marks: &mut Marks,
+    names: &N,
+    memory: &IndexedMemory,
+    pair: Option<Pair>,
+) -> Result<(), AllocError> {
+    match pair {
+        Some((write, read)) => marks.blame(read, unseen_words(alloc, names, memory, write)?),
+        None => Ok(()),
+    }
+}
+
+// What is said of a read that does not show a write which comes before it.
+fn unseen_words<N: Names>(
+    alloc: Global,
+    names: &N,
+    memory: &IndexedMemory,
+    op: OpId,
+) -> Result<String, AllocError> {
+    match memory.writes().iter().find(|write| write.op == op) {
+        Some(write) => {
+            let value = names.value(alloc, write.key, write.value)?;
+            format!(in alloc; "should have seen {value} or newer")
+        }
+        None => String::from_str(alloc, "wrong"),
+    }
+}
+
+// Marks an operation of the cycle.
+fn blame_in_cycle(alloc: Global, marks: &mut Marks, op: OpId) -> Result<(), AllocError> {
+    marks.blame(op, String::from_str(alloc, "in the cycle")?)
+}
+
+// Marks both operations of a pair.
+fn blame_pair(alloc: Global, marks: &mut Marks, pair: Option<Pair>) -> Result<(), AllocError> {
+    match pair {
+        Some((from, to)) => {
+            blame_in_cycle(alloc, marks, from)?;
+            blame_in_cycle(alloc, marks, to)
+        }
+        None => Ok(()),
+    }
+}
+
+// Marks the operations of a path that goes round.
+fn blame_path(alloc: Global, marks: &mut Marks, path: &Path) -> Result<(), AllocError> {
+    for op in path.ops() {
+        blame_in_cycle(alloc, marks, *op)?;
+    }
+    Ok(())
+}
+
+// Marks where the links of a cycle begin and end.
+fn blame_links(alloc: Global, marks: &mut Marks, links: &Links) -> Result<(), AllocError> {
+    for link in links.links() {
+        blame_pair(alloc, marks, pair_of(link))?;
+    }
+    Ok(())
+}
+
+// Where a link begins and ends.
+fn pair_of(link: &Link) -> Option<Pair> {
+    match link {
+        Link::Co(from, to) => Some((*from, *to)),
+        Link::Cf(path, other) => {
+            let (write, _) = ends_of(path)?;
+            Some((write, *other))
+        }
+    }
+}
+
+// Marks the operations of the cycle that the last line of a derivation goes round: where the lines begin and end that it joins.
+fn blame_derivation(
+    alloc: Global,
+    marks: &mut Marks,
+    memory: &IndexedMemory,
+    derivation: &Derivation,
+) -> Result<(), AllocError> {
+    let pairs = DerivedPairs::of(alloc, memory, derivation)?;
+    let lines = derivation.lines();
+    let mut joined = Vec::new(alloc);
+    for number in 0..lines.len() {
+        joined.push(number.saturating_add(1) == lines.len())?;
+    }
+    for (number, line) in lines.iter().enumerate().rev() {
+        if joined.get(number) == Some(&true) {
+            match line {
+                Line::Tr(first, second) => {
+                    join_line(&mut joined, *first);
+                    join_line(&mut joined, *second);
+                }
+                Line::Co(_, _) | Line::Rf(_, _) => {
+                    blame_pair(alloc, marks, pairs.get(number as u64))?;
+                }
+            }
+        }
+    }
+    Ok(())
+}
+
+// Notes that a line is joined with others.
+fn join_line(joined: &mut Vec<bool>, number: u64) {
+    if let Some(place) = joined.get_mut(number as usize) {
+        *place = true;
+    }
+}
