@@ -29,6 +29,19 @@ impl Places {
         Ok(Places { sessions })
     }
 
+    /// Those of a list in order, of a whole of so many sessions. Fails for want of memory alone. O(k m) for k sessions and m operations.
+    pub(crate) fn listed(
+        alloc: Global,
+        sessions: usize,
+        ops: &[OpId],
+    ) -> Result<Places, AllocError> {
+        let mut listed = Vec::new(alloc);
+        for session in 0..sessions {
+            listed.push(listed_of_session(alloc, ops, session)?)?;
+        }
+        Ok(Places { sessions: listed })
+    }
+
     /// The operation of the whole that an operation of the part is, and itself where it is none of the part.
     pub fn in_whole(&self, op: OpId) -> OpId {
         let kept = self.sessions.get(op.session_place());
@@ -54,4 +67,15 @@ fn kept_of_session(
         }
     }
     Ok(kept)
+}
+
+// The operations of a session that a list names.
+fn listed_of_session(alloc: Global, ops: &[OpId], session: usize) -> Result<Vec<OpId>, AllocError> {
+    let mut listed = Vec::new(alloc);
+    for op in ops {
+        if op.session_place() == session {
+            listed.push(*op)?;
+        }
+    }
+    Ok(listed)
 }

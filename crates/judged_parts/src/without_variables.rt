@@ -6,6 +6,7 @@ ghost use Rattle.cert_check.specs.Criteria.{Meets};
 ghost use Rattle.judged_parts.specs.WithoutVariables.{IsExclusion, without_variables};
 
 use crate::exclusion::exclusion_of;
+use crate::fewest::with_fewest_operations;
 use cert_check::Criterion;
 use decision::Decision;
 use history::History;
@@ -39,8 +40,40 @@ pub fn excluded_without(
 {
     parts_at_keys_meet_what_the_whole_meets::<Register>();
     let part = part_of(alloc, history, &WithoutKeys(variables))?;
-    match exclusion_of(alloc, &part, criterion)? {
+    match exclusion_of_fewest(alloc, &part, criterion)? {
         Some(decision) => Ok(Some(Excluded { part, decision })),
         None => Ok(None),
+    }
+}
+
+/// What shows that a part does not meet a criterion, by the fewest operations that are found.
+fn exclusion_of_fewest(
+    alloc: Global,
+    part: &History<Memory>,
+    criterion: Criterion,
+) -> Result<Option<Decision>, AllocError>
+    ensures { IfOk result (λ found. IfSome found (IsExclusion part.now criterion)) }
+{
+    match exclusion_of(alloc, part, criterion)? {
+        Some(decision) => Ok(Some(of_fewest(alloc, part, criterion, decision)?)),
+        None => Ok(None),
+    }
+}
+
+/// The decision with a pattern that has no operation that its kind can do without.
+fn of_fewest(
+    alloc: Global,
+    part: &History<Memory>,
+    criterion: Criterion,
+    decision: Decision,
+) -> Result<Decision, AllocError>
+    requires { IsExclusion part.now criterion decision }
+    ensures { IfOk result (IsExclusion part.now criterion) }
+{
+    match decision {
+        Decision::Excluded(pattern) => Ok(Decision::Excluded(with_fewest_operations(
+            alloc, part, criterion, pattern,
+        )?)),
+        other => Ok(other),
     }
 }

@@ -10,7 +10,7 @@ use crate::part::Part;
 use bad_patterns::{Kind, Pattern};
 use cert_check::Criterion;
 use history::{History, OpId};
-use judged_parts::ops_with_sources;
+use judged_parts::{ops_with_sources, with_fewest_operations};
 use long_index::LongIndex;
 use objects::Memory;
 use pattern_search::find;
@@ -80,8 +80,8 @@ fn pattern_of_kind(
     }
 }
 
-/// The core of the operations that a core's pattern names, with the sources of their reads, where these show the kind by themselves, and
-/// else the core.
+/// The core of the operations that a core's pattern with the fewest operations names, with the sources of their reads, where these show the
+/// kind by themselves, and else the core.
 fn narrowed(
     alloc: Global,
     index: &LongIndex,
@@ -92,6 +92,17 @@ fn narrowed(
     requires { IsCoreOfKind criterion kind core }
     ensures { IfOk result (IsCoreOfKind criterion kind) }
 {
+    let LongCore {
+        history,
+        pattern,
+        places,
+    } = core;
+    let pattern = with_fewest_operations(alloc, &history, criterion, pattern)?;
+    let core = LongCore {
+        history,
+        pattern,
+        places,
+    };
     let named = ops_with_sources(alloc, core.history(), core.pattern())?;
     let mut ops = Vec::new(alloc);
     for op in &named {
