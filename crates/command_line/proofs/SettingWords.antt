@@ -40,15 +40,18 @@ setting_of word value =
     if mark word == 112109108 then settings.Store Lamport else
     if mark word == 97101045 then settings.Eager else
     if mark word == 105108045 then settings.Lines else
+    if mark word == 107115045 then settings.SkipBlank else
     if mark word == 111108045 then settings.Long else
     if mark word == 115106045 then settings.Json else
     if mark word == 101099045 then settings.Certificates else
     if mark word == 118115045 then settings.Svg else
+    if mark word == 116104045 then settings.Html else
     if mark word == 101115045 then settings.Seals (number_in value) else
     if mark word == 111119045 then settings.Workers (number_in value) else
     if mark word == 116115045 then settings.Stop (number_in value) else
     if mark word == 108097045 then settings.All (number_in value) else
     if mark word == 97110045 then settings.Names else
+    if mark word == 104119045 then settings.Why else
     if mark word == 118101045 then (if sixth word == 110 then settings.Events else settings.Every (number_in value)) else
     settings.Expect (listed value)
 
@@ -60,12 +63,15 @@ alone-read (settings.Store Causal) w says = ap (λ v. setting_of v (value_of v))
 alone-read (settings.Store Lamport) w says = ap (λ v. setting_of v (value_of v)) says
 alone-read settings.Eager w says = ap (λ v. setting_of v (value_of v)) says
 alone-read settings.Lines w says = ap (λ v. setting_of v (value_of v)) says
+alone-read settings.SkipBlank w says = ap (λ v. setting_of v (value_of v)) says
 alone-read settings.Long w says = ap (λ v. setting_of v (value_of v)) says
 alone-read settings.Json w says = ap (λ v. setting_of v (value_of v)) says
 alone-read settings.Certificates w says = ap (λ v. setting_of v (value_of v)) says
 alone-read settings.Svg w says = ap (λ v. setting_of v (value_of v)) says
+alone-read settings.Html w says = ap (λ v. setting_of v (value_of v)) says
 alone-read settings.Events w says = ap (λ v. setting_of v (value_of v)) says
 alone-read settings.Names w says = ap (λ v. setting_of v (value_of v)) says
+alone-read settings.Why w says = ap (λ v. setting_of v (value_of v)) says
 alone-read (settings.Seals n) w says = ap (λ v. setting_of v (value_of v)) says.1 ∙ ap settings.Seals says.2.1
 alone-read (settings.Workers n) w says = ap (λ v. setting_of v (value_of v)) says.1 ∙ ap settings.Workers says.2.1
 alone-read (settings.Stop n) w says = ap (λ v. setting_of v (value_of v)) says.1 ∙ ap settings.Stop says.2.1
@@ -83,12 +89,15 @@ together-read (settings.Expect e) w value says = ap (λ v. setting_of v value) s
 together-read (settings.Store store) w value says = absurd says
 together-read settings.Eager w value says = absurd says
 together-read settings.Lines w value says = absurd says
+together-read settings.SkipBlank w value says = absurd says
 together-read settings.Long w value says = absurd says
 together-read settings.Json w value says = absurd says
 together-read settings.Certificates w value says = absurd says
 together-read settings.Svg w value says = absurd says
+together-read settings.Html w value says = absurd says
 together-read settings.Events w value says = absurd says
 together-read settings.Names w value says = absurd says
+together-read settings.Why w value says = absurd says
 
 -- one word says one thing, and so do two
 pub alone_once : (s t : Setting) (w : Text) → SaysAlone s w → SaysAlone t w → s ≡ t
@@ -108,12 +117,15 @@ alone-no-option (settings.Store Causal) w says = ap names_option says
 alone-no-option (settings.Store Lamport) w says = ap names_option says
 alone-no-option settings.Eager w says = ap names_option says
 alone-no-option settings.Lines w says = ap names_option says
+alone-no-option settings.SkipBlank w says = ap names_option says
 alone-no-option settings.Long w says = ap names_option says
 alone-no-option settings.Json w says = ap names_option says
 alone-no-option settings.Certificates w says = ap names_option says
 alone-no-option settings.Svg w says = ap names_option says
+alone-no-option settings.Html w says = ap names_option says
 alone-no-option settings.Events w says = ap names_option says
 alone-no-option settings.Names w says = ap names_option says
+alone-no-option settings.Why w says = ap names_option says
 alone-no-option (settings.Seals n) w says = ap names_option says.1
 alone-no-option (settings.Workers n) w says = ap names_option says.1
 alone-no-option (settings.Stop n) w says = ap names_option says.1
@@ -131,12 +143,15 @@ together-option (settings.Every n) w value says = ap names_option says.0
 together-option (settings.Store store) w value says = absurd says
 together-option settings.Eager w value says = absurd says
 together-option settings.Lines w value says = absurd says
+together-option settings.SkipBlank w value says = absurd says
 together-option settings.Long w value says = absurd says
 together-option settings.Json w value says = absurd says
 together-option settings.Certificates w value says = absurd says
 together-option settings.Svg w value says = absurd says
+together-option settings.Html w value says = absurd says
 together-option settings.Events w value says = absurd says
 together-option settings.Names w value says = absurd says
+together-option settings.Why w value says = absurd says
 
 pub alone_or_together : (s t : Setting) (w value : Text) → SaysAlone s w → SaysTogether t w value → ⊥
 alone_or_together s t w value says also = let bad : ◌≡◌ {A = Bool} true false = sym (together-option t w value also) ∙ alone-no-option s w says in absurd (cc)
@@ -214,12 +229,15 @@ no_alone w bare _ _ _ _ _ _ (settings.Store Causal) says = bare.causal says
 no_alone w bare _ _ _ _ _ _ (settings.Store Lamport) says = bare.lamport says
 no_alone w bare _ _ _ _ _ _ settings.Eager says = bare.eager says
 no_alone w bare _ _ _ _ _ _ settings.Lines says = bare.lines says
+no_alone w bare _ _ _ _ _ _ settings.SkipBlank says = bare.skip_blank says
 no_alone w bare _ _ _ _ _ _ settings.Long says = bare.long says
 no_alone w bare _ _ _ _ _ _ settings.Json says = bare.json says
 no_alone w bare _ _ _ _ _ _ settings.Certificates says = bare.certificates says
 no_alone w bare _ _ _ _ _ _ settings.Svg says = bare.svg says
+no_alone w bare _ _ _ _ _ _ settings.Html says = bare.html says
 no_alone w bare _ _ _ _ _ _ settings.Events says = bare.events says
 no_alone w bare _ _ _ _ _ _ settings.Names says = bare.names says
+no_alone w bare _ _ _ _ _ _ settings.Why says = bare.why says
 no_alone w bare is_no _ _ _ _ _ (settings.Seals n) says = is_no says.0 says.1
 no_alone w bare _ is_no _ _ _ _ (settings.Workers n) says = is_no says.0 says.1
 no_alone w bare _ _ _ _ _ is_no (settings.Stop n) says = is_no says.0 says.1
@@ -238,12 +256,15 @@ no_together w value _ _ _ _ _ is_no (settings.Every n) says = is_no says.0
 no_together w value _ _ _ _ _ _ (settings.Store store) says = says
 no_together w value _ _ _ _ _ _ settings.Eager says = says
 no_together w value _ _ _ _ _ _ settings.Lines says = says
+no_together w value _ _ _ _ _ _ settings.SkipBlank says = says
 no_together w value _ _ _ _ _ _ settings.Long says = says
 no_together w value _ _ _ _ _ _ settings.Json says = says
 no_together w value _ _ _ _ _ _ settings.Certificates says = says
 no_together w value _ _ _ _ _ _ settings.Svg says = says
+no_together w value _ _ _ _ _ _ settings.Html says = says
 no_together w value _ _ _ _ _ _ settings.Events says = says
 no_together w value _ _ _ _ _ _ settings.Names says = says
+no_together w value _ _ _ _ _ _ settings.Why says = says
 
 -- why a word says nothing alone, and why it says nothing with the value after it
 pub ruleset nothing_alone = (no_alone, no_seals, no_workers, no_expect, no_all, no_every, no_stop)

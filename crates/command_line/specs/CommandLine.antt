@@ -32,9 +32,9 @@ top =
     let app = new_app (codes "causal_judge") in
     record app { top = record app.top { subcommand_required = true; has_version = true } }
 
--- the command `judge` takes the options `--workers N`, `--expect LIST`, `--lines`, `--long`, `--events` and `--every N`, `check` takes
--- `--workers N`, `explain` takes `--json`, `--certificates`, `--svg`, `--long`, `--all N` and `--events`, `refute` takes `--long`, `replay`
--- takes none, `drive` takes the name of a store and four options, and `events` takes `--names`
+-- the command `judge` takes the options `--workers N`, `--expect LIST`, `--lines`, `--skip-blank`, `--long`, `--events` and `--every N`,
+-- `check` takes `--workers N`, `explain` takes `--json`, `--certificates`, `--svg`, `--html`, `--long`, `--all N` and `--events`, `refute`
+-- takes `--long`, `drive` takes the name of a store and four options, and `events` takes `--names`. All but `events` take `--why`
 abbrev pub workers : Rule
 workers = record (new_rule (codes "workers")) {
   long = Some (codes "workers");
@@ -49,12 +49,18 @@ expect = record (new_rule (codes "expect")) { long = Some (codes "expect"); acti
 abbrev pub flag : Text → Rule
 flag name = record (new_rule name) { long = Some name; action = Some SetTrue }
 
--- the command `judge` with the first two of its options; with four; and whole
+abbrev pub why : Rule
+why = flag (codes "why")
+
+-- the command `judge` with the first two of its options; with four; with six; and whole
 abbrev pub expecting : App
 expecting = with_rule (with_rule (new_app (codes "judge")) workers) expect
 
+abbrev pub lining : App
+lining = with_rule (with_rule expecting (flag (codes "lines"))) (flag (codes "skip-blank"))
+
 abbrev pub lengthening : App
-lengthening = with_rule (with_rule expecting (flag (codes "lines"))) (flag (codes "long"))
+lengthening = with_rule (with_rule lining (flag (codes "long"))) (flag (codes "events"))
 
 abbrev pub every : Rule
 every = record (new_rule (codes "every")) {
@@ -65,17 +71,17 @@ every = record (new_rule (codes "every")) {
 }
 
 abbrev pub judge : App
-judge = with_rule (with_rule lengthening (flag (codes "events"))) every
+judge = with_rule (with_rule lengthening every) why
 
 abbrev pub check : App
-check = with_rule (new_app (codes "check")) workers
+check = with_rule (with_rule (new_app (codes "check")) workers) why
 
--- the command `explain` with two of its options; with four; and whole
+-- the command `explain` with two of its options; with four; with six; and whole
 abbrev pub certifying : App
 certifying = with_rule (with_rule (new_app (codes "explain")) (flag (codes "json"))) (flag (codes "certificates"))
 
 abbrev pub drawing : App
-drawing = with_rule (with_rule certifying (flag (codes "svg"))) (flag (codes "long"))
+drawing = with_rule (with_rule certifying (flag (codes "svg"))) (flag (codes "html"))
 
 abbrev pub all : Rule
 all = record (new_rule (codes "all")) {
@@ -85,14 +91,17 @@ all = record (new_rule (codes "all")) {
   value_names = 1;
 }
 
+abbrev pub listing : App
+listing = with_rule (with_rule drawing (flag (codes "long"))) all
+
 abbrev pub explain : App
-explain = with_rule (with_rule drawing all) (flag (codes "events"))
+explain = with_rule (with_rule listing (flag (codes "events"))) why
 
 abbrev pub refute : App
-refute = with_rule (new_app (codes "refute")) (flag (codes "long"))
+refute = with_rule (with_rule (new_app (codes "refute")) (flag (codes "long"))) why
 
 abbrev pub replay : App
-replay = new_app (codes "replay")
+replay = with_rule (new_app (codes "replay")) why
 
 abbrev pub store : Rule
 store = record (new_rule (codes "store")) { action = Some Set; value_names = 1; required = true }
@@ -113,7 +122,7 @@ abbrev pub sealing : App
 sealing = with_rule (with_rule storing (number_option (codes "seals") MAX_SEALS)) workers
 
 abbrev pub drive : App
-drive = with_rule sealing (number_option (codes "stop") (MAX_SESSIONS - 1))
+drive = with_rule (with_rule sealing (number_option (codes "stop") (MAX_SESSIONS - 1))) why
 
 abbrev pub judging : App
 judging = with_subcommand (with_subcommand top judge.top) check.top

@@ -1,11 +1,13 @@
 -- What the words after a command say: in any order, and each at most once, what the command takes. An option and its value are two
 -- words, or one word with an equals sign between. Text is bytes.
-use Rattle.std.specs.Prelude.{◌≡◌, ◌⊎◌, ◌<◌, ◌≤◌, ◌&&◌, ℕ, List, [], ◌∷◌, ◌++◌, Option, Some, None, codes, option_map, Bool, true, false, if◌then◌else◌, is_some, not, unwrap_or}
+use Rattle.std.specs.Prelude.{◌≡◌, ◌⊎◌, ◌<◌, ◌≤◌, ◌&&◌, ◌||◌, ℕ, List, [], ◌∷◌, ◌++◌, Option, Some, None, codes, option_map, Bool, true, false, if◌then◌else◌, is_some, not, unwrap_or}
 use Rattle.clap.specs.Words.{Text}
 use Rattle.history.specs.Workers.{AreWorkers}
 use Rattle.history.specs.declared.limits.TheConstants.{MAX_SESSIONS}
 use Rattle.replica.specs.declared.delivery.Delivery.{Delivery}
 use Rattle.replica.specs.declared.delivery.Delivery.TheVariants as deliveries
+use Rattle.command_line.specs.declared.detail.Detail.{Detail}
+use Rattle.command_line.specs.declared.detail.Detail.TheVariants as details
 use Rattle.command_line.specs.declared.drive.Drive.{Drive}
 use Rattle.command_line.specs.declared.drive.Store.{Store}
 use Rattle.command_line.specs.declared.drive.Store.TheVariants.{Causal, Lamport}
@@ -18,13 +20,20 @@ use Rattle.command_line.specs.declared.form.ListForm.{ListForm}
 use Rattle.command_line.specs.declared.form.ListForm.TheVariants as list_forms
 use Rattle.command_line.specs.declared.listing.Listing.{Listing}
 use Rattle.command_line.specs.declared.judging.Judging.{Judging}
+use Rattle.command_line.specs.declared.line_judging.BlankLines.{BlankLines}
+use Rattle.command_line.specs.declared.line_judging.BlankLines.TheVariants as blank_lines
+use Rattle.command_line.specs.declared.line_judging.LineJudging.{LineJudging}
 use Rattle.command_line.specs.declared.log_order.LogJudging.{LogJudging}
 use Rattle.command_line.specs.declared.log_order.LogOrder.TheVariants as log_orders
 use Rattle.command_line.specs.declared.length.Length.{Length}
 use Rattle.command_line.specs.declared.length.Length.TheVariants as lengths
 use Rattle.command_line.specs.declared.order.Order.TheVariants as orders
 use Rattle.command_line.specs.declared.order.Task.{Task}
-use Rattle.command_line.specs.declared.order.Task.TheVariants.{OfInput, OfLog}
+use Rattle.command_line.specs.declared.order.Task.TheVariants.{OfInput, OfLog, OfPage}
+use Rattle.command_line.specs.declared.page.Page.{Page}
+use Rattle.command_line.specs.declared.page.PageOf.{PageOf}
+use Rattle.command_line.specs.declared.page.PageOf.TheVariants as pages
+use Rattle.command_line.specs.declared.page.TheConstants.{USUAL_LISTED}
 use Rattle.command_line.specs.declared.said.Said.{Said}
 use Rattle.command_line.specs.declared.settings.CommandName.{CommandName}
 use Rattle.command_line.specs.declared.settings.CommandName.TheVariants as commands
@@ -48,22 +57,30 @@ abbrev pub takes : CommandName → Setting → Bool
 takes commands.Judge (settings.Workers n) = true
 takes commands.Judge (settings.Expect expected) = true
 takes commands.Judge settings.Lines = true
+takes commands.Judge settings.SkipBlank = true
 takes commands.Judge settings.Long = true
 takes commands.Judge settings.Events = true
 takes commands.Judge (settings.Every n) = true
+takes commands.Judge settings.Why = true
 takes commands.Check (settings.Workers n) = true
+takes commands.Check settings.Why = true
 takes commands.Explain settings.Json = true
 takes commands.Explain settings.Certificates = true
 takes commands.Explain settings.Svg = true
+takes commands.Explain settings.Html = true
 takes commands.Explain settings.Long = true
 takes commands.Explain settings.Events = true
 takes commands.Explain (settings.All n) = true
+takes commands.Explain settings.Why = true
 takes commands.Refute settings.Long = true
+takes commands.Refute settings.Why = true
+takes commands.Replay settings.Why = true
 takes commands.Drive (settings.Store store) = true
 takes commands.Drive settings.Eager = true
 takes commands.Drive (settings.Seals n) = true
 takes commands.Drive (settings.Workers n) = true
 takes commands.Drive (settings.Stop s) = true
+takes commands.Drive settings.Why = true
 takes commands.Events settings.Names = true
 takes _ _ = false
 
@@ -77,12 +94,15 @@ abbrev pub SaysAlone : Setting → Text → Type 0
 SaysAlone (settings.Store store) word = word ≡ store_word store
 SaysAlone settings.Eager word = word ≡ codes "--eager"
 SaysAlone settings.Lines word = word ≡ codes "--lines"
+SaysAlone settings.SkipBlank word = word ≡ codes "--skip-blank"
 SaysAlone settings.Long word = word ≡ codes "--long"
 SaysAlone settings.Json word = word ≡ codes "--json"
 SaysAlone settings.Certificates word = word ≡ codes "--certificates"
 SaysAlone settings.Svg word = word ≡ codes "--svg"
+SaysAlone settings.Html word = word ≡ codes "--html"
 SaysAlone settings.Events word = word ≡ codes "--events"
 SaysAlone settings.Names word = word ≡ codes "--names"
+SaysAlone settings.Why word = word ≡ codes "--why"
 SaysAlone (settings.Seals n) word = (number : Text) × (word ≡ codes "--seals=" ++ number) × Writes number n × (n ≤ MAX_SEALS)
 SaysAlone (settings.Workers n) word = (number : Text) × (word ≡ codes "--workers=" ++ number) × Writes number n × AreWorkers n
 SaysAlone (settings.Stop s) word = (number : Text) × (word ≡ codes "--stop=" ++ number) × Writes number s × (s < MAX_SESSIONS)
@@ -109,14 +129,17 @@ says said (settings.Workers n) = is_some said.workers
 says said (settings.Stop s) = is_some said.stop
 says said (settings.Expect expected) = is_some said.expected
 says said settings.Lines = said.lines
+says said settings.SkipBlank = said.skip_blank
 says said settings.Long = said.long
 says said (settings.All n) = is_some said.all
 says said settings.Json = said.json
 says said settings.Certificates = said.certificates
 says said settings.Svg = said.svg
+says said settings.Html = said.html
 says said settings.Events = said.events
 says said (settings.Every n) = is_some said.every
 says said settings.Names = said.names
+says said settings.Why = said.why
 
 abbrev pub with_setting : Said → Setting → Said
 with_setting said (settings.Store store) = record said { store = Some store }
@@ -126,14 +149,17 @@ with_setting said (settings.Workers n) = record said { workers = Some n }
 with_setting said (settings.Stop s) = record said { stop = Some s }
 with_setting said (settings.Expect expected) = record said { expected = Some expected }
 with_setting said settings.Lines = record said { lines = true }
+with_setting said settings.SkipBlank = record said { skip_blank = true }
 with_setting said settings.Long = record said { long = true }
 with_setting said (settings.All n) = record said { all = Some n }
 with_setting said settings.Json = record said { json = true }
 with_setting said settings.Certificates = record said { certificates = true }
 with_setting said settings.Svg = record said { svg = true }
+with_setting said settings.Html = record said { html = true }
 with_setting said settings.Events = record said { events = true }
 with_setting said (settings.Every n) = record said { every = Some n }
 with_setting said settings.Names = record said { names = true }
+with_setting said settings.Why = record said { why = true }
 
 -- what was said, and one thing more, which the command takes and which was not said before
 abbrev pub and_also : Said → Setting → Option Said
@@ -150,14 +176,17 @@ unsaid command = record {
   stop = None;
   expected = None;
   lines = false;
+  skip_blank = false;
   long = false;
   all = None;
   json = false;
   certificates = false;
   svg = false;
+  html = false;
   events = false;
   every = None;
   names = false;
+  why = false;
 }
 
 -- one thing more is said by one word, or by two
@@ -183,6 +212,10 @@ workers_for said = unwrap_or said.workers 2
 abbrev pub length_for : Said → Length
 length_for said = if said.long then lengths.Any else lengths.Limited
 
+-- how much is said of an input that is refused: its reason too where that was said, and always of a history of any length
+abbrev pub detail_for : Said → Detail
+detail_for said = if said.why || said.long then details.Reason else details.Number
+
 -- how histories are judged
 abbrev pub judging_for : Said → Judging
 judging_for said = record {
@@ -190,6 +223,13 @@ judging_for said = record {
   expected = unwrap_or said.expected expecting_nothing;
   length = length_for said;
 }
+
+-- how histories in lines are judged
+abbrev pub blank_for : Said → BlankLines
+blank_for said = if said.skip_blank then blank_lines.Skipped else blank_lines.Refused
+
+abbrev pub line_judging_for : Said → LineJudging
+line_judging_for said = record { judging = judging_for said; blank = blank_for said }
 
 -- how a log is judged
 abbrev pub log_judging_for : Said → LogJudging
@@ -199,15 +239,25 @@ log_judging_for said = record {
   every = said.every;
 }
 
--- one history is judged, or one in each line, or a log, of any length, perhaps after each so many events
-abbrev pub judge_of : Bool → Bool → Option ℕ → Bool → Said → Option Task
-judge_of false false None long said = Some (OfInput (orders.Judge (judging_for said)))
-judge_of true false None long said = Some (OfInput (orders.JudgeLines (judging_for said)))
-judge_of false true every true said = Some (OfLog (log_orders.Judge (log_judging_for said)))
-judge_of _ _ _ _ said = None
+-- one history is judged, or a log, of any length, perhaps after each so many events
+abbrev pub judge_one_of : Bool → Option ℕ → Bool → Said → Option Task
+judge_one_of false None long said = Some (OfInput (orders.Judge (judging_for said)) (detail_for said))
+judge_one_of true every true said = Some (OfLog (log_orders.Judge (log_judging_for said)))
+judge_one_of _ _ _ said = None
+
+-- the history in each line is judged: each line has an answer of its own, and no reason is given for a refused one
+abbrev pub judge_lines_of : Bool → Option ℕ → Bool → Said → Option Task
+judge_lines_of false None false said = Some (OfInput (orders.JudgeLines (line_judging_for said)) details.Number)
+judge_lines_of _ _ _ said = None
+
+-- lines are judged where that was said, and only then can blank ones be skipped
+abbrev pub judge_of : Bool → Bool → Said → Option Task
+judge_of true blank said = judge_lines_of said.events said.every said.why said
+judge_of false false said = judge_one_of said.events said.every said.long said
+judge_of false true said = None
 
 abbrev pub judge_for : Said → Option Task
-judge_for said = judge_of said.lines said.events said.every said.long said
+judge_for said = judge_of said.lines said.skip_blank said
 
 -- the form of a reason, where what was said goes together
 abbrev pub form_of : Bool → Bool → Bool → Option Form
@@ -245,15 +295,36 @@ listing_of said most form = record { most = most; length = length_for said; form
 -- reads are listed where a number of them was said; else reasons are given, on a history of any length where that was said. A log is of
 -- any length
 abbrev pub explain_of : Option ℕ → Bool → Bool → Said → Option Task
-explain_of (Some most) false long said = option_map (λ form. OfInput (orders.ListFaults (listing_of said most form))) (list_form_for said)
-explain_of None false true said = option_map (λ form. OfInput (orders.ExplainLong form)) (long_form_for said)
-explain_of None false false said = option_map (λ form. OfInput (orders.Explain form)) (form_for said)
+explain_of (Some most) false long said =
+    option_map (λ form. OfInput (orders.ListFaults (listing_of said most form)) (detail_for said)) (list_form_for said)
+explain_of None false true said = option_map (λ form. OfInput (orders.ExplainLong form) (detail_for said)) (long_form_for said)
+explain_of None false false said = option_map (λ form. OfInput (orders.Explain form) (detail_for said)) (form_for said)
 explain_of (Some most) true true said = option_map (λ form. OfLog (log_orders.ListFaults most form)) (list_form_for said)
 explain_of None true true said = option_map (λ form. OfLog (log_orders.Explain form)) (long_form_for said)
 explain_of _ true false said = None
 
+-- of what a page is written, by whether it is a log and of any length
+abbrev pub page_of_what : Bool → Bool → Option PageOf
+page_of_what false false = Some (pages.Input lengths.Limited)
+page_of_what false true = Some (pages.Input lengths.Any)
+page_of_what true true = Some pages.Log
+page_of_what true false = None
+
+abbrev pub page_with : Said → PageOf → Page
+page_with said of = record { most = unwrap_or said.all USUAL_LISTED; of = of }
+
+-- whether another form than a page was said
+abbrev pub says_form : Said → Bool
+says_form said = said.json || said.certificates || said.svg
+
+abbrev pub page_for : Said → Option Task
+page_for said =
+    if says_form said then None
+    else option_map (λ of. OfPage (page_with said of) (detail_for said)) (page_of_what said.events said.long)
+
+-- a page is written where that was said
 abbrev pub explain_for : Said → Option Task
-explain_for said = explain_of said.all said.events said.long said
+explain_for said = if said.html then page_for said else explain_of said.all said.events said.long said
 
 -- the drive that is asked for, where a store is named: with no seal while clients run, where nothing is said
 abbrev pub delivery_for : Said → Delivery
@@ -278,11 +349,11 @@ events_for said = if said.names then OfLog log_orders.WriteNames else OfLog log_
 -- the task that all that was said to a command gives
 abbrev pub task_to : CommandName → Said → Option Task
 task_to commands.Judge said = judge_for said
-task_to commands.Check said = Some (OfInput (orders.Check (workers_for said)))
+task_to commands.Check said = Some (OfInput (orders.Check (workers_for said)) (detail_for said))
 task_to commands.Explain said = explain_for said
-task_to commands.Refute said = Some (OfInput (orders.Refute (length_for said)))
-task_to commands.Replay said = Some (OfInput orders.Replay)
-task_to commands.Drive said = option_map (λ drive. OfInput (orders.Drive drive)) (drive_for said)
+task_to commands.Refute said = Some (OfInput (orders.Refute (length_for said)) (detail_for said))
+task_to commands.Replay said = Some (OfInput orders.Replay (detail_for said))
+task_to commands.Drive said = option_map (λ drive. OfInput (orders.Drive drive) (detail_for said)) (drive_for said)
 task_to commands.Events said = Some (events_for said)
 
 abbrev pub task_for : Said → Option Task

@@ -1,10 +1,10 @@
 //! The options of commands, as `clap` is told of them.
 ghost use Rattle.std.specs.Prelude.{◌≡◌, ◌-◌, codes, false};
 ghost use Rattle.clap.specs.Words.{rule_of};
-ghost use Rattle.command_line.specs.CommandLine.{all, every, expect, flag, number_option, store, workers};
+ghost use Rattle.command_line.specs.CommandLine.{all, every, expect, flag, number_option, store, why, workers};
 
 use crate::drive::MAX_SEALS;
-use crate::help::EVERY;
+use crate::help::{EVERY, WHY};
 use crate::listing::MAX_LISTED;
 use crate::log_order::MAX_EVERY;
 use clap::builder::ValueParser;
@@ -33,6 +33,14 @@ pub fn flag_option<'a>(alloc: Global, name: &'a str, help: &'a str) -> Arg<'a>
         .long(name)
         .action(ArgAction::SetTrue)
         .help(help)
+}
+
+/// Whether the reason of a refusal is said.
+pub fn why_option<'a>(alloc: Global) -> Arg<'a>
+    ensures rule { rule_of result ≡ why }
+    ensures local { result.global ≡ false }
+{
+    flag_option(alloc, "why", WHY)
 }
 
 /// How many workers there are.

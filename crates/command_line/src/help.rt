@@ -24,6 +24,20 @@ pub const EVENTS: &str = "With --long: the input is a log, with one event in eac
 pub const EVENTS_REASON: &str =
     "With --long: the input is a log, and operations are shown by their lines and names";
 
+/// What `--lines` lets `judge` do.
+pub const LINES: &str = "Judges a history in each line, and answers each with one line";
+
+/// What `--skip-blank` lets `judge` do.
+pub const SKIP_BLANK: &str = "With --lines: answers a blank line by a blank line";
+
+/// What `--html` lets `explain` write.
+pub const HTML: &str =
+    "Writes it as one self-contained page to open in a browser, with the reads that show a fault";
+
+/// What `--why` lets a command say.
+pub const WHY: &str =
+    "Says on a second line what is wrong with a refused input, where, and what is wanted";
+
 /// What `--every` lets `judge` do.
 pub const EVERY: &str =
     "With --events: judges the log so far after every N events; with --expect ends at the first fault";
@@ -98,6 +112,7 @@ a line was refused, else with --expect as above for the worst of all lines.
   operation   5 a known return after an unknown one   6 too many sessions
   7 too many operations   9 over 64 MiB   29 bad first values
 With --long 6 and 7 never come, and 3 comes for any NAME but memory.
+With --why or --long, and without --lines, a second line says it in words.
 The other commands have more of them: docs/guide.md tells of all.
 
 judge --long --events and explain --long --events read a log of a memory, with

@@ -2,12 +2,14 @@
 #![tactic(auto)]
 
 mod arguments;
+mod detail;
 mod drive;
 mod expected;
 mod form;
 mod help;
 mod judging;
 mod length;
+mod line_judging;
 mod listing;
 mod log_order;
 mod manuals;
@@ -15,18 +17,22 @@ mod misuse;
 mod numerals;
 mod options;
 mod order;
+mod page;
 mod program;
 mod said;
 mod settings;
 mod workers;
 
+pub use detail::Detail;
 pub use drive::{Drive, MAX_SEALS, Store};
 pub use expected::Expected;
 pub use form::{Form, ListForm, LongForm};
 pub use judging::Judging;
 pub use length::Length;
+pub use line_judging::{BlankLines, LineJudging};
 pub use listing::{Listing, MAX_LISTED};
 pub use log_order::{LogJudging, LogOrder, MAX_EVERY};
 pub use order::{Order, Task, Usage, command_of, fault_with};
+pub use page::{Page, PageOf, USUAL_LISTED};
 pub use replica::Delivery;
 pub use workers::Workers;

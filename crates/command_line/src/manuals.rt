@@ -53,6 +53,10 @@ words, and by these operations as a history of their own:
   ccv no WriteCOInitRead
     as for cc
 
+With --html the answer is one page to open in a browser:
+
+  $ causal_judge explain --html < run.json > run.html
+
 The kinds of a no:
 
   ThinAirRead      a read returned a value that nobody wrote
@@ -121,8 +125,8 @@ Status: 0 answered, whatever the verdict; 1 the input is refused; 2 wrong words;
 
 /// Of `events`.
 pub const EVENTS: &str =
-    r#"The input is a log, with one event in each line. The answer is the history that it
-stands for, in the form that judge reads, with numbers for keys and values:
+    r#"The input is a log, with one event in each line. The answer is the history that
+the log records, in the form that judge reads, with numbers for keys and values:
 
   $ printf '%s\n' '["begin","alice",["w","user:5","v1"]]' '["end","alice","ok"]' \
       | causal_judge events

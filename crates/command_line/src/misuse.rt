@@ -32,6 +32,16 @@ const EVERY_WITHOUT_EVENTS: Misuse = Misuse {
     usage: "judge --long --events --every <N>",
 };
 
+const SKIP_BLANK_WITHOUT_LINES: Misuse = Misuse {
+    fault: "'--skip-blank' asks for '--lines': it skips lines where each line holds a history",
+    usage: "judge --lines --skip-blank [OPTIONS]",
+};
+
+const WHY_WITH_LINES: Misuse = Misuse {
+    fault: "'--why' and '--lines' exclude one another: each line is answered by one line",
+    usage: "judge [--why|--lines] [OPTIONS]",
+};
+
 const LONG_WITH_CERTIFICATES: Misuse = Misuse {
     fault: "'--long' and '--certificates' exclude one another: no certificates are made of histories of any length",
     usage: "explain --long [OPTIONS]",
@@ -54,6 +64,21 @@ const SVG_WITH_JSON: Misuse = Misuse {
 
 const SVG_WITH_CERTIFICATES: Misuse = Misuse {
     fault: "'--svg' and '--certificates' exclude one another: certificates are written as JSON",
+    usage: "explain --json --certificates",
+};
+
+const HTML_WITH_JSON: Misuse = Misuse {
+    fault: "'--html' and '--json' exclude one another: each is a form of the whole answer",
+    usage: "explain [--html|--json] [OPTIONS]",
+};
+
+const HTML_WITH_SVG: Misuse = Misuse {
+    fault: "'--html' and '--svg' exclude one another: each is a form of the whole answer",
+    usage: "explain [--html|--svg] [OPTIONS]",
+};
+
+const HTML_WITH_CERTIFICATES: Misuse = Misuse {
+    fault: "'--html' and '--certificates' exclude one another: certificates are written as JSON",
     usage: "explain --json --certificates",
 };
 
@@ -85,6 +110,9 @@ fn text_of(alloc: Global, fault: &str, usage: &str) -> Result<String, AllocError
 /// Fails for want of memory alone. O(n) for n words.
 pub(crate) fn text_of_misuse<S: AsStr>(alloc: Global, words: &[S]) -> Result<String, AllocError> {
     if let Some(misuse) = misuse_of_events(words) {
+        return misuse.text(alloc);
+    }
+    if let Some(misuse) = misuse_of_lines(words) {
         return misuse.text(alloc);
     }
     if let Some(misuse) = misuse_of_forms(words) {
@@ -133,11 +161,26 @@ fn misuse_of_events<S: AsStr>(words: &[S]) -> Option<Misuse> {
     }
 }
 
+// What is wrong with the options for lines.
+fn misuse_of_lines<S: AsStr>(words: &[S]) -> Option<Misuse> {
+    let is_by_lines = says(words, "--lines");
+    if !is_by_lines && says(words, "--skip-blank") {
+        Some(SKIP_BLANK_WITHOUT_LINES)
+    } else if is_by_lines && says(words, "--why") {
+        Some(WHY_WITH_LINES)
+    } else {
+        None
+    }
+}
+
 // What is wrong with the options for the form of an answer.
 fn misuse_of_forms<S: AsStr>(words: &[S]) -> Option<Misuse> {
     let lists = value_after(words, "--all", "--all=").is_some();
     if says(words, "--certificates") {
         return misuse_of_certificates(words, lists);
+    }
+    if says(words, "--html") {
+        return misuse_of_html(words);
     }
     if !says(words, "--svg") {
         return None;
@@ -151,6 +194,16 @@ fn misuse_of_forms<S: AsStr>(words: &[S]) -> Option<Misuse> {
     }
 }
 
+fn misuse_of_html<S: AsStr>(words: &[S]) -> Option<Misuse> {
+    if says(words, "--json") {
+        Some(HTML_WITH_JSON)
+    } else if says(words, "--svg") {
+        Some(HTML_WITH_SVG)
+    } else {
+        None
+    }
+}
+
 fn misuse_of_certificates<S: AsStr>(words: &[S], lists: bool) -> Option<Misuse> {
     if lists {
         Some(ALL_WITH_CERTIFICATES)
@@ -158,6 +211,8 @@ fn misuse_of_certificates<S: AsStr>(words: &[S], lists: bool) -> Option<Misuse> 
         Some(LONG_WITH_CERTIFICATES)
     } else if says(words, "--svg") {
         Some(SVG_WITH_CERTIFICATES)
+    } else if says(words, "--html") {
+        Some(HTML_WITH_CERTIFICATES)
     } else if !says(words, "--json") {
         Some(CERTIFICATES_WITHOUT_JSON)
     } else {
@@ -190,7 +245,7 @@ fn value_after<'a, S: AsStr>(words: &'a [S], name: &str, front: &str) -> Option<
     None
 }
 
-// The word of `drive` that stands for a store, and names none.
+// The first word after `drive` that is no option and no value of one, where it names no store.
 fn store_of<'a, S: AsStr>(words: &'a [S]) -> Option<&'a str> {
     let [_, command, further @ ..] = words else {
         return None;

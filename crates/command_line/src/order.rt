@@ -3,14 +3,17 @@ ghost use Rattle.std.specs.Prelude.{◌≡◌, [], IfErr, IfOk, MatchOption, Mat
 ghost use Rattle.clap.specs.Words.{HasKind, fault_of, kind_of};
 ghost use Rattle.command_line.specs.CommandLine.{GivesNoTask, IsCommandLine, IsUsageFor, IsUsageOf, command_line};
 
+use crate::detail::Detail;
 use crate::drive::Drive;
 use crate::form::{Form, LongForm};
 use crate::judging::Judging;
 use crate::length::Length;
+use crate::line_judging::LineJudging;
 use crate::listing::Listing;
 use crate::log_order::LogOrder;
 use crate::misuse::text_of_misuse;
 use crate::options::task_of;
+use crate::page::Page;
 use crate::program::program;
 use crate::workers::Workers;
 use clap::error::ErrorKind;
@@ -21,8 +24,10 @@ use std::convert::AsStr;
 /// What a command line asks for.
 #[derive(Clone, Copy, Debug, PartialEq, Eq)]
 pub enum Task {
-    /// An order on an input, which is read whole, or line by line.
-    OfInput(Order),
+    /// An order on an input, which is read whole, or line by line; and how much is said where the input is refused.
+    OfInput(Order, Detail),
+    /// A page on an input or on a log of events; and how much is said where the input is refused.
+    OfPage(Page, Detail),
     /// An order on a log of events, which is read event by event.
     OfLog(LogOrder),
 }
@@ -33,7 +38,7 @@ pub enum Order {
     /// Judges the history in the input.
     Judge(Judging),
     /// Judges the history in each line of the input.
-    JudgeLines(Judging),
+    JudgeLines(LineJudging),
     /// Checks the certificate in the input against the history in it, by so many workers.
     Check(Workers),
     /// Says in this form why each criterion is met or not met by the history in the input, or why that is unknown.
@@ -65,14 +70,15 @@ pub enum Usage {
 /// in any order and each at most once.
 ///
 /// - `judge` takes `--workers N` for a number from 1 to 16, or nothing for 2; and `--expect LIST`, where the list is one or more of
-///   `cc`, `cm` and `ccv`, each at most once, joined by commas; and `--lines`; and `--long`; and with `--long` and without `--lines`,
-///   `--events`, and then `--every N` for a number from 1 to 2,147,483,647.
+///   `cc`, `cm` and `ccv`, each at most once, joined by commas; and `--lines`, and then `--skip-blank`; and `--long`; and with `--long`
+///   and without `--lines`, `--events`, and then `--every N` for a number from 1 to 2,147,483,647.
 /// - `check` takes `--workers N`.
-/// - `explain` takes nothing, `--json`, `--json` and `--certificates`, or `--svg`; with `--long` besides, `--certificates` is left out;
-///   and with `--all N`, for a number from 1 to 1,000,000, `--svg` too. With `--long` it takes `--events`.
-/// - `refute` takes `--long`, `replay` takes nothing, and `events` takes `--names`.
+/// - `explain` takes nothing, `--json`, `--json` and `--certificates`, `--svg`, or `--html`; with `--long` besides, `--certificates` is
+///   left out; and with `--all N`, for a number from 1 to 1,000,000, `--svg` too. With `--long` it takes `--events`.
+/// - `refute` takes `--long`, and `events` takes `--names`.
 /// - `drive` takes `causal` or `lamport`, which can't be left out, `--eager`, `--seals N` for a number from 0 to 8, or nothing for 0,
 ///   `--workers N`, and `--stop S` for a number from 0 to 15.
+/// - `judge` without `--lines`, `check`, `explain`, `refute`, `replay` and `drive` take `--why`.
 ///
 /// An option and its value are two words, or one as in `--workers=N`.
 ///

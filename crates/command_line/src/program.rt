@@ -3,15 +3,16 @@ ghost use Rattle.std.specs.Prelude.{◌≡◌, false, IfOk};
 ghost use Rattle.clap.specs.Words.{app_of};
 ghost use Rattle.clap.specs.declared.builder.Command.TheViews.{out-Command};
 ghost use Rattle.command_line.specs.CommandLine.{certifying, check, command_line, drawing, drive, driving, events, explain};
-ghost use Rattle.command_line.specs.CommandLine.{expecting, explaining, judge, judging, lengthening, refute, replay};
+ghost use Rattle.command_line.specs.CommandLine.{expecting, explaining, judge, judging, lengthening, lining, listing, refute, replay};
 ghost use Rattle.command_line.specs.CommandLine.{sealing, storing};
 
 use crate::arguments::{
     all_option, every_option, expect_option, flag_option, seals_option, stop_option,
-    store_argument, workers_option,
+    store_argument, why_option, workers_option,
 };
 use crate::help::{
-    ABOUT, EVENTS, EVENTS_REASON, LONG, LONG_PATTERN, LONG_REASON, MANUAL, NAMES, VERSION,
+    ABOUT, EVENTS, EVENTS_REASON, HTML, LINES, LONG, LONG_PATTERN, LONG_REASON, MANUAL, NAMES,
+    SKIP_BLANK, VERSION,
 };
 use crate::manuals;
 use clap::Command;
@@ -60,25 +61,31 @@ fn judge_command<'a>(alloc: Global) -> Result<Command<'a>, AllocError>
     ensures local { IfOk result (λ command. (out-Command command).has_globals ≡ false) }
 {
     lengthening_command(alloc)?
-        .arg(flag_option(alloc, "events", EVENTS))?
-        .arg(every_option(alloc))
+        .arg(every_option(alloc))?
+        .arg(why_option(alloc))
 }
 
-// The same without `--events` and `--every`.
+// The same without `--every` and `--why`.
 fn lengthening_command<'a>(alloc: Global) -> Result<Command<'a>, AllocError>
     ensures app { IfOk result (λ command. app_of command ≡ lengthening) }
     ensures local { IfOk result (λ command. (out-Command command).has_globals ≡ false) }
 {
-    expecting_command(alloc)?
-        .arg(flag_option(
-            alloc,
-            "lines",
-            "Judges a history in each line, and answers each with one line",
-        ))?
-        .arg(flag_option(alloc, "long", LONG))
+    lining_command(alloc)?
+        .arg(flag_option(alloc, "long", LONG))?
+        .arg(flag_option(alloc, "events", EVENTS))
 }
 
-// The same without `--lines` and `--long`.
+// The same without `--long` and `--events`.
+fn lining_command<'a>(alloc: Global) -> Result<Command<'a>, AllocError>
+    ensures app { IfOk result (λ command. app_of command ≡ lining) }
+    ensures local { IfOk result (λ command. (out-Command command).has_globals ≡ false) }
+{
+    expecting_command(alloc)?
+        .arg(flag_option(alloc, "lines", LINES))?
+        .arg(flag_option(alloc, "skip-blank", SKIP_BLANK))
+}
+
+// The same without `--lines` and `--skip-blank`.
 fn expecting_command<'a>(alloc: Global) -> Result<Command<'a>, AllocError>
     ensures app { IfOk result (λ command. app_of command ≡ expecting) }
     ensures local { IfOk result (λ command. (out-Command command).has_globals ≡ false) }
@@ -97,29 +104,40 @@ fn check_command<'a>(alloc: Global) -> Result<Command<'a>, AllocError>
     Command::new(alloc, "check")
         .about("Reads a history and a certificate of it, and checks it")
         .after_help(manuals::CHECK)
-        .arg(workers_option(alloc))
+        .arg(workers_option(alloc))?
+        .arg(why_option(alloc))
 }
 
 fn explain_command<'a>(alloc: Global) -> Result<Command<'a>, AllocError>
     ensures app { IfOk result (λ command. app_of command ≡ explain) }
     ensures local { IfOk result (λ command. (out-Command command).has_globals ≡ false) }
 {
-    drawing_command(alloc)?
-        .arg(all_option(alloc))?
-        .arg(flag_option(alloc, "events", EVENTS_REASON))
+    listing_command(alloc)?
+        .arg(flag_option(alloc, "events", EVENTS_REASON))?
+        .arg(why_option(alloc))
 }
 
-// The same without `--all` and `--events`.
+// The same without `--events` and `--why`.
+fn listing_command<'a>(alloc: Global) -> Result<Command<'a>, AllocError>
+    ensures app { IfOk result (λ command. app_of command ≡ listing) }
+    ensures local { IfOk result (λ command. (out-Command command).has_globals ≡ false) }
+{
+    drawing_command(alloc)?
+        .arg(flag_option(alloc, "long", LONG_REASON))?
+        .arg(all_option(alloc))
+}
+
+// The same without `--long` and `--all`.
 fn drawing_command<'a>(alloc: Global) -> Result<Command<'a>, AllocError>
     ensures app { IfOk result (λ command. app_of command ≡ drawing) }
     ensures local { IfOk result (λ command. (out-Command command).has_globals ≡ false) }
 {
     certifying_command(alloc)?
         .arg(flag_option(alloc, "svg", "Draws it as one picture"))?
-        .arg(flag_option(alloc, "long", LONG_REASON))
+        .arg(flag_option(alloc, "html", HTML))
 }
 
-// The same without `--svg` and `--long`.
+// The same without `--svg` and `--html`.
 fn certifying_command<'a>(alloc: Global) -> Result<Command<'a>, AllocError>
     ensures app { IfOk result (λ command. app_of command ≡ certifying) }
     ensures local { IfOk result (λ command. (out-Command command).has_globals ≡ false) }
@@ -142,18 +160,18 @@ fn refute_command<'a>(alloc: Global) -> Result<Command<'a>, AllocError>
     Command::new(alloc, "refute")
         .about("Reads a history, the name of a criterion and a pattern, and checks it")
         .after_help(manuals::REFUTE)
-        .arg(flag_option(alloc, "long", LONG_PATTERN))
+        .arg(flag_option(alloc, "long", LONG_PATTERN))?
+        .arg(why_option(alloc))
 }
 
 fn replay_command<'a>(alloc: Global) -> Result<Command<'a>, AllocError>
     ensures app { IfOk result (λ command. app_of command ≡ replay) }
     ensures local { IfOk result (λ command. (out-Command command).has_globals ≡ false) }
 {
-    Ok(
-        Command::new(alloc, "replay")
-            .about("Reads a script of sessions, sealers and workers, and runs it")
-            .after_help(manuals::REPLAY),
-    )
+    Command::new(alloc, "replay")
+        .about("Reads a script of sessions, sealers and workers, and runs it")
+        .after_help(manuals::REPLAY)
+        .arg(why_option(alloc))
 }
 
 fn events_command<'a>(alloc: Global) -> Result<Command<'a>, AllocError>
@@ -161,7 +179,7 @@ fn events_command<'a>(alloc: Global) -> Result<Command<'a>, AllocError>
     ensures local { IfOk result (λ command. (out-Command command).has_globals ≡ false) }
 {
     Command::new(alloc, "events")
-        .about("Reads a log of events, and writes the history that it stands for")
+        .about("Reads a log of events, and writes the history that it records")
         .after_help(manuals::EVENTS)
         .arg(flag_option(alloc, "names", NAMES))
 }
@@ -170,10 +188,12 @@ fn drive_command<'a>(alloc: Global) -> Result<Command<'a>, AllocError>
     ensures app { IfOk result (λ command. app_of command ≡ drive) }
     ensures local { IfOk result (λ command. (out-Command command).has_globals ≡ false) }
 {
-    sealing_command(alloc)?.arg(stop_option(alloc))
+    sealing_command(alloc)?
+        .arg(stop_option(alloc))?
+        .arg(why_option(alloc))
 }
 
-// The same without `--stop`.
+// The same without `--stop` and `--why`.
 fn sealing_command<'a>(alloc: Global) -> Result<Command<'a>, AllocError>
     ensures app { IfOk result (λ command. app_of command ≡ sealing) }
     ensures local { IfOk result (λ command. (out-Command command).has_globals ≡ false) }

@@ -2,18 +2,23 @@
 
 ghost use Rattle.std.specs.Prelude.{◌≡◌, false, option_map, true};
 ghost use Rattle.command_line.specs.declared.order.Task.TheVariants.{OfInput, OfLog};
-ghost use Rattle.command_line.specs.Options.{and_also, delivery_for, drive_for, drive_of, events_for, explain_for, explain_of};
-ghost use Rattle.command_line.specs.Options.{form_for, judge_for, judging_for, length_for, list_form_for, listing_of};
-ghost use Rattle.command_line.specs.Options.{log_judging_for, long_form_for, says, task_for, unsaid, with_setting, workers_for};
+ghost use Rattle.command_line.specs.Options.{and_also, blank_for, delivery_for, detail_for, drive_for, drive_of, events_for};
+ghost use Rattle.command_line.specs.Options.{explain_for, explain_of, form_for, judge_for, judge_lines_of, judge_one_of, judging_for};
+ghost use Rattle.command_line.specs.Options.{length_for, line_judging_for, list_form_for, listing_of, log_judging_for, long_form_for};
+ghost use Rattle.command_line.specs.Options.{page_for, page_of_what, page_with, says, says_form, task_for, unsaid, with_setting};
+ghost use Rattle.command_line.specs.Options.{workers_for};
 
+use crate::detail::Detail;
 use crate::drive::{Drive, Store};
 use crate::expected::Expected;
 use crate::form::{Form, ListForm, LongForm};
 use crate::judging::Judging;
 use crate::length::Length;
+use crate::line_judging::{BlankLines, LineJudging};
 use crate::listing::Listing;
 use crate::log_order::{LogJudging, LogOrder};
 use crate::order::{Order, Task};
+use crate::page::{Page, PageOf, USUAL_LISTED};
 use crate::settings::{CommandName, Setting};
 use crate::workers::Workers;
 use replica::Delivery;
@@ -29,14 +34,17 @@ pub struct Said {
     stop: Option<usize>,
     expected: Option<Expected>,
     lines: bool,
+    skip_blank: bool,
     long: bool,
     all: Option<u32>,
     json: bool,
     certificates: bool,
     svg: bool,
+    html: bool,
     events: bool,
     every: Option<u32>,
     names: bool,
+    why: bool,
 }
 
 impl Said {
@@ -53,14 +61,17 @@ impl Said {
             stop: None,
             expected: None,
             lines: false,
+            skip_blank: false,
             long: false,
             all: None,
             json: false,
             certificates: false,
             svg: false,
+            html: false,
             events: false,
             every: None,
             names: false,
+            why: false,
         }
     }
 
@@ -87,14 +98,17 @@ impl Said {
             Setting::Stop(_) => self.stop.is_some(),
             Setting::Expect(_) => self.expected.is_some(),
             Setting::Lines => self.lines,
+            Setting::SkipBlank => self.skip_blank,
             Setting::Long => self.long,
             Setting::All(_) => self.all.is_some(),
             Setting::Json => self.json,
             Setting::Certificates => self.certificates,
             Setting::Svg => self.svg,
+            Setting::Html => self.html,
             Setting::Events => self.events,
             Setting::Every(_) => self.every.is_some(),
             Setting::Names => self.names,
+            Setting::Why => self.why,
         }
     }
 
@@ -131,6 +145,10 @@ impl Said {
                 lines: true,
                 ..*self
             },
+            Setting::SkipBlank => Said {
+                skip_blank: true,
+                ..*self
+            },
             Setting::Long => Said {
                 long: true,
                 ..*self
@@ -148,6 +166,10 @@ impl Said {
                 ..*self
             },
             Setting::Svg => Said { svg: true, ..*self },
+            Setting::Html => Said {
+                html: true,
+                ..*self
+            },
             Setting::Events => Said {
                 events: true,
                 ..*self
@@ -160,6 +182,7 @@ impl Said {
                 names: true,
                 ..*self
             },
+            Setting::Why => Said { why: true, ..*self },
         }
     }
 
@@ -169,12 +192,29 @@ impl Said {
     {
         match self.command {
             CommandName::Judge => self.judge(),
-            CommandName::Check => Some(Task::OfInput(Order::Check(self.workers()))),
+            CommandName::Check => Some(self.of_input(Order::Check(self.workers()))),
             CommandName::Explain => self.explain(),
-            CommandName::Refute => Some(Task::OfInput(Order::Refute(self.length()))),
-            CommandName::Replay => Some(Task::OfInput(Order::Replay)),
-            CommandName::Drive => Some(Task::OfInput(Order::Drive(self.drive()?))),
+            CommandName::Refute => Some(self.of_input(Order::Refute(self.length()))),
+            CommandName::Replay => Some(self.of_input(Order::Replay)),
+            CommandName::Drive => Some(self.of_input(Order::Drive(self.drive()?))),
             CommandName::Events => Some(self.events()),
+        }
+    }
+
+    // An order on an input, with as much on a refused one as was said.
+    fn of_input(&self, order: Order) -> Task
+        ensures { result ≡ OfInput order (detail_for self.now) }
+    {
+        Task::OfInput(order, self.detail())
+    }
+
+    fn detail(&self) -> Detail
+        ensures { result ≡ detail_for self.now }
+    {
+        if self.why || self.long {
+            Detail::Reason
+        } else {
+            Detail::Number
         }
     }
 
@@ -182,11 +222,53 @@ impl Said {
     fn judge(&self) -> Option<Task>
         ensures { result ≡ judge_for self.now }
     {
-        match (self.lines, self.events, self.every, self.long) {
-            (false, false, None, _) => Some(Task::OfInput(Order::Judge(self.judging()))),
-            (true, false, None, _) => Some(Task::OfInput(Order::JudgeLines(self.judging()))),
-            (false, true, _, true) => Some(Task::OfLog(LogOrder::Judge(self.log_judging()))),
+        match (self.lines, self.skip_blank) {
+            (true, _) => self.judge_lines(),
+            (false, false) => self.judge_one(),
+            (false, true) => None,
+        }
+    }
+
+    // The task to judge one history, or a log; none where what was said doesn't go together.
+    fn judge_one(&self) -> Option<Task>
+        ensures { result ≡ judge_one_of self.now.events self.now.every self.now.long self.now }
+    {
+        match (self.events, self.every, self.long) {
+            (false, None, _) => Some(self.of_input(Order::Judge(self.judging()))),
+            (true, _, true) => Some(Task::OfLog(LogOrder::Judge(self.log_judging()))),
             _ => None,
+        }
+    }
+
+    // The task to judge the history in each line; none where what was said doesn't go together.
+    fn judge_lines(&self) -> Option<Task>
+        ensures { result ≡ judge_lines_of self.now.events self.now.every self.now.why self.now }
+    {
+        match (self.events, self.every, self.why) {
+            (false, None, false) => Some(Task::OfInput(
+                Order::JudgeLines(self.line_judging()),
+                Detail::Number,
+            )),
+            _ => None,
+        }
+    }
+
+    fn line_judging(&self) -> LineJudging
+        ensures { result ≡ line_judging_for self.now }
+    {
+        LineJudging {
+            judging: self.judging(),
+            blank: self.blank(),
+        }
+    }
+
+    fn blank(&self) -> BlankLines
+        ensures { result ≡ blank_for self.now }
+    {
+        if self.skip_blank {
+            BlankLines::Skipped
+        } else {
+            BlankLines::Refused
         }
     }
 
@@ -241,16 +323,65 @@ impl Said {
     fn explain(&self) -> Option<Task>
         ensures { result ≡ explain_for self.now }
     {
+        if self.html {
+            self.page()
+        } else {
+            self.reasons()
+        }
+    }
+
+    // The task to write a page; none where what was said doesn't go together.
+    fn page(&self) -> Option<Task>
+        ensures { result ≡ page_for self.now }
+    {
+        if self.says_form() {
+            return None;
+        }
+        Some(Task::OfPage(self.page_with(self.page_of()?), self.detail()))
+    }
+
+    // Whether another form than a page was said.
+    fn says_form(&self) -> bool
+        ensures { result ≡ says_form self.now }
+    {
+        self.json || self.certificates || self.svg
+    }
+
+    // What a page is of; none of a log where it was not said that it may have any length.
+    fn page_of(&self) -> Option<PageOf>
+        ensures { result ≡ page_of_what self.now.events self.now.long }
+    {
+        match (self.events, self.long) {
+            (false, false) => Some(PageOf::Input(Length::Limited)),
+            (false, true) => Some(PageOf::Input(Length::Any)),
+            (true, true) => Some(PageOf::Log),
+            (true, false) => None,
+        }
+    }
+
+    fn page_with(&self, of: PageOf) -> Page
+        ensures { result ≡ page_with self.now of }
+    {
+        Page {
+            most: self.all.unwrap_or(USUAL_LISTED),
+            of,
+        }
+    }
+
+    // The task to give reasons or to list reads; none where what was said doesn't go together.
+    fn reasons(&self) -> Option<Task>
+        ensures { result ≡ explain_of self.now.all self.now.events self.now.long self.now }
+    {
         match (self.events, self.long) {
             (true, false) => None,
             (true, true) => Some(Task::OfLog(self.explain_log()?)),
-            (false, _) => Some(Task::OfInput(self.explain_input()?)),
+            (false, _) => Some(self.of_input(self.explain_input()?)),
         }
     }
 
     // The order to explain a history; none where what was said doesn't go together.
     fn explain_input(&self) -> Option<Order>
-        ensures { explain_of self.now.all false self.now.long self.now ≡ option_map (λ order. OfInput order) result }
+        ensures { explain_of self.now.all false self.now.long self.now ≡ option_map (λ order. OfInput order (detail_for self.now)) result }
     {
         match (self.all, self.long) {
             (Some(most), _) => Some(Order::ListFaults(self.listing_of(most, self.list_form()?))),

@@ -45,6 +45,8 @@ pub enum Setting {
     Expect(Expected),
     /// Each line of the input holds a history.
     Lines,
+    /// Blank lines are skipped.
+    SkipBlank,
     /// A history may have any length.
     Long,
     /// The input is a log of events.
@@ -61,6 +63,10 @@ pub enum Setting {
     Certificates,
     /// A reason is given as a picture.
     Svg,
+    /// A reason is given as a page.
+    Html,
+    /// What is wrong with a refused input is said.
+    Why,
 }
 
 /// The command of this name.
@@ -88,9 +94,11 @@ impl Setting {
             Setting::Workers(_)
             | Setting::Expect(_)
             | Setting::Lines
+            | Setting::SkipBlank
             | Setting::Long
             | Setting::Events
-            | Setting::Every(_) => true,
+            | Setting::Every(_)
+            | Setting::Why => true,
             _ => false,
         }
     }
@@ -99,7 +107,7 @@ impl Setting {
         ensures { result ≡ takes CommandName.Check self.now }
     {
         match self {
-            Setting::Workers(_) => true,
+            Setting::Workers(_) | Setting::Why => true,
             _ => false,
         }
     }
@@ -111,9 +119,11 @@ impl Setting {
             Setting::Json
             | Setting::Certificates
             | Setting::Svg
+            | Setting::Html
             | Setting::Long
             | Setting::Events
-            | Setting::All(_) => true,
+            | Setting::All(_)
+            | Setting::Why => true,
             _ => false,
         }
     }
@@ -122,7 +132,16 @@ impl Setting {
         ensures { result ≡ takes CommandName.Refute self.now }
     {
         match self {
-            Setting::Long => true,
+            Setting::Long | Setting::Why => true,
+            _ => false,
+        }
+    }
+
+    fn is_of_replay(&self) -> bool
+        ensures { result ≡ takes CommandName.Replay self.now }
+    {
+        match self {
+            Setting::Why => true,
             _ => false,
         }
     }
@@ -144,7 +163,8 @@ impl Setting {
             | Setting::Eager
             | Setting::Seals(_)
             | Setting::Workers(_)
-            | Setting::Stop(_) => true,
+            | Setting::Stop(_)
+            | Setting::Why => true,
             _ => false,
         }
     }
@@ -160,7 +180,7 @@ impl CommandName {
             CommandName::Check => setting.is_of_check(),
             CommandName::Explain => setting.is_of_explain(),
             CommandName::Refute => setting.is_of_refute(),
-            CommandName::Replay => false,
+            CommandName::Replay => setting.is_of_replay(),
             CommandName::Drive => setting.is_of_drive(),
             CommandName::Events => setting.is_of_events(),
         }
@@ -176,12 +196,15 @@ pub fn setting_alone(word: &str) -> Option<Setting>
         "lamport" => Some(Setting::Store(Store::Lamport)),
         "--eager" => Some(Setting::Eager),
         "--lines" => Some(Setting::Lines),
+        "--skip-blank" => Some(Setting::SkipBlank),
         "--long" => Some(Setting::Long),
         "--events" => Some(Setting::Events),
         "--names" => Some(Setting::Names),
         "--json" => Some(Setting::Json),
         "--certificates" => Some(Setting::Certificates),
         "--svg" => Some(Setting::Svg),
+        "--html" => Some(Setting::Html),
+        "--why" => Some(Setting::Why),
         _ => value_alone(word),
     }
 }
