@@ -3,11 +3,13 @@
 
     python3 tests/lines.py SEED LINES [--operations N] [--small N] [--rounds N] -- PROGRAM
 
-LINES histories of all objects are made at random, and most are spoilt as mangled.py does it; some lines are empty. Each is judged by
+LINES histories of all objects are made at random, and most are spoilt as mangled.py does it; some lines are blank. Each is judged by
 a run of its own, and all by runs of `judge --lines` with 1, 2 and 4 workers, with and without criteria that are expected to be met,
 whose lines come in one piece, or in pieces of random length. The lines that are written have to be those of the single runs: the
-three of a report joined by `; `, or the one on standard error; and the status has to be what follows from them. A client that writes
-one line and waits for its answer has to get it. It ends with status 1 where something is wrong.
+three of a report joined by `; `, or the one on standard error; and the status has to be what follows from them. With `--skip-blank` a
+blank line has to answer each blank one, and nothing else changes. Standard error has to name the first blank line that is refused, and
+the first that ends in the midst of a JSON text, and no other. A client that writes one line and waits for its answer has to get it. It
+ends with status 1 where something is wrong.
 
 With `--operations N` runs of a store by bench/histories.py, healthy ones and such with a fault, of N operations in all, are judged so by
 1, 2, 4 and 16 workers: the healthy ones are causally consistent and a causal memory, the others are not, nothing is left unknown, and
@@ -23,6 +25,7 @@ import json
 import os
 import pathlib
 import random
+import re
 import subprocess
 import sys
 import tempfile
@@ -41,8 +44,28 @@ EXPECTED = ("", "cc", "cm", "ccv", "cc,cm,ccv")
 
 
 def line_of(rng):
-    """A line, which may be empty, and is mostly no history."""
-    return b"" if rng.random() < 0.02 else mangled.mangled(rng, "judge").replace(b"\n", b" ")
+    """A line, which may be blank, and is mostly no history."""
+    return rng.choice((b"", b"  ", b"\t \r")) if rng.random() < 0.03 else mangled.mangled(rng, "judge").replace(b"\n", b" ")
+
+
+def is_blank(line):
+    return not line.strip(b" \t\r")
+
+
+def is_broken(line):
+    """Whether a line has a text or a bracket that it does not close, or closes a bracket that is not open."""
+    outside = re.sub(rb'"(?:[^"\\]|\\.)*"', b"", line, flags=re.DOTALL)
+    depths = list(itertools.accumulate((byte in b"[{") - (byte in b"]}") for byte in outside))
+    return b'"' in outside or any(depth < 0 for depth in depths) or bool(depths and depths[-1])
+
+
+def remarks_due(lines, skips_blank):
+    """What standard error has to say of lines."""
+    blank = next((number for number, line in enumerate(lines, 1) if is_blank(line)), None)
+    broken = next((number for number, line in enumerate(lines, 1) if is_broken(line)), None)
+    on_blank = f"line {blank} is blank: with --skip-blank a blank line answers it\n"
+    on_broken = f"line {broken} ends in the midst of a JSON text: with --lines each line holds a whole history\n"
+    return (on_blank if blank and not skips_blank else "") + (on_broken if broken else "")
 
 
 def answer_alone(program, line):
@@ -71,13 +94,14 @@ def status_due(answers, expected):
     return 0 if all(word == "yes" for word in said) else 6
 
 
-def words_for(workers, expected):
-    return ["judge", "--lines", "--workers", str(workers), *(["--expect", expected] if expected else [])]
+def words_for(workers, expected, skips_blank=False):
+    skipping = ["--skip-blank"] if skips_blank else []
+    return ["judge", "--lines", "--workers", str(workers), *(["--expect", expected] if expected else []), *skipping]
 
 
 def run_in_pieces(rng, command, text):
     """The status and the output of a run whose input comes in pieces of random length."""
-    process = subprocess.Popen(command, stdin=subprocess.PIPE, stdout=subprocess.PIPE)
+    process = subprocess.Popen(command, stdin=subprocess.PIPE, stdout=subprocess.PIPE, stderr=subprocess.PIPE)
     writer = os.fork()
     if writer == 0:
         process.stdout.close()
@@ -88,33 +112,35 @@ def run_in_pieces(rng, command, text):
             at = until
         os._exit(0)
     process.stdin.close()
-    written = process.stdout.read()
+    process.stdin = None
+    written, remarks = process.communicate()
     os.waitpid(writer, 0)
-    return process.wait(), written.decode()
+    return process.returncode, written.decode(), remarks.decode()
 
 
 def run_whole(command, text):
     done = subprocess.run(command, input=text, capture_output=True, check=False, timeout=600)
-    return done.returncode, done.stdout.decode()
+    return done.returncode, done.stdout.decode(), done.stderr.decode()
 
 
 def compared(rng, program, lines):
     """How many runs over the lines had the outcome of the single runs, and how many another, each of which is printed."""
     answers = [answer_alone(program, line) for line in lines]
     answered = [i for i, answer in enumerate(answers) if is_answered(answer)]
+    answered_or_blank = [i for i, answer in enumerate(answers) if is_answered(answer) or is_blank(lines[i])]
     runs = wrong = 0
-    for kept in (range(len(lines)), answered):
+    for kept, skips_blank in ((range(len(lines)), False), (range(len(lines)), True), (answered, False), (answered_or_blank, True)):
         text = b"\n".join(lines[i] for i in kept) + (b"\n" if kept and (rng.random() < 0.5 or not lines[kept[-1]]) else b"")
-        due = "".join(f"{answers[i]}\n" for i in kept)
-        for workers in WORKERS:
-            for expected in EXPECTED:
-                wanted = (status_due([answers[i] for i in kept], expected), due)
-                command = [*program, *words_for(workers, expected)]
-                for found in (run_whole(command, text), run_in_pieces(rng, command, text)):
-                    runs += 1
-                    if found != wanted:
-                        wrong += 1
-                        print(f"{' '.join(command[1:])}: status {found[0]} for {wanted[0]}, {differing(found[1], due)}")
+        said = ["" if skips_blank and is_blank(lines[i]) else answers[i] for i in kept]
+        due, remarks = "".join(f"{answer}\n" for answer in said), remarks_due([lines[i] for i in kept], skips_blank)
+        for workers, expected in itertools.product(WORKERS, EXPECTED):
+            wanted = (status_due(list(filter(None, said)), expected), due, remarks)
+            command = [*program, *words_for(workers, expected, skips_blank)]
+            for found in (run_whole(command, text), run_in_pieces(rng, command, text)):
+                runs += 1
+                if found != wanted:
+                    wrong += 1
+                    print(f"{' '.join(command[1:])}: status {found[0]} for {wanted[0]}, {differing(found[1], due)}, {found[2]!r}")
     print(f"{len(lines)} lines, {len(answered)} of them answered")
     return runs - wrong, wrong
 
@@ -130,7 +156,8 @@ def talked(program):
     """How many times a client that writes a line and waits got its answer, and how many times another."""
     asked = wrong = 0
     for workers in WORKERS:
-        process = subprocess.Popen([*program, *words_for(workers, "")], stdin=subprocess.PIPE, stdout=subprocess.PIPE)
+        how = {"stdin": subprocess.PIPE, "stdout": subprocess.PIPE, "stderr": subprocess.DEVNULL}
+        process = subprocess.Popen([*program, *words_for(workers, "")], **how)
         for line in (b'["memory",[]]\n', b"\n", b'["memory",[[["r",0,7]]]]\n'):
             process.stdin.write(line)
             process.stdin.flush()
@@ -169,7 +196,7 @@ def judged_by_many(program, most):
                 print(f"a run that is {state}: {alone[text]}", flush=True)
     due = "".join(f"{alone[text]}\n" for _, text in runs)
     for workers in (*WORKERS, 16):
-        status, found = run_whole([*program, *words_for(workers, "")], b"".join(text for _, text in runs))
+        status, found, _ = run_whole([*program, *words_for(workers, "")], b"".join(text for _, text in runs))
         if (status, found) != (0, due):
             wrong += 1
             print(f"{len(runs)} runs of a store by {workers} workers: status {status}, {differing(found, due)}", flush=True)

@@ -1,8 +1,10 @@
 -- What answers a line, and what answers all lines of an input.
-use Rattle.std.proofs.Common.{◌≡◌, ◌++◌, ℕ, List, Result, Ok, Err, IfOk, ◌∙◌, ap, sym, subst, inr}
+use Rattle.std.proofs.Common.{◌≡◌, ◌++◌, ◌<◌, ◌≤◌, ℕ, List, length, Result, Ok, Err, IfOk, ◌∙◌, ap, sym, subst, inr, arith}
 use Rattle.std.specs.Prelude.{◌≢◌}
 use Rattle.command_line.specs.declared.expected.Expected.{Expected}
 use Rattle.command_line.specs.declared.length.Length.{Length}
+use Rattle.command_line.specs.declared.line_judging.BlankLines.{BlankLines}
+use Rattle.command_line.specs.declared.line_judging.LineJudging.{LineJudging}
 use Rattle.lines.specs.declared.fault.Fault.{Fault}
 use Rattle.lines.specs.declared.fault.Fault.TheVariants as faults
 use Rattle.lines.specs.declared.outcome.Outcome.{Outcome}
@@ -12,30 +14,42 @@ use Rattle.engine.specs.declared.failure.RunError.{RunError}
 use Rattle.engine.specs.declared.failure.RunError.TheVariants.{TooLong, WriteFault}
 use Rattle.engine.specs.declared.input.TheConstants.{MAX_INPUT_BYTES}
 use Rattle.engine.specs.Failure.{stream_failure}
-use Rattle.engine.specs.LineAnswers.{IsLineAnswer, IsLineError}
+use Rattle.engine.specs.LineAnswers.{IsHistoryAnswer, IsLineAnswer, IsLineError, IsSkipped}
 use Rattle.engine.specs.Steps.LineRefusals.{IsRefusalBy}
 
 -- a line that is refused is answered by the line of its refusal
 pub refusal_answers : (long : Length) (expected : Expected) (line before after : List ℕ) (error : RunError) (r : Result Outcome Fault) → IsLineError long line error
-    → IfOk r (AppendsAnswer (IsRefusalBy error) before after) → IfOk r (AppendsAnswer (IsLineAnswer long expected line) before after)
+    → IfOk r (AppendsAnswer (IsRefusalBy error) before after) → IfOk r (AppendsAnswer (IsHistoryAnswer long expected line) before after)
 refusal_answers long expected line before after error (Ok outcome) is told = (told.0, inr (told.1 long line is), told.2)
 refusal_answers long expected line before after error (Err fault) is told = tt
 
--- a line that is too long is refused as such
-pub longer_answers : (long : Length) (expected : Expected) (before after : List ℕ) (r : Result Outcome Fault)
+-- a line that is not skipped is answered as one that is to hold a history
+pub history_answers : (judging : LineJudging) (line before after : List ℕ) (r : Result Outcome Fault) → ¬ IsSkipped judging.blank line
+    → IfOk r (AppendsAnswer (IsHistoryAnswer judging.judging.length judging.judging.expected line) before after)
+    → IfOk r (AppendsAnswer (IsLineAnswer judging line) before after)
+history_answers judging line before after (Ok outcome) other told = (told.0, inr (other, told.1), told.2)
+history_answers judging line before after (Err fault) other told = tt
+
+-- a line that is too long is not skipped
+longer_not_skipped : (blank : BlankLines) (line : List ℕ) → MAX_INPUT_BYTES < length line → ¬ IsSkipped blank line
+longer_not_skipped blank line longer skipped = let short : length line ≤ MAX_INPUT_BYTES = skipped.short in absurd (omega arith)
+
+-- it is refused as such
+pub longer_answers : (judging : LineJudging) (before after : List ℕ) (r : Result Outcome Fault)
     → IfOk r (AppendsAnswer (IsRefusalBy TooLong) before after)
-    → IfOk r (AppendsAnswer (SaysOfLonger (IsLineAnswer long expected) MAX_INPUT_BYTES) before after)
-longer_answers long expected before after (Ok outcome) told = (told.0, (λ line longer. inr (told.1 long line longer)), told.2)
-longer_answers long expected before after (Err fault) told = tt
+    → IfOk r (AppendsAnswer (SaysOfLonger (IsLineAnswer judging) MAX_INPUT_BYTES) before after)
+longer_answers judging before after (Ok outcome) told =
+    (told.0, (λ line longer. inr (longer_not_skipped judging.blank line longer, inr (told.1 judging.judging.length line longer))), told.2)
+longer_answers judging before after (Err fault) told = tt
 
 -- what is made of all lines without a fault answers them
-pub lines_answered : (long : Length) (expected : Expected) (input text said : List ℕ) (outcome : Result Outcome Fault) (one : Outcome) → outcome ≡ Ok one → said ≡ text
-    → AnswersAs (IsLineAnswer long expected) (lines_of input) outcome text
-    → (all : Outcome) × AreAnswered (IsLineAnswer long expected) (lines_of input) said all
-lines_answered long expected input text said outcome one is same answers = (
+pub lines_answered : (judging : LineJudging) (input text said : List ℕ) (outcome : Result Outcome Fault) (one : Outcome) → outcome ≡ Ok one → said ≡ text
+    → AnswersAs (IsLineAnswer judging) (lines_of input) outcome text
+    → (all : Outcome) × AreAnswered (IsLineAnswer judging) (lines_of input) said all
+lines_answered judging input text said outcome one is same answers = (
   one,
-  subst (λ (t : List ℕ). AreAnswered (IsLineAnswer long expected) (lines_of input) t one) (sym same)
-      (subst (λ (r : Result Outcome Fault). AnswersAs (IsLineAnswer long expected) (lines_of input) r text) is answers),
+  subst (λ (t : List ℕ). AreAnswered (IsLineAnswer judging) (lines_of input) t one) (sym same)
+      (subst (λ (r : Result Outcome Fault). AnswersAs (IsLineAnswer judging) (lines_of input) r text) is answers),
 )
 
 -- a run that did not fail for its writer failed for no fault of it

@@ -30,6 +30,7 @@ use Rattle.command_line.specs.declared.form.LongForm.TheVariants as long_forms
 use Rattle.command_line.specs.declared.form.ListForm.{ListForm}
 use Rattle.command_line.specs.declared.form.ListForm.TheVariants as list_forms
 use Rattle.command_line.specs.declared.judging.Judging.{Judging}
+use Rattle.command_line.specs.declared.line_judging.LineJudging.{LineJudging}
 use Rattle.command_line.specs.declared.length.Length.{Length}
 use Rattle.command_line.specs.declared.listing.Listing.{Listing}
 use Rattle.command_line.specs.declared.length.Length.TheVariants.{Limited, Any}
@@ -372,7 +373,7 @@ replay_once text e ReadFault is_e is_f one two = absurd is_f
 replay_once text e WriteFault is_e is_f one two = absurd is_f
 
 -- lines are refused in their answer: nothing else than memory can fail
-lines_fail : (judging : Judging) (text : List ℕ) (e : RunError) → IsOutputError (JudgeLines judging) text e → failure_status e ≡ 4
+lines_fail : (judging : LineJudging) (text : List ℕ) (e : RunError) → IsOutputError (JudgeLines judging) text e → failure_status e ≡ 4
 lines_fail judging text (History p) is_e = absurd is_e
 lines_fail judging text (Script p) is_e = absurd is_e
 lines_fail judging text BadCertificate is_e = absurd is_e

@@ -1,11 +1,14 @@
 -- What is answered to a line that is a history.
-use Rattle.std.specs.Prelude.{◌≡◌, ◌-◌, ◌<◌, ◌≤◌, ◌⊎◌, ⊤, ℕ, List, ◌++◌, codes, length, take}
+use Rattle.std.specs.Prelude.{◌≡◌, ◌-◌, ◌<◌, ◌≤◌, ◌⊎◌, ⊤, true, ℕ, List, [], ◌++◌, codes, length, take}
 use Rattle.cert_check.specs.declared.criterion.Criterion.TheVariants.{Cc, Cm, Ccv}
 use Rattle.command_line.specs.declared.expected.Expected.{Expected}
 use Rattle.command_line.specs.declared.length.Length.{Length}
+use Rattle.command_line.specs.declared.line_judging.BlankLines.{BlankLines}
+use Rattle.command_line.specs.declared.line_judging.BlankLines.TheVariants.{Skipped}
+use Rattle.command_line.specs.declared.line_judging.LineJudging.{LineJudging}
 use Rattle.lines.specs.declared.outcome.Outcome.{Outcome}
-use Rattle.lines.specs.declared.outcome.Outcome.TheVariants.{Refused}
-use Rattle.lines.specs.Lines.{AreAnswered, lines_of}
+use Rattle.lines.specs.declared.outcome.Outcome.TheVariants.{Met, Refused}
+use Rattle.lines.specs.Lines.{AreAnswered, is_blank, lines_of}
 use Rattle.engine.specs.declared.failure.RunError.{RunError}
 use Rattle.engine.specs.declared.failure.RunError.TheVariants.{History, TooLong, Memory}
 use Rattle.engine.specs.declared.input.TheConstants.{MAX_INPUT_BYTES}
@@ -43,10 +46,27 @@ module _ (long : Length) where
   IsLineRefusal line text outcome =
       (error : RunError) × IsLineError line error × (failure_status error ≡ 1) × (text ≡ fault_line_for error) × (outcome ≡ Refused)
 
+  -- the text answers the line, which is to hold a history
+  abbrev pub IsHistoryAnswer : Expected → List ℕ → List ℕ → Outcome → Type 0
+  IsHistoryAnswer expected line text outcome = IsLineReport expected line text outcome ⊎ IsLineRefusal line text outcome
+
+-- the line is blank, and such lines are skipped. One that is too long is not
+pub record IsSkipped (blank : BlankLines) (line : List ℕ) : Type 0 where
+  pub skipped : blank ≡ Skipped
+  pub short : length line ≤ MAX_INPUT_BYTES
+  pub blank_line : is_blank line ≡ true
+
+-- nothing answers a line that is skipped, and nothing comes of it
+abbrev pub IsBlankAnswer : BlankLines → List ℕ → List ℕ → Outcome → Type 0
+IsBlankAnswer blank line text outcome = IsSkipped blank line × (text ≡ []) × (outcome ≡ Met)
+
+module _ (judging : LineJudging) where
   -- the text answers the line
-  abbrev pub IsLineAnswer : Expected → List ℕ → List ℕ → Outcome → Type 0
-  IsLineAnswer expected line text outcome = IsLineReport expected line text outcome ⊎ IsLineRefusal line text outcome
+  abbrev pub IsLineAnswer : List ℕ → List ℕ → Outcome → Type 0
+  IsLineAnswer line text outcome =
+      IsBlankAnswer judging.blank line text outcome
+      ⊎ ((¬ IsSkipped judging.blank line) × IsHistoryAnswer judging.judging.length judging.judging.expected line text outcome)
 
   -- the text answers each line of the input, one after the other in their order
-  abbrev pub IsLinesAnswer : Expected → List ℕ → List ℕ → Type 0
-  IsLinesAnswer expected input text = (outcome : Outcome) × AreAnswered (IsLineAnswer expected) (lines_of input) text outcome
+  abbrev pub IsLinesAnswer : List ℕ → List ℕ → Type 0
+  IsLinesAnswer input text = (outcome : Outcome) × AreAnswered IsLineAnswer (lines_of input) text outcome

@@ -35,7 +35,7 @@ pub record IsReplayReport (input text : List ℕ) : Type 0 where
 -- the text is what the order asks for of the input, whatever the number of its workers
 abbrev pub IsOutput : Order → List ℕ → List ℕ → Type 0
 IsOutput (Judge judging) input text = IsReportAt judging.length input text
-IsOutput (JudgeLines judging) input text = IsLinesAnswer judging.length judging.expected input text
+IsOutput (JudgeLines judging) input text = IsLinesAnswer judging input text
 IsOutput (Check workers) input text = IsCheckReport input text
 IsOutput (Explain Words) input text = IsWorded input text
 IsOutput (Explain Json) input text = IsExplanation input text

@@ -12,6 +12,7 @@ ghost use Rattle.engine.specs.Steps.FoundedEvidence.{IsFoundedEvidenceOn};
 ghost use Rattle.engine.specs.Running.{IsOutputError};
 
 use crate::certified::{CertifiedExplanation, Evidence};
+use crate::explaining::pattern_of_fewest;
 use crate::failure::RunError;
 use crate::making::certificate_of;
 use crate::reason::Reason;
@@ -85,9 +86,9 @@ fn of_object<O: Judged + Send + Sync, T: Threads + Wait + Sync>(
         → IsFoundedEvidenceOn O.answer history criterion (evidence_for explanation criterion)) }
     ensures error { IfErr result (λ e. e ≡ RunError.Memory) }
 {
-    let cc = evidence_of_object(rt, alloc, history.copy(alloc)?, Criterion::Cc, workers)?;
-    let cm = evidence_of_object(rt, alloc, history.copy(alloc)?, Criterion::Cm, workers)?;
-    let ccv = evidence_of_object(rt, alloc, history, Criterion::Ccv, workers)?;
+    let cc = evidence_of_object(rt, alloc, &history, Criterion::Cc, workers)?;
+    let cm = evidence_of_object(rt, alloc, &history, Criterion::Cm, workers)?;
+    let ccv = evidence_of_object(rt, alloc, &history, Criterion::Ccv, workers)?;
     Ok(CertifiedExplanation { cc, cm, ccv })
 }
 
@@ -155,7 +156,10 @@ fn evidence_of_decision(
 {
     match decision {
         Decision::Meets => Ok(evidence_of_met(alloc, memory, criterion)?),
-        Decision::Excluded(pattern) => Ok(Evidence::Reasoned(Reason::Shown(pattern))),
+        Decision::Excluded(pattern) => {
+            let fewest = pattern_of_fewest(alloc, memory, criterion, pattern)?;
+            Ok(Evidence::Reasoned(Reason::Shown(fewest)))
+        }
         Decision::ExcludedBy(kind) => Ok(Evidence::Reasoned(Reason::Present(kind))),
         Decision::Open => unreachable!(),
     }

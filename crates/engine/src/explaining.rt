@@ -3,7 +3,8 @@
 ghost use Rattle.std.specs.Prelude.{◌≡◌, ◌++◌, codes, IfErr, IfOk, OnOk, string_bytes};
 ghost use Rattle.serde_json.specs.Written.{compact_text};
 ghost use Rattle.operations.specs.AnyForm.{IsJson};
-ghost use Rattle.decision.specs.Decisions.{IsDecided};
+ghost use Rattle.bad_patterns.specs.Patterns.{IsBadPattern};
+ghost use Rattle.decision.specs.Decisions.{IsDecided, decision_for};
 ghost use Rattle.memory_order.specs.Memory.{memory_answer};
 ghost use Rattle.command_line.specs.declared.form.Form.TheVariants.{Json};
 ghost use Rattle.engine.specs.Explaining.{EachIsReason, IsReason, explanation_form, reason_for};
@@ -18,10 +19,12 @@ use crate::memory_judging::answer_by;
 use crate::reason::{Explanation, Reason};
 use crate::report::Report;
 use crate::written::line_of_value;
+use bad_patterns::Pattern;
 use cert_check::{CaseFile, Criterion};
 use collector::Answer;
 use command_line::{Order, Workers};
-use decision::{Decision, decide_all};
+use decision::{Decision, Decisions, decide_all};
+use judged_parts::with_fewest_operations;
 use memory_order::IndexedMemory;
 use objects::Memory;
 use operations::{AnyHistory, History, read_history};
@@ -45,7 +48,8 @@ pub fn explain_as_json<T: Threads + Wait + Sync>(
 
 /// Why each criterion is met by a history, or is not, or why that is unknown.
 ///
-/// It judges as [`report_on`] does, at the same cost, and keeps the pattern that it finds.
+/// It judges as [`report_on`] does, at the same cost, and keeps the pattern that it finds, with the fewest operations
+/// that its kind takes.
 ///
 /// Fails for want of memory alone.
 pub fn explanation_of<T: Threads + Wait + Sync>(
@@ -83,7 +87,6 @@ pub(crate) fn explanation_of_memory<T: Threads + Wait + Sync>(
 /// Why each criterion is met by a history of a memory, or is not, where `check` says what the certificate of a case file shows.
 ///
 /// Fails for want of memory alone.
-#[tactic(auto, using(crate::proofs::Reasons::each_reason))]
 pub(crate) fn explanation_by<F: Fn(CaseFile<Memory>) -> Result<Answer, RunError>>(
     alloc: Global,
     history: &History<Memory>,
@@ -96,9 +99,26 @@ pub(crate) fn explanation_by<F: Fn(CaseFile<Memory>) -> Result<Answer, RunError>
 {
     let memory = IndexedMemory::of(alloc, history)?;
     let decisions = decide_all(alloc, &memory)?;
-    let cc = reason_of_decision(alloc, &memory, Criterion::Cc, decisions.cc, check)?;
-    let cm = reason_of_decision(alloc, &memory, Criterion::Cm, decisions.cm, check)?;
-    let ccv = reason_of_decision(alloc, &memory, Criterion::Ccv, decisions.ccv, check)?;
+    explanation_of_decisions(alloc, &memory, decisions, check)
+}
+
+// Why each criterion is met by a history of a memory, or is not, where this was decided of it.
+#[tactic(auto, using(crate::proofs::Reasons::each_reason))]
+fn explanation_of_decisions<F: Fn(CaseFile<Memory>) -> Result<Answer, RunError>>(
+    alloc: Global,
+    memory: &IndexedMemory,
+    decisions: Decisions,
+    check: &F,
+) -> Result<Explanation, RunError>
+    requires decided { (criterion : Criterion) → IsDecided memory.now criterion (decision_for decisions criterion) }
+    requires callable { F.IsAlwaysCallable check.now }
+    requires checks { ChecksFiles memory_answer (F.post check.now) }
+    ensures reasons { IfOk result (EachIsReason (AnyHistory.Memory memory.now)) }
+    ensures error { IfErr result (λ e. e ≡ RunError.Memory) }
+{
+    let cc = reason_of_decision(alloc, memory, Criterion::Cc, decisions.cc, check)?;
+    let cm = reason_of_decision(alloc, memory, Criterion::Cm, decisions.cm, check)?;
+    let ccv = reason_of_decision(alloc, memory, Criterion::Ccv, decisions.ccv, check)?;
     Ok(Explanation { cc, cm, ccv })
 }
 
@@ -119,13 +139,31 @@ fn reason_of_decision<F: Fn(CaseFile<Memory>) -> Result<Answer, RunError>>(
 {
     match decision {
         Decision::Meets => Ok(Reason::Explained),
-        Decision::Excluded(pattern) => Ok(Reason::Shown(pattern)),
+        Decision::Excluded(pattern) => {
+            let fewest = pattern_of_fewest(alloc, memory, criterion, pattern)?;
+            Ok(Reason::Shown(fewest))
+        }
         Decision::ExcludedBy(kind) => Ok(Reason::Present(kind)),
         Decision::Open => {
             let answer = answer_by(alloc, memory, &[], criterion, Decision::Open, check)?;
             Ok(Reason::of(answer))
         }
     }
+}
+
+/// A pattern of the same kind with the fewest operations that [`with_fewest_operations`] finds.
+///
+/// Fails for want of memory alone.
+pub(crate) fn pattern_of_fewest(
+    alloc: Global,
+    memory: &IndexedMemory,
+    criterion: Criterion,
+    pattern: Pattern,
+) -> Result<Pattern, AllocError>
+    requires { IsBadPattern memory.now criterion pattern }
+    ensures { IfOk result (IsBadPattern memory.now criterion) }
+{
+    with_fewest_operations(alloc, memory.history(), criterion, pattern)
 }
 
 // The reasons of the answers of a report alone.

@@ -54,8 +54,8 @@ pub use checking::answer_of_certificate;
 pub use checking_alone::answer_of_certificate_alone;
 pub use collector::{Answer, Gate, OpenGate};
 pub use command_line::{
-    Delivery, Drive, Expected, Form, Judging, Length, ListForm, Listing, LongForm, MAX_LISTED,
-    MAX_SEALS, Order, Store, Workers,
+    BlankLines, Delivery, Drive, Expected, Form, Judging, Length, LineJudging, ListForm, Listing,
+    LongForm, MAX_LISTED, MAX_SEALS, Order, Store, Workers,
 };
 pub use drivable::Drivable;
 pub use driving::drive_with;

@@ -1,8 +1,8 @@
-//! The answer to a line that is to hold a history.
-ghost use Rattle.std.specs.Prelude.{◌≡◌, ◌≤◌, ◌++◌, ℕ, List, length, IfErr, IfOk, OnErr, OnOk};
+//! The answer to a line that is to hold a history, or that is blank.
+ghost use Rattle.std.specs.Prelude.{◌≡◌, ◌≤◌, ◌↔◌, ◌++◌, ℕ, List, length, IfErr, IfOk, IsTrue, OnErr, OnOk};
 ghost use Rattle.lines.specs.Clerks.{AppendsAnswer};
 ghost use Rattle.lines.specs.Lines.{ended};
-ghost use Rattle.engine.specs.LineAnswers.{IsLineAnswer, IsLineError, joined_for, unended};
+ghost use Rattle.engine.specs.LineAnswers.{IsHistoryAnswer, IsLineAnswer, IsLineError, IsSkipped, joined_for, unended};
 ghost use Rattle.engine.specs.Steps.LineRefusals.{IsRefusalBy};
 ghost use Rattle.engine.specs.Report.{IsReportOnAt};
 
@@ -11,28 +11,56 @@ use crate::failure::{RunError, fault_line, status_of};
 use crate::input::MAX_INPUT_BYTES;
 use crate::report::{Report, report_line};
 use cert_check::Criterion;
-use command_line::{Expected, Length};
-use lines::{Fault, Outcome};
+use command_line::{BlankLines, Judging, Length, LineJudging};
+use lines::{Fault, Outcome, is_blank};
 use std::alloc::{AllocError, Global};
 
 /// Appends the answer to a line and a line feed, and returns what comes of it: the lines of the report on its history joined by
-/// `; `, or the line of its refusal.
+/// `; `, or the line of its refusal. Nothing answers a blank line that is skipped.
 ///
 /// Fails for want of memory alone, and then the text is as it was. No thread is started.
 pub(crate) fn append_answer(
     alloc: Global,
     line: &[u8],
-    allowed: Length,
-    expected: Expected,
+    judging: LineJudging,
     text: &mut Vec<u8>,
 ) -> Result<Outcome, Fault>
-    ensures answered { IfOk result (AppendsAnswer (IsLineAnswer allowed expected line.now) text.old.items text.new.items) }
+    ensures answered { IfOk result (AppendsAnswer (IsLineAnswer judging line.now) text.old.items text.new.items) }
     ensures unchanged { OnErr result (text.new.items ≡ text.old.items) }
 {
-    match report_on_line(alloc, line, allowed) {
+    if is_skipped(judging.blank, line) {
+        text.extend_from_slice(b"\n")?;
+        Ok(Outcome::Met)
+    } else {
+        append_answer_on_history(alloc, line, judging.judging, text)
+    }
+}
+
+// Whether a line is skipped.
+fn is_skipped(blank: BlankLines, line: &[u8]) -> bool
+    ensures { IsTrue result ↔ IsSkipped blank line.now }
+{
+    match blank {
+        BlankLines::Refused => false,
+        BlankLines::Skipped => line.len() <= MAX_INPUT_BYTES && is_blank(line),
+    }
+}
+
+// Appends the answer to a line that is to hold a history, and a line feed.
+fn append_answer_on_history(
+    alloc: Global,
+    line: &[u8],
+    judging: Judging,
+    text: &mut Vec<u8>,
+) -> Result<Outcome, Fault>
+    ensures answered { IfOk result
+        (AppendsAnswer (IsHistoryAnswer judging.length judging.expected line.now) text.old.items text.new.items) }
+    ensures unchanged { OnErr result (text.new.items ≡ text.old.items) }
+{
+    match report_on_line(alloc, line, judging.length) {
         Ok(report) => {
             append_report(alloc, &report, text)?;
-            Ok(outcome_of(&report, expected))
+            Ok(outcome_of(&report, judging.expected))
         }
         Err(error) => append_refusal(alloc, &error, text),
     }

@@ -8,7 +8,7 @@ ghost use Rattle.engine.specs.Running.{IsOutput, IsOutputError};
 use crate::failure::RunError;
 use crate::input::MAX_INPUT_BYTES;
 use crate::line_answers::{append_answer, append_refusal};
-use command_line::{Expected, Judging, Length, Order};
+use command_line::{LineJudging, Order};
 use lines::{Clerk, Fault, Outcome, Source, answer_by, answer_lines};
 use std::alloc::Global;
 use std::io::Write;
@@ -16,7 +16,8 @@ use std::sync::Wait;
 use std::thread::Threads;
 
 /// Judges the history in each line of the input, and writes a line for each, in order: the lines of its report joined by `; `, or
-/// the line of its refusal as [`fault_line`](crate::fault_line) has it. Returns what comes of all.
+/// the line of its refusal as [`fault_line`](crate::fault_line) has it. A blank line that is skipped is answered by a blank line.
+/// Returns what comes of all.
 ///
 /// The limit of bytes of an input is each line's; a longer line is refused as a too long input is, and its rest is passed over. The
 /// last line may lack its line feed. As many lines as there are workers are judged side by side, each by one thread, and what is
@@ -29,28 +30,21 @@ pub fn judge_lines<P: Threads + Wait + Sync + AllocGlobal, R: Source, W: Write>(
     rt: &P,
     reader: &mut R,
     writer: &mut W,
-    judging: Judging,
+    judging: LineJudging,
 ) -> Result<Outcome, RunError>
-    ensures answered { IfOk result (AllAreAnswered (IsLineAnswer judging.length judging.expected)
+    ensures answered { IfOk result (AllAreAnswered (IsLineAnswer judging)
         (R.remaining reader.old) (W.contents writer.old) (W.contents writer.new)) }
     ensures end { OnOk result (IsAtEnd (R.remaining reader.new)) }
-    ensures faulted { IfErr result (λ e. e ≢ RunError.WriteFault → FirstAreAnswered (IsLineAnswer judging.length judging.expected)
+    ensures faulted { IfErr result (λ e. e ≢ RunError.WriteFault → FirstAreAnswered (IsLineAnswer judging)
         (R.remaining reader.old) (W.contents writer.old) (W.contents writer.new)) }
     ensures error { IfErr result (λ e. (e ≡ RunError.Memory) ⊎ ((e ≡ RunError.ReadFault) ⊎ (e ≡ RunError.WriteFault))) }
 {
+    let each = judging.judging;
     let judge = LineJudge {
         alloc: rt.alloc(),
-        allowed: judging.length,
-        expected: judging.expected,
+        judging,
     };
-    let outcome = answer_lines(
-        rt,
-        rt.alloc(),
-        reader,
-        writer,
-        &judge,
-        judging.workers.count(),
-    )?;
+    let outcome = answer_lines(rt, rt.alloc(), reader, writer, &judge, each.workers.count())?;
     Ok(outcome)
 }
 
@@ -61,17 +55,14 @@ pub(crate) fn judge_each<T: Threads + Wait + Sync>(
     rt: &T,
     alloc: Global,
     input: &[u8],
-    judging: Judging,
+    judging: LineJudging,
 ) -> Result<String, RunError>
     ensures output { IfOk result (λ text. IsOutput (Order.JudgeLines judging) input.now (string_bytes text)) }
     ensures error { IfErr result (IsOutputError (Order.JudgeLines judging) input.now) }
 {
-    let judge = LineJudge {
-        alloc,
-        allowed: judging.length,
-        expected: judging.expected,
-    };
-    let part = answer_by(rt, alloc, &judge, input, judging.workers.count());
+    let each = judging.judging;
+    let judge = LineJudge { alloc, judging };
+    let part = answer_by(rt, alloc, &judge, input, each.workers.count());
     match (part.outcome, String::from_utf8(part.text)) {
         (Ok(_), Ok(text)) => Ok(text),
         _ => Err(RunError::Memory),
@@ -82,16 +73,14 @@ pub(crate) fn judge_each<T: Threads + Wait + Sync>(
 #[derive(Drop)]
 struct LineJudge {
     alloc: Global,
-    /// How long a history may be.
-    allowed: Length,
-    expected: Expected,
+    judging: LineJudging,
 }
 
 impl Clerk for LineJudge {
     ghost use Rattle.engine.specs.LineAnswers.{IsLineAnswer};
     ghost use Rattle.engine.specs.declared.input.TheConstants.{MAX_INPUT_BYTES as LIMIT};
 
-    ghost says = { λ judge line text outcome. IsLineAnswer judge.allowed judge.expected line text outcome };
+    ghost says = { λ judge line text outcome. IsLineAnswer judge.judging line text outcome };
 
     ghost most = { λ _. LIMIT };
 
@@ -100,7 +89,7 @@ impl Clerk for LineJudge {
     }
 
     fn answer(&self, line: &[u8], text: &mut Vec<u8>) -> Result<Outcome, Fault> {
-        append_answer(self.alloc, line, self.allowed, self.expected, text)
+        append_answer(self.alloc, line, self.judging, text)
     }
 
     fn answer_long(&self, text: &mut Vec<u8>) -> Result<Outcome, Fault> {

@@ -151,11 +151,27 @@ fn list_in_limited<T: Threads + Wait + Sync, N: Names>(
     ensures error { IfErr result (λ e. e ≡ RunError.Memory) }
 {
     let explanation = explanation_of_copy(rt, alloc, &history)?;
-    let text = match form {
-        ListForm::Words => words_in_limited(alloc, &history, long, names, &explanation, most)?,
-        ListForm::Json => json_in_limited(alloc, &history, long, explanation, most)?,
-    };
-    Ok(text)
+    Ok(limited_list(alloc, &history, long, names, explanation, most, form)?)
+}
+
+// That list, with these reasons.
+fn limited_list<N: Names>(
+    alloc: Global,
+    history: &AnyHistory,
+    long: Option<&LongHistory>,
+    names: &N,
+    explanation: Explanation,
+    most: u32,
+    form: ListForm,
+) -> Result<String, AllocError>
+    requires reasons { EachIsReason history.now explanation }
+    requires long { IsLongOf history.now (option_map (λ g. g.now) long) }
+    ensures { IfOk result (λ text. IsListOf form most history.now (string_bytes text)) }
+{
+    match form {
+        ListForm::Words => words_in_limited(alloc, history, long, names, &explanation, most),
+        ListForm::Json => json_in_limited(alloc, history, long, explanation, most),
+    }
 }
 
 // That list in words.

@@ -2,12 +2,13 @@
 
 ghost use Rattle.std.specs.Prelude.{◌≡◌, IfErr, IfOk, string_bytes};
 ghost use Rattle.command_line.specs.declared.length.Length.TheVariants.{Any};
+ghost use Rattle.engine.specs.Explaining.{EachIsReason};
 ghost use Rattle.engine.specs.Running.{IsOutput, IsOutputError};
 ghost use Rattle.engine.specs.Steps.LongExplained.{IsExplainedAs, IsWordsOf};
 
 use crate::explaining::{explanation_of_memory, explanation_text};
 use crate::failure::RunError;
-use crate::long_explaining::explanation_of_long;
+use crate::long_explaining::{LongExplanation, explanation_of_long};
 use crate::long_picturing::picture_of_long;
 use crate::long_words::{text_of_long, text_of_small};
 use crate::picturing::picture_of_memory;
@@ -17,7 +18,7 @@ use long_history::LongHistory;
 use long_reader::{read_long, small};
 use objects::Memory;
 use operations::{AnyHistory, History};
-use std::alloc::Global;
+use std::alloc::{AllocError, Global};
 use std::sync::Wait;
 use std::thread::Threads;
 use wording::{Names, OwnNames};
@@ -71,10 +72,24 @@ fn larger_as<T: Threads + Wait + Sync, N: Names>(
 {
     let work = WorkerThreads::of(rt, Workers::usual().count());
     let said = explanation_of_long(&work, alloc, history)?;
+    Ok(text_of_larger(alloc, history, names, &said, form)?)
+}
+
+// The text of the reasons on a history over the limits.
+fn text_of_larger<N: Names>(
+    alloc: Global,
+    history: &LongHistory,
+    names: &N,
+    said: &LongExplanation,
+    form: LongForm,
+) -> Result<String, AllocError>
+    requires { EachIsReason (AnyHistory.Memory history.now) said.now.explanation }
+    ensures { IfOk result (λ text. IsExplainedAs form (AnyHistory.Memory history.now) (string_bytes text)) }
+{
     match form {
-        LongForm::Words => Ok(text_of_long(alloc, history, names, &said)?),
-        LongForm::Json => Ok(explanation_text(alloc, &said.explanation)?),
-        LongForm::Picture => Ok(picture_of_long(alloc, history, names, &said)?),
+        LongForm::Words => text_of_long(alloc, history, names, said),
+        LongForm::Json => explanation_text(alloc, &said.explanation),
+        LongForm::Picture => picture_of_long(alloc, history, names, said),
     }
 }
 

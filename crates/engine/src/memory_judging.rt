@@ -2,7 +2,7 @@
 
 ghost use Rattle.std.specs.Prelude.{◌≡◌, IfErr, IfOk};
 ghost use Rattle.memory_order.specs.Memory.{memory_answer};
-ghost use Rattle.decision.specs.Decisions.{IsDecided};
+ghost use Rattle.decision.specs.Decisions.{IsDecided, decision_for};
 ghost use Rattle.engine.specs.Report.{IsFirstNo, IsTrueOf, NamesUnexplained, IsKnownOnDistinctValues};
 ghost use Rattle.engine.specs.Report.{EachIsTrueOf, EachNamesUnexplained, EachIsKnownOnDistinctValues};
 ghost use Rattle.engine.specs.Steps.FileChecks.{ChecksFiles};
@@ -14,7 +14,7 @@ use crate::report::Report;
 use bad_patterns::laws::bad_patterns_exclude_criteria;
 use cert_check::{CaseFile, Criterion};
 use collector::Answer;
-use decision::{Decision, decide_all};
+use decision::{Decision, Decisions, decide_all};
 use history::Advice;
 use memory_order::IndexedMemory;
 use objects::Memory;
@@ -24,7 +24,6 @@ use std::alloc::Global;
 /// What is known of a history of a memory, for each criterion, where `check` says what the certificate of a case file shows.
 ///
 /// Fails for want of memory alone.
-#[tactic(auto, using(crate::proofs::EachAnswer::each_true, crate::proofs::EachAnswer::each_known, crate::proofs::EachAnswer::each_names))]
 pub(crate) fn report_by<F: Fn(CaseFile<Memory>) -> Result<Answer, RunError>>(
     alloc: Global,
     history: &History<Memory>,
@@ -40,9 +39,29 @@ pub(crate) fn report_by<F: Fn(CaseFile<Memory>) -> Result<Answer, RunError>>(
 {
     let memory = IndexedMemory::of(alloc, history)?;
     let decisions = decide_all(alloc, &memory)?;
-    let cc = answer_by(alloc, &memory, advice, Criterion::Cc, decisions.cc, check)?;
-    let cm = answer_by(alloc, &memory, advice, Criterion::Cm, decisions.cm, check)?;
-    let ccv = answer_by(alloc, &memory, advice, Criterion::Ccv, decisions.ccv, check)?;
+    report_of_decisions(alloc, &memory, advice, decisions, check)
+}
+
+// What is known of a history of a memory where this was decided of it.
+#[tactic(auto, using(crate::proofs::EachAnswer::each_true, crate::proofs::EachAnswer::each_known, crate::proofs::EachAnswer::each_names))]
+fn report_of_decisions<F: Fn(CaseFile<Memory>) -> Result<Answer, RunError>>(
+    alloc: Global,
+    memory: &IndexedMemory,
+    advice: &[Option<Advice>],
+    decisions: Decisions,
+    check: &F,
+) -> Result<Report, RunError>
+    requires decided { (criterion : Criterion) → IsDecided memory.now criterion (decision_for decisions criterion) }
+    requires callable { F.IsAlwaysCallable check.now }
+    requires checks { ChecksFiles memory_answer (F.post check.now) }
+    ensures truth { IfOk result (EachIsTrueOf (AnyHistory.Memory memory.now)) }
+    ensures unknown { IfOk result (EachIsKnownOnDistinctValues (AnyHistory.Memory memory.now)) }
+    ensures unexplained { IfOk result (EachNamesUnexplained (AnyHistory.Memory memory.now)) }
+    ensures error { IfErr result (λ e. e ≡ RunError.Memory) }
+{
+    let cc = answer_by(alloc, memory, advice, Criterion::Cc, decisions.cc, check)?;
+    let cm = answer_by(alloc, memory, advice, Criterion::Cm, decisions.cm, check)?;
+    let ccv = answer_by(alloc, memory, advice, Criterion::Ccv, decisions.ccv, check)?;
     Ok(Report { cc, cm, ccv })
 }
 

@@ -84,9 +84,21 @@ pub(crate) fn picture_of_memory<T: Threads + Wait + Sync, N: Names>(
     ensures error { IfErr result (λ e. e ≡ RunError.Memory) }
 {
     let explanation = explanation_of_memory(rt, alloc, history.copy(alloc)?, Workers::usual())?;
-    match picture_of_first(alloc, &history, names, &explanation)? {
+    Ok(picture_with_explanation(alloc, &history, names, &explanation)?)
+}
+
+// The picture of a history of a memory, with what is known of it.
+fn picture_with_explanation<N: Names>(
+    alloc: Global,
+    history: &History<Memory>,
+    names: &N,
+    explanation: &Explanation,
+) -> Result<String, AllocError>
+    ensures { IfOk result (λ svg. IsSvgElement (string_bytes svg)) }
+{
+    match picture_of_first(alloc, history, names, explanation)? {
         Some(svg) => Ok(svg),
-        None => Ok(picture_with_report(alloc, &history, names, &explanation.report())?),
+        None => picture_with_report(alloc, history, names, &explanation.report()),
     }
 }
 

@@ -103,15 +103,16 @@ fn certificate_of_convergent(
 pub(crate) fn evidence_of_object<O: Judged + Send + Sync, T: Threads + Wait + Sync>(
     rt: &T,
     alloc: Global,
-    history: History<O>,
+    history: &History<O>,
     criterion: Criterion,
     workers: Workers,
 ) -> Result<Evidence, RunError>
-    ensures founded { IfOk result (IsFoundedEvidenceOn O.answer history criterion) }
+    ensures founded { IfOk result (IsFoundedEvidenceOn O.answer history.now criterion) }
     ensures error { IfErr result (λ e. e ≡ RunError.Memory) }
 {
-    let made = O::make(alloc, &history, &[], criterion)?;
-    evidence_by(rt, alloc, history, made, criterion, workers)
+    let made = O::make(alloc, history, &[], criterion)?;
+    let copy = history.copy(alloc)?;
+    evidence_by(rt, alloc, copy, made, criterion, workers)
 }
 
 /// What the pieces of a certificate show, where one was made.

@@ -16,7 +16,7 @@ use Rattle.bounded_json.proofs.Turns.{converted_some, item_read, items_over}
 use Rattle.operations.specs.Json.{elements}
 use Rattle.operations.specs.Laws.Json.{listed-items_of}
 use Rattle.event_reader.specs.Forms.{Said, SaidCall, SaidEnding, start, begin, end, write, read as read_of, delete, answer, failed, lost, answer_at, call_in, said_in}
-use Rattle.event_reader.specs.Logs.{is_blank}
+use Rattle.lines.specs.Lines.{is_blank}
 use Rattle.event_reader.specs.Names.{Name, name_of, value_name}
 use Rattle.event_reader.specs.QuickSteps.{AreCallRest, AreNext, AreRest, AreSaid, IsNext, IsNextCall, IsNextWith, IsSaidIn, IsSaidOn}
 use Rattle.event_reader.specs.Steps.{name_in}

@@ -3,13 +3,14 @@ use Rattle.std.specs.Prelude.{◌≡◌, ◌≢◌, ⊤, ◌<◌, ◌≤◌, ℕ
 use Rattle.serde_json.specs.Data.{Data}
 use Rattle.serde_json.specs.View.{view}
 use Rattle.bounded_json.specs.Text.{IsJson}
+use Rattle.lines.specs.Lines.{is_blank}
 use Rattle.events.specs.declared.event.ClientCall.{ClientCall}
 use Rattle.events.specs.declared.event.Ending.{Ending}
 use Rattle.events.specs.declared.event.Event.{Event}
 use Rattle.events.specs.declared.event.Event.TheVariants.{Ends}
 use Rattle.events.specs.Events.{MayStand}
 use Rattle.event_reader.specs.Forms.{Said, SaidEnding, said_at}
-use Rattle.event_reader.specs.Logs.{IsFull, IsNoJson, IsPendingAt, IsRefused, IsUnsaid, Log, MayFollow, ending_of, event_of, is_blank, with_ending, with_event, with_said}
+use Rattle.event_reader.specs.Logs.{IsFull, IsNoJson, IsPendingAt, IsRefused, IsUnsaid, Log, MayFollow, ending_of, event_of, with_ending, with_event, with_said}
 use Rattle.event_reader.specs.Readings.{AreNamed}
 use Rattle.event_reader.specs.declared.content.Content.{Content}
 use Rattle.event_reader.specs.declared.content.Content.TheVariants as contents

@@ -1,7 +1,8 @@
 -- Which log a text has, and which text is refused.
-use Rattle.std.specs.Prelude.{◌≡◌, ◌≢◌, ◌⊎◌, ℕ, ◌+◌, ◌<◌, ◌≤◌, ◌==◌, ◌||◌, Bool, true, false, codes, List, [], ◌∷◌, ◌++◌, length, Option, Some, None, option_map, if◌then◌else◌}
-use Rattle.std.specs.List.{All, list_all}
+use Rattle.std.specs.Prelude.{◌≡◌, ◌≢◌, ◌⊎◌, ℕ, ◌+◌, ◌<◌, ◌≤◌, Bool, true, false, codes, List, [], ◌∷◌, ◌++◌, length, Option, Some, None, option_map, if◌then◌else◌}
+use Rattle.std.specs.List.{All}
 use Rattle.bounded_json.specs.Text.{IsJson}
+use Rattle.lines.specs.Lines.{is_blank}
 use Rattle.serde_json.specs.Data.{Data}
 use Rattle.events.specs.Events.{IsAllowed, IsOpen}
 use Rattle.events.specs.declared.event.ClientCall.{ClientCall}
@@ -107,10 +108,6 @@ IsPendingAt log (end client ending) pending = IsPending log.events (client_numbe
 -- the events of the log and this one are a log
 abbrev pub MayFollow : Log → Event → Type 0
 MayFollow log e = IsAllowed (log.events ++ e ∷ [])
-
--- spaces, tabs and carriage returns alone
-abbrev pub is_blank : List ℕ → Bool
-is_blank line = list_all (λ b. b == 32 || b == 9 || b == 13) line
 
 -- the line is neither blank nor too long
 abbrev pub IsFull : List ℕ → Type 0

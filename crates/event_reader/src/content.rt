@@ -5,9 +5,9 @@ ghost use Rattle.serde_json.specs.View.{view};
 ghost use Rattle.bounded_json.specs.Text.{IsJson, IsTextRefused};
 ghost use Rattle.event_reader.specs.BookSteps.{IsContent};
 
-use crate::blank::is_blank;
 use crate::limits::MAX_LINE_BYTES;
 use bounded_json::TextError;
+use lines::is_blank;
 use serde_json::Value;
 use std::alloc::{AllocError, Global};
 

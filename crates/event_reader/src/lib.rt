@@ -5,7 +5,6 @@
 //! names. A text has one log or one [`Refusal`], as `specs/Logs` says, and [`texts_have_one_log`] states as a law.
 #![tactic(auto)]
 
-mod blank;
 mod book;
 mod content;
 mod event_reader;

@@ -3,6 +3,7 @@
 #![tactic(auto)]
 
 mod answering;
+mod blank;
 mod clerk;
 mod dividing;
 mod fault;
@@ -18,6 +19,7 @@ mod running;
 mod source;
 mod writing;
 
+pub use blank::is_blank;
 pub use clerk::Clerk;
 pub use dividing::answer_by;
 pub use fault::Fault;

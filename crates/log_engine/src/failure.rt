@@ -120,7 +120,8 @@ fn words_of(reason: Reason) -> &'static str
         Reason::NotJson => "no JSON text in UTF-8",
         Reason::TooLong => "more than 1000000 bytes",
         Reason::NoForm => {
-            r#"no event: wanted is ["start",KEY,VALUE], ["begin",CLIENT,CALL], ["end",CLIENT,ANSWER], ["fail",CLIENT] or ["lost",CLIENT], where CALL is ["w",KEY,VALUE], ["r",KEY] or ["d",KEY]"#
+            "no event: wanted is [\"start\",KEY,VALUE], [\"begin\",CLIENT,CALL], [\"end\",CLIENT,ANSWER], [\"fail\",CLIENT] or \
+                [\"lost\",CLIENT], where CALL is [\"w\",KEY,VALUE], [\"r\",KEY] or [\"d\",KEY]"
         }
         Reason::LateStart => "a start after the first begin, or a second start of its key",
         Reason::CallPending => "a begin of a client that has a call pending",
