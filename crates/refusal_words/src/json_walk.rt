@@ -1,0 +1,195 @@
+//! Where a text is no JSON.
+
+use crate::comma::comma_before;
+use crate::json_fault::{Expected, JsonFault};
+use bounded_json::{MAX_DEPTH, TextError, read_value};
+use json::{Reader, Scratch, Token};
+use operations::HistoryPlace;
+use std::alloc::{AllocError, Global};
+
+// A list or an object that has begun.
+#[derive(Clone, Copy, Debug, PartialEq, Eq)]
+enum Nest {
+    List,
+    Object,
+}
+
+// What came last.
+#[derive(Clone, Copy, Debug, PartialEq, Eq)]
+enum Last {
+    Nothing,
+    Opening,
+    Key,
+    Value,
+}
+
+// A walk through a text, token by token.
+#[derive(Drop)]
+struct Walk<'a> {
+    text: &'a str,
+    nests: Vec<Nest>,
+    last: Last,
+}
+
+impl<'a> Walk<'a> {
+    fn of(alloc: Global, text: &'a str) -> Walk<'a> {
+        Walk {
+            text,
+            nests: Vec::new(alloc),
+            last: Last::Nothing,
+        }
+    }
+
+    // What may come at a place.
+    fn expected(&self, byte: usize) -> Expected {
+        match (self.last, self.nests.last()) {
+            (Last::Nothing | Last::Key, _) => Expected::Value,
+            (Last::Opening, Some(Nest::Object)) => Expected::KeyOrEnd,
+            (Last::Opening, _) => Expected::ValueOrEnd,
+            (Last::Value, None) => Expected::End,
+            (Last::Value, Some(nest)) => after_value(
+                *nest,
+                comma_before(self.text, byte).is_some(),
+            ),
+        }
+    }
+
+    // Goes past a token that may come. Says whether it may.
+    fn pass(&mut self, token: &Token<'_>, expected: Expected) -> Result<bool, AllocError> {
+        match token {
+            Token::BeginArray => self.begin(Nest::List, expected),
+            Token::BeginObject => self.begin(Nest::Object, expected),
+            Token::EndArray => Ok(self.end(expected.is_end_of_list())),
+            Token::EndObject => Ok(self.end(expected.is_end_of_object())),
+            Token::Key(_) => {
+                self.last = Last::Key;
+                Ok(expected.is_key())
+            }
+            Token::String(_) | Token::Number(_) | Token::Bool(_) | Token::Null => {
+                self.last = Last::Value;
+                Ok(expected.is_value())
+            }
+            Token::Bad => Ok(false),
+        }
+    }
+
+    fn begin(&mut self, nest: Nest, expected: Expected) -> Result<bool, AllocError> {
+        self.nests.push(nest)?;
+        self.last = Last::Opening;
+        Ok(expected.is_value())
+    }
+
+    fn end(&mut self, may_end: bool) -> bool {
+        let _ended = self.nests.pop();
+        self.last = Last::Value;
+        may_end
+    }
+
+    fn is_too_deep(&self) -> bool {
+        self.nests.len() > MAX_DEPTH
+    }
+
+    // The fault of a text that ends, or none where it is whole.
+    fn fault_at_end(&self) -> Option<(usize, JsonFault)> {
+        let end = self.text.len();
+        match self.expected(end) {
+            Expected::End => None,
+            expected => Some((end, JsonFault::Ends(expected))),
+        }
+    }
+
+    // The fault of a token that may not come there.
+    fn fault_of(&self, token: &Token<'_>, byte: usize, expected: Expected) -> (usize, JsonFault) {
+        if expected == Expected::End {
+            let byte = comma_before(self.text, byte).unwrap_or(byte);
+            return (byte, JsonFault::Expected(expected));
+        }
+        let fault = match token {
+            Token::Key(_) if expected.is_value() => JsonFault::Key,
+            Token::Bad if byte >= self.text.len() => JsonFault::Ends(expected),
+            Token::Bad
+                if begins_text(self.text, byte)
+                    && !matches!(expected, Expected::List | Expected::Object) => JsonFault::BadText,
+            _ => JsonFault::Expected(expected),
+        };
+        (byte, fault)
+    }
+}
+
+fn after_value(nest: Nest, has_comma: bool) -> Expected {
+    match (nest, has_comma) {
+        (Nest::List, true) => Expected::Value,
+        (Nest::List, false) => Expected::List,
+        (Nest::Object, true) => Expected::Key,
+        (Nest::Object, false) => Expected::Object,
+    }
+}
+
+fn begins_text(text: &str, byte: usize) -> bool {
+    text.as_bytes().get(byte) == Some(&b'"')
+}
+
+// Whether a number is out of the range that is read.
+fn is_too_large(
+    alloc: Global,
+    token: Token<'_>,
+    reader: &mut Reader<'_>,
+) -> Result<bool, AllocError> {
+    let Token::Number(_) = token else {
+        return Ok(false);
+    };
+    match read_value(alloc, token, reader, HistoryPlace::Scalar, 0) {
+        Ok(_) => Ok(false),
+        Err(TextError::NotJson) => Ok(true),
+        Err(TextError::Memory) => Err(AllocError),
+    }
+}
+
+// Goes past the next token. What is wrong with it, or at the end, and whether the walk ends.
+fn step(
+    alloc: Global,
+    walk: &mut Walk<'_>,
+    reader: &mut Reader<'_>,
+) -> Result<Option<Option<(usize, JsonFault)>>, AllocError> {
+    let byte = reader.offset();
+    let Some(token) = reader.next() else {
+        return Ok(Some(walk.fault_at_end()));
+    };
+    let expected = walk.expected(byte);
+    if !walk.pass(&token, expected)? {
+        return Ok(Some(Some(walk.fault_of(&token, byte, expected))));
+    }
+    if walk.is_too_deep() {
+        return Ok(Some(Some((byte, JsonFault::Deep))));
+    }
+    if is_too_large(alloc, token, reader)? {
+        return Ok(Some(Some((byte, JsonFault::Large))));
+    }
+    Ok(None)
+}
+
+// The first fault of a text.
+fn fault_in_text(alloc: Global, text: &str) -> Result<Option<(usize, JsonFault)>, AllocError> {
+    let mut scratch = Scratch::new(alloc);
+    let mut reader = Reader::new(text, &mut scratch)?;
+    let mut walk = Walk::of(alloc, text);
+    for _ in 0..=text.len() {
+        if let Some(fault) = step(alloc, &mut walk, &mut reader)? {
+            return Ok(fault);
+        }
+    }
+    Ok(None)
+}
+
+/// The first byte where the bytes are no JSON, and what is wrong there. None where they are JSON.
+///
+/// Fails for want of memory alone. O(n) for n bytes.
+pub(crate) fn json_fault(
+    alloc: Global,
+    bytes: &[u8],
+) -> Result<Option<(usize, JsonFault)>, AllocError> {
+    match simdutf8::compat::from_utf8(bytes) {
+        Ok(text) => fault_in_text(alloc, text),
+        Err(error) => Ok(Some((error.valid_up_to(), JsonFault::NoText))),
+    }
+}

@@ -1,0 +1,29 @@
+//! What is wrong with an input that was refused: one line that says what, where, and what is wanted.
+//!
+//! [`reason_for`] makes it of the refusal and of the bytes of the input, in which it looks for the place. Bytes are counted from 0.
+#![tactic(auto)]
+
+mod call_form;
+mod calls;
+mod claim_rest;
+mod comma;
+mod element;
+mod fronts;
+mod json_fault;
+mod json_walk;
+mod object_words;
+mod operation_fault;
+mod operation_words;
+mod part;
+mod plain;
+mod reason;
+mod refusal;
+mod script_rest;
+mod sessions;
+mod shape;
+mod shown;
+mod step_forms;
+mod text_rest;
+
+pub use reason::reason_for;
+pub use refusal::{InputForm, Refusal};
