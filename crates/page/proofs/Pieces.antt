@@ -1,0 +1,17 @@
+-- Texts that are put one behind the other.
+use Rattle.std.proofs.Common.{◌≡◌, ℕ, List, ◌++◌, ap, ◌∙◌, append_assoc}
+
+pub two : (p q r a b : List ℕ) → q ≡ p ++ a → r ≡ q ++ b → r ≡ p ++ (a ++ b)
+two p q r a b first second = second ∙ ap (λ (l : List ℕ). l ++ b) first ∙ append_assoc p a b
+
+pub three : (p q r s a b c : List ℕ) → q ≡ p ++ a → r ≡ q ++ b → s ≡ r ++ c → s ≡ p ++ (a ++ (b ++ c))
+three p q r s a b c first second third = two p q s a (b ++ c) first (two q r s b c second third)
+
+pub four : (p q r s t a b c d : List ℕ) → q ≡ p ++ a → r ≡ q ++ b → s ≡ r ++ c → t ≡ s ++ d → t ≡ p ++ (a ++ (b ++ (c ++ d)))
+four p q r s t a b c d first second third fourth = two p q t a (b ++ (c ++ d)) first (three q r s t b c d second third fourth)
+
+pub seven : (p q r s t u v w a b c d e f g : List ℕ) → q ≡ p ++ a → r ≡ q ++ b → s ≡ r ++ c → t ≡ s ++ d → u ≡ t ++ e → v ≡ u ++ f → w ≡ v ++ g
+    → w ≡ p ++ (a ++ (b ++ (c ++ (d ++ (e ++ (f ++ g))))))
+seven p q r s t u v w a b c d e f g first second third fourth fifth sixth seventh =
+    three p q r w a b (c ++ (d ++ (e ++ (f ++ g)))) first second
+    (two r s w c (d ++ (e ++ (f ++ g))) third (four s t u v w d e f g fourth fifth sixth seventh))

@@ -1,0 +1,16 @@
+-- The pieces of a page one behind the other.
+use Rattle.std.proofs.Common.{List, [], ◌++◌, ◌∙◌, ap, ℕ}
+use Rattle.page.specs.Pages.{escaped, head, page, tail}
+use Rattle.page.specs.declared.frame.TheConstants.{BEFORE_NAMES, BEFORE_REPORT}
+use Rattle.page.proofs.Pieces.{seven}
+use Rattle.page.proofs.pages.page_of.Goals as goal
+
+pub returns : goal.returns
+unfolding page
+returns c =
+    seven [] c.push_head.new.page.items c.push_escaped.new.page.items c.push_text.new.page.items c.push_escaped-2.new.page.items c.push_text-2.new.page.items
+    c.push_escaped-3.new.page.items c.push_tail.new.page.items
+    head (escaped c.args.history.now) BEFORE_REPORT.now (escaped c.args.report.now) BEFORE_NAMES.now (escaped c.args.names.now) tail
+    (c.in_ok-push_head.ensures ∙ ap (λ (l : List ℕ). l ++ head) c.new-bytes.ensures.items)
+    c.in_ok-push_escaped.ensures c.in_ok-push_text.ensures c.in_ok-push_escaped-2.ensures c.in_ok-push_text-2.ensures c.in_ok-push_escaped-3.ensures
+    c.in_ok-push_tail.ensures

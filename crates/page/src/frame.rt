@@ -1,0 +1,95 @@
+//! The static markup of the page, in pieces.
+//!
+//! A page is, in this order: `OPENING`, `STYLE`, `BODY`, the history, `BEFORE_REPORT`, the report, `BEFORE_NAMES`, the names,
+//! `BEFORE_SCRIPT`, `SCRIPT`, `DRAWING`, `ENDING`. The three texts between them are JSON in which each `<` is written as `\u003c`.
+//!
+//! No text of an input stands in the markup: the script makes all elements that show one. The policy in `OPENING` lets in the one style and
+//! the one script, by the hashes of `hashes.rt`, and nothing else.
+
+/// The beginning of a page, up to the style.
+pub const OPENING: &str = r#"<!DOCTYPE html>
+<html lang="en" dir="ltr">
+<head>
+<meta charset="utf-8">
+<meta http-equiv="Content-Security-Policy" content="default-src 'none'; base-uri 'none'; form-action 'none';
+script-src 'sha256-IyF5kqRrzDA7E7rUeR+/nm7iobZI7Zvy415OOCYpZCY=';
+style-src 'sha256-JEGzNGNROh2qzkxlkbf+cMkAB8ZzTv1XLMI5mFJT6Ss='">
+<meta name="viewport" content="width=device-width, initial-scale=1">
+<meta name="referrer" content="no-referrer">
+<meta name="generator" content="causal_judge">
+<title>causal_judge</title>
+<style>"#;
+
+/// What stands behind the style: the empty elements that the script fills, up to the history.
+pub const BODY: &str = r#"</style>
+</head>
+<body>
+<a class="skip" href='#run'>Skip to the whole run</a>
+<a class="skip" href='#operations'>Skip to the operations</a>
+<header>
+<p class="maker"><code id="mono">causal_judge explain</code></p>
+<div id="verdict"><h1 id="headline">Reading the history</h1><p id="lead"></p><ul id="facts"></ul></div>
+<ul id="cards" aria-label="The three criteria"></ul>
+</header>
+<noscript><p class="panel">This page draws its pictures with its own script, and scripts are switched off here.</p></noscript>
+<main>
+<div id="evidence">
+<section class="panel" id="fault" aria-labelledby="fault-title" hidden>
+<h2 id="fault-title" tabindex="-1" aria-live="polite"></h2>
+<p id="fault-words"></p>
+<div id="fault-shown"><div id="shape"><div id="picture"></div><ul class="legend" id="legend"></ul></div>
+<details id="told"><summary id="told-head">The same in words</summary><ul id="told-lines"></ul></details></div>
+</section>
+<section class="panel" id="faults" aria-labelledby="faults-title" hidden>
+<div class="row"><h2 id="faults-title" aria-live="polite"></h2>
+<span class="buttons"><button type="button" id="earlier" aria-label="Previous fault">&#8593;</button>
+<button type="button" id="later" aria-label="Next fault">&#8595;</button></span></div>
+<div class="filters"><select id="of-client" aria-label="Show the faults of one client"></select>
+<select id="of-key" aria-label="Show the faults of one key"></select>
+<select id="of-kind" aria-label="Show the faults of one kind"></select></div>
+<ol id="fault-list"></ol><p id="fault-rest"></p>
+</section>
+</div>
+<section class="panel" id="run" aria-labelledby="run-title">
+<div class="row"><h2 id="run-title">The whole run</h2>
+<span class="buttons"><button type="button" id="closer" aria-label="Zoom in">+</button>
+<button type="button" id="wider" aria-label="Zoom out">&#8722;</button>
+<button type="button" id="all">All</button></span></div>
+<div id="lanes"><canvas id="map" tabindex="0" role="application" aria-describedby="under" aria-label="A row for each session,
+its operations from left to right. Arrow keys go to the next operation, plus and minus zoom, Enter lists what is there."></canvas></div>
+<div class="row soft"><span id="range"></span><ul class="legend" id="map-legend"></ul></div>
+<p id="under" aria-live="polite"></p>
+</section>
+<section class="panel" id="operations" aria-labelledby="operations-title">
+<div class="row"><h2 id="operations-title" aria-live="polite">Operations</h2>
+<input id="search" type="search" autocomplete="off" spellcheck="false" aria-label="Search operations"></div>
+<div class="scrolled" id="table"><table><thead><tr id="columns"></tr></thead><tbody id="rows"></tbody></table></div>
+<p id="more"></p>
+</section>
+</main>
+<footer class="soft">
+<p id="caution"></p>
+<details><summary>Keys</summary><ul class="keys">
+<li><kbd>n</kbd> <kbd>p</kbd> next and previous fault</li><li><kbd>&#8593;</kbd> <kbd>&#8595;</kbd> in the list: another fault</li>
+<li><kbd>/</kbd> search, <kbd>Esc</kbd> ends it</li>
+<li>in the run: arrows move, <kbd>+</kbd> <kbd>-</kbd> zoom, <kbd>Home</kbd> shows all, <kbd>Enter</kbd> lists</li></ul></details>
+</footer>
+<script type="application/json" id="history">"#;
+
+/// Between the history and the report.
+pub const BEFORE_REPORT: &str = r#"</script>
+<script type="application/json" id="report">"#;
+
+/// Between the report and the names.
+pub const BEFORE_NAMES: &str = r#"</script>
+<script type="application/json" id="names">"#;
+
+/// Between the names and the script.
+pub const BEFORE_SCRIPT: &str = r#"</script>
+<script>"#;
+
+/// The end of a page.
+pub const ENDING: &str = r#"</script>
+</body>
+</html>
+"#;

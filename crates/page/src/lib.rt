@@ -1,0 +1,16 @@
+//! The page of a history: an HTML document in one file that shows the history, and why it meets the criteria or does not.
+//!
+//! It gives [`page_of`], which puts the JSON texts of a history, of a report on it and of its names into a frame of fixed markup, style
+//! and script.
+#![tactic(auto)]
+
+mod drawing;
+mod escaping;
+mod frame;
+mod hashes;
+pub mod laws;
+mod pages;
+mod script;
+mod style;
+
+pub use pages::page_of;

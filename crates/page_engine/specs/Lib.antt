@@ -1,0 +1,3 @@
+pub mod Failure
+pub mod Writing
+pub mod Steps

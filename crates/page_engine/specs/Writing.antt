@@ -1,0 +1,58 @@
+-- Which page is written, and when none is.
+use Rattle.std.specs.Prelude.{◌≡◌, ◌<◌, ◌≤◌, ⊤, ℕ, List, Bool, Option, IfSome, codes, length}
+use Rattle.std.specs.Io.KnownBytes.{Appends}
+use Rattle.command_line.specs.declared.form.ListForm.TheVariants.{Json}
+use Rattle.command_line.specs.declared.length.Length.{Length}
+use Rattle.command_line.specs.declared.log_order.LogOrder.TheVariants as logs
+use Rattle.command_line.specs.declared.order.Order.{Order}
+use Rattle.command_line.specs.declared.order.Order.TheVariants.{ListFaults}
+use Rattle.engine.specs.declared.input.TheConstants.{MAX_INPUT_BYTES}
+use Rattle.engine.specs.Running.{IsOfInput, IsOutput}
+use Rattle.lines.specs.declared.outcome.Outcome.TheVariants.{Met}
+use Rattle.event_reader.specs.Logs.{IsLogOf, IsRefusedLog, Log as EventLog}
+use Rattle.log_engine.specs.declared.failure.LogError.TheVariants.{Refused, Memory, ReadFault, WriteFault}
+use Rattle.log_engine.specs.LogAnswers.{IsLogAnswer}
+use Rattle.page.specs.Pages.{page}
+use Rattle.page_engine.specs.declared.failure.PageError.{PageError}
+use Rattle.page_engine.specs.declared.failure.PageError.TheVariants.{TooLong, Log}
+
+-- the order whose output on an input its page shows
+abbrev pub listing_order : ℕ → Length → Order
+listing_order most long = ListFaults (record { most = most; length = long; form = Json })
+
+-- the text is the page of the input itself, and of what is answered to it
+pub record IsPageOfInput (most : ℕ) (long : Length) (input text : List ℕ) : Type 0 where
+  pub report : List ℕ
+  pub output : IsOutput (listing_order most long) input report
+  pub is_page : text ≡ page input report (codes "null")
+
+-- the text is the page of what is answered to the one log that these bytes have
+pub record IsPageOfLog (most : ℕ) (torn : Bool) (bytes text : List ℕ) : Type 0 where
+  pub log : EventLog
+  pub of_bytes : IsLogOf bytes log torn
+  pub history : List ℕ
+  pub report : List ℕ
+  pub names : List ℕ
+  pub is_history : IsLogAnswer logs.WriteHistory log history Met
+  pub is_report : IsLogAnswer (logs.ListFaults most Json) log report Met
+  pub are_names : IsLogAnswer logs.WriteNames log names Met
+  pub is_page : text ≡ page history report names
+
+-- an input was read whole, and a page of it was written whole: what the reader had, where it tells its bytes, and what the writer holds
+-- after what it held, where it tells its bytes
+pub record WritesPage (IsPage : List ℕ → List ℕ → Type 0) (reader writer_before writer_after : Option (List ℕ)) : Type 0 where
+  pub input : List ℕ
+  pub text : List ℕ
+  pub whole : IfSome reader (λ bytes. input ≡ bytes)
+  pub within : length input ≤ MAX_INPUT_BYTES
+  pub is_page : IsPage input text
+  pub written : Appends writer_before writer_after text
+
+-- why a log has no page: it is too long, or a line of it is refused; or its page could not be written; or memory or the reader failed,
+-- which can be at any time
+abbrev pub FailsToWrite : ℕ → Option (List ℕ) → PageError → Type 0
+FailsToWrite most reader TooLong = IfSome reader (λ bytes. MAX_INPUT_BYTES < length bytes)
+FailsToWrite most reader (Log (Refused refusal)) = IsOfInput reader (λ bytes. IsRefusedLog bytes refusal)
+FailsToWrite most reader (Log WriteFault) = IsOfInput reader (λ bytes. (torn : Bool) × (text : List ℕ) × IsPageOfLog most torn bytes text)
+FailsToWrite most reader (Log Memory) = ⊤
+FailsToWrite most reader (Log ReadFault) = ⊤

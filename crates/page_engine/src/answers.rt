@@ -1,0 +1,52 @@
+//! Answers to a log in memory.
+
+ghost use Rattle.std.specs.Prelude.{◌≡◌, IfErr, IfOk, None};
+ghost use Rattle.log_engine.specs.LogAnswers.{every_in};
+ghost use Rattle.page_engine.specs.Steps.Answers.{IsAnswerError, IsAnswerOf, memory_error};
+
+use command_line::LogOrder;
+use log_engine::{LogError, follow_log};
+use std::sync::Wait;
+use std::thread::Threads;
+
+/// An answer to a log.
+#[derive(Drop)]
+pub(crate) struct LogAnswer {
+    pub text: Vec<u8>,
+    /// Whether the log's last line is not whole, and was passed over.
+    pub torn: bool,
+}
+
+/// What is answered to a log in memory that is followed once.
+///
+/// Fails with the first line that is refused, and for want of memory. Its cost is that of [`follow_log`].
+#[tactic(auto, using(crate::proofs::Joined::followed_is_answer))]
+pub(crate) fn answer_of<P: Threads + Wait + Sync + AllocGlobal>(
+    rt: &P,
+    log: &[u8],
+    order: &LogOrder,
+) -> Result<LogAnswer, LogError>
+    requires { every_in order.now ≡ None }
+    ensures answer { IfOk result (λ answer. IsAnswerOf order.now log.now answer.torn answer.text.items) }
+    ensures error { IfErr result (IsAnswerError log.now) }
+{
+    let mut rest = log;
+    let mut text = Vec::new(rt.alloc());
+    match follow_log(rt, &mut rest, &mut text, order) {
+        Ok(followed) => Ok(LogAnswer {
+            text,
+            torn: followed.torn,
+        }),
+        Err(error) => Err(in_memory(error)),
+    }
+}
+
+// Why a log in memory has no answer. Where bytes in memory can't be read or written, memory is short.
+fn in_memory(error: LogError) -> LogError
+    ensures { result ≡ memory_error error }
+{
+    match error {
+        LogError::Refused(refusal) => LogError::Refused(refusal),
+        LogError::Memory | LogError::ReadFault | LogError::WriteFault => LogError::Memory,
+    }
+}

@@ -1,0 +1,49 @@
+//! The page of an input.
+
+ghost use Rattle.std.specs.Prelude.{◌≡◌, ◌≢◌, Err, IfErr, OnOk};
+ghost use Rattle.std.specs.Io.KnownBytes.{IsAtEnd};
+ghost use Rattle.lines.specs.ReadCalls.{CallsAtMost};
+ghost use Rattle.engine.specs.ReadCalls.{FindsNoEnd};
+ghost use Rattle.engine.specs.Running.{Fails};
+ghost use Rattle.page_engine.specs.Writing.{IsPageOfInput, WritesPage, listing_order};
+
+use command_line::{Length, ListForm, Listing, Order};
+use engine::{MAX_READ_CALLS, RunError, answer_to, read_input, write_output};
+use lines::Source;
+use page::page_of;
+use std::io::Write;
+use std::sync::Wait;
+use std::thread::Threads;
+
+/// Reads the whole input, lists its faults as JSON, and writes the page of the input, of that list and of no names.
+///
+/// At most `most` faults are listed, of a history that may be of that length. Nothing is written before the page is made: after every
+/// error but a write fault the writer is as it was. How much was written before a write fault is not said, nor how much was read before
+/// an error. O(n log n) for an input of n bytes, and what [`run`](engine::run) takes for its list.
+pub fn page_of_input<P: Threads + Wait + Sync + AllocGlobal, R: Source, W: Write>(
+    rt: &P,
+    reader: &mut R,
+    writer: &mut W,
+    most: u32,
+    length: Length,
+) -> Result<(), RunError>
+    ensures written { OnOk result (WritesPage (IsPageOfInput most length) (R.remaining reader.old)
+        (W.contents writer.old) (W.contents writer.new)) }
+    ensures end { OnOk result (IsAtEnd (R.remaining reader.new)) }
+
+    ensures failed { IfErr result (Fails (listing_order most length) (R.remaining reader.old)) }
+    ensures unwritten { IfErr result (λ e. e ≢ RunError.WriteFault → writer.new ≡ writer.old) }
+
+    ensures calls { CallsAtMost R.called MAX_READ_CALLS reader.old reader.new }
+    ensures fault { result ≡ Err RunError.ReadFault → FindsNoEnd R.called MAX_READ_CALLS reader.old reader.new }
+{
+    let input = read_input(rt.alloc(), reader)?;
+    let order = Order::ListFaults(Listing {
+        most,
+        length,
+        form: ListForm::Json,
+    });
+    let report = answer_to(rt, rt.alloc(), input.as_slice(), &order)?;
+    let page = page_of(rt.alloc(), input.as_slice(), report.as_bytes(), b"null")?;
+    write_output(writer, page.as_slice())
+}

@@ -1,0 +1,85 @@
+//! The page of a log.
+
+ghost use Rattle.std.specs.Prelude.{◌≡◌, ◌≢◌, Err, IfErr, IfOk, OnOk};
+ghost use Rattle.std.specs.Io.KnownBytes.{IsAtEnd};
+ghost use Rattle.lines.specs.ReadCalls.{CallsAtMost};
+ghost use Rattle.engine.specs.ReadCalls.{FindsNoEnd};
+ghost use Rattle.page_engine.specs.Writing.{FailsToWrite, IsPageOfLog, WritesPage};
+ghost use Rattle.page_engine.specs.Steps.Answers.{IsAnswerError};
+
+use crate::answers::answer_of;
+use crate::failure::PageError;
+use command_line::{ListForm, LogOrder};
+use engine::{MAX_READ_CALLS, read_input, write_output};
+use lines::{Outcome, Source};
+use log_engine::{Followed, LogError};
+use page::page_of;
+use std::io::Write;
+use std::sync::Wait;
+use std::thread::Threads;
+
+/// Reads a whole log, and writes the page of its history, of a list of its faults and of its names.
+///
+/// At most `most` faults are listed. Refused is a log of more bytes than an input may have, and one of which a line is refused; a last line
+/// that is not whole is passed over, as is said of it. Nothing is written before the page is made: after every error but a write fault the
+/// writer is as it was. The log is held in memory, and followed three times: O(n (k + log n)) for a history of n operations in k sessions,
+/// and the cost of reading.
+pub fn page_of_log<P: Threads + Wait + Sync + AllocGlobal, R: Source, W: Write>(
+    rt: &P,
+    reader: &mut R,
+    writer: &mut W,
+    most: u32,
+) -> Result<Followed, PageError>
+    ensures written { IfOk result (λ followed. WritesPage (IsPageOfLog most followed.torn) (R.remaining reader.old)
+        (W.contents writer.old) (W.contents writer.new)) }
+    ensures met { IfOk result (λ followed. followed.outcome ≡ Outcome.Met) }
+    ensures end { OnOk result (IsAtEnd (R.remaining reader.new)) }
+
+    ensures failed { IfErr result (FailsToWrite most (R.remaining reader.old)) }
+    ensures unwritten { IfErr result (λ e. e ≢ PageError.Log LogError.WriteFault → writer.new ≡ writer.old) }
+
+    ensures calls { CallsAtMost R.called MAX_READ_CALLS reader.old reader.new }
+    ensures fault { result ≡ Err (PageError.Log LogError.ReadFault)
+        → FindsNoEnd R.called MAX_READ_CALLS reader.old reader.new }
+{
+    let log = read_input(rt.alloc(), reader)?;
+    let page = page_of_bytes(rt, log.as_slice(), most)?;
+    write_output(writer, page.bytes.as_slice())?;
+    Ok(Followed {
+        outcome: Outcome::Met,
+        torn: page.torn,
+    })
+}
+
+// A page of a log.
+#[derive(Drop)]
+struct LogPage {
+    bytes: Vec<u8>,
+    // Whether the log's last line is not whole, and was passed over.
+    torn: bool,
+}
+
+// The page of a log in memory.
+#[tactic(auto, using(crate::proofs::Joined::answers_make_page))]
+fn page_of_bytes<P: Threads + Wait + Sync + AllocGlobal>(
+    rt: &P,
+    log: &[u8],
+    most: u32,
+) -> Result<LogPage, LogError>
+    ensures page { IfOk result (λ page. IsPageOfLog most page.torn log.now page.bytes.items) }
+    ensures error { IfErr result (IsAnswerError log.now) }
+{
+    let history = answer_of(rt, log, &LogOrder::WriteHistory)?;
+    let report = answer_of(rt, log, &LogOrder::ListFaults(most, ListForm::Json))?;
+    let names = answer_of(rt, log, &LogOrder::WriteNames)?;
+    let bytes = page_of(
+        rt.alloc(),
+        history.text.as_slice(),
+        report.text.as_slice(),
+        names.text.as_slice(),
+    )?;
+    Ok(LogPage {
+        bytes,
+        torn: history.torn,
+    })
+}

@@ -1,0 +1,186 @@
+"""A headless Chromium that is driven by its DevTools protocol over a pipe, with the standard library alone."""
+
+import base64
+import contextlib
+import fcntl
+import json
+import os
+import select
+import shutil
+import subprocess
+import tempfile
+import time
+
+NAMES = ("chromium", "chromium-browser", "google-chrome", "google-chrome-stable")
+INSTALL = "apt-get install -y chromium"
+WORDS = ("--headless=new", "--no-sandbox", "--disable-gpu", "--no-first-run", "--disable-extensions", "--disable-background-networking")
+MOST_SECONDS = 60
+CODES = {"Enter": 13, "Escape": 27, "Tab": 9, "ArrowUp": 38, "ArrowDown": 40, "ArrowLeft": 37, "ArrowRight": 39, "Home": 36, "End": 35}
+
+
+def program():
+    """The browser of this machine, or None."""
+    return next((found for name in NAMES if (found := shutil.which(name))), None)
+
+
+class BrowserError(Exception):
+    """The browser refused a command, ended, or took too long."""
+
+
+class Browser:
+    """One window. What pages say, ask for and throw is gathered in `messages` and `requests`."""
+
+    def __init__(self):
+        self.room = tempfile.mkdtemp(prefix="browser-")
+        to_read, self.to_write = os.pipe()
+        self.to_hear, to_say = os.pipe()
+        ends = [fcntl.fcntl(end, fcntl.F_DUPFD, 20) for end in (to_read, to_say)]
+        words = [program(), *WORDS, "--remote-debugging-pipe", f"--user-data-dir={self.room}", "about:blank"]
+        place = lambda: (os.dup2(ends[0], 3), os.dup2(ends[1], 4))
+        quiet = {"stdin": subprocess.DEVNULL, "stdout": subprocess.DEVNULL, "stderr": subprocess.DEVNULL}
+        self.process = subprocess.Popen(words, preexec_fn=place, pass_fds=(3, 4), start_new_session=True, **quiet)
+        for end in (to_read, to_say, *ends):
+            os.close(end)
+        self.last, self.held, self.session, self.replies = 0, b"", None, {}
+        self.messages, self.requests, self.seen = [], [], set()
+        target = self.ask("Target.createTarget", url="about:blank")["targetId"]
+        self.session = self.ask("Target.attachToTarget", targetId=target, flatten=True)["sessionId"]
+        for domain in ("Page", "Runtime", "Log", "Network"):
+            self.ask(f"{domain}.enable")
+
+    def __enter__(self):
+        return self
+
+    def __exit__(self, *fault):
+        self.process.kill()
+        self.process.wait()
+        for end in (self.to_write, self.to_hear):
+            os.close(end)
+        shutil.rmtree(self.room, ignore_errors=True)
+
+    def ask(self, method, **given):
+        """Sends a command, and gives its result."""
+        self.last += 1
+        message = {"id": self.last, "method": method, "params": given, **({"sessionId": self.session} if self.session else {})}
+        self.send(json.dumps(message).encode() + b"\0")
+        number, end = self.last, time.monotonic() + MOST_SECONDS
+        while number not in self.replies:
+            self.hear(end)
+        reply = self.replies.pop(number)
+        if "error" in reply:
+            raise BrowserError(f"{method}: {reply['error'].get('message')}")
+        return reply["result"]
+
+    def send(self, text):
+        while text:
+            text = text[os.write(self.to_write, text) :]
+
+    def hear(self, end):
+        """Takes in what the browser says next."""
+        if not select.select([self.to_hear], [], [], max(0, end - time.monotonic()))[0]:
+            raise BrowserError("no answer in time")
+        more = os.read(self.to_hear, 1 << 20)
+        if not more:
+            raise BrowserError("the browser ended")
+        *whole, self.held = (self.held + more).split(b"\0")
+        for text in whole:
+            self.take(json.loads(text))
+
+    def take(self, message):
+        if "id" in message:
+            self.replies[message["id"]] = message
+            return
+        method, given = message.get("method"), message.get("params", {})
+        if method == "Runtime.consoleAPICalled":
+            self.messages.append(" ".join(str(part.get("value", part.get("description"))) for part in given["args"]))
+        elif method == "Runtime.exceptionThrown":
+            told = given["exceptionDetails"]
+            self.messages.append(told.get("exception", {}).get("description") or told["text"])
+        elif method == "Log.entryAdded":
+            self.messages.append(given["entry"]["text"])
+        elif method == "Network.requestWillBeSent":
+            self.requests.append(given["request"]["url"])
+        elif method == "Page.loadEventFired":
+            self.seen.add(method)
+
+    def wait(self, event):
+        end = time.monotonic() + MOST_SECONDS
+        while event not in self.seen:
+            self.hear(end)
+
+    def open(self, path):
+        """Opens a file, and gives the seconds until its script had run and a frame was drawn."""
+        self.messages, self.requests = [], []
+        self.seen.clear()
+        begun = time.monotonic()
+        self.ask("Page.navigate", url=f"file://{path}")
+        self.wait("Page.loadEventFired")
+        self.settle()
+        return time.monotonic() - begun
+
+    def settle(self):
+        """Waits until two frames were drawn."""
+        self.run("new Promise(done => requestAnimationFrame(() => requestAnimationFrame(() => done(1))))")
+
+    def run(self, expression):
+        """The value of an expression in the page; a promise is waited for."""
+        given = {"expression": expression, "returnByValue": True, "awaitPromise": True, "allowUnsafeEvalBlockedByCSP": False}
+        reply = self.ask("Runtime.evaluate", **given)
+        if "exceptionDetails" in reply:
+            told = reply["exceptionDetails"]
+            raise BrowserError(told.get("exception", {}).get("description") or told["text"])
+        return reply["result"].get("value")
+
+    def size(self, width, height, scale=1):
+        self.ask("Emulation.setDeviceMetricsOverride", width=width, height=height, deviceScaleFactor=scale, mobile=False)
+
+    def scheme(self, name):
+        self.ask("Emulation.setEmulatedMedia", features=[{"name": "prefers-color-scheme", "value": name}])
+
+    def click(self, selector, x=None, y=None):
+        """Clicks the middle of an element, or a place in it, after bringing it into sight."""
+        self.run(f"document.querySelector({json.dumps(selector)}).scrollIntoView({{block: 'center'}})")
+        element = f"document.querySelector({json.dumps(selector)})"
+        box = self.run(f"(box => [box.left, box.top, box.width, box.height])({element}.getBoundingClientRect())")
+        place = {"x": box[0] + (box[2] / 2 if x is None else x), "y": box[1] + (box[3] / 2 if y is None else y)}
+        for kind in ("mouseMoved", "mousePressed", "mouseReleased"):
+            self.ask("Input.dispatchMouseEvent", type=kind, button="left", clickCount=1, **place)
+        self.settle()
+
+    def press(self, key, text=""):
+        """Presses and releases a key."""
+        given = {"key": key, **({"text": text or key} if len(key) == 1 or text else {})}
+        if key in CODES:
+            given["windowsVirtualKeyCode"] = CODES[key]
+        if key == "Enter":
+            given["text"] = "\r"
+        self.ask("Input.dispatchKeyEvent", type="keyDown", **given)
+        self.ask("Input.dispatchKeyEvent", type="keyUp", **{name: value for name, value in given.items() if name != "text"})
+        self.settle()
+
+    def type(self, text):
+        """Puts a text where the cursor stands."""
+        self.ask("Input.insertText", text=text)
+        self.settle()
+
+    def picture(self, path, whole=True):
+        """Writes a picture of the page to a file."""
+        given = {"captureBeyondViewport": whole}
+        if whole:
+            size = self.ask("Page.getLayoutMetrics")["cssContentSize"]
+            given["clip"] = {"x": 0, "y": 0, "width": size["width"], "height": min(size["height"], 8000), "scale": 1}
+        data = self.ask("Page.captureScreenshot", format="png", **given)["data"]
+        with open(path, "wb") as file:
+            file.write(base64.b64decode(data))
+
+    def print(self, path):
+        """Writes the page as it is printed to a file."""
+        with open(path, "wb") as file:
+            file.write(base64.b64decode(self.ask("Page.printToPDF", printBackground=False)["data"]))
+
+
+@contextlib.contextmanager
+def opened():
+    """A browser that ends with the block."""
+    with Browser() as browser:
+        yield browser

@@ -1,0 +1,80 @@
+"""Histories and logs with what a program says of them, for the page of `explain --html`."""
+
+import json
+import pathlib
+import subprocess
+from typing import NamedTuple, Optional
+
+import page_parts
+import random_logs
+import random_memories
+import tables
+
+ROOT = pathlib.Path(__file__).resolve().parent.parent
+USAGE, MOST_SECONDS, LISTED = 2, 900, "10000"
+LOG = ["--long", "--events"]
+
+
+class Page(NamedTuple):
+    """A page: the three texts that it holds, the words of `explain`, and the page that the program writes, where it has that option."""
+
+    name: str
+    history: str
+    report: str
+    names: str
+    words: str
+    written: Optional[str]
+
+    def joined(self):
+        return page_parts.joined(self.history, self.report, self.names)
+
+    def texts(self):
+        """The three texts as the page holds them."""
+        return [self.history, self.report, self.names]
+
+    def is_log(self):
+        return self.names.strip() != "null"
+
+
+def said(program, words, data):
+    """The status and the output of a program on an input."""
+    done = subprocess.run([*program, *words], input=data, capture_output=True, check=False, timeout=MOST_SECONDS)
+    return done.returncode, done.stdout.decode()
+
+
+def page_of(program, name, data, options=()):
+    """The page of an input; None where the program refuses it."""
+    status, report = said(program, ["explain", *options, "--all", LISTED, "--json"], data)
+    if status != 0:
+        return None
+    is_log = "--events" in options
+    history, names = (said(program, ["events", *words], data)[1] for words in ([], ["--names"])) if is_log else (data.decode(), "null")
+    words = said(program, ["explain", *options], data)[1]
+    status, written = said(program, ["explain", *options, "--html"], data)
+    return Page(name, history, report, names, words, None if status == USAGE else written)
+
+
+def of_examples(program):
+    """The pages of the files of examples/: of each that is a history, and of each log."""
+    pages = [page_of(program, path.name, path.read_bytes()) for path in sorted((ROOT / "examples").glob("*.json"))]
+    pages += [page_of(program, path.name, path.read_bytes(), LOG) for path in sorted((ROOT / "examples").rglob("*.jsonl"))]
+    return [page for page in pages if page]
+
+
+def of_tables(program):
+    """The pages of the histories in the tables of crates/cases that `explain --json` is tried on."""
+    cases = [case for table in ("explain_json.cases", "listed_faults_json.cases") for case in tables.read_table(tables.DATA, table)]
+    pages = [page_of(program, case.name, case.input, [word for word in case.commands[0] if word == "--long"]) for case in cases]
+    return [page for page in pages if page]
+
+
+def at_random(program, rng, count):
+    """The pages of random memories, small ones and wide ones, and of random logs."""
+    pages = []
+    for number in range(count):
+        if number % 3 == 2:
+            pages.append(page_of(program, f"log {number}", random_logs.log(rng), LOG))
+            continue
+        form, options = (random_memories.small(rng), []) if number % 3 else (random_memories.wide(rng)[0], ["--long"])
+        pages.append(page_of(program, f"history {number}", json.dumps(form).encode(), options))
+    return [page for page in pages if page]

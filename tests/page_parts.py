@@ -1,0 +1,72 @@
+#!/usr/bin/env python3
+"""The pieces of the page of `explain --html`, as crates/page has them, and pages that are joined from them.
+
+    python3 tests/page_parts.py --write                        # writes the hashes of the script and the style anew
+    python3 tests/page_parts.py HISTORY REPORT [NAMES] > PAGE  # joins a page from files
+
+The order of the pieces is that which crates/page/src/frame.rt states at its head.
+"""
+
+import base64
+import hashlib
+import pathlib
+import re
+import sys
+
+SOURCES = pathlib.Path(__file__).resolve().parent.parent / "crates" / "page" / "src"
+FILES = ("frame.rt", "style.rt", "script.rt", "drawing.rt", "hashes.rt")
+CONSTANT = re.compile(r'^pub const ([A-Z_]+): &str = r#"(.*?)"#;$', re.MULTILINE | re.DOTALL)
+POLICY = re.compile(r"(script-src ')[^']*(';\nstyle-src ')[^']*(')")
+HASHES = re.compile(r'((?:SCRIPT|STYLE)_HASH: &str = r#")[^"]*(")')
+
+
+def pieces():
+    """The constants of the page, by name."""
+    return {name: text for file in FILES for name, text in CONSTANT.findall((SOURCES / file).read_text(encoding="ascii"))}
+
+
+def script_of(parts):
+    """The one script of a page."""
+    return parts["SCRIPT"] + parts["DRAWING"]
+
+
+def hash_of(text):
+    """The hash of a text as a policy has it."""
+    return "sha256-" + base64.b64encode(hashlib.sha256(text.encode()).digest()).decode()
+
+
+def in_script(text):
+    """A JSON text as it stands in a script element: it cannot end the element, since it has no `<`."""
+    return text.replace("<", "\\u003c")
+
+
+def joined(history, report, names="null"):
+    """A page of three JSON texts, as they stand."""
+    parts = pieces()
+    data = [in_script(text) for text in (history, report, names)]
+    opening = parts["OPENING"] + parts["STYLE"] + parts["BODY"] + data[0]
+    middle = parts["BEFORE_REPORT"] + data[1] + parts["BEFORE_NAMES"] + data[2]
+    return opening + middle + parts["BEFORE_SCRIPT"] + script_of(parts) + parts["ENDING"]
+
+
+def write_hashes():
+    """Writes the hashes of the script and the style anew, in hashes.rt and in the policy of frame.rt."""
+    parts = pieces()
+    script, style = hash_of(script_of(parts)), hash_of(parts["STYLE"])
+    frame, hashes = SOURCES / "frame.rt", SOURCES / "hashes.rt"
+    frame.write_text(POLICY.sub(rf"\g<1>{script}\g<2>{style}\g<3>", frame.read_text(encoding="ascii")), encoding="ascii")
+    due = iter((script, style))
+    hashes.write_text(HASHES.sub(lambda found: found[1] + next(due) + found[2], hashes.read_text(encoding="ascii")), encoding="ascii")
+
+
+def main():
+    if sys.argv[1:] == ["--write"]:
+        return write_hashes()
+    if not 3 <= len(sys.argv) <= 4:
+        sys.exit(__doc__)
+    sys.stdout.reconfigure(encoding="utf-8", newline="")
+    sys.stdout.write(joined(*(pathlib.Path(name).read_text(encoding="utf-8") for name in sys.argv[1:])))
+
+
+if __name__ == "__main__":
+    main()
