@@ -2,7 +2,9 @@
 
 use crate::devices::{Device, Failing, NEVER, Sink};
 use crate::running::{said_over, told};
-use engine::{Judging, MAX_INPUT_BYTES, MAX_READ_CALLS, Order, Workers, judge_lines};
+use engine::{
+    BlankLines, Judging, LineJudging, MAX_INPUT_BYTES, MAX_READ_CALLS, Order, Workers, judge_lines,
+};
 use std::alloc::AllocError;
 use std::io::{ErrorKind, Read};
 use std::sync::Wait;
@@ -20,6 +22,9 @@ last_line_without_its_line_feed | - ["memory",[]]%["memory",[[["r",0,7]]]] | 0 c
   cc no ThinAirRead; cm no ThinAirRead; ccv no ThinAirRead%
 empty_line | - % | 1 refused 1%
 empty_lines | - %% | 1 refused 1%refused 1%
+empty_lines_are_skipped | skip %% | 0 %%
+blank_line_is_skipped | skip,cc   %["memory",[]] | 0 %cc yes; cm yes; ccv yes%
+line_between_blank_ones_is_refused | skip %[]% % | 1 %refused 2%%
 empty_line_between | - ["memory",[]]%%["memory",[]] | 1 cc yes; cm yes; ccv yes%refused 1%cc yes; cm yes; ccv yes%
 blanks_around | -  ["memory", []] % | 0 cc yes; cm yes; ccv yes%
 refused_lines_among_others | - ["memory",[[["x"]]]]%["memory",[]]%["foo",[]]%["memory",[[["r",0,"?"],["w",0,1]]]]%{}%
@@ -87,9 +92,10 @@ fn said<P: Threads + Wait + Sync + AllocGlobal>(
     told(rt.alloc(), judged, &sink)
 }
 
-/// How so many workers judge, where a list names what is expected of each line, or is `-`.
-fn judging_of(workers: usize, expected: &str) -> Option<Judging> {
+/// How so many workers judge, where a list names what is expected of each line, or is `-`, and has `skip` where blank lines are skipped.
+fn judging_of(workers: usize, expected: &str) -> Option<LineJudging> {
     let mut judging = Judging::by(Workers::of(workers)?);
+    let mut blank = BlankLines::Refused;
     for name in expected.split(',') {
         match name {
             "cc" => {
@@ -101,16 +107,19 @@ fn judging_of(workers: usize, expected: &str) -> Option<Judging> {
             "ccv" => {
                 judging.expected.ccv = true;
             }
+            "skip" => {
+                blank = BlankLines::Skipped;
+            }
             "-" => {}
             _ => return None,
         }
     }
-    Some(judging)
+    Some(LineJudging { judging, blank })
 }
 
 #[test]
 fn lines_in_memory_are_answered_by_one_answer(rt: HostRuntime) -> Result<(), Fail> {
-    let usual = Order::JudgeLines(Judging::by(Workers::usual()));
+    let usual = Order::JudgeLines(judging_of(2, "-").expect(&rt, "an order"));
     let mut nothing = Device::new(b"", 0, 64, NEVER);
     let said = said_over(
         &rt,

@@ -8,6 +8,8 @@ use history::Gate;
 use objects::Memory;
 use operations::{AnyHistory, OpId, write_history};
 use replica::Delivery;
+use snapshot::Sealed;
+use std::alloc::{AllocError, Global};
 use std::sync::Wait;
 use std::sync::atomic::{AtomicBool, Ordering};
 use std::test::Fail;
@@ -70,13 +72,19 @@ fn driven_two<P: Threads + Wait + Sync + AllocGlobal>(
     };
     let meeting = Meeting::new();
     let seals = drive::<Memory, AsTakenIn, P, Meeting>(rt, rt.alloc(), &history, plan, &meeting)?;
-    let mut said = String::new(rt.alloc());
-    for sealed in seals.as_slice() {
-        let recorded = AnyHistory::Memory(sealed.history().copy(rt.alloc())?);
-        said.push_str(write_history(rt.alloc(), &recorded)?.as_str())?;
-    }
     let met = meeting.have_met();
+    let said = text_of(rt.alloc(), seals.as_slice())?;
     Ok(format!(in rt.alloc(); "{said} {met}")?)
+}
+
+/// The texts of what was sealed, one after the other.
+fn text_of(alloc: Global, seals: &[Sealed<Memory>]) -> Result<String, AllocError> {
+    let mut said = String::new(alloc);
+    for sealed in seals {
+        let recorded = AnyHistory::Memory(sealed.history().copy(alloc)?);
+        said.push_str(write_history(alloc, &recorded)?.as_str())?;
+    }
+    Ok(said)
 }
 
 #[test]

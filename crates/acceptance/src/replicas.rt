@@ -14,20 +14,41 @@ fn answers_of_two<P: UpdateOrder>(
     delivery: Delivery,
 ) -> Result<String, ReplicaError> {
     let mut answers = String::new(alloc);
+    let pushed = pushed_by_first::<P>(alloc, &mut answers, delivery)?;
+    answer_of_second::<P>(alloc, &mut answers, delivery, pushed)?;
+    Ok(answers)
+}
+
+/// The updates of the first replica, which pushes twice, the later one first.
+fn pushed_by_first<P: UpdateOrder>(
+    alloc: Global,
+    answers: &mut String,
+    delivery: Delivery,
+) -> Result<[Option<UpdateOf<QueueCall>>; 2], ReplicaError> {
     let mut first: Replica<Queue, P> = Replica::new(alloc, 0, 2, delivery, &())?;
-    let earlier = act(alloc, &mut answers, &mut first, QueueCall::Push(7))?;
-    let later = act(alloc, &mut answers, &mut first, QueueCall::Push(9))?;
+    let earlier = act(alloc, answers, &mut first, QueueCall::Push(7))?;
+    let later = act(alloc, answers, &mut first, QueueCall::Push(9))?;
+    Ok([later, earlier])
+}
+
+/// What the second replica answers, before, between and after it receives these.
+fn answer_of_second<P: UpdateOrder>(
+    alloc: Global,
+    answers: &mut String,
+    delivery: Delivery,
+    received: [Option<UpdateOf<QueueCall>>; 2],
+) -> Result<(), ReplicaError> {
     let mut second: Replica<Queue, P> = Replica::new(alloc, 1, 2, delivery, &())?;
-    act(alloc, &mut answers, &mut second, QueueCall::Push(8))?;
-    act(alloc, &mut answers, &mut second, QueueCall::Pop)?;
-    for update in [later, earlier] {
+    act(alloc, answers, &mut second, QueueCall::Push(8))?;
+    act(alloc, answers, &mut second, QueueCall::Pop)?;
+    for update in received {
         if let Some(update) = update {
             second.receive(update)?;
         }
-        act(alloc, &mut answers, &mut second, QueueCall::Pop)?;
+        act(alloc, answers, &mut second, QueueCall::Pop)?;
     }
-    act(alloc, &mut answers, &mut second, QueueCall::Pop)?;
-    Ok(answers)
+    act(alloc, answers, &mut second, QueueCall::Pop)?;
+    Ok(())
 }
 
 /// Asks a replica, adds its answer to the others, and gives its update.

@@ -4,7 +4,7 @@ ghost use Rattle.std.specs.Prelude.{◌≤◌};
 
 use crate::waiting::Waiting;
 use command_line::LogOrder;
-use log_engine::{LogError, error_lines, follow_log, status_of_error};
+use log_engine::{Followed, LogError, error_lines, follow_log, status_of_error};
 use std::io;
 use std::sync::Wait;
 use std::thread::Threads;
@@ -23,19 +23,24 @@ pub(crate) fn follow_log_of_process<
 {
     let mut source = Waiting::by(rt, rt.reader());
     match follow_log(rt, &mut source, &mut io::writer(rt), &order) {
-        Ok(followed) => {
-            if followed.torn {
-                let _ = rt.eprintln(TORN);
-            }
-            followed.outcome.status()
-        }
+        Ok(followed) => report_followed(rt, &followed),
         Err(error) => report_error(rt, &error),
     }
 }
 
-// Writes the lines of a log that had no answer, and returns the exit status. Where there is no memory for the lines, that is what the
-// process ends with.
-fn report_error<P: AllocGlobal + Eprint>(rt: &P, error: &LogError) -> u8
+/// Returns the exit status after a log that was followed to its end, and says where its last line is not whole.
+pub(crate) fn report_followed<P: Eprint>(rt: &P, followed: &Followed) -> u8
+    ensures { result ≤ 6 }
+{
+    if followed.torn {
+        let _ = rt.eprintln(TORN);
+    }
+    followed.outcome.status()
+}
+
+/// Writes the lines of a log that had no answer, and returns the exit status. Where there is no memory for the lines, that is what the
+/// process ends with.
+pub(crate) fn report_error<P: AllocGlobal + Eprint>(rt: &P, error: &LogError) -> u8
     ensures { result ≤ 4 }
 {
     let Ok(lines) = error_lines(rt.alloc(), error) else {

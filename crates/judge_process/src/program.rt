@@ -3,11 +3,16 @@ ghost use Rattle.std.specs.Prelude.{◌≡◌, ◌≤◌, ◌⊎◌};
 ghost use Rattle.engine.specs.Failure.{status_for};
 ghost use Rattle.command_line.specs.CommandLine.{IsUsageStatus};
 
+use crate::keeping::Keeping;
+use crate::line_process::judge_lines_of_process;
 use crate::log_process::follow_log_of_process;
+use crate::page_process::write_page_of_process;
+use crate::refused::{form_of, reason_of};
 use crate::waiting::Waiting;
-use command_line::{Judging, Order, Task, Usage, command_of, fault_with};
-use engine::{RunError, fault_line, judge_expecting, judge_lines, run, status_of};
-use lines::Outcome;
+use command_line::{Detail, Order, Task, Usage, command_of, fault_with};
+use engine::{RunError, fault_line, judge_expecting, run, status_of};
+use lines::{Outcome, Source};
+use refusal_words::InputForm;
 use std::rt::Env;
 use std::sync::Wait;
 use std::thread::Threads;
@@ -27,8 +32,9 @@ pub fn status_of_process<
     ensures { result ≤ 6 }
 {
     match task_of_process(rt) {
-        Ok(Task::OfInput(order)) => status_of_order(rt, &order),
+        Ok(Task::OfInput(order, detail)) => status_of_order(rt, &order, detail),
         Ok(Task::OfLog(order)) => follow_log_of_process(rt, order),
+        Ok(Task::OfPage(page, detail)) => write_page_of_process(rt, page, detail),
         Err(usage) => report_usage(rt, usage),
     }
 }
@@ -37,45 +43,34 @@ pub fn status_of_process<
 fn status_of_order<P: Threads + Wait + Sync + AllocGlobal + Input + Print + Eprint + Clock>(
     rt: &P,
     order: &Order,
+    detail: Detail,
 ) -> u8
     ensures { result ≤ 6 }
 {
     match order {
-        Order::Judge(judging) => report_judged(rt, judge(rt, *judging)),
-        Order::JudgeLines(judging) => report_judged(rt, judge_each_line(rt, *judging)),
+        Order::JudgeLines(judging) => judge_lines_of_process(rt, *judging),
         _ => {
-            let mut reader = Waiting::by(rt, rt.reader());
-            let outcome = run(rt, &mut reader, &mut io::writer(rt), order);
-            report(rt, outcome)
+            let mut reader = Keeping::of(rt.alloc(), detail, Waiting::by(rt, rt.reader()));
+            match outcome_of(rt, &mut reader, order) {
+                Ok(outcome) => outcome.status(),
+                Err(error) => report_refused(rt, &error, detail, form_of(order), reader.text()),
+            }
         }
     }
 }
 
-// Judges the history in the input.
-fn judge<P: Threads + Wait + Sync + AllocGlobal + Input + Print + Clock>(
+// What comes of an order on an input.
+fn outcome_of<P: Threads + Wait + Sync + AllocGlobal + Print, R: Source>(
     rt: &P,
-    judging: Judging,
+    reader: &mut R,
+    order: &Order,
 ) -> Result<Outcome, RunError> {
-    let mut reader = Waiting::by(rt, rt.reader());
-    judge_expecting(rt, &mut reader, &mut io::writer(rt), judging)
-}
-
-// Judges the history in each line of the input.
-fn judge_each_line<P: Threads + Wait + Sync + AllocGlobal + Input + Print + Clock>(
-    rt: &P,
-    judging: Judging,
-) -> Result<Outcome, RunError> {
-    let mut reader = Waiting::by(rt, rt.reader());
-    judge_lines(rt, &mut reader, &mut io::writer(rt), judging)
-}
-
-// Returns the exit status of what was judged, and writes the line of a run that failed.
-fn report_judged<P: AllocGlobal + Eprint>(rt: &P, judged: Result<Outcome, RunError>) -> u8
-    ensures { result ≤ 6 }
-{
-    match judged {
-        Ok(outcome) => outcome.status(),
-        Err(error) => report(rt, Err(error)),
+    match order {
+        Order::Judge(judging) => judge_expecting(rt, reader, &mut io::writer(rt), *judging),
+        _ => {
+            run(rt, reader, &mut io::writer(rt), order)?;
+            Ok(Outcome::Met)
+        }
     }
 }
 
@@ -109,6 +104,26 @@ fn words_of_process<P: Env + AllocGlobal>(rt: &P) -> Result<Vec<String>, Usage> 
 // The fault of words that are no text.
 const BAD_WORDS: &str =
     "error: invalid UTF-8 was detected in one or more arguments\n\nFor more information, try '--help'.\n";
+
+/// Writes the line of a run that failed, and where more than a number is to be said, what is wrong with its input, in a second line, where
+/// memory suffices for it. Returns the exit status.
+pub(crate) fn report_refused<P: AllocGlobal + Eprint>(
+    rt: &P,
+    error: &RunError,
+    detail: Detail,
+    form: InputForm,
+    input: Option<&[u8]>,
+) -> u8
+    ensures { result ≤ 4 }
+{
+    let status = report(rt, Err(*error));
+    if detail == Detail::Reason {
+        if let Ok(Some(reason)) = reason_of(rt.alloc(), input, form, error) {
+            let _ = rt.eprintln(reason);
+        }
+    }
+    status
+}
 
 /// Writes the line of a run that failed, and returns the exit status. Where there is no memory for the line, that is
 /// what the process ends with.
