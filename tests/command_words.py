@@ -7,16 +7,17 @@ CRITERIA = ("cc", "cm", "ccv")
 RANGES = {"--workers": range(1, 17), "--seals": range(9), "--stop": range(16), "--all": range(1, 1_000_001), "--every": range(1, 2**31)}
 WITH_VALUE = (*RANGES, "--expect")
 LENGTHS = ((), ("--long",), ("--events", "--long"))
-FORMS = (*((*form, *length) for form in ((), ("--json",), ("--svg",), ("--all",), ("--all", "--json")) for length in LENGTHS),)
+SHOWN = ((), ("--json",), ("--svg",), ("--html",), ("--all",), ("--all", "--json"), ("--all", "--html"))
+FORMS = (*((*form, *length) for form in SHOWN for length in LENGTHS),)
 FORMS = (*(tuple(sorted(form)) for form in FORMS), ("--certificates", "--json"))
 OPTIONS = {
-    "judge": ("--workers", "--expect", "--long", "--events", "--every"),
-    "check": ("--workers",),
-    "explain": ("--json", "--certificates", "--svg", "--long", "--all", "--events"),
+    "judge": ("--workers", "--expect", "--long", "--events", "--every", "--why"),
+    "check": ("--workers", "--why"),
+    "explain": ("--json", "--certificates", "--svg", "--html", "--long", "--all", "--events", "--why"),
     "events": ("--names",),
-    "refute": ("--long",),
-    "replay": (),
-    "drive": ("--eager", "--seals", "--workers", "--stop"),
+    "refute": ("--long", "--why"),
+    "replay": ("--why",),
+    "drive": ("--eager", "--seals", "--workers", "--stop", "--why"),
 }
 
 
@@ -73,7 +74,7 @@ def is_whole(order):
         return "store" in order
     if order["command"] == "judge":
         return ("--long" in order or "--events" not in order) and ("--events" in order or "--every" not in order)
-    return order["command"] != "explain" or tuple(sorted(set(order) - {"command"})) in FORMS
+    return order["command"] != "explain" or tuple(sorted(set(order) - {"command", "--why"})) in FORMS
 
 
 def reads_log(order):

@@ -194,6 +194,7 @@ def try_helps(given):
             page = pathlib.Path(room, f"help {command}".strip())
             page.write_text("".join(f"  {line}\n" for line in text.splitlines()), encoding="utf-8")
             copy, environment = copy_of(given.root, given.program[0], pathlib.Path(room, "run"))
+            (copy / "run.json").write_text('["memory",[[["w",0,1],["r",0,0]]]]\n', encoding="ascii")
             shown = list(commands_of(page, page.name))
             yield [] if shown else [f"{page.name}: no command is shown"]
             yield from (fault_of(one, copy, environment) for one in shown)

@@ -6,8 +6,8 @@
 - LOGS random logs (random_logs.py), whose clients fail, are lost, delete and stop, in any spelling, with blank lines and torn ends, and many
   with a line that is refused. Of each, `judge --long --events` and `events` have to write what plain_events.py says, with its status, its
   refusal and the number of the line; and so does, in turn, one of these: `events --names`; `judge .. --every N`, cut by cut; `explain ..
-  --json`, whose patterns are in the history by patterns.py; and `explain` in words, as a picture, and by `--all N`, whose lines are those of
-  `judge`, and which no name in the log disturbs.
+  --json`, whose patterns are in the history by patterns.py; and `explain` in words, as a picture by pictures.py, and by `--all N`, whose
+  lines are those of `judge`, and which no name in the log disturbs.
 - Each refusal, each kind of a `no`, forks, reads that ask nothing, torn ends, starts, and a cut that is a `no` where the whole is a `yes`
   have to come in these logs.
 - The logs of examples/, names that are alike, lines of 1,000,000 bytes and of more, a log of more than 67,108,864 bytes, and words that are
@@ -29,11 +29,11 @@ import subprocess
 import sys
 import tempfile
 import time
-import xml.etree.ElementTree
 from collections import Counter
 from concurrent.futures import ThreadPoolExecutor
 
 import mangled
+import pictures
 import plain_events
 import random_logs
 import reading
@@ -191,18 +191,10 @@ def explained_faults(program, data, found, lines, rng, seen):
     return wrong
 
 
-def is_picture(text):
-    """Whether a text is well-formed XML."""
-    try:
-        return xml.etree.ElementTree.fromstring(text).tag.endswith("svg")
-    except xml.etree.ElementTree.ParseError:
-        return False
-
-
 def is_worded(form, lines, text):
     """Whether a text in some form of `explain` has the lines of `judge`."""
     if form == ["--svg"]:
-        return is_picture(text)
+        return not pictures.faults_of(text)
     if "--json" in form:
         return [reason[:2] for reason in json.loads(text)[0]] == [line.split(" ")[:2] for line in lines.splitlines()]
     return [line for line in text.splitlines() if line.split(" ")[0] in CRITERIA] == lines.splitlines()

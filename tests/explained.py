@@ -8,9 +8,9 @@ to say of each criterion what `judge` says, and `refute` has to accept each patt
 has to say the same, with a certificate in the place of each `null` of a yes, and `check` has to say yes of each. The words of
 `explain` have to have the lines of `judge` among them, and `judge` has to say `no` of each core that stands there, of the same
 criterion: behind a `no`, and behind an `unknown` where variables were left out.
-`explain --svg` has to draw one picture. A form that the program doesn't know is left out, and so are its counts. It prints a line
-for each history where that is not so, and how many patterns of each kind, certificates and cores were accepted, and ends with
-status 1 where there is one.
+`explain --svg` has to draw one picture, with all that pictures.py asks of it. A form that the program doesn't know is left out, and so are
+its counts. It prints a line for each history where that is not so, and how many patterns of each kind, certificates and cores were accepted,
+and ends with status 1 where there is one.
 """
 
 import json
@@ -19,6 +19,7 @@ import subprocess
 import sys
 from collections import Counter
 
+import pictures
 from counting import end
 
 CRITERIA = ("cc", "cm", "ccv")
@@ -165,10 +166,11 @@ def word_faults(program, form, lines, accepted):
 
 
 def picture_faults(program, form):
+    """What is wrong with the picture of a history."""
     status, text = said(program, ["explain", "--svg"], form)
-    if status == USAGE or status == 0 and text.startswith("<svg") and text.endswith("</svg>\n"):
-        return []
-    return [f"status {status} of explain --svg, and {text[:40]!r}"]
+    if status != 0:
+        return [] if status == USAGE else [f"status {status} of explain --svg"]
+    return pictures.faults_of(text, form[1])
 
 
 def faults(program, form, accepted):

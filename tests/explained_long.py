@@ -13,6 +13,7 @@ faults of bench/planted.py, and many are beyond the limits of `judge`.
   is what `explain` writes there, in which a core has no places.
 - `--json`: the same answers. Each pattern shows its kind by patterns.py, and `refute --long` accepts it, as does `refute` where the
   history is within its limits.
+- `--svg`: one picture, with all that pictures.py asks of it.
 - Mangled patterns: with a number changed, an operation that is out of range, or another criterion. `refute --long` accepts those that
   show something by patterns.py, and refuses the others.
 
@@ -24,6 +25,7 @@ import copy
 import json
 import re
 
+import pictures
 import random_memories
 import reading
 from explained import core_in, line_of, repeated_reasons, said, sections
@@ -229,6 +231,12 @@ def pattern_faults(program, whole, rng, seen):
     return found
 
 
+def picture_faults(program, form):
+    """What is wrong with the picture."""
+    status, text = said(program, ["explain", "--long", "--svg"], form)
+    return pictures.faults_of(text) if status == 0 else [f"status {status} of explain --long --svg"]
+
+
 def faults(program, form, rng, seen):
     """What is wrong with the explanations of a history."""
     status, lines = said(program, ["judge", "--long"], form)
@@ -237,7 +245,7 @@ def faults(program, form, rng, seen):
     whole = Whole(form, lines.splitlines())
     seen.update(whole.lines)
     seen["beyond the limits of judge"] += not whole.is_small
-    return word_faults(program, whole, seen) + pattern_faults(program, whole, rng, seen)
+    return word_faults(program, whole, seen) + pattern_faults(program, whole, rng, seen) + picture_faults(program, form)
 
 
 def main():

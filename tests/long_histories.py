@@ -37,9 +37,11 @@ import reading
 import tables
 from command_words import order_of, with_program
 from counting import end
+from lines import remarks_due
 from objects import MOST_ENTRIES, MOST_KEY, OBJECTS
 from patterns import AGAINST, CRITERIA
 from random_memories import Shape, long_runs, planted
+from refusal_reasons import without_reason
 from streams import is_unproved
 
 LEAST_LONG = 17
@@ -78,7 +80,7 @@ def outcome(program, words, data, seconds=SECONDS):
         done = subprocess.run([*program, *words], input=data, capture_output=True, check=False, timeout=seconds)
     except subprocess.TimeoutExpired:
         return f"no end within {seconds} seconds", "", ""
-    return done.returncode, done.stdout.decode(), done.stderr.decode()
+    return done.returncode, done.stdout.decode(), without_reason(words, done.stderr.decode())
 
 
 def refusal(read, data):
@@ -386,7 +388,8 @@ def together(program):
         due = "".join(f"{joined(answer)}\n" for _, answer in lines)
         for option, status in (("--workers=1", 0), ("--workers=4", 0), ("--expect=cc", 5), ("--expect=cm,ccv", 5)):
             words = ["judge", "--lines", option, "--long"]
-            yield Case(words, data, outcome(program, words, data), (1 if is_refused else status, due, ""))
+            remarks = remarks_due([line for line, _ in lines], False)
+            yield Case(words, data, outcome(program, words, data), (1 if is_refused else status, due, remarks))
 
 
 def of_full_size(program):

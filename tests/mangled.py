@@ -33,6 +33,7 @@ from command_words import OPTIONS, RANGES, STORES, WITH_VALUE, order_of, reads_l
 from counting import end
 from objects import DONE, KEYED, MOST_NUMBER, OBJECTS, UNKNOWN, State, operation
 from patterns import AGAINST, CRITERIA, MemoryHistory
+from refusal_reasons import without_reason
 from scripts import script_text
 from shown_patterns import found
 
@@ -254,6 +255,8 @@ def wanted(order, data):
 
 def is_reason(order, text):
     """Whether a text has the outside of a reason in the form that is asked for."""
+    if "--html" in order:
+        return text.startswith("<!DOCTYPE html>") and text.endswith("</html>\n")
     if "--json" in order:
         value = json.loads(text)
         return [reason[0] for reason in (value[0] if "--all" in order else value)] == ["cc", "cm", "ccv"]
@@ -331,7 +334,7 @@ def is_right(program, order, data, found, due):
 
 def outcome(program, words, data):
     done = subprocess.run([*program, *words], input=data, capture_output=True, check=False, timeout=120)
-    return done.returncode, done.stdout.decode(), done.stderr.decode()
+    return done.returncode, done.stdout.decode(), without_reason(words, done.stderr.decode())
 
 
 def kind_of(due):

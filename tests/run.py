@@ -92,6 +92,7 @@ PARTS = (
     Part("cluster", lambda given: given.of("cluster", *given.longer())),
     Part("recorded_stores", lambda given: given.of("recorded_stores", given.many(1_000, 20_000))),
     Part("mangled", lambda given: given.of("mangled", "1", "--count", given.many(3_000, 200_000))),
+    Part("refusals", lambda given: given.of("refusals", "1", given.many(2_000, 50_000))),
     Part("pieces", lambda given: given.of("pieces", "1", given.many(1_200, 20_000))),
     Part("long_pieces", lambda given: given.of("pieces", "5", given.many(20, 1_000), "400")),
     Part("replayed", lambda given: [*given.of("replayed", f"{given.room}/scripts", "--make", "17", given.many(240, 5_000)), "replay"]),
@@ -102,7 +103,10 @@ PARTS = (
     Part("full_drives_of_all", lambda given: given.of("driven", "3", given.many(0, 40), "--full"), is_long=True),
     Part("explained", lambda given: given.of("explained", "1", given.many(200, 4_000))),
     Part("explained_long", lambda given: given.of("explained_long", "1", given.many(150, 3_000))),
+    Part("drawn", lambda given: given.of("drawn", "1", given.many(130, 2_000))),
+    Part("minimal_cores", lambda given: given.of("minimal_cores", "1", given.many(24, 600))),
     Part("listed_faults", lambda given: given.of("listed_faults", "1", given.many(400, 10_000))),
+    Part("pages", lambda given: given.of("pages", "1", given.many(30, 1_000), *given.longer())),
     Part("lines", lambda given: given.of("lines", "1", given.many(120, 1_000))),
     Part(
         "long_histories",
