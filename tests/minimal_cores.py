@@ -106,8 +106,9 @@ def core_faults(program, line, reason, core):
     if line not in judged[0]:
         found.append(f"of the core {json.dumps(core)} of {line!r} judge says {judged[0]}")
     found += [f"{json.dumps(rest)} is left of {json.dumps(core)}, and {line!r} too" for rest, lines in zip(rests, judged[1:]) if line in lines]
-    named = sum(bool(OPERATION.fullmatch(words)) for words in reason)
-    return found + ([f"the words name {named} operations of {json.dumps(core)}"] if named != size(core) else [])
+    named, is_cut = sum(bool(OPERATION.fullmatch(words)) for words in reason), any("more steps are left out" in words for words in reason)
+    is_right = named < size(core) if is_cut else named == size(core)
+    return found + ([] if is_right else [f"the words name {named} operations of {json.dumps(core)}"])
 
 
 def faults(program, command, form, seen):

@@ -34,9 +34,17 @@ OPERATION = re.compile(r"session (\d+), operation (\d+) \(byte (\d+)\): (.*)")
 STEP = re.compile(r"step (\d+) \(byte (\d+)\): ")
 NO_JSON = re.compile(r"the text is no JSON: (.*) at byte (\d+)(, where the text ends|, which is in no object)?")
 BYTE = re.compile(r"[( ]byte (\d+)")
-DECODER = json.JSONDecoder(parse_int=replay.number_of, parse_float=replay.number_of)
 BLANKS = re.compile(r"[ \t\n\r]*")
+MOST_DEEP = 127
 sys.set_int_max_str_digits(0)
+
+
+def no_number(word):
+    """Python reads NaN and Infinity, which are no JSON."""
+    raise ValueError(word)
+
+
+DECODER = json.JSONDecoder(parse_int=replay.number_of, parse_float=replay.number_of, parse_constant=no_number)
 
 
 def rows_of(page):
@@ -138,13 +146,21 @@ def fault_of_python(data):
     return None, False
 
 
+def is_too_deep(data, byte):
+    """Whether a list or an object begins at a byte in as many others as there may be."""
+    outside = re.sub(rb'"(?:[^"\\]|\\.)*"', b"", data[:byte], flags=re.DOTALL)
+    depth = sum((letter in b"[{") - (letter in b"]}") for letter in outside)
+    return depth == MOST_DEEP and data[byte : byte + 1] in (b"[", b"{")
+
+
 def is_fault_right(data, byte):
     """Whether a text goes wrong at a byte. Python goes on into numbers and words that are none: then it stops in the token of the byte.
     Of texts, colons, depths and numbers it says another place, or none."""
     stop, begins = fault_of_python(data)
     if not begins:
         return True
-    return byte <= stop and not re.search(rb"[][{},:\s]", data[byte:stop])
+    between = re.sub(rb'^"(?:[^"\\]|\\.)*"[ \t\n\r]*', b"", data[byte:stop])
+    return byte <= stop and not re.search(rb"[][{},:\s]", between)
 
 
 def is_place_right(words, data, why):
@@ -157,6 +173,8 @@ def is_place_right(words, data, why):
         return is_operation_right(base, data, operation)
     if step:
         return begins_at(data, (2, int(step[1])), int(step[2]))
+    if fault and fault[1].startswith("more than 127 lists"):
+        return is_too_deep(data, int(fault[2]))
     return is_fault_right(data, int(fault[2])) if fault else True
 
 

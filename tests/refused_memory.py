@@ -299,8 +299,10 @@ def is_first_lines(text, usual):
 
 def is_right(program, words, data, usual, found):
     """Whether a run may end like this: as usual, or for want of memory. Some first lines may be answered before, and what clients write
-    may differ from run to run."""
+    may differ from run to run. What is said of lines besides their answers, and why an input is refused, may be left out for want of memory."""
     if found in (usual, NO_MEMORY):
+        return True
+    if found[:2] == usual[:2] and usual[2].startswith(found[2]) and ("--lines" in words or found[2].startswith(b"refused ")):
         return True
     if "--lines" in words or "--every" in words:
         return (found[0], found[2]) == (4, b"no memory\n") and is_first_lines(found[1], usual[1])
