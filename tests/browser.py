@@ -179,6 +179,16 @@ class Browser:
             file.write(base64.b64decode(self.ask("Page.printToPDF", printBackground=False)["data"]))
 
 
+def starts():
+    """Whether the browser is there, and draws an empty page: some machines have one that cannot."""
+    try:
+        with opened() as window:
+            window.settle()
+    except (BrowserError, OSError, TypeError):
+        return False
+    return True
+
+
 @contextlib.contextmanager
 def opened():
     """A browser that ends with the block."""

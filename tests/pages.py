@@ -32,7 +32,7 @@ from counting import end
 FORBIDDEN = re.compile(r"innerHTML|outerHTML|insertAdjacent|document\.write|\beval\b|\bFunction\(|\.style\b|\.src\b|\bfetch\b|\bimport\b")
 ENDS = ("</script", "</style", "<!--")
 MOST_LINES, MOST_COLUMNS = 800, 140
-NODE, CHROMIUM = "node is missing: apt-get install -y nodejs", f"chromium is missing: {browser.INSTALL}"
+NODE, CHROMIUM = "node is missing: apt-get install -y nodejs", f"chromium is missing, or does not start: {browser.INSTALL}"
 
 
 def piece_faults():
@@ -90,7 +90,7 @@ def main():
     else:
         skipped += 1
         print(f"the script by Node: skipped: {NODE}")
-    if browser.program():
+    if browser.starts():
         with tempfile.TemporaryDirectory(prefix="pages-") as room, browser.opened() as window:
             others = [*tables, *randoms] if given.long else tables
             add(page_clicks.faults(window, room, examples, others, given.program, given.long))
