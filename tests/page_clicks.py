@@ -8,7 +8,7 @@ import page_inputs
 import random_memories
 from streams import is_unproved
 
-WIDE, NARROW, TALL, SLOWEST = 1280, 390, 900, 5.0
+WIDE, NARROW, TALL, SLOWEST = 1280, 390, 900, 20.0
 HEADS = {"no": "Not causally consistent", "yes": "Causally consistent", "unknown": "Undecided"}
 MADE = "img, image, iframe, object, embed, base, form, link, [onerror], [onload], [onclick], [style], [src]"
 STATIC = f"document.querySelectorAll('{MADE}').length"
