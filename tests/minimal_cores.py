@@ -6,9 +6,10 @@
 In a round each command explains memories in which each kind was planted (bench/planted.py), and some of random_memories.py; those of
 `explain --long` have more sessions than `judge` takes. Of each core that stands below a `no`, each operation in turn is left out, of a write
 with the reads from it. `judge` says something of what is left, and not that it is a `no` of the same kind for the same criterion. The words
-before the core have to name its operations and no others. A core of more than 64 operations is only counted.
+before the core have to name its operations and no others. A core of more than 512 operations is only counted.
 
-Of the fixed cases some have a choice: several of the operations would do. There the whole core is compared.
+A wide fault goes through many sessions or takes many steps to derive, so its core has a hundred operations and more. A few of them are
+explained by each command, among other operations, with some reads made twice. Of the fixed cases some have a choice: several of the operations would do. There the whole core is compared.
 
 Each kind has to come in as many cores of each command as there are rounds, less a sixth. It prints a line for each
 memory with a fault, with its form, and how often each thing came.
@@ -30,8 +31,10 @@ from random_memories import Shape
 
 import planted  # random_memories names its folder
 
-MOST = 64
+MOST = 512
 ORGANIC = 4
+WIDE_SIZE = 65
+WIDE = (("CyclicHB,CyclicCF", 14), ("CyclicHB", 40), ("WriteHBInitRead", 60))
 COMMANDS = (("explain",), ("explain", "--long"))
 FIXED = (
     (
@@ -51,11 +54,18 @@ FIXED = (
 )
 
 
-def planted_memory(rng, fault, is_long):
-    """A causally consistent memory in which a fault was planted."""
-    shape = Shape(rng.randint(17, 24) if is_long else rng.randint(5, 8), rng.choice((2, 4, 8)), rng.choice((2, 8, 30)))
+def read_again(rng, session):
+    """A session in which some reads are made twice, one after the other."""
+    return [again for op in session for again in [op] * (2 if op[0] == "r" and rng.random() < 0.5 else 1)]
+
+
+def planted_memory(rng, fault, is_long, width=None):
+    """A causally consistent memory in which a fault was planted, a wide one in as many sessions as an ordinary history may have or more."""
+    few, many = (17, 24) if is_long else (5, 8) if width is None else (16, 16)
+    shape = Shape(rng.randint(few, many), rng.choice((2, 4, 8)), rng.choice((2, 8, 30)))
     sessions = random_memories.weak(rng, shape, 0)
-    planted.plant(sessions, fault, rng.randint(1, 3), shape.keys, rng)
+    planted.plant(sessions, fault, width or rng.randint(1, 3), shape.keys, rng)
+    sessions = sessions if width is None else [read_again(rng, session) for session in sessions]
     return ["memory", [list(map(list, session)) for session in sessions]]
 
 
@@ -111,12 +121,17 @@ def core_faults(program, line, reason, core):
     return found + ([] if is_right else [f"the words name {named} operations of {json.dumps(core)}"])
 
 
+def wide_cores(command):
+    return f"{' '.join(command)}: cores of {WIDE_SIZE} operations and more"
+
+
 def faults(program, command, form, seen):
     """What is wrong with the cores of a memory."""
     shown, found = cores(program, command, form)
     for line, reason, core in shown:
         what = "no core" if core is None else "a large core" if size(core) > MOST else "a core"
         seen[f"{' '.join(command)}: {what} of {line}"] += 1
+        seen[wide_cores(command)] += what == "a core" and size(core) >= WIDE_SIZE
         found += core_faults(program, line, reason, core) if what == "a core" else []
     return found
 
@@ -130,12 +145,23 @@ def fixed_faults(program):
         yield found + ([] if got == wanted else [f"the cores of {json.dumps(sessions)} are {json.dumps(got)}, due {json.dumps(wanted)}"])
 
 
+def wide_faults(program, rng, seen):
+    """What is wrong with the cores of memories in which a wide fault was planted."""
+    for command in COMMANDS:
+        for fault, width in WIDE:
+            form, before = planted_memory(rng, fault, "--long" in command, width), seen[wide_cores(command)]
+            found = faults(program, command, form, seen)
+            found += [] if seen[wide_cores(command)] > before else ["its cores are small"]
+            yield [f"{fault} of {width}, {' '.join(command)}", *found] if found else []
+
+
 def main():
     parser = argparse.ArgumentParser(description=__doc__, formatter_class=argparse.RawDescriptionHelpFormatter)
     parser.add_argument("seed", type=int)
     parser.add_argument("rounds", type=int)
     given = with_program(parser)
     rng, seen, outcomes = random.Random(given.seed), Counter(), list(fixed_faults(given.program))
+    outcomes += wide_faults(given.program, random.Random(given.seed), seen)
     for _ in range(given.rounds):
         for command in COMMANDS:
             for form in memories(rng, "--long" in command):

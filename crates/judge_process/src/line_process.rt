@@ -14,7 +14,7 @@ use std::time::Clock;
 
 /// Judges the history in each line of standard input, and returns the exit status.
 ///
-/// Standard error is told of the first blank line that is refused, and of the first that ends in the midst of a JSON text.
+/// Standard error gets one remark for the first blank line that is refused, and one for the first line that breaks off inside a JSON text.
 pub(crate) fn judge_lines_of_process<
     P: Threads + Wait + Sync + AllocGlobal + Input + Print + Eprint + Clock,
 >(rt: &P, judging: LineJudging) -> u8

@@ -17,7 +17,7 @@ use parts::{Listed, part_of};
 use std::alloc::{AllocError, Global};
 
 /// The most operations of a pattern, with the sources of its reads, that are left out one after the other.
-pub const MAX_LEFT_OUT: usize = 64;
+pub const MAX_LEFT_OUT: usize = 512;
 
 /// A pattern of the same kind whose operations, with the sources of its reads, show the kind by themselves, and no longer without any one
 /// of them: of a write, without the reads from it too.
