@@ -65,7 +65,9 @@ pub(crate) enum JsonFault {
     Expected(Expected),
     /// The text ends there.
     Ends(Expected),
-    /// A text with a colon behind it, where a value is expected.
+    /// A list after the whole text, as in a log of events or in lines of histories.
+    SecondList,
+    /// A text that a colon follows, where a value is expected.
     Key,
     /// A text that does not end, or that has a wrong escape or a control character.
     BadText,
@@ -88,6 +90,10 @@ impl JsonFault {
                 let expected = expected.words();
                 format!(in alloc; "expected {expected} at byte {byte}, where the text ends")
             }
+            JsonFault::SecondList => format!(in alloc;
+                "expected the end of the text at byte {byte}, where another list begins: judge and explain read a log of events \
+                    with --long --events, and judge --lines reads a history a line"
+            ),
             JsonFault::Key => format!(in alloc; "a key at byte {byte}, which is in no object"),
             JsonFault::BadText => format!(in alloc;
                 "the text that begins at byte {byte} has no end, a wrong escape or a control character"

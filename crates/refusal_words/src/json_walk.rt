@@ -102,7 +102,7 @@ impl<'a> Walk<'a> {
     fn fault_of(&self, token: &Token<'_>, byte: usize, expected: Expected) -> (usize, JsonFault) {
         if expected == Expected::End {
             let byte = comma_before(self.text, byte).unwrap_or(byte);
-            return (byte, JsonFault::Expected(expected));
+            return (byte, fault_after_end(self.text, byte));
         }
         let fault = match token {
             Token::Key(_) if expected.is_value() => JsonFault::Key,
@@ -127,6 +127,15 @@ fn after_value(nest: Nest, has_comma: bool) -> Expected {
 
 fn begins_text(text: &str, byte: usize) -> bool {
     text.as_bytes().get(byte) == Some(&b'"')
+}
+
+// The fault of what comes after a whole text.
+fn fault_after_end(text: &str, byte: usize) -> JsonFault {
+    if text.as_bytes().get(byte) == Some(&b'[') {
+        JsonFault::SecondList
+    } else {
+        JsonFault::Expected(Expected::End)
+    }
 }
 
 // Whether a number is out of the range that is read.
