@@ -1,10 +1,12 @@
 //! Answers to logs of events: the history that a log stands for is judged, explained or written.
 //!
-//! It gives [`follow_log`], which does what is ordered of a log, event by event as it is read, and [`LogError`], why a log has no answer.
-//! What is said of a history comes from the engine; which history a log stands for, from `events` and `event_reader`.
+//! It gives [`follow_log`], which does what is ordered of a log, event by event as it is read, [`call_lines`], on which lines the calls of its
+//! operations begin, and [`LogError`], why a log has no answer. What is said of a history comes from the engine; which history a log has,
+//! from `events` and `event_reader`.
 #![tactic(auto)]
 
 mod answering;
+mod call_lines;
 mod explaining;
 mod failure;
 mod following;
@@ -16,6 +18,7 @@ mod turn;
 mod watching;
 mod writing;
 
+pub use call_lines::call_lines;
 pub use failure::{LogError, error_lines, status_of_error};
 pub use following::{Followed, follow_log};
 pub use judging::report_on_log;

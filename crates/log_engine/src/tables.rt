@@ -30,6 +30,15 @@ impl<'a> Tables<'a> {
     }
 }
 
+/// The line of the event at a place of a log, or 0 where there is none.
+pub(crate) fn line_at(reader: &EventReader, place: u32) -> u32 {
+    if place < reader.log().events() {
+        reader.line_of(place as usize)
+    } else {
+        0
+    }
+}
+
 // The name of this number, or the number itself where there is none.
 fn name_in(alloc: Global, names: &Names, number: u32) -> Result<String, AllocError> {
     if (number as usize) < names.len() {
@@ -59,11 +68,7 @@ impl LogTables for Tables<'_> {
     }
 
     fn line(&self, place: u32) -> u64 {
-        if place < self.reader.log().events() {
-            u64::from(self.reader.line_of(place as usize))
-        } else {
-            0
-        }
+        u64::from(line_at(self.reader, place))
     }
 
     fn client_name(&self, alloc: Global, client: u32) -> Result<String, AllocError> {

@@ -1,0 +1,55 @@
+//! The lines of a log on which the calls of its operations begin.
+
+ghost use Rattle.std.specs.Prelude.{Some, IfErr};
+ghost use Rattle.log_engine.specs.LogAnswers.{IsLogError};
+
+use crate::failure::LogError;
+use crate::reading::read_log;
+use crate::tables::line_at;
+use event_log::LoggedCall;
+use event_reader::EventReader;
+use std::alloc::{AllocError, Global};
+
+/// The lines of a log on which the calls of its operations begin, as JSON and a line feed: for each session of its history a list with a
+/// line for each operation. Lines are counted from 1.
+///
+/// A lost write that was read is three operations with one line. Fails with the first line that is refused, and for want of memory.
+/// O(n log n) for n calls, and the cost of reading. Which lines are named is tested, not proved.
+pub fn call_lines(alloc: Global, log: &[u8]) -> Result<String, LogError>
+    ensures { IfErr result (IsLogError (Some log.now)) }
+{
+    let mut rest = log;
+    let whole = read_log(alloc, &mut rest)?;
+    Ok(lines_text(alloc, &whole.reader)?)
+}
+
+fn lines_text(alloc: Global, reader: &EventReader) -> Result<String, AllocError> {
+    let sessions = reader.log().origins(alloc)?;
+    let mut text = String::from_str(alloc, "[")?;
+    for session in 0..sessions.len() {
+        if session > 0 {
+            text.push_str(",")?;
+        }
+        push_lines(alloc, &mut text, reader, sessions.get(session))?;
+    }
+    text.push_str("]\n")?;
+    Ok(text)
+}
+
+// Puts the list of the lines of calls after a text.
+fn push_lines(
+    alloc: Global,
+    text: &mut String,
+    reader: &EventReader,
+    calls: &[LoggedCall],
+) -> Result<(), AllocError> {
+    text.push_str("[")?;
+    for place in 0..calls.len() {
+        if place > 0 {
+            text.push_str(",")?;
+        }
+        let line = line_at(reader, calls[place].place());
+        text.push_str(&format!(in alloc; "{line}")?)?;
+    }
+    text.push_str("]")
+}
