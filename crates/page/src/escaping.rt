@@ -5,10 +5,10 @@ ghost use Rattle.page.specs.Pages.{escaped, shown_byte};
 
 use std::alloc::AllocError;
 
-/// Puts a JSON text behind a page, with each `<` as its escape in a JSON string.
+/// Appends a JSON text to a page, and writes each `<` as its escape in a JSON string.
 ///
-/// In a JSON text `<` stands in strings alone, so the text means what it meant; and no byte of it is a `<`, so that it ends no element and
-/// begins none: `escaped_text_begins_no_markup` in [`laws`](crate::laws). Fails for want of memory alone. O(n) for n bytes.
+/// A JSON text has `<` in its strings alone, so its meaning stays the same. What is appended has no `<`, so it begins no element and ends
+/// none: `escaped_text_begins_no_markup` in [`laws`](crate::laws). Fails only when memory is refused. O(n) for n bytes.
 #[tactic(auto, using(crate::proofs::Escapes::escaped_more))]
 pub(crate) fn push_escaped(page: &mut Vec<u8>, text: &[u8]) -> Result<(), AllocError>
     ensures { OnOk result (page.new.items ≡ page.old.items ++ escaped text.now) }
@@ -19,7 +19,7 @@ pub(crate) fn push_escaped(page: &mut Vec<u8>, text: &[u8]) -> Result<(), AllocE
     Ok(())
 }
 
-// Puts a byte of a JSON text behind a page.
+// Appends a byte of a JSON text to a page, or the escape of `<`.
 fn push_shown(page: &mut Vec<u8>, byte: u8) -> Result<(), AllocError>
     ensures { OnOk result (page.new.items ≡ page.old.items ++ shown_byte byte) }
 {

@@ -3,7 +3,7 @@
 ghost use Rattle.std.specs.Prelude.{ℕ, List};
 ghost use Rattle.page.specs.Pages.{BeginsNoMarkup, escaped};
 
-/// No `<` stands in an escaped text, so that it ends no element and begins none. The function does nothing: what it ensures is the law.
+/// An escaped text has no `<`, so it begins no element and ends none. The function does nothing: what it ensures is the law.
 #[tactic(auto, using(crate::proofs::Escapes::escaped_begins_no_markup))]
 pub fn escaped_text_begins_no_markup()
     ensures { (text : List ℕ) → BeginsNoMarkup (escaped text) }
