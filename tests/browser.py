@@ -15,7 +15,8 @@ NAMES = ("chromium", "chromium-browser", "google-chrome", "google-chrome-stable"
 INSTALL = "apt-get install -y chromium"
 WORDS = ("--headless=new", "--no-sandbox", "--disable-gpu", "--no-first-run", "--disable-extensions", "--disable-background-networking")
 MOST_SECONDS = 60
-CODES = {"Enter": 13, "Escape": 27, "Tab": 9, "ArrowUp": 38, "ArrowDown": 40, "ArrowLeft": 37, "ArrowRight": 39, "Home": 36, "End": 35}
+CODES = {"Enter": 13, "Escape": 27, "Tab": 9, "ArrowUp": 38, "ArrowDown": 40, "ArrowLeft": 37, "ArrowRight": 39, "Home": 36, "End": 35,
+         "PageUp": 33, "PageDown": 34}  # fmt: skip
 
 
 def program():
@@ -145,6 +146,46 @@ class Browser:
         place = {"x": box[0] + (box[2] / 2 if x is None else x), "y": box[1] + (box[3] / 2 if y is None else y)}
         for kind in ("mouseMoved", "mousePressed", "mouseReleased"):
             self.ask("Input.dispatchMouseEvent", type=kind, button="left", clickCount=1, **place)
+        self.settle()
+
+    def mouse(self, kind, x, y, **more):
+        """One event of the mouse, at a place in the window."""
+        self.ask("Input.dispatchMouseEvent", type=kind, x=x, y=y, **more)
+
+    def double_click(self, x, y):
+        self.mouse("mouseMoved", x, y)
+        for count in (1, 2):
+            for kind in ("mousePressed", "mouseReleased"):
+                self.mouse(kind, x, y, button="left", clickCount=count)
+        self.settle()
+
+    def drag(self, begin, end, steps=4):
+        """Presses the mouse at a place of the window, moves it in steps to another, and releases it there."""
+        self.mouse("mouseMoved", *begin)
+        self.mouse("mousePressed", *begin, button="left", clickCount=1)
+        for step in range(1, steps + 1):
+            place = [one + (other - one) * step / steps for one, other in zip(begin, end)]
+            self.mouse("mouseMoved", *place, button="left", buttons=1)
+        self.mouse("mouseReleased", *end, button="left", clickCount=1)
+        self.settle()
+
+    def wheel(self, x, y, across=0, down=0, ctrl=False):
+        """Turns the wheel at a place of the window, with or without the key Ctrl."""
+        self.mouse("mouseMoved", x, y)
+        self.mouse("mouseWheel", x, y, deltaX=across, deltaY=down, modifiers=2 if ctrl else 0)
+        self.settle()
+
+    def fingers(self, ways, steps=6):
+        """Puts fingers down and moves them; each way has the place where a finger begins and where it ends."""
+        self.ask("Emulation.setTouchEmulationEnabled", enabled=True, maxTouchPoints=5)
+        for step in range(steps + 1):
+            points = [
+                {"x": begin[0] + (end[0] - begin[0]) * step / steps, "y": begin[1] + (end[1] - begin[1]) * step / steps, "id": number}
+                for number, (begin, end) in enumerate(ways)
+            ]
+            self.ask("Input.dispatchTouchEvent", type="touchMove" if step else "touchStart", touchPoints=points)
+        self.ask("Input.dispatchTouchEvent", type="touchEnd", touchPoints=[])
+        self.ask("Emulation.setTouchEmulationEnabled", enabled=False)
         self.settle()
 
     def press(self, key, text=""):

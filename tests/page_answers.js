@@ -3,14 +3,14 @@
 'use strict';
 const fs = require('fs'), vm = require('vm');
 
-const WANTED = ['readHistory', 'readJson', 'nameAll', 'gatherFaults', 'stepsOf', 'toldLines', 'faultSentence', 'operationWords', 'layOut',
+const WANTED = ['readHistory', 'readJson', 'nameAll', 'gatherFaults', 'stepsOf', 'wordLines', 'faultSentence', 'operationWords', 'layOut',
   'placeRows', 'plainText', 'placeOf', 'wayBetween', 'guaranteeOf', 'operationPieces', 'nameShown', 'jsonShown', 'cut'];
 const WIDTHS = [1180, 330], MOST_FAULTS = 40;
 
 function answersOf(made, [history, report, names]) {
-  const run = made.readHistory(history), told = made.readJson(report), named = made.nameAll(run, made.readJson(names));
-  const {verdicts, faults} = made.gatherFaults(run, told), place = op => op < 0 ? null : made.placeOf(run, op).split('.').map(Number);
-  const words = fault => made.toldLines(run, named, fault, made.stepsOf(run, fault)).map(line => made.plainText([line]));
+  const run = made.readHistory(history), said = made.readJson(report), named = made.nameAll(run, made.readJson(names));
+  const {verdicts, faults} = made.gatherFaults(run, said), place = op => op < 0 ? null : made.placeOf(run, op).split('.').map(Number);
+  const words = fault => made.wordLines(run, named, fault, made.stepsOf(run, fault)).map(line => made.plainText([line]));
   const operations = Array.from({length: Math.min(run.count, 400)}, (_, op) => made.plainText([made.operationWords(run, named, op)]));
   return {
     values: run.values.tokens.map(String), keys: run.keys.tokens.map(String), operations,

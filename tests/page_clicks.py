@@ -5,6 +5,7 @@ import pathlib
 import random
 
 import page_inputs
+import page_views
 import random_memories
 from streams import is_unproved
 
@@ -13,10 +14,16 @@ HEADS = {"no": "Not causally consistent", "yes": "Causally consistent", "unknown
 MADE = "img, image, iframe, object, embed, base, form, link, [onerror], [onload], [onclick], [style], [src]"
 STATIC = f"document.querySelectorAll('{MADE}').length"
 CARDS = "[...document.querySelectorAll('#cards li')].map(card => card.className + ' ' + card.querySelector('code').textContent)"
-REACHING = """[...document.querySelectorAll('#picture text')].filter(text => {
-  const box = text.getBBox(), whole = text.ownerSVGElement;
-  return box.x < -1 || box.x + box.width > whole.width.baseVal.value + 1 || box.y + box.height > whole.height.baseVal.value + 1;
-}).length"""
+REACHING = """(() => {
+  dispatchEvent(new Event('beforeprint'));   // on paper the whole picture is shown
+  const many = [...document.querySelectorAll('#picture text')].filter(text => {
+    const box = text.getBBox(), whole = text.ownerSVGElement;
+    return box.x < -1 || box.x + box.width > whole.width.baseVal.value + 1 || box.y + box.height > whole.height.baseVal.value + 1;
+  }).length;
+  dispatchEvent(new Event('afterprint'));
+  return many;
+})()"""
+ZOOMABLE = "document.getElementById('picture-buttons').checkVisibility()"
 SCRIPTS = "document.querySelectorAll('script').length"
 INJECT = """(() => {
   const script = document.createElement('script'); script.textContent = 'window.hit = 1'; document.body.append(script);
@@ -71,10 +78,11 @@ def open_faults(window, room, page, widths):
         is_drawn = any(answer == "no" and isinstance(shown, list) for _, answer, shown in reasons)
         yield f"{name}: the picture", not is_drawn or window.run("document.querySelectorAll('#picture svg .box').length") > 0
         yield f"{name}: texts reach out of the picture", window.run(REACHING) == 0
+        yield f"{name}: the buttons of the picture", window.run(ZOOMABLE) == window.run("document.querySelector('#picture svg') !== null")
         words = page.words.splitlines()
         if is_drawn and not page.is_log() and not any("\u2026" in line for line in words):
-            told = window.run("[...document.querySelectorAll('#told-lines li')].map(line => line.textContent)")
-            yield f"{name}: its words {told}", bool(told) and all(f"  {line}" in words for line in told)
+            found = window.run("[...document.querySelectorAll('#word-lines li')].map(line => line.textContent)")
+            yield f"{name}: its words {found}", bool(found) and all(f"  {line}" in words for line in found)
 
 
 def large(rng):
@@ -158,10 +166,10 @@ def run_faults(window):
     """Whether the run answers clicks, keys and buttons."""
     reach = lambda: text_of(window, "#range")
     whole = reach()
-    window.click("#closer")
+    window.click("#run-closer")
     closer = reach()
     yield f"the run is shown closer: {closer}", closer != whole
-    window.click("#all")
+    window.click("#run-all")
     yield f"the whole run again: {reach()}", reach() == whole
     window.click("#map", 300, 10)
     around = text_of(window, "#operations-title")
@@ -257,7 +265,7 @@ TIMED = """(async what => {
   if (what === 'a search') {
     search.value = '77';
     search.dispatchEvent(new KeyboardEvent('keydown', {key: 'Enter'}));
-  } else document.getElementById(what === 'another fault' ? 'later' : 'closer').click();
+  } else document.getElementById(what === 'another fault' ? 'later' : 'run-closer').click();
   await new Promise(done => requestAnimationFrame(() => requestAnimationFrame(done)));
   return performance.now() - begun;
 })(%s)"""
@@ -301,4 +309,5 @@ def faults(window, room, examples, others, program, is_long):
     for number, page in enumerate(others):
         yield from open_faults(window, room, page, ((WIDE, NARROW)[number % 2],))
     yield from used_faults(window, room, program)
+    yield from page_views.faults(window, room, program)
     yield from hostile_faults(window, room, program)

@@ -14,7 +14,7 @@ import re
 import sys
 
 SOURCES = pathlib.Path(__file__).resolve().parent.parent / "crates" / "page" / "src"
-FILES = ("frame.rt", "style.rt", "script.rt", "drawing.rt", "hashes.rt")
+FILES = ("frame.rt", "style.rt", "script.rt", "zooming.rt", "drawing.rt", "hashes.rt")
 CONSTANT = re.compile(r'^pub const ([A-Z_]+): &str = r#"(.*?)"#;$', re.MULTILINE | re.DOTALL)
 POLICY = re.compile(r"(script-src ')[^']*(';\nstyle-src ')[^']*(')")
 HASHES = re.compile(r'((?:SCRIPT|STYLE)_HASH: &str = r#")[^"]*(")')
@@ -27,7 +27,7 @@ def pieces():
 
 def script_of(parts):
     """The one script of a page."""
-    return parts["SCRIPT"] + parts["DRAWING"]
+    return parts["SCRIPT"] + parts["ZOOMING"] + parts["DRAWING"]
 
 
 def hash_of(text):

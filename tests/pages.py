@@ -6,9 +6,11 @@
 - The pieces: they are ASCII, nothing in them ends an element, the hashes in the policy are those of the style and the script, and the
   script has no call that would make markup of a text.
 - Node: of the histories of the tables of crates/cases and of COUNT random ones, each number is kept exactly, the faults are those of
-  `explain --all`, the words are those of `explain`, each step is an edge, and in the picture no link crosses a box (page_model.py).
+  `explain --all`, the words are those of `explain`, each step is an edge, and in the picture no link crosses a box (page_model.py). Views
+  zoom and move by a plain rule (page_views.py).
 - Chromium: the pages of the examples open without a message, at 1,280 and 390 pixels; clicks, keys, the search, filters and print work;
-  names that are markup run nothing and make no element (page_clicks.py).
+  names that are markup run nothing and make no element (page_clicks.py). The picture of a fault and the run are zoomed and moved by wheel,
+  drag, fingers, keys and buttons (page_views.py).
 
 The pages are those that the program writes, and have to be the pieces joined by page_parts.py. What the machine lacks is named as skipped.
 """
@@ -26,6 +28,7 @@ import page_clicks
 import page_inputs
 import page_model
 import page_parts
+import page_views
 from command_words import with_program
 from counting import end
 
@@ -42,7 +45,7 @@ def piece_faults():
     yield "the hash of the script", parts["SCRIPT_HASH"] == script and f"script-src '{script}'" in parts["OPENING"]
     yield "the hash of the style", parts["STYLE_HASH"] == style and f"style-src '{style}'" in parts["OPENING"]
     yield "the policy", "content=\"default-src 'none'; base-uri 'none'; form-action 'none';\n" in parts["OPENING"]
-    code = [parts[name].lower() for name in ("STYLE", "SCRIPT", "DRAWING")]
+    code = [parts[name].lower() for name in ("STYLE", "SCRIPT", "ZOOMING", "DRAWING")]
     yield "what would end an element", not any(mark in text for text in code for mark in ENDS)
     yield "what would end a literal", not any('"#' in text for text in parts.values())
     yield "what would make markup of a text", not FORBIDDEN.search(page_parts.script_of(parts))
@@ -87,6 +90,7 @@ def main():
     add(same_pages([*examples, *randoms]))
     if shutil.which("node"):
         add(page_model.faults([*examples, *tables, *randoms]))
+        add(page_views.model_faults(rng))
     else:
         skipped += 1
         print(f"the script by Node: skipped: {NODE}")

@@ -1,4 +1,4 @@
--- Texts that are put one behind the other.
+-- Texts that are appended one after the other.
 use Rattle.std.proofs.Common.{◌≡◌, ℕ, List, ◌++◌, ap, ◌∙◌, append_assoc}
 
 pub two : (p q r a b : List ℕ) → q ≡ p ++ a → r ≡ q ++ b → r ≡ p ++ (a ++ b)
@@ -9,6 +9,10 @@ three p q r s a b c first second third = two p q s a (b ++ c) first (two q r s b
 
 pub four : (p q r s t a b c d : List ℕ) → q ≡ p ++ a → r ≡ q ++ b → s ≡ r ++ c → t ≡ s ++ d → t ≡ p ++ (a ++ (b ++ (c ++ d)))
 four p q r s t a b c d first second third fourth = two p q t a (b ++ (c ++ d)) first (three q r s t b c d second third fourth)
+
+pub five : (p q r s t u a b c d e : List ℕ) → q ≡ p ++ a → r ≡ q ++ b → s ≡ r ++ c → t ≡ s ++ d → u ≡ t ++ e → u ≡ p ++ (a ++ (b ++ (c ++ (d ++ e))))
+five p q r s t u a b c d e first second third fourth fifth =
+    two p q u a (b ++ (c ++ (d ++ e))) first (four q r s t u b c d e second third fourth fifth)
 
 pub seven : (p q r s t u v w a b c d e f g : List ℕ) → q ≡ p ++ a → r ≡ q ++ b → s ≡ r ++ c → t ≡ s ++ d → u ≡ t ++ e → v ≡ u ++ f → w ≡ v ++ g
     → w ≡ p ++ (a ++ (b ++ (c ++ (d ++ (e ++ (f ++ g))))))

@@ -5,6 +5,7 @@ use Rattle.page.specs.declared.drawing.TheConstants.{DRAWING}
 use Rattle.page.specs.declared.frame.TheConstants.{BEFORE_NAMES, BEFORE_REPORT, BEFORE_SCRIPT, BODY, ENDING, OPENING}
 use Rattle.page.specs.declared.script.TheConstants.{SCRIPT}
 use Rattle.page.specs.declared.style.TheConstants.{STYLE}
+use Rattle.page.specs.declared.zooming.TheConstants.{ZOOMING}
 
 -- a byte of a JSON text in a page: < as its escape in a JSON string, and any other as it is
 abbrev pub shown_byte : ℕ → List ℕ
@@ -14,12 +15,12 @@ shown_byte b = if b == 0x3C then codes "\\u003c" else b ∷ []
 abbrev pub escaped : List ℕ → List ℕ
 escaped = flat_map shown_byte
 
--- what stands before the history, and behind the names
+-- what comes before the history, and after the names
 unfoldable pub head : List ℕ
 head = OPENING.now ++ (STYLE.now ++ BODY.now)
 
 unfoldable pub tail : List ℕ
-tail = BEFORE_SCRIPT.now ++ (SCRIPT.now ++ (DRAWING.now ++ ENDING.now))
+tail = BEFORE_SCRIPT.now ++ (SCRIPT.now ++ (ZOOMING.now ++ (DRAWING.now ++ ENDING.now)))
 
 -- the page of a history, a report and names
 unfoldable pub page : List ℕ → List ℕ → List ℕ → List ℕ

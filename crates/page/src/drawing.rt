@@ -1,6 +1,6 @@
-//! The second part of the page's script: it builds the elements, draws the pictures, and answers clicks and keys.
+//! The third part of the page's script: it builds the elements, draws the pictures, and answers clicks and keys.
 
-/// The second part of the script: ASCII, with nothing that ends a script element.
+/// The third part of the script: ASCII, with nothing that ends a script element.
 pub const DRAWING: &str = r#"
 // ---- Elements are made of text alone: no name of the input can become a tag.
 const $ = id => document.getElementById(id);
@@ -109,7 +109,7 @@ function fitted(text, look, room) {
   }
   return cut(text, low);
 }
-const toldOf = fault => fault.told || (fault.told = stepsOf(run, fault));   // worked out once for each fault
+const stepsFor = fault => fault.steps || (fault.steps = stepsOf(run, fault));   // computed once for each fault
 function newerThan({missed}) {
   const value = valueOf(run, missed);
   return (names.isNothing(value) ? 'the delete' : apart(names.value(value))) + ' or newer';
@@ -124,8 +124,8 @@ function linesOf(fault, {op}, isWide) {   // the lines of a box: how each looks,
   return isWide ? lines : [['small', placeText(op) + ' ' + apart(names.session(run.session[op]))], ...lines];
 }
 function drawPicture(fault) {
-  const told = toldOf(fault), width = Math.max(270, Math.min(1180, $('fault-shown').clientWidth));
-  const plan = layOut(run, fault, told, width);
+  const steps = stepsFor(fault), room = $('fault-shown').clientWidth, width = Math.max(270, Math.min(1180, room));
+  const plan = layOut(run, fault, steps, width);
   const side = plan.isWide ? 0 : plan.across + 10, across = plan.isWide ? plan.across : side + Math.min(320, Math.max(190, width - side));
   const texts = [], shapes = [], lines = [], head = plan.isWide ? 50 : 12;
   const write = (x, y, look, text, room, anchor) => {
@@ -143,12 +143,32 @@ function drawPicture(fault) {
   for (const link of plan.links) lines.push({how: link.how, path: linkPath(link, plan.box)});
   const rails = plan.lanes.map((session, lane) => laneHead(plan, session, lane, head, low, write));
   const sentence = plainText([faultSentence(run, names, fault)]);
-  put('picture', drawn('svg', {width: across, height: low, viewBox: `0 0 ${across} ${low}`, role: 'img', 'aria-label': sentence},
-    drawn('defs', null, HEADS.map(arrowHead)), rails, lines.map(linkLine), shapes, texts));
-  showPictureLegend(plan, lines, told);
-  const words = toldLines(run, names, fault, told);
-  put('told-lines', words.map((line, at) => make('li', {class: at === words.length - 1 && 'end'}, line)));
-  $('told').open = across + 300 < $('fault-shown').clientWidth || across > width;
+  put('picture', drawn('svg', {role: 'img', 'aria-label': sentence}, drawn('defs', null, HEADS.map(arrowHead)), rails, lines.map(linkLine),
+    shapes, texts));
+  viewPicture(across, low, room);
+  showPictureLegend(plan, lines, steps);
+  const words = wordLines(run, names, fault, steps);
+  put('word-lines', words.map((line, at) => make('li', {class: at === words.length - 1 && 'end'}, line)));
+  $('words').open = across + 300 < room || across > width;
+}
+// The picture is whole at first, unless it would be too small to read. Then its right side is shown, which has the words of rails.
+// On paper the picture is always whole.
+const SMALLEST = .8, CLOSEST = 8, pictureView = new View(showPicture, middleInSight);
+function viewPicture(across, low, room) {
+  const wide = Math.min(across, room), fit = wide / across, tall = low * Math.max(fit, SMALLEST);
+  pictureView.stretches = [new Stretch(across, wide / CLOSEST, wide), new Stretch(tall / fit, tall / CLOSEST, tall, low)];
+  if (fit < SMALLEST) pictureView.zoom(fit / SMALLEST, [wide, 0]); else showPicture();
+}
+function middleInSight() {   // a tall picture may reach out of the window
+  const {top, bottom, width} = $('picture').getBoundingClientRect(), from = Math.max(0, top), to = Math.min(innerHeight, bottom);
+  return from < to ? [width / 2, (from + to) / 2 - top] : null;
+}
+function showPicture() {
+  const [x, y] = pictureView.stretches, isPaper = document.documentElement.classList.contains('paper');
+  const [left, top, across, low] = isPaper ? [0, 0, x.end, y.end] : [x.from, y.from, x.many, y.many];
+  filled($('picture').firstChild, {viewBox: `${left} ${top} ${across} ${low}`, width: isPaper ? across : x.pixels,
+    height: isPaper ? low : y.pixels}, []);
+  $('picture').className = !y.isFixed ? 'free' : x.isFixed ? '' : 'sideways';
 }
 function boxOf(fault, {op, x, y, tall}, box) {
   const look = op === fault.read ? ' wrong' : op === fault.missed ? ' missed' : operationPieces(run, names, op).isOpen ? ' open' : '';
@@ -157,15 +177,15 @@ function boxOf(fault, {op, x, y, tall}, box) {
 function writeBox({isWide, box}, {op, x, y, lines}, side, across, write) {
   const begin = isWide ? x - box / 2 + 10 : side, room = isWide ? box - 20 : across - side - 6;
   const place = isWide ? 10 + 7 * placeText(op).length : 0, isTight = lines.length > 1 && widthOf(lines[0][1], 'op') > room - place;
-  const beside = isTight ? 1 : 0;   // the line at whose right end the place stands
-  if (isWide) write(x + box / 2 - 10, y + 19 + LINE * beside, 'small', placeText(op), 80, 'end');
-  lines.forEach(([look, text], at) => write(begin, y + 19 + LINE * at, look, text, at === beside ? room - place : room));
+  const shared = isTight ? 1 : 0;   // the place is at the right end of this line
+  if (isWide) write(x + box / 2 - 10, y + 19 + LINE * shared, 'small', placeText(op), 80, 'end');
+  lines.forEach(([look, text], at) => write(begin, y + 19 + LINE * at, look, text, at === shared ? room - place : room));
 }
-function showPictureLegend(plan, lines, told) {
+function showPictureLegend(plan, lines, steps) {   // only what this picture has
   const sample = how => drawn('svg', {width: 34, height: 12, 'aria-hidden': 'true'}, linkLine({how, path: 'M1 6H32'}));
   put('legend', HEADS.filter(how => lines.some(line => line.how === how)).map(how => make('li', null, sample(how), MEANS[how])),
     [...plan.nodes.values()].some(node => node.fold) && make('li', null, make('span', {class: 'pill'}, 'n'), 'operations left out'),
-    told.leftOut > 0 && make('li', null, plural(told.leftOut, 'step') + ' left out'));
+    steps.leftOut > 0 && make('li', null, plural(steps.leftOut, 'step') + ' left out'));
 }
 function foldMark(node, before, isWide) {
   const y = before.y + before.tall + (node.y - before.y - before.tall) / 2, half = isWide ? 58 : 15;
@@ -254,7 +274,7 @@ function step(by) {
   if (list.length) choose(list[place < 0 ? 0 : (place + by + list.length) % list.length], true);
 }
 
-// ---- What stands in the way of a verdict, where no fault is shown
+// ---- Why a verdict is undecided, or has no picture
 function showUnknown() {
   const verdict = verdicts.find(({answer, fault}) => answer !== 'yes' && !fault);
   if (!verdict || faults.length) return;
@@ -272,11 +292,11 @@ function showUnknown() {
   }
   const stops = [...stopped].map(([op, titles]) => make('li', null, capital(andJoined(titles)) + ': ', placeText(op) + ' ',
     operationWords(run, names, op), ', which the certificate that was made does not explain'));
-  put('told-lines', same, run.repeated.length > 20 && make('li', null, plural(run.repeated.length - 20, 'more value')), stops);
-  $('told').open = true;
-  put('told-head', 'What stands in the way');
-  $('told').hidden = !same.length && !stops.length;
-  $('shape').hidden = true;
+  put('word-lines', same, run.repeated.length > 20 && make('li', null, plural(run.repeated.length - 20, 'more value')), stops);
+  $('words').open = true;
+  put('words-head', 'What prevents a verdict');
+  $('words').hidden = !same.length && !stops.length;
+  $('shape').hidden = $('picture-buttons').hidden = true;
 }
 
 // ---- The whole run: a row for each session, its operations from left to right
@@ -284,11 +304,13 @@ const map = $('map'), ROWS = Math.max(1, Math.min(run.sessions, 400)), AXIS = 20
 const ROW = run.sessions <= 14 ? 26 : Math.max(run.sessions <= 42 ? 13 : 4, Math.min(20, Math.floor(440 / ROWS)));
 const rowOf = session => Math.floor(session * ROWS / run.sessions);
 const sizeOf = session => run.base[session + 1] - run.base[session];
-let longest = 1, span = 0, left = 0, right = 8, measured = 0, hits = [], marked = NONE, cursor = NONE, isDue = false, view = null;
+let longest = 1, left = 0, right = 8, measured = 0, hits = [], marked = NONE, cursor = NONE, isDue = false;
 for (let session = 0; session < run.sessions; session++) longest = Math.max(longest, sizeOf(session));
-const perPixel = () => (view.to - view.from) / span, pixelOf = place => left + PAD + (place - view.from) / perPixel();
-const placeAt = pixel => view.from + (pixel - left - PAD) * perPixel(), whole = () => Math.max(longest, span / 150);
+const seen = new Stretch(1, 4, 1), isSeen = index => index >= seen.from && index < seen.to, pixelOf = place => seen.pixelOf(place);
 const redraw = () => { if (!isDue) { isDue = true; requestAnimationFrame(() => { isDue = false; drawMap(); }); } };
+const cursorSpot = () => cursor >= 0 && isSeen(indexOf(run, cursor)) ? [pixelOf(indexOf(run, cursor))] : null;
+const runView = new View(redraw, cursorSpot);
+runView.stretches = [seen];
 function colours() {
   const style = getComputedStyle(document.documentElement), known = {};
   return name => known[name] || (known[name] = style.getPropertyValue('--' + name).trim());
@@ -303,9 +325,9 @@ function sizeMap(c) {   // the canvas in the pixels of the screen, and the margi
   if (measured !== wide) left = Math.min(widestName(c, wide), wide * .3);
   measured = wide;
   right = isHurt.size ? 46 : 8;
-  span = Math.max(50, wide - left - right - 2 * PAD);
-  if (!view) view = {from: 0, to: whole()};
-  if (view.isWhole !== false) view.to = whole();
+  seen.begin = left + PAD;
+  seen.pixels = Math.max(50, wide - left - right - 2 * PAD);
+  seen.resize(Math.max(longest, seen.pixels / 150));
   return wide;
 }
 function widestName(c, wide) {
@@ -313,9 +335,9 @@ function widestName(c, wide) {
   return widths.reduce((most, width) => Math.max(most, 14 + width), 40);
 }
 const rowName = (session, wide) => apart(cut(names.session(session), wide < 600 ? 12 : 24));
-const shownOf = session => [Math.max(0, Math.floor(view.from)), Math.min(sizeOf(session), Math.ceil(view.to))];
+const shownOf = session => [Math.max(0, Math.floor(seen.from)), Math.min(sizeOf(session), Math.ceil(seen.to))];
 function drawMap() {
-  const c = map.getContext('2d'), colour = colours(), wide = sizeMap(c), low = ROWS * ROW, each = 1 / perPixel();
+  const c = map.getContext('2d'), colour = colours(), wide = sizeMap(c), low = ROWS * ROW, each = 1 / seen.perPixel;
   c.fillStyle = colour('track');
   c.fillRect(left, 0, wide - left - right, low);
   c.save();
@@ -373,10 +395,10 @@ function fittedOn(c, text, room) {
 }
 // Many: an image with a pixel for each row and each two pixels, the stronger the more there are.
 function drawDense(c, shade, weakest, visit) {
-  const bins = Math.ceil(span / 2) + 1, many = new Uint32Array(ROWS * bins), per = 1 / perPixel() / 2;
+  const bins = Math.ceil(seen.pixels / 2) + 1, many = new Uint32Array(ROWS * bins), per = 1 / seen.perPixel / 2, {from} = seen;
   let top = 1;
   visit((session, index) => {
-    const bin = rowOf(session) * bins + Math.max(0, Math.min(bins - 1, Math.floor((index - view.from) * per)));
+    const bin = rowOf(session) * bins + Math.max(0, Math.min(bins - 1, Math.floor((index - from) * per)));
     if (++many[bin] > top) top = many[bin];
   });
   const image = new ImageData(bins, ROWS), small = document.createElement('canvas'), hex = parseInt(shade.slice(1), 16);
@@ -396,14 +418,14 @@ function visitShown(visit) {
 const visitAll = ops => visit => {
   for (const op of ops) {
     const index = indexOf(run, op);
-    if (index >= view.from && index < view.to) visit(run.session[op], index);
+    if (isSeen(index)) visit(run.session[op], index);
   }
 };
 function drawMarks(c, colour, each, isEach) {
   const done = new Set(), tall = ROW - (ROW > 6 ? 2 : 1);
   const tick = (op, shade, across) => {   // one for each pixel of a row is enough
     const x = Math.round(pixelOf(indexOf(run, op) + Math.min(.5, 4 / each))), row = rowOf(run.session[op]), spot = shade + (x * ROWS + row);
-    if (x < left - 4 || x > left + span + 20 || done.has(spot)) return;
+    if (x < left - 4 || x > left + seen.pixels + 20 || done.has(spot)) return;
     done.add(spot);
     c.fillRect(x - across / 2, row * ROW, across, tall);
   };
@@ -425,7 +447,7 @@ function drawRings(c, colour, each) {   // around the operations of the fault, w
     const x = pixelOf(indexOf(run, op)), across = Math.max(10, each - 2);
     c.strokeRect(x - (each < 10 ? 5 : 0), rowOf(run.session[op]) * ROW, across, tall);
   };
-  for (const op of current ? opsOf(current, toldOf(current)) : []) ring(op, op === current.read ? 'wrong' : 'text', 2);
+  for (const op of current ? opsOf(current, stepsFor(current)) : []) ring(op, op === current.read ? 'wrong' : 'text', 2);
   for (const {stopped} of verdicts) if (stopped >= 0) ring(stopped, 'open', 2);
   if (marked >= 0 && marked !== (current || {}).read) ring(marked, 'accent', 3);
   if (cursor >= 0 && document.activeElement === map) ring(cursor, 'accent', 3);
@@ -443,32 +465,26 @@ function drawMargins(c, colour, wide, low) {
   c.fillStyle = colour('wrong');
   const counted = ROW > 9 ? isHurt : [];
   for (const [session, many] of counted) c.fillText('\u2717 ' + number(many), wide - right + 8, (rowOf(session) + .5) * ROW - 1);
-  const raw = (view.to - view.from) * 80 / span, ten = 10 ** Math.floor(Math.log10(raw));
+  const raw = seen.perPixel * 80, ten = 10 ** Math.floor(Math.log10(raw));
   const unit = Math.max(1, [1, 2, 5, 10].find(many => many * ten >= raw) * ten);
   c.fillStyle = colour('muted');
-  for (let place = Math.ceil(view.from / unit) * unit; place < Math.min(view.to, longest); place += unit) {
+  for (let place = Math.ceil(seen.from / unit) * unit; place < Math.min(seen.to, longest); place += unit) {
     const x = pixelOf(place);
     c.fillRect(x, low, 1, 4);
     if (x < wide - right - 14) c.fillText(number(place), x, low + 12);
   }
-  const last = Math.min(longest, Math.ceil(view.to)), from = Math.floor(view.from);
+  const last = Math.min(longest, Math.ceil(seen.to)), from = Math.floor(seen.from);
   const to = number(Math.max(from, last - 1)), all = last - from < longest ? `, of ${number(longest)}` : '';
   put('range', run.count ? `Operations ${number(from)} to ${to} of each ${noun}${all}` : 'No operations');
 }
-function look(from, to) {
-  const all = whole(), many = Math.max(Math.min(4, all), Math.min(all, to - from)), begin = Math.max(0, Math.min(all - many, from));
-  view = {from: begin, to: begin + many, isWhole: many >= all};
-  redraw();
-}
-const zoom = (by, place = (view.from + view.to) / 2) => look(place - (place - view.from) * by, place + (view.to - place) * by);
-const pan = by => look(view.from + by, view.to + by);
 function bringIn(op) {
   const index = indexOf(run, op);
-  if (index < view.from || index >= view.to - .5) pan(index - (view.from + view.to) / 2);
+  if (index < seen.from || index >= seen.to - .5) seen.move(index - seen.middle);
 }
-function opNear(pixel, row) {   // of the sessions of a row the operation there; one at fault within 6 pixels goes first
+const rowAt = pixel => Math.max(0, Math.min(ROWS - 1, Math.floor(pixel / ROW)));
+function opNear([pixel, y]) {   // of the sessions of a row the operation there; one at fault within 6 pixels goes first
   let best = NONE, far = Infinity;
-  const place = placeAt(pixel), near = 6 * perPixel(), first = Math.ceil(row * run.sessions / ROWS);
+  const row = rowAt(y), place = seen.placeAt(pixel), near = 6 * seen.perPixel, first = Math.ceil(row * run.sessions / ROWS);
   for (let session = first; session < run.sessions && rowOf(session) === row; session++) {
     if (!sizeOf(session)) continue;
     const offer = (index, away) => { if (away < far) { far = away; best = run.base[session] + index; } };
@@ -508,8 +524,8 @@ function rowFor(op) {
 }
 function listAround(op) {
   const session = run.session[op], first = Math.max(run.base[session], op - AROUND);
-  const behind = Math.min(run.base[session + 1], op + AROUND + 1);
-  const ops = Array.from({length: behind - first}, (_, more) => first + more);
+  const end = Math.min(run.base[session + 1], op + AROUND + 1);
+  const ops = Array.from({length: end - first}, (_, more) => first + more);
   marked = op;
   listOps(ops, ['Operations of ', sessionName(op, 40), ' around ' + placeText(op)]);
 }
@@ -558,41 +574,7 @@ function searchFor(text) {
   $('operations').scrollIntoView();
 }
 
-// ---- Pointer and keys
-function answerPointer() {
-  const held = new Map();
-  let moved = 0;
-  const spot = event => {
-    const box = map.getBoundingClientRect();
-    return {x: event.clientX - box.left, row: Math.max(0, Math.min(ROWS - 1, Math.floor((event.clientY - box.top) / ROW)))};
-  };
-  map.addEventListener('pointerdown', event => {
-    held.set(event.pointerId, spot(event).x);
-    moved = 0;
-    map.setPointerCapture(event.pointerId);
-  });
-  map.addEventListener('pointermove', event => {
-    const {x, row} = spot(event), before = held.get(event.pointerId), other = [...held].find(([id]) => id !== event.pointerId);
-    if (before === undefined) return hint(opNear(x, row));
-    held.set(event.pointerId, x);
-    moved += Math.abs(x - before);
-    if (other) zoom(Math.abs(before - other[1]) / Math.max(8, Math.abs(x - other[1])), placeAt((x + other[1]) / 2));
-    else if (moved > 4) pan((before - x) * perPixel());
-  });
-  map.addEventListener('pointerup', event => {
-    const {x, row} = spot(event);
-    if (held.size === 1 && moved <= 4) pick(opNear(x, row));
-    held.delete(event.pointerId);
-  });
-  map.addEventListener('pointercancel', event => held.delete(event.pointerId));
-  map.addEventListener('dblclick', event => zoom(.4, placeAt(spot(event).x)));
-  map.addEventListener('wheel', event => {
-    const isZoom = event.ctrlKey || event.metaKey;
-    if (!isZoom && !event.deltaX) return;
-    event.preventDefault();
-    if (isZoom) zoom(Math.exp(Math.sign(event.deltaY) * .25), placeAt(spot(event).x)); else pan(event.deltaX * perPixel());
-  }, {passive: false});
-}
+// ---- Clicks and keys
 function pick(op) {
   if (op < 0) return;
   cursor = op;
@@ -604,7 +586,7 @@ function pick(op) {
   redraw();
 }
 function moveCursor(sessions, places) {
-  if (cursor < 0) cursor = opNear(left + span / 2, 0);
+  if (cursor < 0) cursor = opNear([seen.pixelOf(seen.middle), 0]);
   if (cursor < 0) return;
   const session = run.session[cursor], index = indexOf(run, cursor);
   let next = session + sessions;
@@ -617,15 +599,19 @@ function moveCursor(sessions, places) {
   hint(cursor);
   redraw();
 }
-function answerMapKey(event) {
-  const far = Math.max(1, Math.round(8 * perPixel()));
-  const act = {ArrowLeft: () => moveCursor(0, -far), ArrowRight: () => moveCursor(0, far), ArrowUp: () => moveCursor(-1, 0),
-    ArrowDown: () => moveCursor(1, 0), '+': () => zoom(.5, cursor < 0 ? undefined : indexOf(run, cursor)), '=': () => zoom(.5),
-    '-': () => zoom(2), Home: () => look(0, whole()), Enter: () => pick(cursor), PageUp: () => pan((view.from - view.to) / 2),
-    PageDown: () => pan((view.to - view.from) / 2)}[event.key];
-  if (!act || event.ctrlKey || event.metaKey || event.altKey) return;
-  event.preventDefault();
-  act();
+function runKeys() {   // in the run the arrows move the cursor, and so the view
+  const far = () => Math.max(1, Math.round(8 * seen.perPixel));
+  return {ArrowLeft: () => moveCursor(0, -far()), ArrowRight: () => moveCursor(0, far()), ArrowUp: () => moveCursor(-1, 0),
+    ArrowDown: () => moveCursor(1, 0), Enter: () => pick(cursor)};
+}
+function answerViews() {
+  answerPointer(map, runView, {tap: spot => pick(opNear(spot)), hover: spot => hint(opNear(spot))});
+  answerPointer($('picture'), pictureView, {tap() {}, hover() {}});
+  for (const [element, name, view, keys] of [[map, 'run', runView, runKeys()], [$('picture'), 'picture', pictureView, {}]]) {
+    answerMouse(element, view);
+    answerViewKeys(element, view, keys);
+    answerViewButtons(name, view);
+  }
 }
 function answerListKey(event) {
   const items = [...$('fault-list').querySelectorAll('button')], place = items.indexOf(document.activeElement);
@@ -643,10 +629,8 @@ function answerKeys() {
     if (event.key === 'Enter') { clearTimeout(timer); search(); $('rows').querySelector('button')?.focus(); }
   });
   $('fault-list').addEventListener('keydown', answerListKey);
-  map.addEventListener('keydown', answerMapKey);
   for (const event of ['focus', 'blur']) map.addEventListener(event, redraw);
-  for (const [id, act] of [['earlier', () => step(-1)], ['later', () => step(1)], ['closer', () => zoom(.5)], ['wider', () => zoom(2)],
-    ['all', () => look(0, whole())]]) $(id).addEventListener('click', act);
+  for (const [id, act] of [['earlier', () => step(-1)], ['later', () => step(1)]]) $(id).addEventListener('click', act);
   document.addEventListener('keydown', event => {
     if (event.ctrlKey || event.metaKey || event.altKey || /^(INPUT|SELECT)$/.test(event.target.tagName)) return;
     const act = {'/': () => { event.preventDefault(); $('search').focus(); }, n: () => step(1), p: () => step(-1)}[event.key];
@@ -672,7 +656,7 @@ function start() {
   $('evidence').className = faults.length < 2 ? 'alone' : '';
   put('caution', caution());
   put('under', run.count > 0 && 'Click an operation to list what is around it.');
-  answerPointer();
+  answerViews();
   answerKeys();
   listFirst();
   choose((verdicts.find(({fault}) => fault) || {}).fault || faults[0]);
@@ -681,12 +665,19 @@ function start() {
   drawMap();
 }
 let width = innerWidth;
-const drawAgain = () => { if (current) drawPicture(current); drawMap(); };
 start();
-addEventListener('resize', () => { if (width !== innerWidth) { width = innerWidth; drawAgain(); } });
+addEventListener('resize', () => {
+  if (width === innerWidth) return;
+  width = innerWidth;
+  if (current) drawPicture(current);
+  drawMap();
+});
 matchMedia('(prefers-color-scheme: dark)').addEventListener('change', redraw);
-for (const [event, isPaper] of [['beforeprint', true], ['afterprint', false]])
-  addEventListener(event, () => { document.documentElement.classList.toggle('paper', isPaper); drawAgain(); });
+for (const [event, isPaper] of [['beforeprint', true], ['afterprint', false]]) addEventListener(event, () => {
+  document.documentElement.classList.toggle('paper', isPaper);
+  if (current) showPicture();
+  drawMap();
+});
 document.documentElement.dataset.ready = 'yes';
 })();
 "#;

@@ -1,9 +1,10 @@
 //! The static markup of the page, in pieces.
 //!
 //! A page is, in this order: `OPENING`, `STYLE`, `BODY`, the history, `BEFORE_REPORT`, the report, `BEFORE_NAMES`, the names,
-//! `BEFORE_SCRIPT`, `SCRIPT`, `DRAWING`, `ENDING`. The three texts between them are JSON in which each `<` is written as `\u003c`.
+//! `BEFORE_SCRIPT`, `SCRIPT`, `ZOOMING`, `DRAWING`, `ENDING`. The three texts between them are JSON in which each `<` is written as
+//! `\u003c`.
 //!
-//! No text of an input stands in the markup: the script makes all elements that show one. The policy in `OPENING` lets in the one style and
+//! The markup has no text of an input: the script makes all elements that show one. The policy in `OPENING` lets in the one style and
 //! the one script, by the hashes of `hashes.rt`, and nothing else.
 
 /// The beginning of a page, up to the style.
@@ -12,15 +13,15 @@ pub const OPENING: &str = r#"<!DOCTYPE html>
 <head>
 <meta charset="utf-8">
 <meta http-equiv="Content-Security-Policy" content="default-src 'none'; base-uri 'none'; form-action 'none';
-script-src 'sha256-IyF5kqRrzDA7E7rUeR+/nm7iobZI7Zvy415OOCYpZCY=';
-style-src 'sha256-JEGzNGNROh2qzkxlkbf+cMkAB8ZzTv1XLMI5mFJT6Ss='">
+script-src 'sha256-P7VDUYW994sOScHArrK/Ogb7kmdq0XtitsJU58jT+lg=';
+style-src 'sha256-x7LJrQxXm27nupvLkflIfF2kSdeFTCYr2DUefNxHIis='">
 <meta name="viewport" content="width=device-width, initial-scale=1">
 <meta name="referrer" content="no-referrer">
 <meta name="generator" content="causal_judge">
 <title>causal_judge</title>
 <style>"#;
 
-/// What stands behind the style: the empty elements that the script fills, up to the history.
+/// What follows the style: the empty elements that the script fills, up to the history.
 pub const BODY: &str = r#"</style>
 </head>
 <body>
@@ -35,10 +36,14 @@ pub const BODY: &str = r#"</style>
 <main>
 <div id="evidence">
 <section class="panel" id="fault" aria-labelledby="fault-title" hidden>
-<h2 id="fault-title" tabindex="-1" aria-live="polite"></h2>
+<div class="row"><h2 id="fault-title" tabindex="-1" aria-live="polite"></h2>
+<span class="buttons" id="picture-buttons"><button type="button" id="picture-closer" aria-label="Zoom into the picture">+</button>
+<button type="button" id="picture-wider" aria-label="Zoom out of the picture">&#8722;</button>
+<button type="button" id="picture-all" aria-label="All of the picture">All</button></span></div>
 <p id="fault-words"></p>
-<div id="fault-shown"><div id="shape"><div id="picture"></div><ul class="legend" id="legend"></ul></div>
-<details id="told"><summary id="told-head">The same in words</summary><ul id="told-lines"></ul></details></div>
+<div id="fault-shown"><div id="shape"><div id="picture" tabindex="0" role="group" aria-label="The picture of the fault. Plus and minus
+zoom, arrow keys move it, Home shows all of it."></div><ul class="legend" id="legend"></ul></div>
+<details id="words"><summary id="words-head">The same in words</summary><ul id="word-lines"></ul></details></div>
 </section>
 <section class="panel" id="faults" aria-labelledby="faults-title" hidden>
 <div class="row"><h2 id="faults-title" aria-live="polite"></h2>
@@ -52,9 +57,9 @@ pub const BODY: &str = r#"</style>
 </div>
 <section class="panel" id="run" aria-labelledby="run-title">
 <div class="row"><h2 id="run-title">The whole run</h2>
-<span class="buttons"><button type="button" id="closer" aria-label="Zoom in">+</button>
-<button type="button" id="wider" aria-label="Zoom out">&#8722;</button>
-<button type="button" id="all">All</button></span></div>
+<span class="buttons"><button type="button" id="run-closer" aria-label="Zoom into the run">+</button>
+<button type="button" id="run-wider" aria-label="Zoom out of the run">&#8722;</button>
+<button type="button" id="run-all" aria-label="All of the run">All</button></span></div>
 <div id="lanes"><canvas id="map" tabindex="0" role="application" aria-describedby="under" aria-label="A row for each session,
 its operations from left to right. Arrow keys go to the next operation, plus and minus zoom, Enter lists what is there."></canvas></div>
 <div class="row soft"><span id="range"></span><ul class="legend" id="map-legend"></ul></div>
@@ -72,7 +77,9 @@ its operations from left to right. Arrow keys go to the next operation, plus and
 <details><summary>Keys</summary><ul class="keys">
 <li><kbd>n</kbd> <kbd>p</kbd> next and previous fault</li><li><kbd>&#8593;</kbd> <kbd>&#8595;</kbd> in the list: another fault</li>
 <li><kbd>/</kbd> search, <kbd>Esc</kbd> ends it</li>
-<li>in the run: arrows move, <kbd>+</kbd> <kbd>-</kbd> zoom, <kbd>Home</kbd> shows all, <kbd>Enter</kbd> lists</li></ul></details>
+<li>in the picture and the run: arrows move, <kbd>+</kbd> <kbd>-</kbd> zoom, <kbd>Home</kbd> shows all</li>
+<li>in the run: <kbd>Enter</kbd> lists what is around an operation</li>
+<li>by mouse: a drag moves, <kbd>Ctrl</kbd> with the wheel zooms, and a double click zooms in</li></ul></details>
 </footer>
 <script type="application/json" id="history">"#;
 

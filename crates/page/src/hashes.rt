@@ -2,8 +2,8 @@
 //!
 //! `tests/page_parts.py --write` writes them anew, here and in the policy, and `tests/pages.py` computes them again.
 
-/// The hash of `SCRIPT` with `DRAWING` behind it.
-pub const SCRIPT_HASH: &str = r#"sha256-IyF5kqRrzDA7E7rUeR+/nm7iobZI7Zvy415OOCYpZCY="#;
+/// The hash of `SCRIPT`, `ZOOMING` and `DRAWING`, joined in this order.
+pub const SCRIPT_HASH: &str = r#"sha256-P7VDUYW994sOScHArrK/Ogb7kmdq0XtitsJU58jT+lg="#;
 
 /// The hash of `STYLE`.
-pub const STYLE_HASH: &str = r#"sha256-JEGzNGNROh2qzkxlkbf+cMkAB8ZzTv1XLMI5mFJT6Ss="#;
+pub const STYLE_HASH: &str = r#"sha256-x7LJrQxXm27nupvLkflIfF2kSdeFTCYr2DUefNxHIis="#;

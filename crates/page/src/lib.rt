@@ -12,5 +12,6 @@ pub mod laws;
 mod pages;
 mod script;
 mod style;
+mod zooming;
 
 pub use pages::page_of;

@@ -8,6 +8,7 @@ use crate::escaping::push_escaped;
 use crate::frame::{BEFORE_NAMES, BEFORE_REPORT, BEFORE_SCRIPT, BODY, ENDING, OPENING};
 use crate::script::SCRIPT;
 use crate::style::STYLE;
+use crate::zooming::ZOOMING;
 use std::alloc::{AllocError, Global};
 
 /// The page of the JSON texts of a history, of the report on it and of its names: an HTML document that needs no other file.
@@ -34,7 +35,7 @@ pub fn page_of(
     Ok(bytes)
 }
 
-// Puts what stands before the history.
+// Appends what comes before the history.
 fn push_head(page: &mut Vec<u8>) -> Result<(), AllocError>
     ensures { OnOk result (page.new.items ≡ page.old.items ++ head) }
 {
@@ -44,18 +45,19 @@ fn push_head(page: &mut Vec<u8>) -> Result<(), AllocError>
     Ok(())
 }
 
-// Puts what stands behind the names.
+// Appends what comes after the names.
 fn push_tail(page: &mut Vec<u8>) -> Result<(), AllocError>
     ensures { OnOk result (page.new.items ≡ page.old.items ++ tail) }
 {
     push_text(page, BEFORE_SCRIPT)?;
     push_text(page, SCRIPT)?;
+    push_text(page, ZOOMING)?;
     push_text(page, DRAWING)?;
     push_text(page, ENDING)?;
     Ok(())
 }
 
-// Puts a text.
+// Appends a text.
 fn push_text(page: &mut Vec<u8>, text: &str) -> Result<(), AllocError>
     ensures { OnOk result (page.new.items ≡ page.old.items ++ text.now) }
 {

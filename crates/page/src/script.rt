@@ -173,7 +173,7 @@ function lostWords(run, names, op) {   // of a lost write: its call, what it wai
   if (run.session[op] < names.clients) return ['calls a write of ', writtenWords(run, names, names.effectOf(op)), ' and gets no answer'];
   return isRead(run, op) ? ['comes after all that its client had called before it'] : ['takes effect: ', writtenWords(run, names, op)];
 }
-function toldOperation(run, names, op) {   // with who does it, as `explain` says it
+function operationLine(run, names, op) {   // with its client, in the words of `explain`
   const client = op => name(names.session(run.session[op])), session = run.session[op];
   if (session < names.clients) return [names.isLog ? [': ', client(op)] : '', ' ', operationWords(run, names, op)];
   const owner = client(names.callOf(op));
@@ -332,7 +332,7 @@ class Steps {
     this.follow(way);
     if (way.length > 2) this.add({how: 'leads', from: way[0], to: way[way.length - 1]});
   }
-  told() {
+  kept() {
     const rest = Math.max(0, this.all.length - 2 * AT_AN_END);
     return {first: this.all.slice(0, AT_AN_END), last: this.all.slice(AT_AN_END + rest), leftOut: rest + this.skipped};
   }
@@ -344,7 +344,7 @@ function stepsOf(run, fault) {
   else if (fault.upTo >= 0) ends = addDerivation(run, steps, fault, way);
   else if (fault.kind === 'CyclicCO') { steps.follow(way(fault.shown[0])); ends = [opAt(run, fault.shown[0][0]), NONE]; }
   else ends = addRead(run, steps, fault);
-  return {...steps.told(), ends};
+  return {...steps.kept(), ends};
 }
 function addRead(run, steps, fault) {   // a read that missed a write, or whose value nobody wrote
   const known = fault.ways || [fault.source >= 0 && wayBetween(run, fault.source, fault.missed), fault.missed >= 0 &&
@@ -367,11 +367,11 @@ function addLinks(run, steps, links, way) {
 function addDerivation(run, steps, fault, way) {
   const lines = fault.shown[1], pairs = [];
   lines.forEach(([word, first, second], at) => {
-    const isTold = at < AT_AN_END || at >= lines.length - AT_AN_END, path = word === 'co' ? way(first) : null;
+    const isKept = at < AT_AN_END || at >= lines.length - AT_AN_END, path = word === 'co' ? way(first) : null;
     const pair = path ? [path[0], path[path.length - 1]] : word === 'tr' ? [pairs[first][0], pairs[second][1]] :
       [pairs[first][0], run.source[opAt(run, second)]];
     pairs.push(pair);
-    if (!isTold) { steps.skipped++; return; }
+    if (!isKept) { steps.skipped++; return; }
     if (path) {
       steps.lead(path);
       if (run.session[opAt(run, second[0])] !== run.session[fault.upTo]) steps.lead(way(second));
@@ -398,13 +398,13 @@ const opsOf = (fault, {first, last, ends}) => {
   return [...ops].sort((one, other) => one - other);
 };
 
-// What a fault is, as `explain` tells it: its operations, its steps, and what is wrong.
-function toldLines(run, names, fault, told) {
-  const lines = opsOf(fault, told).map(op => [placeOf(run, op), toldOperation(run, names, op)]);
-  for (const step of told.first) lines.push([stepWords(run, step)]);
-  if (told.leftOut) lines.push([`(${told.leftOut} more steps are left out here)`]);
-  for (const step of told.last) lines.push([stepWords(run, step)]);
-  lines.push(wrongWords(run, names, fault, told.ends));
+// The lines of a fault, in the words of `explain`: its operations, its steps, and what is wrong.
+function wordLines(run, names, fault, steps) {
+  const lines = opsOf(fault, steps).map(op => [placeOf(run, op), operationLine(run, names, op)]);
+  for (const step of steps.first) lines.push([stepWords(run, step)]);
+  if (steps.leftOut) lines.push([`(${steps.leftOut} more steps are left out here)`]);
+  for (const step of steps.last) lines.push([stepWords(run, step)]);
+  lines.push(wrongWords(run, names, fault, steps.ends));
   return lines;
 }
 function wrongWords(run, names, fault, [begin, end]) {
@@ -482,22 +482,23 @@ function rowOrder(run, ops, steps) {   // by session order and reads where that 
   return order;
 }
 const DRAWN = {reads: 'reads', must: 'must'};
-function linksOf(run, fault, told) {
-  const links = [...told.first, ...told.last].filter(({how}) => DRAWN[how]).map(({how, from, to}) =>
+function linksOf(run, fault, steps) {
+  const links = [...steps.first, ...steps.last].filter(({how}) => DRAWN[how]).map(({how, from, to}) =>
     ({how: how === 'reads' && to === fault.read && from === fault.source ? 'wrong' : how, from, to}));
   if (fault.source >= 0 && fault.missed >= 0) links.push({how: 'over', from: fault.source, to: fault.missed});
   const isSame = (one, other) => one.how === other.how && one.from === other.from && one.to === other.to;
   return links.filter((link, at) => links.findIndex(other => isSame(link, other)) === at);
 }
-// What is in the picture: an operation that only stands between others of its session is left out, as those that the fault does not name.
-function drawnOps(fault, told, links) {
+// The operations in the picture: the ends of its links and those that the fault names, or all where it has none of these. So an operation
+// that is only between others of its session is left out.
+function drawnOps(fault, steps, links) {
   const kept = new Set([...links.flatMap(({from, to}) => [from, to]), fault.read, fault.missed, fault.upTo]);
-  const ops = opsOf(fault, told), left = ops.filter(op => kept.has(op));
+  const ops = opsOf(fault, steps), left = ops.filter(op => kept.has(op));
   return left.length ? left : ops;
 }
 const GAP = 26, TRACK = 9, NARROWEST = 150;
-function layOut(run, fault, told, width) {
-  const drawnLinks = linksOf(run, fault, told), order = rowOrder(run, drawnOps(fault, told, drawnLinks), [...told.first, ...told.last]);
+function layOut(run, fault, steps, width) {
+  const drawnLinks = linksOf(run, fault, steps), order = rowOrder(run, drawnOps(fault, steps, drawnLinks), [...steps.first, ...steps.last]);
   const lanes = [...new Set(order.map(op => run.session[op]))];
   const nodes = new Map(order.map(op => [op, {op, lane: lanes.indexOf(run.session[op]), before: NONE}]));
   const links = drawnLinks.map(link => ({how: link.how, from: nodes.get(link.from), to: nodes.get(link.to)}));

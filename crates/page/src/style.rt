@@ -83,8 +83,12 @@ button:hover { border-color: var(--muted); }
 #fault-shown { display: flex; flex-wrap: wrap; gap: 0 32px; }
 #fault-shown > div { min-width: 0; max-width: 100%; }
 #fault-shown > details { flex: 1 1 240px; margin-top: 12px; }
-#picture { overflow-x: auto; max-width: 100%; }
+#picture { overflow: hidden; overflow-anchor: none; max-width: 100%; touch-action: pan-x pan-y; }
+#picture.sideways, #picture.free { cursor: grab; touch-action: pan-y; -webkit-user-select: none; user-select: none; }
+#picture.free { touch-action: none; }
+#picture.sideways:active, #picture.free:active { cursor: grabbing; }
 #picture svg { display: block; }
+#picture.free svg { outline: 1px solid var(--line); outline-offset: -1px; }
 svg text {
   font: 13px system-ui, -apple-system, "Segoe UI", Roboto, "DejaVu Sans", Arial, sans-serif; fill: var(--text);
   direction: ltr; unicode-bidi: isolate;
@@ -116,8 +120,8 @@ svg text.right { fill: var(--right); font-weight: 600; }
 .swatch.open { background: var(--open); width: 3px; }
 .swatch.found { background: var(--found); width: 3px; }
 summary { cursor: pointer; color: var(--accent); font-size: 13px; }
-#told-lines { margin: 6px 0 0 18px; list-style: disc; font-size: 13px; }
-#told-lines .end { font-weight: 600; }
+#word-lines { margin: 6px 0 0 18px; list-style: disc; font-size: 13px; }
+#word-lines .end { font-weight: 600; }
 
 #faults { height: 0; min-height: max(calc(100% - 14px), 320px); display: flex; flex-direction: column; }
 .filters { display: flex; flex-wrap: wrap; gap: 6px; margin: 8px 0; }
@@ -181,7 +185,7 @@ kbd { border: 1px solid var(--line); border-bottom-width: 2px; border-radius: 4p
   #fault-list button { padding: 1px 4px; min-height: 0; font-size: 10px; }
   #fault-list, .scrolled, #lanes { max-height: none; overflow: visible; }
   #picture { overflow: visible; }
-  #picture svg { max-width: 100%; height: auto; max-height: 125mm; }
+  #picture svg { max-width: 100%; height: auto; max-height: 125mm; outline: none; }
   .buttons, #search, .filters, #under, #more, #fault-rest button, #facts button, #cards button, footer details { display: none !important; }
   #fault-shown > details:not([open]) { display: none !important; }
 }

@@ -1,14 +1,15 @@
--- Four texts one behind the other.
+-- Five texts, each after the one before.
 use Rattle.page.specs.Pages.{tail}
 use Rattle.page.specs.declared.drawing.TheConstants.{DRAWING}
 use Rattle.page.specs.declared.frame.TheConstants.{BEFORE_SCRIPT, ENDING}
 use Rattle.page.specs.declared.script.TheConstants.{SCRIPT}
-use Rattle.page.proofs.Pieces.{four}
+use Rattle.page.specs.declared.zooming.TheConstants.{ZOOMING}
+use Rattle.page.proofs.Pieces.{five}
 use Rattle.page.proofs.pages.push_tail.Goals as goal
 
 pub returns : goal.returns
 unfolding tail
 returns c =
-    four c.args.page.now.items c.push_text.new.page.items c.push_text-2.new.page.items c.push_text-3.new.page.items c.push_text-4.new.page.items
-    BEFORE_SCRIPT.now SCRIPT.now DRAWING.now ENDING.now
-    c.in_ok-push_text.ensures c.in_ok-push_text-2.ensures c.in_ok-push_text-3.ensures c.in_ok-push_text-4.ensures
+    five c.args.page.now.items c.push_text.new.page.items c.push_text-2.new.page.items c.push_text-3.new.page.items c.push_text-4.new.page.items
+    c.push_text-5.new.page.items BEFORE_SCRIPT.now SCRIPT.now ZOOMING.now DRAWING.now ENDING.now
+    c.in_ok-push_text.ensures c.in_ok-push_text-2.ensures c.in_ok-push_text-3.ensures c.in_ok-push_text-4.ensures c.in_ok-push_text-5.ensures
