@@ -213,7 +213,7 @@ def wheel_faults(window, whole):
     yield f"Ctrl and the wheel back: {seen(window)}", near(seen(window), whole)
     window.double_click(*centred(window, "#picture text.op"))
     yield f"a double click: {seen(window)}", near(seen(window)[2:], zoomed(whole, 0.5))
-    yield "a double click selects nothing", window.run("getSelection().toString()") == ""
+    yield "a double click selects nothing", window.run("getSelection().isCollapsed")
     window.click("#picture-all")
 
 
@@ -335,6 +335,17 @@ def run_faults(window):
     yield f"two fingers in the run: {reach()}", reach() != whole
     window.click("#run-all")
     yield f"the whole run: {reach()}", reach() == whole
+    across = box_of(window, "#map")[2] * 0.8
+    window.click("#map", across, 40)
+    picked = lambda: window.run("document.getElementById('under').textContent")
+    before = picked()
+    window.press("+")
+    left, top = box_of(window, "#map")[:2]
+    window.mouse("mouseMoved", left + across / 2, top + 40)
+    other = picked()
+    window.mouse("mouseMoved", left + across, top + 40)
+    yield f"a zoom keeps what was clicked: {picked()} and not {before}, after {other}", picked() == before and other != before
+    window.click("#run-all")
 
 
 def wide_faults(window, path):
