@@ -1,15 +1,15 @@
 // Asks the functions of the page's script, without a page. Standard input is a JSON object: the script that touches no element, and cases, each
-// three JSON texts. What the functions give for each case is written as JSON.
+// four JSON texts. What the functions give for each case is written as JSON.
 'use strict';
 const fs = require('fs'), vm = require('vm');
 
 const WANTED = ['readHistory', 'readJson', 'nameAll', 'gatherFaults', 'stepsOf', 'wordLines', 'faultSentence', 'operationWords', 'layOut',
-  'placeRows', 'plainText', 'placeOf', 'wayBetween', 'guaranteeOf', 'operationPieces', 'nameShown', 'jsonShown', 'cut'];
+  'placeRows', 'plainText', 'readLines', 'wayBetween', 'guaranteeOf', 'operationPieces', 'nameShown', 'jsonShown', 'cut'];
 const WIDTHS = [1180, 330], MOST_FAULTS = 40;
 
-function answersOf(made, [history, report, names]) {
-  const run = made.readHistory(history), said = made.readJson(report), named = made.nameAll(run, made.readJson(names));
-  const {verdicts, faults} = made.gatherFaults(run, said), place = op => op < 0 ? null : made.placeOf(run, op).split('.').map(Number);
+function answersOf(made, [history, ...texts]) {
+  const [said, names, lines] = texts.map(made.readJson), run = made.readLines(made.readHistory(history), lines, names), named = made.nameAll(run, names);
+  const {verdicts, faults} = made.gatherFaults(run, said), place = op => op < 0 ? null : [run.session[op], op - run.base[run.session[op]]];
   const words = fault => made.wordLines(run, named, fault, made.stepsOf(run, fault)).map(line => made.plainText([line]));
   const operations = Array.from({length: Math.min(run.count, 400)}, (_, op) => made.plainText([made.operationWords(run, named, op)]));
   return {

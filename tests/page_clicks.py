@@ -69,7 +69,7 @@ def open_faults(window, room, page, widths):
         yield f"{name}: asked for {window.requests[1:]}", len(window.requests) == 1
         yield f"{name}: {seconds:.1f} seconds", seconds < SLOWEST
         yield f"{name}: it scrolls sideways", window.run("document.documentElement.scrollWidth") <= width
-        yield f"{name}: elements of names", window.run(STATIC) == 0 and window.run(SCRIPTS) == 4 and window.run("window.hit") is None
+        yield f"{name}: elements of names", window.run(STATIC) == 0 and window.run(SCRIPTS) == 5 and window.run("window.hit") is None
         head, due = text_of(window, "#headline"), head_of(page)
         yield f"{name}: the headline is {head!r}", (head == due) if due else head != ""
         cards = window.run(CARDS)
@@ -253,7 +253,7 @@ def hostile_faults(window, room, program):
     yield "what cannot be seen is shown as an escape", not turned
     longest = window.run("Math.max(...[...document.querySelectorAll('bdi, svg text')].map(name => name.textContent.length))")
     yield f"names are cut: {longest}", longest < 300
-    yield "scripts", window.run(SCRIPTS) == 4 and window.run(STATIC) == 0 and not window.messages
+    yield "scripts", window.run(SCRIPTS) == 5 and window.run(STATIC) == 0 and not window.messages
     refused = window.run(INJECT)
     window.run("new Promise(done => setTimeout(done, 200))")
     told = f"what is put into the page is refused: {refused}, {len(window.messages)} messages"

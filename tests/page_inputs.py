@@ -6,6 +6,7 @@ import subprocess
 from typing import NamedTuple, Optional
 
 import page_parts
+import plain_events
 import random_logs
 import random_memories
 import tables
@@ -16,21 +17,22 @@ LOG = ["--long", "--events"]
 
 
 class Page(NamedTuple):
-    """A page: the three texts that it holds, the words of `explain`, and the page that the program writes, where it has that option."""
+    """A page: the four texts that it holds, the words of `explain`, and the page that the program writes, where it has that option."""
 
     name: str
     history: str
     report: str
     names: str
+    lines: str
     words: str
     written: Optional[str]
 
     def joined(self):
-        return page_parts.joined(self.history, self.report, self.names)
+        return page_parts.joined(*self.texts())
 
     def texts(self):
-        """The three texts as the page holds them."""
-        return [self.history, self.report, self.names]
+        """The four texts as the page holds them."""
+        return [self.history, self.report, self.names, self.lines]
 
     def is_log(self):
         return self.names.strip() != "null"
@@ -42,6 +44,12 @@ def said(program, words, data):
     return done.returncode, done.stdout.decode()
 
 
+def lines_of(log):
+    """For each operation of the history of a log the line on which its call begins, by the plain reader."""
+    found = plain_events.read_log(log)
+    return plain_events.text_of([[found.lines[call.place] for _, call in session] for session in plain_events.Run(found.events).origins])
+
+
 def page_of(program, name, data, options=()):
     """The page of an input; None where the program refuses it."""
     status, report = said(program, ["explain", *options, "--all", LISTED, "--json"], data)
@@ -49,9 +57,10 @@ def page_of(program, name, data, options=()):
         return None
     is_log = "--events" in options
     history, names = (said(program, ["events", *words], data)[1] for words in ([], ["--names"])) if is_log else (data.decode(), "null")
+    lines = lines_of(data) if is_log else "null"
     words = said(program, ["explain", *options], data)[1]
     status, written = said(program, ["explain", *options, "--html"], data)
-    return Page(name, history, report, names, words, None if status == USAGE else written)
+    return Page(name, history, report, names, lines, words, None if status == USAGE else written)
 
 
 def of_examples(program):

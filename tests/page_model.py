@@ -14,7 +14,6 @@ from patterns import MemoryHistory
 ANSWERS = pathlib.Path(__file__).resolve().parent / "page_answers.js"
 MOST_SECONDS, NEAREST = 300, 6
 ABOUT_PARTS = ("These operations alone", "In the whole history", "In the log")
-PLACE = re.compile(r"line \d+( \((call|later)\))?|\d+\.\d+")
 QUOTED = re.compile(r'"((?!true"|false"|null")[A-Za-z_][\w.:/@+-]*)"')
 ASKS_NOTHING = re.compile(r"they ask nothing|it asks nothing")
 WITH_WRITE, HUGE = ("WriteCOInitRead", "WriteCORead"), 2**64 - 1
@@ -32,8 +31,8 @@ def asked(pages):
 
 
 def plain(line):
-    """A line without the ways in which the page names operations and names otherwise than `explain` does."""
-    return PLACE.sub("@", QUOTED.sub(r"\1", line))
+    """A line in which names that the page shows without quotes have none."""
+    return QUOTED.sub(r"\1", line)
 
 
 def is_cut(lines):
@@ -141,7 +140,7 @@ def exact_faults():
     history = f'[ "m\\u0065mory",\n[[["w",4294967295,{HUGE}],["w",0,9007199254740993],["r",4294967295,{HUGE - 1}]]] , [[1,{HUGE - 2}]]]'
     names = f'[[{HUGE},"{HUGE}"],["a\\"{HUGE}",{HUGE - 1}],[-9223372036854775808,"-9223372036854775808",true,"true"]]'
     yes, of_log = '[[["cc","yes",null]],null]', '["memory",[[["w",0,1],["w",2,3]],[["r",0,5],["r",2,7]]]]'
-    numbers, named = asked([Page("exact", history, yes, "null", "", None), Page("named", of_log, yes, names, "", None)])
+    numbers, named = asked([Page("exact", history, yes, "null", "null", "", None), Page("named", of_log, yes, names, "null", "", None)])
     due = [str(HUGE), "9007199254740993", str(HUGE - 1), str(HUGE - 2), "0"]
     yield f"exact numbers: {numbers['values']}", numbers["values"] == due and numbers["keys"] == ["4294967295", "0", "1"]
     yield f"exact names: {named['sessions']}", named["sessions"] == [f"client {HUGE}", f'"{HUGE}"']

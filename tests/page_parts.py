@@ -2,7 +2,7 @@
 """The pieces of the page of `explain --html`, as crates/page has them, and pages that are joined from them.
 
     python3 tests/page_parts.py --write                        # writes the hashes of the script and the style anew
-    python3 tests/page_parts.py HISTORY REPORT [NAMES] > PAGE  # joins a page from files
+    python3 tests/page_parts.py HISTORY REPORT [NAMES LINES] > PAGE  # joins a page from files
 
 The order of the pieces is that which crates/page/src/frame.rt states at its head.
 """
@@ -36,16 +36,16 @@ def hash_of(text):
 
 
 def in_script(text):
-    """A JSON text as it stands in a script element: it cannot end the element, since it has no `<`."""
+    """A JSON text as a script element holds it: it cannot end the element, since it has no `<`."""
     return text.replace("<", "\\u003c")
 
 
-def joined(history, report, names="null"):
-    """A page of three JSON texts, as they stand."""
+def joined(history, report, names="null", lines="null"):
+    """A page of four JSON texts, as they are."""
     parts = pieces()
-    data = [in_script(text) for text in (history, report, names)]
+    data = [in_script(text) for text in (history, report, names, lines)]
     opening = parts["OPENING"] + parts["STYLE"] + parts["BODY"] + data[0]
-    middle = parts["BEFORE_REPORT"] + data[1] + parts["BEFORE_NAMES"] + data[2]
+    middle = parts["BEFORE_REPORT"] + data[1] + parts["BEFORE_NAMES"] + data[2] + parts["BEFORE_LINES"] + data[3]
     return opening + middle + parts["BEFORE_SCRIPT"] + script_of(parts) + parts["ENDING"]
 
 
@@ -62,7 +62,7 @@ def write_hashes():
 def main():
     if sys.argv[1:] == ["--write"]:
         return write_hashes()
-    if not 3 <= len(sys.argv) <= 4:
+    if len(sys.argv) not in (3, 5):
         sys.exit(__doc__)
     sys.stdout.reconfigure(encoding="utf-8", newline="")
     sys.stdout.write(joined(*(pathlib.Path(name).read_text(encoding="utf-8") for name in sys.argv[1:])))

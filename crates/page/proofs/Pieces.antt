@@ -14,8 +14,8 @@ pub five : (p q r s t u a b c d e : List ℕ) → q ≡ p ++ a → r ≡ q ++ b 
 five p q r s t u a b c d e first second third fourth fifth =
     two p q u a (b ++ (c ++ (d ++ e))) first (four q r s t u b c d e second third fourth fifth)
 
-pub seven : (p q r s t u v w a b c d e f g : List ℕ) → q ≡ p ++ a → r ≡ q ++ b → s ≡ r ++ c → t ≡ s ++ d → u ≡ t ++ e → v ≡ u ++ f → w ≡ v ++ g
-    → w ≡ p ++ (a ++ (b ++ (c ++ (d ++ (e ++ (f ++ g))))))
-seven p q r s t u v w a b c d e f g first second third fourth fifth sixth seventh =
-    three p q r w a b (c ++ (d ++ (e ++ (f ++ g)))) first second
-    (two r s w c (d ++ (e ++ (f ++ g))) third (four s t u v w d e f g fourth fifth sixth seventh))
+pub nine : (p q r s t u v w x y a b c d e f g h i : List ℕ) → q ≡ p ++ a → r ≡ q ++ b → s ≡ r ++ c → t ≡ s ++ d → u ≡ t ++ e → v ≡ u ++ f
+    → w ≡ v ++ g → x ≡ w ++ h → y ≡ x ++ i → y ≡ p ++ (a ++ (b ++ (c ++ (d ++ (e ++ (f ++ (g ++ (h ++ i))))))))
+nine p q r s t u v w x y a b c d e f g h i first second third fourth fifth sixth seventh eighth ninth =
+    five p q r s t y a b c d (e ++ (f ++ (g ++ (h ++ i)))) first second third fourth
+    (five t u v w x y e f g h i fifth sixth seventh eighth ninth)

@@ -25,8 +25,8 @@ const capital = text => text[0].toUpperCase() + text.slice(1);
 const andJoined = list => list.length < 2 ? list.join('') : list.slice(0, -1).join(', ') + ' and ' + list[list.length - 1];
 
 // ---- What the page is of
-const run = readHistory($('history').textContent), report = readJson($('report').textContent);
-const names = nameAll(run, readJson($('names').textContent)), {verdicts, faults, counts, listed} = gatherFaults(run, report);
+const [report, named, lines] = ['report', 'names', 'lines'].map(id => readJson($(id).textContent));
+const run = readLines(readHistory($('history').textContent), lines, named), names = nameAll(run, named), {verdicts, faults, counts, listed} = gatherFaults(run, report);
 const tally = report[1], total = [...counts.values()].reduce((sum, many) => sum + many, 0), isHurt = new Map();
 const faultOfRead = new Map(faults.filter(fault => fault.read >= 0).map(fault => [fault.read, fault]));
 for (const {read, upTo, session} of faults) if (read >= 0 && upTo < 0) isHurt.set(session, (isHurt.get(session) || 0) + 1);
@@ -63,11 +63,12 @@ function leadOf(titles) {
   if (total) return `${number(hurt)} of ${plural(names.clients, noun)} ${hurt === 1 ? 'is' : 'are'} affected: ${found}.`;
   if (titles.unknown) return run.repeated.length ? 'A value was written more than once, so nobody can tell which write a read returned.' :
     'No order was found that explains every answer, and none is known to be impossible.';
+  if (!run.answer.some(answer => answer >= 0)) return 'No operation returned a value, so every order explains this run: a yes says nothing here.';
   return 'For each criterion some order of the operations explains every answer' + (unanswered.length ? ' that is known.' : '.');
 }
 function factsOf() {
   const all = run.count - 2 * names.lost, show = () => press(() => searchFor('no answer'), 'link', 'show');
-  let writes = run.isMemory ? -names.lost : 0;
+  let writes = run.isMemory ? 0 - names.lost : 0;
   for (let op = 0; run.isMemory && op < run.count; op++) writes += isWrite(run, op);
   return [plural(all, 'operation'), plural(names.clients, noun), run.isKeyed && plural(run.keys.tokens.length - names.lost, keyNoun),
     run.isMemory && plural(writes, 'write') + ', ' + plural(all - writes, 'read'), !run.isMemory && 'object: ' + run.object,
@@ -81,7 +82,7 @@ function whyOf({answer, kind, stopped}) {
 }
 function cardOf(verdict) {
   const {criterion, answer, kind, fault, twin, stopped} = verdict, why = whyOf(verdict);
-  const line = [criterion, answer, stopped >= 0 ? placeText(stopped) : kind].filter(Boolean).join(' ');
+  const line = [criterion, answer, stopped >= 0 ? numberOf(run, stopped) : kind].filter(Boolean).join(' ');
   return make('li', {class: answer},
     make('h2', {class: answer}, make('span', {class: 'sign', 'aria-hidden': 'true'}, ANSWERS[answer][2]),
       make('span', null, CRITERIA[criterion][0]), make('b', {class: 'says'}, ANSWERS[answer][0])),
@@ -110,16 +111,13 @@ function fitted(text, look, room) {
   return cut(text, low);
 }
 const stepsFor = fault => fault.steps || (fault.steps = stepsOf(run, fault));   // computed once for each fault
-function newerThan({missed}) {
-  const value = valueOf(run, missed);
-  return (names.isNothing(value) ? 'the delete' : apart(names.value(value))) + ' or newer';
-}
+const wrongWordsOf = ({missed}) => missed < 0 ? 'nobody wrote this' :
+  'missed ' + (names.isNothing(valueOf(run, missed)) ? 'the delete' : 'the write of ' + apart(names.value(valueOf(run, missed))));
 function linesOf(fault, {op}, isWide) {   // the lines of a box: how each looks, and its text
-  const {verb, isRead, isOpen, key, value} = operationPieces(run, names, op), isMissing = fault.missed >= 0;
+  const {verb, isRead, isOpen, key, value} = operationPieces(run, names, op);
   const lines = [['op', verb + (key && ' ' + apart(key))]], got = value && (isRead ? 'got ' : run.isMemory ? '= ' : '') + apart(value);
   if (value || isOpen) lines.push(['value', [got, isOpen && 'no answer'].filter(Boolean).join(', ')]);
-  if (op === fault.read) lines.push(['wrong', '\u2717 ' + (isMissing ? 'should have seen' : 'nobody wrote this')]);
-  if (op === fault.read && isMissing) lines.push(['wrong', newerThan(fault)]);
+  if (op === fault.read) lines.push(['wrong', '\u2717 ' + wrongWordsOf(fault)]);
   if (op === fault.missed) lines.push(['right', verb === 'deletes' ? 'the missed delete' : 'the missed write']);
   return isWide ? lines : [['small', placeText(op) + ' ' + apart(names.session(run.session[op]))], ...lines];
 }
@@ -282,7 +280,8 @@ function showUnknown() {
   put('fault-title', verdict.answer === 'no' ? 'What went wrong: ' + titleOf(verdict.kind) : 'Why it is undecided');
   put('fault-words', verdict.answer === 'no' ? 'Such a pattern is in the history. It may be too long to write, so it is not drawn.' :
     (run.isMemory ? 'Where a key is written twice with one value, or with its initial value, a read does not tell its write' :
-      'No patterns are known of this object') + ': only a certificate can decide, and only for a yes.');
+      'No patterns are known of this object') + ': only a certificate can decide, and only for a yes.' + (run.repeated.length ?
+      ` What the other ${keyNoun}s show by themselves is in the words of causal_judge explain.` : ''));
   const same = run.repeated.slice(0, 20).map(ops => make('li', null, name(names.value(valueOf(run, ops[0]))), ' is written to ',
     name(names.key(run.key[ops[0]])), ' by ' + andJoined(ops.slice(0, 8).map(placeText)) + (ops.length > 8 ? ' and others' : '') +
     (initialOf(run, run.key[ops[0]]) === valueOf(run, ops[0]) ? ', and is its initial value' : '')));
@@ -454,7 +453,7 @@ function drawRings(c, colour, each) {   // around the operations of the fault, w
 }
 function drawMargins(c, colour, wide, low) {
   c.textAlign = 'right';
-  for (let row = 0, next = ROW < 13 ? 6 : 0; row < ROWS; row++) {
+  for (let row = 0, next = ROW < 13 ? 6 : 0; row < Math.min(ROWS, run.sessions); row++) {
     if (row * ROW < next) continue;
     const session = Math.ceil(row * run.sessions / ROWS);
     c.fillStyle = colour(isHurt.has(session) ? 'text' : 'muted');
@@ -542,7 +541,7 @@ function listFirst() {
   listOps(Array.from({length: many}, (_, op) => op), many < run.count ? `The first ${many} operations` : 'Operations');
 }
 let lowered = null;
-const TERM = /(?:session|client|variable|key) \d+(?!\S)|\S+/g;
+const TERM = /(?:session|client|variable|key|line) \d+(?!\S)|\S+/g;
 function search() {   // each term has to be in the session, the key, the value or what is done, or to be the place of the operation
   const terms = $('search').value.toLowerCase().match(TERM) || [];
   hits = [];
@@ -561,7 +560,8 @@ const lowerNames = () => ({sessions: Array.from({length: run.sessions}, (_, sess
   keys: run.keys.tokens.map((_, key) => names.isMark(key) ? '' : names.key(key).toLowerCase()),
   values: run.values.tokens.map((_, value) => names.value(value).toLowerCase())});
 function termTest(term) {
-  if (/^\d+\.\d+$/.test(term)) return op => placeText(op) === term;
+  if (/^\d+\.\d+$/.test(term)) return op => numberOf(run, op) === term;
+  if (run.lines && /^line \d+$/.test(term)) return op => term === 'line ' + run.lines[op];
   const isWhole = term.includes(' '), found = list => list.map(text => isWhole ? text === term : text.includes(term));
   const [sessions, keys, values] = ['sessions', 'keys', 'values'].map(of => found(lowered[of]));
   const words = WORD_LIST.map(word => `${DONE[word]} ${word}`.includes(term)), isLost = 'lost no answer'.includes(term);
@@ -643,9 +643,9 @@ function caution() {
   const asks = names.isLog && run.values.tokens.some(token => typeof token === 'number' && token > 0 && token % 2 === 0);
   const isMet = verdicts.every(({answer}) => answer === 'yes');
   return [isMet && 'A yes says nothing of real time, of durability, or of reads that could have been fresher. ',
-    faults.length > 0 && 'Each fault by itself shows that the run is wrong. ', asks &&
+    faults.length > 0 && 'Each fault by itself shows that a criterion is not met. ', asks &&
     'Reads that found nothing under a key that is deleted at some time ask nothing, and are not shown. ',
-    `2.1 is operation 1 of session 2, both counted from 0` + (names.isLog ? `; the clients come first, in the order of the log.` : '.')];
+    run.lines ? 'A line is that of the log on which the call begins.' : '2.1 is operation 1 of session 2, both counted from 0.'];
 }
 function start() {
   put('columns', COLUMNS.filter(Boolean).map(title => make('th', {scope: 'col'}, title)));

@@ -5,24 +5,27 @@ ghost use Rattle.page.specs.Pages.{head, page, tail};
 
 use crate::drawing::DRAWING;
 use crate::escaping::push_escaped;
-use crate::frame::{BEFORE_NAMES, BEFORE_REPORT, BEFORE_SCRIPT, BODY, ENDING, OPENING};
+use crate::frame::{
+    BEFORE_LINES, BEFORE_NAMES, BEFORE_REPORT, BEFORE_SCRIPT, BODY, ENDING, OPENING,
+};
 use crate::script::SCRIPT;
 use crate::style::STYLE;
 use crate::zooming::ZOOMING;
 use std::alloc::{AllocError, Global};
 
-/// The page of the JSON texts of a history, of the report on it and of its names: an HTML document that needs no other file.
+/// The page of the JSON texts of a history, of the report on it, of its names and of its lines: an HTML document that needs no other file.
 ///
-/// The report is the reasons and the list of faults, as the engine lists them; the names are those of the log that the history stands for,
-/// or `null`. That they are JSON texts is not asked, and what they say the page's script reads. Fails for want of memory alone. O(n) for n
-/// bytes.
+/// The report is the reasons and the list of faults, as the engine lists them. The names are those of the log from which the history comes,
+/// and the lines those on which the calls of its operations begin; both are `null` where there is no log. The page's script reads the texts.
+/// The function does not check that they are JSON. Fails for want of memory alone. O(n) for n bytes.
 pub fn page_of(
     alloc: Global,
     history: &[u8],
     report: &[u8],
     names: &[u8],
+    lines: &[u8],
 ) -> Result<Vec<u8>, AllocError>
-    ensures { IfOk result (λ bytes. bytes.items ≡ page history.now report.now names.now) }
+    ensures { IfOk result (λ bytes. bytes.items ≡ page history.now report.now names.now lines.now) }
 {
     let mut bytes = Vec::new(alloc);
     push_head(&mut bytes)?;
@@ -31,6 +34,8 @@ pub fn page_of(
     push_escaped(&mut bytes, report)?;
     push_text(&mut bytes, BEFORE_NAMES)?;
     push_escaped(&mut bytes, names)?;
+    push_text(&mut bytes, BEFORE_LINES)?;
+    push_escaped(&mut bytes, lines)?;
     push_tail(&mut bytes)?;
     Ok(bytes)
 }
@@ -45,7 +50,7 @@ fn push_head(page: &mut Vec<u8>) -> Result<(), AllocError>
     Ok(())
 }
 
-// Appends what comes after the names.
+// Appends what comes after the lines.
 fn push_tail(page: &mut Vec<u8>) -> Result<(), AllocError>
     ensures { OnOk result (page.new.items ≡ page.old.items ++ tail) }
 {

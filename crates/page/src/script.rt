@@ -1,4 +1,4 @@
-//! The first part of the page's script: it reads the three texts and works out what they say, and touches no element.
+//! The first part of the page's script: it reads the four texts and works out what they say, and touches no element.
 //!
 //! Numbers stay exact up to 2^64 - 1. An operation is a number, by session and then by index, and what is known of it stands in columns.
 
@@ -79,9 +79,18 @@ function findSources(run) {
   return run;
 }
 const opAt = (run, [session, index]) => run.base[session] + index;
-const placeOf = (run, op) => run.session[op] + '.' + (op - run.base[run.session[op]]);
 const indexOf = (run, op) => op - run.base[run.session[op]];
 const isUnanswered = (run, op) => run.answer[op] === UNKNOWN;
+
+// Where an operation is: its session and its index in it, or in a log the line on which its call begins. A lost write that was read is three
+// operations of one line, which `explain` names alike.
+const numberOf = (run, op) => run.session[op] + '.' + indexOf(run, op);
+const readLines = (run, lines, names) => lines ? {...run, lines: Int32Array.from(lines.flat()), clients: names[0].length} : run;
+function placeOf(run, op) {
+  if (!run.lines) return numberOf(run, op);
+  const isFork = run.session[op] >= run.clients, isCall = !isFork && run.keys.tokens[run.key[op]] % 2 === 1;
+  return 'line ' + run.lines[op] + (isCall ? ' (call)' : isFork && !indexOf(run, op) ? ' (later)' : '');
+}
 
 // ---- Names. What cannot be seen, and what could turn a line around, is shown as an escape; what is long is cut.
 const UNSEEN = /[\p{C}\p{Zl}\p{Zp}\p{Default_Ignorable_Code_Point}]|(?! )\p{Zs}/gu, LONGEST = 200;
@@ -111,7 +120,7 @@ function cut(text, length) {   // in its middle, and through no pair of surrogat
 }
 
 // The names of sessions, keys and values. In the history of a log a key x is the variable 2x, and a value v is 2v + 1; an odd variable is
-// the mark of a lost write, which stands in a session of its own behind those of the clients.
+// the mark of a lost write, which has a session of its own after those of the clients.
 function nameAll(run, names) {
   const [clients, keys, values] = names || [[], [], []], isLog = names !== null, cache = new Map();
   const noun = isLog ? 'key' : run.isMemory ? 'variable' : 'key', variable = key => run.keys.tokens[key];
@@ -455,13 +464,14 @@ function orderSentence(run, names, {kind, session, upTo, read, missed, twice}) {
   return [head, got, at(run, read), ', though ', placeOf(run, missed), ', a write of it, must come before.'];
 }
 const OLD = {WriteCORead: 'the old ', WriteCOInitRead: 'the initial value ', ThinAirRead: ''};
+const missedWords = (names, value) => names.isNothing(value) ? 'the delete' : ['the write of ', name(names.value(value))];
 function readSentence(run, names, fault) {
   const {read, missed, kind, session} = fault, value = run.answer[read], isNothing = names.isNothing(value);
   const gotten = isNothing ? ' and found nothing' : [' and got ', OLD[kind], name(names.value(value))];
   const head = [startsBig([name(names.session(session))]), ' read ', name(names.key(run.key[read])), gotten, at(run, read)];
   if (kind === 'ThinAirRead') return [head, isNothing ? ', though nobody deletes it.' : ', which nobody wrote.'];
-  const written = valueOf(run, missed), isDelete = names.isNothing(written), newer = isDelete ? 'the delete' : name(names.value(written));
-  const before = readBefore(run, fault), own = isDelete ? 'its own earlier delete' : [newer, ', its own earlier write'];
+  const written = valueOf(run, missed), isDelete = names.isNothing(written), newer = missedWords(names, written);
+  const before = readBefore(run, fault), own = isDelete ? 'its own earlier delete' : ['its own earlier write of ', name(names.value(written))];
   if (run.session[missed] === session) return [head, '. It missed ', own, at(run, missed), '.'];
   const why = before >= 0 ? [', which it had already read', at(run, before), '.'] : '. What it had read before depends on that write.';
   return [head, '. It missed ', newer, ' by ', name(names.session(run.session[missed])), at(run, missed), why];

@@ -24,10 +24,10 @@ followed_is_answer order bytes rest text followed whole follows =
       answer = subst (λ (t : List ℕ). IsLogAnswer order answers.log t followed.outcome) (sym answers.written) answers.answer;
     }
 
-pub answers_make_page : (most : ℕ) (bytes history report names text : List ℕ) (a b d : Bool) → IsAnswerOf WriteHistory bytes a history
-    → IsAnswerOf (ListFaults most Json) bytes b report → IsAnswerOf WriteNames bytes d names → text ≡ page history report names
+pub answers_make_page : (most : ℕ) (bytes history report names lines text : List ℕ) (a b d : Bool) → IsAnswerOf WriteHistory bytes a history
+    → IsAnswerOf (ListFaults most Json) bytes b report → IsAnswerOf WriteNames bytes d names → text ≡ page history report names lines
     → IsPageOfLog most a bytes text
-answers_make_page most bytes history report names text a b d first second third is_page =
+answers_make_page most bytes history report names lines text a b d first second third is_page =
     let same : second.log ≡ first.log = (one_log bytes second.log first.log b a second.of_bytes first.of_bytes).0 in
     record {
       log = first.log;
@@ -35,6 +35,7 @@ answers_make_page most bytes history report names text a b d first second third 
       history = history;
       report = report;
       names = names;
+      lines = lines;
       is_history = (first.answer.0, refl);
       is_report = ((subst (λ (l : Log). IsLogAnswer (ListFaults most Json) l report second.outcome) same second.answer).0, refl);
       are_names = refl;

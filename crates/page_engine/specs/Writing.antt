@@ -24,19 +24,20 @@ listing_order most long = ListFaults (record { most = most; length = long; form 
 pub record IsPageOfInput (most : ℕ) (long : Length) (input text : List ℕ) : Type 0 where
   pub report : List ℕ
   pub output : IsOutput (listing_order most long) input report
-  pub is_page : text ≡ page input report (codes "null")
+  pub is_page : text ≡ page input report (codes "null") (codes "null")
 
--- the text is the page of what is answered to the one log that these bytes have
+-- the text is the page of what is answered to the one log that these bytes have, and of a text on its lines of which nothing is said
 pub record IsPageOfLog (most : ℕ) (torn : Bool) (bytes text : List ℕ) : Type 0 where
   pub log : EventLog
   pub of_bytes : IsLogOf bytes log torn
   pub history : List ℕ
   pub report : List ℕ
   pub names : List ℕ
+  pub lines : List ℕ
   pub is_history : IsLogAnswer logs.WriteHistory log history Met
   pub is_report : IsLogAnswer (logs.ListFaults most Json) log report Met
   pub are_names : IsLogAnswer logs.WriteNames log names Met
-  pub is_page : text ≡ page history report names
+  pub is_page : text ≡ page history report names lines
 
 -- an input was read whole, and a page of it was written whole: what the reader had, where it tells its bytes, and what the writer holds
 -- after what it held, where it tells its bytes

@@ -5,7 +5,8 @@ ghost use Rattle.log_engine.specs.LogAnswers.{every_in};
 ghost use Rattle.page_engine.specs.Steps.Answers.{IsAnswerError, IsAnswerOf, memory_error};
 
 use command_line::LogOrder;
-use log_engine::{LogError, follow_log};
+use log_engine::{LogError, call_lines, follow_log};
+use std::alloc::Global;
 use std::sync::Wait;
 use std::thread::Threads;
 
@@ -37,6 +38,18 @@ pub(crate) fn answer_of<P: Threads + Wait + Sync + AllocGlobal>(
             text,
             torn: followed.torn,
         }),
+        Err(error) => Err(in_memory(error)),
+    }
+}
+
+/// The lines of a log in memory on which the calls of its operations begin, as JSON.
+///
+/// Fails with the first line that is refused, and for want of memory. Its cost is that of [`call_lines`].
+pub(crate) fn lines_of(alloc: Global, log: &[u8]) -> Result<String, LogError>
+    ensures { IfErr result (IsAnswerError log.now) }
+{
+    match call_lines(alloc, log) {
+        Ok(lines) => Ok(lines),
         Err(error) => Err(in_memory(error)),
     }
 }

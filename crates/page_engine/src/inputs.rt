@@ -15,7 +15,7 @@ use std::io::Write;
 use std::sync::Wait;
 use std::thread::Threads;
 
-/// Reads the whole input, lists its faults as JSON, and writes the page of the input, of that list and of no names.
+/// Reads the whole input, lists its faults as JSON, and writes the page of the input and of that list, without names and lines.
 ///
 /// At most `most` faults are listed, of a history that may be of that length. Nothing is written before the page is made: after every
 /// error but a write fault the writer is as it was. How much was written before a write fault is not said, nor how much was read before
@@ -44,6 +44,12 @@ pub fn page_of_input<P: Threads + Wait + Sync + AllocGlobal, R: Source, W: Write
         form: ListForm::Json,
     });
     let report = answer_to(rt, rt.alloc(), input.as_slice(), &order)?;
-    let page = page_of(rt.alloc(), input.as_slice(), report.as_bytes(), b"null")?;
+    let page = page_of(
+        rt.alloc(),
+        input.as_slice(),
+        report.as_bytes(),
+        b"null",
+        b"null",
+    )?;
     write_output(writer, page.as_slice())
 }

@@ -7,7 +7,7 @@ ghost use Rattle.engine.specs.ReadCalls.{FindsNoEnd};
 ghost use Rattle.page_engine.specs.Writing.{FailsToWrite, IsPageOfLog, WritesPage};
 ghost use Rattle.page_engine.specs.Steps.Answers.{IsAnswerError};
 
-use crate::answers::answer_of;
+use crate::answers::{answer_of, lines_of};
 use crate::failure::PageError;
 use command_line::{ListForm, LogOrder};
 use engine::{MAX_READ_CALLS, read_input, write_output};
@@ -18,12 +18,12 @@ use std::io::Write;
 use std::sync::Wait;
 use std::thread::Threads;
 
-/// Reads a whole log, and writes the page of its history, of a list of its faults and of its names.
+/// Reads a whole log, and writes the page of its history, of a list of its faults, of its names and of its lines.
 ///
 /// At most `most` faults are listed. Refused is a log of more bytes than an input may have, and one of which a line is refused; a last line
 /// that is not whole is passed over, as is said of it. Nothing is written before the page is made: after every error but a write fault the
-/// writer is as it was. The log is held in memory, and followed three times: O(n (k + log n)) for a history of n operations in k sessions,
-/// and the cost of reading.
+/// writer is as it was. The log is held in memory, and followed four times: O(n (k + log n)) for a history of n operations in k sessions,
+/// and the cost of reading. That the lines are those of the log is tested, not proved.
 pub fn page_of_log<P: Threads + Wait + Sync + AllocGlobal, R: Source, W: Write>(
     rt: &P,
     reader: &mut R,
@@ -72,11 +72,13 @@ fn page_of_bytes<P: Threads + Wait + Sync + AllocGlobal>(
     let history = answer_of(rt, log, &LogOrder::WriteHistory)?;
     let report = answer_of(rt, log, &LogOrder::ListFaults(most, ListForm::Json))?;
     let names = answer_of(rt, log, &LogOrder::WriteNames)?;
+    let lines = lines_of(rt.alloc(), log)?;
     let bytes = page_of(
         rt.alloc(),
         history.text.as_slice(),
         report.text.as_slice(),
         names.text.as_slice(),
+        lines.as_bytes(),
     )?;
     Ok(LogPage {
         bytes,
