@@ -26,7 +26,8 @@ const andJoined = list => list.length < 2 ? list.join('') : list.slice(0, -1).jo
 
 // ---- What the page is of
 const [report, named, lines] = ['report', 'names', 'lines'].map(id => readJson($(id).textContent));
-const run = readLines(readHistory($('history').textContent), lines, named), names = nameAll(run, named), {verdicts, faults, counts, listed} = gatherFaults(run, report);
+const run = readLines(readHistory($('history').textContent), lines, named), names = nameAll(run, named);
+const {verdicts, faults, counts, listed} = gatherFaults(run, report);
 const tally = report[1], total = [...counts.values()].reduce((sum, many) => sum + many, 0), isHurt = new Map();
 const faultOfRead = new Map(faults.filter(fault => fault.read >= 0).map(fault => [fault.read, fault]));
 for (const {read, upTo, session} of faults) if (read >= 0 && upTo < 0) isHurt.set(session, (isHurt.get(session) || 0) + 1);
@@ -63,7 +64,7 @@ function leadOf(titles) {
   if (total) return `${number(hurt)} of ${plural(names.clients, noun)} ${hurt === 1 ? 'is' : 'are'} affected: ${found}.`;
   if (titles.unknown) return run.repeated.length ? 'A value was written more than once, so nobody can tell which write a read returned.' :
     'No order was found that explains every answer, and none is known to be impossible.';
-  if (!run.answer.some(answer => answer >= 0)) return 'No operation returned a value, so every order explains this run: a yes says nothing here.';
+  if (!run.answer.some(answer => answer >= 0)) return 'No operation returned a value: every order explains the run, so a yes says nothing.';
   return 'For each criterion some order of the operations explains every answer' + (unanswered.length ? ' that is known.' : '.');
 }
 function factsOf() {
@@ -111,13 +112,13 @@ function fitted(text, look, room) {
   return cut(text, low);
 }
 const stepsFor = fault => fault.steps || (fault.steps = stepsOf(run, fault));   // computed once for each fault
-const wrongWordsOf = ({missed}) => missed < 0 ? 'nobody wrote this' :
-  'missed ' + (names.isNothing(valueOf(run, missed)) ? 'the delete' : 'the write of ' + apart(names.value(valueOf(run, missed))));
+const wrongText = ({missed}) => missed < 0 ? 'nobody wrote this' :
+  'missed ' + missedWords(names, valueOf(run, missed), 'the ').map(part => part.name ? apart(part.name) : part).join('');
 function linesOf(fault, {op}, isWide) {   // the lines of a box: how each looks, and its text
   const {verb, isRead, isOpen, key, value} = operationPieces(run, names, op);
   const lines = [['op', verb + (key && ' ' + apart(key))]], got = value && (isRead ? 'got ' : run.isMemory ? '= ' : '') + apart(value);
   if (value || isOpen) lines.push(['value', [got, isOpen && 'no answer'].filter(Boolean).join(', ')]);
-  if (op === fault.read) lines.push(['wrong', '\u2717 ' + wrongWordsOf(fault)]);
+  if (op === fault.read) lines.push(['wrong', '\u2717 ' + wrongText(fault)]);
   if (op === fault.missed) lines.push(['right', verb === 'deletes' ? 'the missed delete' : 'the missed write']);
   return isWide ? lines : [['small', placeText(op) + ' ' + apart(names.session(run.session[op]))], ...lines];
 }

@@ -1,8 +1,8 @@
 //! The static markup of the page, in pieces.
 //!
-//! A page is, in this order: `OPENING`, `STYLE`, `BODY`, the history, `BEFORE_REPORT`, the report, `BEFORE_NAMES`, the names, `BEFORE_LINES`,
-//! the lines, `BEFORE_SCRIPT`, `SCRIPT`, `ZOOMING`, `DRAWING`, `ENDING`. The four texts between them are JSON in which each `<` is written
-//! as `\u003c`.
+//! A page is, in this order: `OPENING`, `STYLE`, `BODY`, the history, `BEFORE_REPORT`, the report, `BEFORE_NAMES`, the names,
+//! `BEFORE_LINES`, the lines, `BEFORE_SCRIPT`, `SCRIPT`, `ZOOMING`, `DRAWING`, `ENDING`. The four texts between them are JSON in which each
+//! `<` is written as `\u003c`.
 //!
 //! The markup has no text of an input: the script makes all elements that show one. The policy in `OPENING` lets in the one style and
 //! the one script, by the hashes of `hashes.rt`, and nothing else.
@@ -13,7 +13,7 @@ pub const OPENING: &str = r#"<!DOCTYPE html>
 <head>
 <meta charset="utf-8">
 <meta http-equiv="Content-Security-Policy" content="default-src 'none'; base-uri 'none'; form-action 'none';
-script-src 'sha256-0l53jcfy2MGlS9ZU1iDFHvtw9Ech9djQWENBFVOM1WI=';
+script-src 'sha256-AXqTRrt25o/3Aqd2+AotXfunoyunEcsGECklkndRlW0=';
 style-src 'sha256-x7LJrQxXm27nupvLkflIfF2kSdeFTCYr2DUefNxHIis='">
 <meta name="viewport" content="width=device-width, initial-scale=1">
 <meta name="referrer" content="no-referrer">

@@ -3,7 +3,7 @@
 //! `tests/page_parts.py --write` writes them anew, here and in the policy, and `tests/pages.py` computes them again.
 
 /// The hash of `SCRIPT`, `ZOOMING` and `DRAWING`, joined in this order.
-pub const SCRIPT_HASH: &str = r#"sha256-0l53jcfy2MGlS9ZU1iDFHvtw9Ech9djQWENBFVOM1WI="#;
+pub const SCRIPT_HASH: &str = r#"sha256-AXqTRrt25o/3Aqd2+AotXfunoyunEcsGECklkndRlW0="#;
 
 /// The hash of `STYLE`.
 pub const STYLE_HASH: &str = r#"sha256-x7LJrQxXm27nupvLkflIfF2kSdeFTCYr2DUefNxHIis="#;

@@ -13,7 +13,8 @@ use crate::style::STYLE;
 use crate::zooming::ZOOMING;
 use std::alloc::{AllocError, Global};
 
-/// The page of the JSON texts of a history, of the report on it, of its names and of its lines: an HTML document that needs no other file.
+/// The page of the JSON texts of a history, of the report on it, of its names and of its lines: an HTML document that needs no other
+/// file.
 ///
 /// The report is the reasons and the list of faults, as the engine lists them. The names are those of the log from which the history comes,
 /// and the lines those on which the calls of its operations begin; both are `null` where there is no log. The page's script reads the texts.

@@ -82,8 +82,8 @@ const opAt = (run, [session, index]) => run.base[session] + index;
 const indexOf = (run, op) => op - run.base[run.session[op]];
 const isUnanswered = (run, op) => run.answer[op] === UNKNOWN;
 
-// Where an operation is: its session and its index in it, or in a log the line on which its call begins. A lost write that was read is three
-// operations of one line, which `explain` names alike.
+// Where an operation is: its session and its index in it, or in a log the line on which its call begins. A lost write that was read is
+// three operations of one line, which `explain` names alike.
 const numberOf = (run, op) => run.session[op] + '.' + indexOf(run, op);
 const readLines = (run, lines, names) => lines ? {...run, lines: Int32Array.from(lines.flat()), clients: names[0].length} : run;
 function placeOf(run, op) {
@@ -464,17 +464,18 @@ function orderSentence(run, names, {kind, session, upTo, read, missed, twice}) {
   return [head, got, at(run, read), ', though ', placeOf(run, missed), ', a write of it, must come before.'];
 }
 const OLD = {WriteCORead: 'the old ', WriteCOInitRead: 'the initial value ', ThinAirRead: ''};
-const missedWords = (names, value) => names.isNothing(value) ? 'the delete' : ['the write of ', name(names.value(value))];
+const missedWords = (names, value, which) =>
+  names.isNothing(value) ? [which, 'delete'] : [which, 'write of ', name(names.value(value))];
 function readSentence(run, names, fault) {
   const {read, missed, kind, session} = fault, value = run.answer[read], isNothing = names.isNothing(value);
   const gotten = isNothing ? ' and found nothing' : [' and got ', OLD[kind], name(names.value(value))];
   const head = [startsBig([name(names.session(session))]), ' read ', name(names.key(run.key[read])), gotten, at(run, read)];
   if (kind === 'ThinAirRead') return [head, isNothing ? ', though nobody deletes it.' : ', which nobody wrote.'];
-  const written = valueOf(run, missed), isDelete = names.isNothing(written), newer = missedWords(names, written);
-  const before = readBefore(run, fault), own = isDelete ? 'its own earlier delete' : ['its own earlier write of ', name(names.value(written))];
+  const written = valueOf(run, missed), before = readBefore(run, fault);
+  const own = missedWords(names, written, 'its own earlier ');
   if (run.session[missed] === session) return [head, '. It missed ', own, at(run, missed), '.'];
   const why = before >= 0 ? [', which it had already read', at(run, before), '.'] : '. What it had read before depends on that write.';
-  return [head, '. It missed ', newer, ' by ', name(names.session(run.session[missed])), at(run, missed), why];
+  return [head, '. It missed ', missedWords(names, written, 'the '), ' by ', name(names.session(run.session[missed])), at(run, missed), why];
 }
 
 // ---- The picture of a fault: a lane for each session in the order in which they first act, and a row for each operation. So no link

@@ -27,7 +27,8 @@ pub(crate) fn certificate_rest(
         format!(in alloc; " (byte {byte}); wanted is {CERTIFICATES}")
     } else {
         format!(in alloc;
-            " (byte {byte}); wanted is a vector for each operation, with a count for each session"
+            " (byte {byte}); wanted is a vector for each operation, with a count for each session, and a schedule for each \
+                operation, or for ccv a list of all operations"
         )
     }
 }

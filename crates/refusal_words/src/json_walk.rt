@@ -85,6 +85,10 @@ impl<'a> Walk<'a> {
         may_end
     }
 
+    fn is_in_object(&self) -> bool {
+        matches!(self.nests.last(), Some(Nest::Object))
+    }
+
     fn is_too_deep(&self) -> bool {
         self.nests.len() > MAX_DEPTH
     }
@@ -105,7 +109,7 @@ impl<'a> Walk<'a> {
             return (byte, fault_after_end(self.text, byte));
         }
         let fault = match token {
-            Token::Key(_) if expected.is_value() => JsonFault::Key,
+            Token::Key(_) if expected.is_value() && !self.is_in_object() => JsonFault::Key,
             Token::Bad if byte >= self.text.len() => JsonFault::Ends(expected),
             Token::Bad
                 if begins_text(self.text, byte)
