@@ -17,8 +17,8 @@ use std::alloc::{AllocError, Global};
 /// file.
 ///
 /// The report is the reasons and the list of faults, as the engine lists them. The names are those of the log from which the history comes,
-/// and the lines those on which the calls of its operations begin; both are `null` where there is no log. The page's script reads the texts.
-/// The function does not check that they are JSON. Fails for want of memory alone. O(n) for n bytes.
+/// and the lines those on which the calls of its operations begin; both are `null` where there is no log. The page's script reads the
+/// texts. The function does not check that they are JSON. Fails for want of memory alone. O(n) for n bytes.
 pub fn page_of(
     alloc: Global,
     history: &[u8],

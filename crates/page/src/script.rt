@@ -475,7 +475,8 @@ function readSentence(run, names, fault) {
   const own = missedWords(names, written, 'its own earlier ');
   if (run.session[missed] === session) return [head, '. It missed ', own, at(run, missed), '.'];
   const why = before >= 0 ? [', which it had already read', at(run, before), '.'] : '. What it had read before depends on that write.';
-  return [head, '. It missed ', missedWords(names, written, 'the '), ' by ', name(names.session(run.session[missed])), at(run, missed), why];
+  const whose = [' by ', name(names.session(run.session[missed])), at(run, missed)];
+  return [head, '. It missed ', missedWords(names, written, 'the '), whose, why];
 }
 
 // ---- The picture of a fault: a lane for each session in the order in which they first act, and a row for each operation. So no link
