@@ -6,19 +6,19 @@
 #![tactic(auto)]
 
 mod answering;
-mod call_lines;
 mod explaining;
 mod failure;
 mod following;
 mod judging;
 pub mod laws;
+mod line_numbers;
 mod reading;
 mod tables;
 mod turn;
 mod watching;
 mod writing;
 
-pub use call_lines::call_lines;
 pub use failure::{LogError, error_lines, status_of_error};
 pub use following::{Followed, follow_log};
 pub use judging::report_on_log;
+pub use line_numbers::call_lines;
