@@ -20,7 +20,10 @@ pub fn call_lines(alloc: Global, log: &[u8]) -> Result<String, LogError>
 {
     let mut rest = log;
     let whole = read_log(alloc, &mut rest)?;
-    Ok(lines_text(alloc, &whole.reader)?)
+    match lines_text(alloc, &whole.reader) {
+        Ok(text) => Ok(text),
+        Err(_) => Err(LogError::Memory),
+    }
 }
 
 fn lines_text(alloc: Global, reader: &EventReader) -> Result<String, AllocError> {
