@@ -17,7 +17,6 @@ where nothing was judged.
 import argparse
 import logging
 import sys
-import tempfile
 import time
 from collections import Counter
 from collections.abc import Callable, Iterable, Mapping
@@ -33,8 +32,8 @@ except ImportError:
 
 import judging
 import summary
-from dask_cluster import ClusterMissing, DaskCluster
-from inputs import Inputs, end_by_signals, inputs_of, parser_for
+from dask_cluster import DaskCluster
+from inputs import Inputs, parser_for
 
 NAMES = ("one", "two", "three", "four", "five", "six")
 BATCH = 100
@@ -50,13 +49,6 @@ class Batch(NamedTuple):
     many: int
     name: str
     future: Future
-
-
-class Found(NamedTuple):
-    """What came of a run: the answers in the order of the inputs, and what was said instead of some."""
-
-    answers: summary.Answers
-    faults: list[str]
 
 
 def computed(client: Client, bag: Any) -> list[Future]:
@@ -130,8 +122,8 @@ def told_again(client: Client, batches: list[Batch]) -> str:
     return f"{sum(often.values()) - len(often)} tasks were handed out again"
 
 
-def found_by(cluster: DaskCluster, batches: list[Batch]) -> Found:
-    """The outcome of all tasks, in the order of the inputs."""
+def found_by(cluster: DaskCluster, batches: list[Batch]) -> tuple[summary.Answers, list[str]]:
+    """The answers of all tasks, in the order of the inputs, and what is said instead of some."""
     until = time.monotonic() + MOST_SECONDS
     answers: summary.Answers = []
     faults = []
@@ -142,11 +134,11 @@ def found_by(cluster: DaskCluster, batches: list[Batch]) -> Found:
             answers += [None] * batch.many
         else:
             answers += outcome
-    return Found(answers, faults)
+    return answers, faults
 
 
-def judged(inputs: Inputs, given: argparse.Namespace, folder: Path) -> Found:
-    """Has all inputs judged by a cluster, of which a worker is killed when a third of the tasks is done."""
+def judged(inputs: Inputs, given: argparse.Namespace, folder: Path) -> summary.Answers:
+    """Has all inputs judged by a cluster, of which a worker is killed when a third of the tasks is done. Says which were not judged."""
     cluster = DaskCluster(folder, NAMES[: given.workers])
     with cluster, Client(scheduler_file=cluster.scheduler_file, timeout=CONNECT_SECONDS) as client:
         cluster.wait_for_workers(client)
@@ -156,26 +148,18 @@ def judged(inputs: Inputs, given: argparse.Namespace, folder: Path) -> Found:
         print(f"{len(inputs.lines)} histories and {len(inputs.logs)} logs in {len(batches)} tasks, by {given.workers} workers", flush=True)
         done = wait_for(batches, len(batches) // 3, begun + MOST_SECONDS)
         print(f"    after {done} tasks {asked(lambda: kill_one(client, cluster, batches))}", flush=True)
-        found = found_by(cluster, batches)
+        answers, faults = found_by(cluster, batches)
         print(f"    {asked(lambda: told_again(client, batches))}; it took {time.monotonic() - begun:.1f} seconds", flush=True)
-    return found
+    print(*faults, sep="\n", end="\n" if faults else "", flush=True)
+    return answers
 
 
 def main() -> int:
     parser = parser_for(__doc__, BATCH)
     parser.add_argument("--workers", type=int, default=3, choices=range(2, len(NAMES) + 1))
-    given = parser.parse_args()
-    end_by_signals()
     # It warns of each result that a killed worker held. What goes wrong is what a task comes to.
     logging.getLogger("distributed.client").setLevel(logging.CRITICAL)
-    with tempfile.TemporaryDirectory(prefix="cluster-") as room:
-        inputs = inputs_of(given, Path(room))
-        try:
-            found = judged(inputs, given, Path(room))
-        except ClusterMissing as fault:
-            parser.error(str(fault))
-        print(*found.faults, sep="\n", end="\n" if found.faults else "", flush=True)
-        return summary.finished(inputs, found.answers, given)
+    return summary.run(parser, parser.parse_args(), judged)
 
 
 if __name__ == "__main__":

@@ -17,16 +17,15 @@ import shlex
 import shutil
 import subprocess
 import sys
-import tempfile
 import time
 from collections.abc import Callable
 from pathlib import Path
 from typing import NamedTuple
 
 import summary
-from inputs import Inputs, end_by_signals, inputs_of, parser_for
+from inputs import Inputs, parser_for
 from judging import KEPT
-from ssh_hosts import HostsMissing, SshHosts
+from ssh_hosts import SshHosts
 
 NAMES = ("one", "two")
 MOST_SECONDS, LOOK_SECONDS = 3600, 0.02
@@ -215,14 +214,7 @@ def main() -> int:
     given = parser.parse_args()
     if not shutil.which("parallel"):
         parser.error("parallel is missing: apt-get install parallel")
-    end_by_signals()
-    with tempfile.TemporaryDirectory(prefix="cluster-") as room:
-        inputs = inputs_of(given, Path(room))
-        try:
-            answers = judged(inputs, given, Path(room))
-        except HostsMissing as fault:
-            parser.error(str(fault))
-        return summary.finished(inputs, answers, given)
+    return summary.run(parser, given, judged)
 
 
 if __name__ == "__main__":

@@ -16,43 +16,30 @@ import sys
 import time
 from collections.abc import Sequence
 from pathlib import Path
-from types import TracebackType
 
 from distributed import Client, TimeoutError
+from servers import LOOPBACK, Servers, ServersMissing
 
-LOOPBACK = "127.0.0.1"
 IDLE_SECONDS, DEATH_SECONDS = 300, 30
 START_SECONDS, END_SECONDS = 60, 10
 SHOWN_LINES = 20
 
 
-class ClusterMissing(RuntimeError):
-    """The scheduler or a worker did not start: the message has the end of its log."""
-
-
-class DaskCluster:
-    """A scheduler and its workers. ClusterMissing where one does not start."""
+class DaskCluster(Servers):
+    """A scheduler, and a worker for each name."""
 
     def __init__(self, folder: Path, names: Sequence[str]) -> None:
-        self.folder = folder
-        self.names = names
+        super().__init__(folder, names)
         self.scheduler_file = str(folder / "scheduler.json")
-        self.processes: dict[str, subprocess.Popen[bytes]] = {}
 
-    def __enter__(self) -> "DaskCluster":
-        try:
-            self.start("scheduler", "--port", "0", "--idle-timeout", f"{IDLE_SECONDS} seconds")
-            self.wait_for_scheduler()
-            for name in self.names:
-                words = ["--name", name, "--nthreads", "1", "--no-nanny", "--death-timeout", str(DEATH_SECONDS)]
-                self.start("worker", *words, "--local-directory", str(self.folder / name), name=name)
-        except BaseException:
-            self.end()
-            raise
-        return self
-
-    def __exit__(self, kind: type[BaseException] | None, fault: BaseException | None, trace: TracebackType | None) -> None:
-        self.end()
+    def start_all(self) -> None:
+        """Starts the scheduler, and the workers once the file with its address is there."""
+        self.start("scheduler", "--port", "0", "--idle-timeout", f"{IDLE_SECONDS} seconds")
+        if not self.is_ready("scheduler", Path(self.scheduler_file).is_file, START_SECONDS):
+            raise ServersMissing(f"the scheduler did not start:\n{self.log_of('scheduler')}")
+        for name in self.names:
+            words = ["--name", name, "--nthreads", "1", "--no-nanny", "--death-timeout", str(DEATH_SECONDS)]
+            self.start("worker", *words, "--local-directory", str(self.folder / name), name=name)
 
     def start(self, part: str, *words: str, name: str | None = None) -> None:
         """Starts a process of Dask, which writes into the folder alone."""
@@ -64,22 +51,13 @@ class DaskCluster:
         with (room / "log").open("wb") as log:
             self.processes[name or part] = subprocess.Popen(command, stdin=quiet, stdout=log, stderr=log, cwd=room, env=environment)
 
-    def wait_for_scheduler(self) -> None:
-        """Waits for the file with the address of the scheduler."""
-        until = time.monotonic() + START_SECONDS
-        while time.monotonic() < until and self.processes["scheduler"].poll() is None:
-            if Path(self.scheduler_file).is_file():
-                return
-            time.sleep(0.05)
-        raise ClusterMissing(f"the scheduler did not start:\n{self.log_of('scheduler')}")
-
     def wait_for_workers(self, client: Client) -> None:
         """Waits until the scheduler knows all workers."""
         try:
             client.wait_for_workers(len(self.names), timeout=START_SECONDS)
         except (OSError, TimeoutError):
             logs = "\n".join(map(self.log_of, self.processes))
-            raise ClusterMissing(f"not all workers started:\n{logs}") from None
+            raise ServersMissing(f"not all workers started:\n{logs}") from None
 
     def log_of(self, name: str) -> str:
         """The last lines that a process wrote."""

@@ -13,15 +13,14 @@ import shutil
 import signal
 import socket
 import subprocess
-import time
 from collections.abc import Sequence
 from pathlib import Path
-from types import TracebackType
 
-LOOPBACK = "127.0.0.1"
+from servers import LOOPBACK, Servers, ServersMissing
+
 SSHD = shutil.which("sshd") or "/usr/sbin/sshd"
 KEY_NAME = "hosts-of-the-example"
-TRIES, START_SECONDS, END_SECONDS, LOOK_SECONDS = 5, 10, 10, 0.05
+TRIES, START_SECONDS, END_SECONDS = 5, 10, 10
 LONGEST_SECONDS = 4 * 3600
 SERVER = """ListenAddress {address}:{port}
 HostKey {folder}/host
@@ -76,39 +75,26 @@ def make_key(path: Path) -> None:
     subprocess.run(["ssh-keygen", "-q", "-t", "ed25519", "-N", "", "-f", str(path)], check=True, stdin=subprocess.DEVNULL)
 
 
-class HostsMissing(RuntimeError):
-    """No host can be reached: sshd is missing, did not start, or lets nobody in; the message has what it said."""
-
-
-class SshHosts:
-    """The hosts. HostsMissing where one can't be reached, or where the user is root."""
+class SshHosts(Servers):
+    """The hosts. ServersMissing also where sshd is missing or lets nobody in, and where the user is root."""
 
     def __init__(self, folder: Path, names: Sequence[str]) -> None:
-        self.folder = folder
-        self.names = names
+        super().__init__(folder, names)
         self.config = folder / "ssh_config"
         self.ssh = ["ssh", "-F", str(self.config)]
-        self.servers: dict[str, subprocess.Popen[bytes]] = {}
 
-    def __enter__(self) -> "SshHosts":
+    def start_all(self) -> None:
+        """Makes the keys, and starts the server of each host."""
         if os.geteuid() == 0:
-            raise HostsMissing("sshd is started here by an ordinary user, and not by root, for whom it does more")
+            raise ServersMissing("sshd is started here by an ordinary user, and not by root, for whom it does more")
         if not Path(SSHD).is_file():
-            raise HostsMissing("sshd is missing: apt-get install openssh-server")
-        try:
-            for name in ("host", "key"):
-                make_key(self.folder / name)
-            public = (self.folder / "host.pub").read_text()
-            (self.folder / "known_hosts").write_text(f"{KEY_NAME} {public}")
-            for name in self.names:
-                self.start(name)
-        except BaseException:
-            self.end()
-            raise
-        return self
-
-    def __exit__(self, kind: type[BaseException] | None, fault: BaseException | None, trace: TracebackType | None) -> None:
-        self.end()
+            raise ServersMissing("sshd is missing: apt-get install openssh-server")
+        for name in ("host", "key"):
+            make_key(self.folder / name)
+        public = (self.folder / "host.pub").read_text()
+        (self.folder / "known_hosts").write_text(f"{KEY_NAME} {public}")
+        for name in self.names:
+            self.start(name)
 
     def start(self, name: str) -> None:
         """Starts the server of a host, on another port where one was taken meanwhile, names it in the settings of ssh, and logs in."""
@@ -119,7 +105,7 @@ class SshHosts:
                 with self.config.open("a") as config:
                     config.write(ENTRY.format(**how))
                 return self.log_in(name)
-        raise HostsMissing(f"sshd did not start: {self.log_of(name)}")
+        raise ServersMissing(f"sshd did not start: {self.log_of(name)}")
 
     def log_of(self, name: str) -> str:
         """What a server wrote."""
@@ -134,7 +120,7 @@ class SshHosts:
         words = [*self.ssh, name, "true"]
         done = subprocess.run(words, stdin=subprocess.DEVNULL, capture_output=True, check=False, text=True, timeout=START_SECONDS)
         if done.returncode != 0:
-            raise HostsMissing(f"no login on host {name}: {done.stdout}{done.stderr}; sshd says: {self.log_of(name)}")
+            raise ServersMissing(f"no login on host {name}: {done.stdout}{done.stderr}; sshd says: {self.log_of(name)}")
 
     def is_started(self, name: str, settings: str, port: int) -> bool:
         """Starts a server with these settings, and says whether it takes connections."""
@@ -142,25 +128,22 @@ class SshHosts:
         command = ["timeout", "--foreground", str(LONGEST_SECONDS), SSHD, "-D", "-e", "-f", str(self.folder / name)]
         quiet = subprocess.DEVNULL
         with (self.folder / f"{name}.log").open("wb") as log:
-            server = self.servers[name] = subprocess.Popen(command, stdin=quiet, stdout=quiet, stderr=log)
-        until = time.monotonic() + START_SECONDS
-        while server.poll() is None and time.monotonic() < until:
-            if is_answered(port):
-                return True
-            time.sleep(LOOK_SECONDS)
+            self.processes[name] = subprocess.Popen(command, stdin=quiet, stdout=quiet, stderr=log)
+        if self.is_ready(name, lambda: is_answered(port), START_SECONDS):
+            return True
         self.kill(name)
         return False
 
     def kill(self, name: str) -> None:
         """Kills a server and all that it runs by SIGKILL, as if the machine lost its power. They are stopped first: none starts more."""
         for sign in (signal.SIGSTOP, signal.SIGKILL):
-            for number in tree_of(self.servers[name].pid):
+            for number in tree_of(self.processes[name].pid):
                 with contextlib.suppress(ProcessLookupError):
                     os.kill(number, sign)
-        self.servers[name].wait(END_SECONDS)
+        self.processes[name].wait(END_SECONDS)
 
     def end(self) -> None:
         """Kills all servers that are left."""
-        for name, server in self.servers.items():
+        for name, server in self.processes.items():
             if server.poll() is None:
                 self.kill(name)

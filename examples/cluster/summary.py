@@ -1,12 +1,14 @@
-"""What came out of a run, in a few lines: how many inputs got which answer, the first with a `no`, and those that were not judged."""
+"""Makes a run, and tells what came out: how many inputs got which answer, the first with a `no`, and those that were not judged."""
 
 import argparse
+import tempfile
 import time
-from collections.abc import Iterator
+from collections.abc import Callable, Iterator
 from pathlib import Path
 
 import judging
-from inputs import Inputs
+from inputs import Inputs, end_by_signals, inputs_of
+from servers import ServersMissing
 
 CRITERIA = ("cc", "cm", "ccv")
 WORDS = ("yes", "no", "unknown")
@@ -91,3 +93,15 @@ def finished(inputs: Inputs, answers: Answers, given: argparse.Namespace) -> int
         given.answers.write_text("".join(f"{answer or 'no answer'}\n" for answer in answers), encoding="utf-8")
     is_right = given.no_comparison or is_as_alone(inputs, answers, given.program)
     return 0 if is_right and all(map(words_of, answers)) else 1
+
+
+def run(parser: argparse.ArgumentParser, given: argparse.Namespace, judged: Callable[[Inputs, argparse.Namespace, Path], Answers]) -> int:
+    """Has the inputs that a command line asks for judged, with a folder for this run alone, and tells what came out; returns the status."""
+    end_by_signals()
+    with tempfile.TemporaryDirectory(prefix="cluster-") as room:
+        inputs = inputs_of(given, Path(room))
+        try:
+            answers = judged(inputs, given, Path(room))
+        except ServersMissing as fault:
+            parser.error(str(fault))
+        return finished(inputs, answers, given)
