@@ -6,7 +6,7 @@ import asyncio
 import contextlib
 import functools
 import time
-from collections.abc import Awaitable, Callable, Coroutine
+from collections.abc import Awaitable, Callable, Coroutine, Iterator
 from types import TracebackType
 from typing import TYPE_CHECKING, Any, Concatenate, ParamSpec, TypeAlias, TypeVar, Union
 
@@ -64,6 +64,22 @@ class _AnyClient:
             raise RuntimeError(f"the client {self.name!r} is over: its block was left")
         return Call(self._recorder, self.name, event, self._fails)
 
+    @contextlib.contextmanager
+    def _try(self, key: Name, value: Value, answers: list[T]) -> Iterator[None]:
+        """One try of a write: its block makes the call, and adds the answer to the list.
+
+        An exception by which the try is lost ends here, so that another try may follow. Every other one is raised on.
+        """
+        with self.begin_write(key, value) as pending:
+            try:
+                yield
+            except Exception as error:
+                pending.end_by(error)
+                if pending.outcome != "lost":
+                    raise
+            else:
+                pending.settle(answers[0])
+
     def _leave(self) -> None:
         self._is_over = True
         pending = self._recorder.pending_call(self.name)
@@ -120,18 +136,13 @@ class Client(_AnyClient):
         the next try, or a function of the number of tries so far. Switch the driver's own retries off.
         """
         make = make_value or self.new_value
+        answers: list[T] = []
         for wait in _waits_of(tries, pause):
             value = make()
-            with self.begin_write(key, value) as pending:
-                try:
-                    answer = call(value)
-                except Exception as error:
-                    pending.end_by(error)
-                    if pending.outcome != "lost":
-                        raise
-                else:
-                    pending.settle(answer)
-                    return answer
+            with self._try(key, value, answers):
+                answers.append(call(value))
+            if answers:
+                return answers[0]
             time.sleep(wait)
         value = make()
         return self.write(key, value, lambda: call(value))
@@ -201,18 +212,13 @@ class AsyncClient(_AnyClient):
     ) -> T:
         """Writes by calls that are tried up to so many times, as Client.retry does. A cancelled try is not followed by another."""
         make = make_value or self.new_value
+        answers: list[T] = []
         for wait in _waits_of(tries, pause):
             value = make()
-            with self.begin_write(key, value) as pending:
-                try:
-                    answer = await call(value)
-                except Exception as error:
-                    pending.end_by(error)
-                    if pending.outcome != "lost":
-                        raise
-                else:
-                    pending.settle(answer)
-                    return answer
+            with self._try(key, value, answers):
+                answers.append(await call(value))
+            if answers:
+                return answers[0]
             await _sleep(wait)
         value = make()
         return await self.write(key, value, lambda: call(value))
