@@ -3,7 +3,6 @@
 import heapq
 import itertools
 from collections.abc import Callable, Coroutine, Generator
-from typing import Any
 
 
 class Sleep:

@@ -11,9 +11,9 @@ from collections.abc import Iterator
 from typing import NamedTuple, TextIO, TypeAlias
 
 from causal_judge.events import Event, Name, Value
-from causal_judge.importers import writing
 from causal_judge.importers.json_lines import Fields, name_of, objects_of, shown_field, value_of, word_of
 from causal_judge.importers.scanning import FormatError, shown
+from causal_judge.importers.writing import at_line, ended, lost
 
 Time: TypeAlias = int | float
 
@@ -102,7 +102,7 @@ def _session_of(client: Name, calls: list[Timed]) -> Iterator[Event]:
         if before is not None and not _is_before(before, timed):
             first, second = sorted((before.line, timed.line))
             raise FormatError(second, f"this call of {shown(client)} and that of line {first} {_why(before, timed)}")
-        yield from writing.at_line(timed.line, _events_of(client, timed))
+        yield from at_line(timed.line, _events_of(client, timed))
 
 
 def _is_before(one: Timed, other: Timed) -> bool:
@@ -119,4 +119,4 @@ def _why(one: Timed, other: Timed) -> str:
 def _events_of(client: Name, timed: Timed) -> list[Event]:
     call = [timed.word, timed.key, timed.value] if timed.word == "w" else [timed.word, timed.key]
     answer = timed.value if timed.word == "r" else "ok"
-    return writing.ended(client, call, answer) if timed.is_answered else writing.lost(client, call)
+    return ended(client, call, answer) if timed.is_answered else lost(client, call)
