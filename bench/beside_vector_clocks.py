@@ -24,8 +24,9 @@ import tempfile
 from typing import NamedTuple
 
 sys.path.insert(0, str(pathlib.Path(__file__).resolve().parent.parent / "tests"))
-from compare import lines_of, print_table  # noqa: E402
-from long_speed import chosen, make, run  # noqa: E402
+from compare import lines_of  # noqa: E402
+from long_speed import chosen, run  # noqa: E402
+from running import print_table  # noqa: E402
 
 SOURCE = pathlib.Path(__file__).with_name("vector_clocks.cpp")
 BUILD = ("g++", "-std=c++20", "-O3", "-march=x86-64-v2")
@@ -94,10 +95,7 @@ def main():
         folder.mkdir(parents=True, exist_ok=True)
         commands = {"program": [*given.program, "judge", "--long", "--workers", "1"], "vectors": built(room)}
         for history in histories:
-            path = history.path(folder)
-            if not path.exists():
-                make(history, path)
-            everything[history] = measured(commands, path, output, given.rounds)
+            everything[history] = measured(commands, history.path(folder), output, given.rounds)
             print(" ".join(row(history, everything[history])), file=sys.stderr, flush=True)
     head = ["operations", "sessions", "history", "`judge --long` s", "MB", "vectors s", "MB", "cc and ccv"]
     print_table(head, [row(history, found) for history, found in everything.items()])

@@ -22,9 +22,9 @@ import sys
 import tempfile
 
 sys.path.insert(0, str(pathlib.Path(__file__).resolve().parent.parent / "tests"))
-from command_words import with_program  # noqa: E402
+from command_words import CRITERIA, with_program  # noqa: E402
+from running import print_table, started  # noqa: E402
 
-CRITERIA = ("cc", "cm", "ccv")
 MOST_SECONDS = 20
 LEAST_SECONDS = 0.0003
 
@@ -41,12 +41,8 @@ def build_peer(source, folder):
 
 def run_once(command, history, output):
     """The processor time of one run, and whether it ended well. Its standard output goes to a file."""
-    actions = [
-        (os.POSIX_SPAWN_OPEN, 0, history, os.O_RDONLY, 0),
-        (os.POSIX_SPAWN_OPEN, 1, output, os.O_WRONLY | os.O_CREAT | os.O_TRUNC, 0o600),
-    ]
-    process = os.posix_spawnp(command[0], command, os.environ, file_actions=actions)
-    _, status, used = os.wait4(process, 0)
+    with open(output, "wb") as written:
+        _, status, used = os.wait4(started(command, history, written.fileno()), 0)
     return used.ru_utime + used.ru_stime, os.waitstatus_to_exitcode(status) == 0
 
 
@@ -83,13 +79,6 @@ def parts_of(path):
 
 def milliseconds(seconds):
     return f"{1000 * seconds:.2f}"
-
-
-def print_table(head, rows):
-    widths = [max(len(row[i]) for row in [head, *rows]) for i in range(len(head))]
-    for row in [head, ["-" * width for width in widths], *rows]:
-        print("| " + " | ".join(cell.ljust(width) for cell, width in zip(row, widths)) + " |")
-    print()
 
 
 def growth(before, after, empty):

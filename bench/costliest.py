@@ -24,7 +24,7 @@ import time
 from typing import NamedTuple
 
 from costly_inputs import INPUTS
-from workers import print_table
+from running import print_table, started
 
 HEAD = ["input", "megabytes", "command", "seconds", "processor", "memory: MB", "outcome"]
 CHUNK = 1 << 20
@@ -48,16 +48,6 @@ def make_missing(folder, inputs):
     if missing:
         maker = pathlib.Path(__file__).with_name("costly_inputs.py")
         subprocess.run([sys.executable, str(maker), str(folder), *missing], check=True, stdout=sys.stderr)
-
-
-def started(command, path, output, errors):
-    """The number of a process that reads a file, and writes to these."""
-    actions = [
-        (os.POSIX_SPAWN_OPEN, 0, path, os.O_RDONLY, 0),
-        (os.POSIX_SPAWN_DUP2, output, 1),
-        (os.POSIX_SPAWN_DUP2, errors, 2),
-    ]
-    return os.posix_spawnp(command[0], command, os.environ, file_actions=actions)
 
 
 def drained(reading, process, end):

@@ -24,8 +24,9 @@ from typing import NamedTuple
 sys.path.insert(0, str(pathlib.Path(__file__).resolve().parent.parent / "tests"))
 import long_runs  # noqa: E402
 from command_words import with_program  # noqa: E402
-from compare import lines_of, print_table  # noqa: E402
+from compare import lines_of  # noqa: E402
 from long_speed import run  # noqa: E402
+from running import made, print_table  # noqa: E402
 
 MOST_TIMES, MOST_TIMES_OF_LOST, MOST_BYTES = 1.5, 2, 200_000_000
 ROUNDS = 2
@@ -94,16 +95,6 @@ def lines(log):
             yield f'["begin",{name},["r","user:{key}/name"]]\n'
             pending[client] = f'["end",{name},{answer}]\n'
     yield from pending.values()
-
-
-def made(path, write):
-    """A file that a function writes where it is not there."""
-    if not path.exists():
-        part = path.with_suffix(".part")
-        with open(part, "wb") as file:
-            write(file)
-        part.rename(path)
-    return path
 
 
 def files_of(program, log, folder):

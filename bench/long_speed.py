@@ -32,7 +32,8 @@ from typing import NamedTuple
 
 sys.path.insert(0, str(pathlib.Path(__file__).resolve().parent.parent / "tests"))
 from command_words import CRITERIA, with_program  # noqa: E402
-from compare import lines_of, print_table  # noqa: E402
+from compare import lines_of  # noqa: E402
+from running import made, print_table, started  # noqa: E402
 
 RUNS = (
     ("arrival", 64, None),
@@ -66,7 +67,14 @@ class History(NamedTuple):
         return f"{self.operations}x{self.sessions} {self.shape()}"
 
     def path(self, folder):
-        return folder / f"{self.name().replace(' ', '-')}.json"
+        """Its file in a folder, which is made where it is not there."""
+        return made(folder / f"{self.name().replace(' ', '-')}.json", self.write)
+
+    def write(self, file):
+        """Writes it to a file, in a process of its own."""
+        fault = ["--fault", self.fault, "--width", str(WIDTH)] if self.fault else []
+        words = [pathlib.Path(__file__).with_name("long_runs.py"), *fault, self.store, self.sessions, self.operations, self.keys, 1]
+        subprocess.run([sys.executable, *map(str, words)], stdout=file, check=True)
 
 
 class Taken(NamedTuple):
@@ -76,16 +84,6 @@ class Taken(NamedTuple):
     most: int
     text: int
     lines: dict
-
-
-def make(history, path):
-    """Writes a history to a file, in a process of its own."""
-    fault = ["--fault", history.fault, "--width", str(WIDTH)] if history.fault else []
-    words = [history.store, history.sessions, history.operations, history.keys, 1]
-    made = path.with_suffix(".part")
-    with open(made, "wb") as file:
-        subprocess.run([sys.executable, pathlib.Path(__file__).with_name("long_runs.py"), *fault, *map(str, words)], stdout=file, check=True)
-    made.rename(path)
 
 
 def built(prototype, folder):
@@ -115,11 +113,8 @@ def most_resident(process):
 def run(command, path, output):
     """The processor seconds of a run, the most memory that was resident, and whether it ended well. It is looked at again and again:
     what the system says at its end counts the process that started it too."""
-    actions = [
-        (os.POSIX_SPAWN_OPEN, 0, path, os.O_RDONLY, 0),
-        (os.POSIX_SPAWN_OPEN, 1, output, os.O_WRONLY | os.O_CREAT | os.O_TRUNC, 0o600),
-    ]
-    process, most = os.posix_spawnp(command[0], command, os.environ, file_actions=actions), 0
+    with open(output, "wb") as written:
+        process, most = started(command, path, written.fileno()), 0
     while True:
         ended, status, used = os.wait4(process, os.WNOHANG)
         if ended:
@@ -223,10 +218,7 @@ def main():
         folder.mkdir(parents=True, exist_ok=True)
         commands = {"program": [*given.program, "judge", "--long", "--workers", "1"], "prototype": built(given.prototype, room)}
         for history in histories:
-            path = history.path(folder)
-            if not path.exists():
-                make(history, path)
-            everything[history] = measured(commands, path, output, given.rounds)
+            everything[history] = measured(commands, history.path(folder), output, given.rounds)
             print(" ".join(row(history, everything[history])), file=sys.stderr, flush=True)
     head = ["history", "program s", "prototype s", "ratio", "program MB", "B/op", "prototype MB", "B/op", "lines"]
     print_table(head, [row(history, found) for history, found in everything.items()])

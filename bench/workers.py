@@ -35,6 +35,7 @@ import time
 
 sys.path.insert(0, str(pathlib.Path(__file__).resolve().parent.parent / "tests"))
 from command_words import with_program  # noqa: E402
+from running import print_table, started  # noqa: E402
 
 WORKERS = (1, 2, 4)
 SIZE = "16x256"
@@ -44,14 +45,8 @@ KINDS = ("memory", "turned")
 def run_once(command, path, wanted):
     """The time on the clock of one run in seconds, and what it wrote. It ends with the wanted status."""
     with tempfile.TemporaryFile() as output:
-        actions = [
-            (os.POSIX_SPAWN_OPEN, 0, path, os.O_RDONLY, 0),
-            (os.POSIX_SPAWN_DUP2, output.fileno(), 1),
-            (os.POSIX_SPAWN_DUP2, output.fileno(), 2),
-        ]
         begin = time.perf_counter()
-        process = os.posix_spawnp(command[0], command, os.environ, file_actions=actions)
-        _, status = os.waitpid(process, 0)
+        _, status = os.waitpid(started(command, path, output.fileno(), output.fileno()), 0)
         taken = time.perf_counter() - begin
         ended = os.waitstatus_to_exitcode(status)
         if ended != wanted:
@@ -112,13 +107,6 @@ def microseconds(seconds):
 def ratios(times):
     """The time by one worker over that by 2 and by 4."""
     return [f"{times[1] / times[workers]:.2f}" if times[workers] > 0 else "-" for workers in WORKERS[1:]]
-
-
-def print_table(head, rows):
-    widths = [max(len(row[i]) for row in [head, *rows]) for i in range(len(head))]
-    for row in [head, ["-" * width for width in widths], *rows]:
-        print("| " + " | ".join(cell.ljust(width) for cell, width in zip(row, widths)) + " |")
-    print()
 
 
 def write_json(path, value):
