@@ -143,5 +143,4 @@ def _with_namespace(tag: Token, form: Form) -> Form:
 def _qualified(key: Form, namespace: str) -> Form:
     if not isinstance(key, (Keyword, Symbol)):
         return key
-    name = key.name.removeprefix("_/") if key.name.startswith("_/") else key.name if "/" in key.name else f"{namespace}/{key.name}"
-    return type(key)(name)
+    return type(key)(key.name.removeprefix("_/") if "/" in key.name else f"{namespace}/{key.name}")
