@@ -28,7 +28,7 @@ Pause: TypeAlias = Union[float, Callable[[int], float]]
 class _AnyClient:
     """What both kinds of clients have: a name, new values, and calls that begin and end apart.
 
-    As a context manager it records a call that is still pending at the end as lost. Nothing is recorded by it afterwards.
+    As a context manager it records a call that is still pending at the end as lost. Afterwards it records nothing.
     """
 
     def __init__(self, recorder: Recorder, name: Name, fails: Fails) -> None:
@@ -131,9 +131,9 @@ class Client(_AnyClient):
     ) -> T:
         """Writes by calls that are tried up to so many times, each with a new value that `make_value` gives (new_value unless given).
 
-        A try that raised is lost, and the next one is a write of its own. An exception that means that nothing took effect is raised at
-        once, and so is that of the last try, and one that is no Exception, as KeyboardInterrupt. `pause` is how many seconds come before
-        the next try, or a function of the number of tries so far. Switch the driver's own retries off.
+        A try that raised is lost, and the next one is a write of its own. Three exceptions are raised at once: one that means that nothing
+        took effect, one that is no Exception, as KeyboardInterrupt, and that of the last try. `pause` is how many seconds come before the
+        next try, or a function of the number of tries so far. Switch the driver's own retries off.
         """
         make = make_value or self.new_value
         answers: list[T] = []

@@ -49,7 +49,7 @@ def merge(paths: Iterable[str | os.PathLike[str]], out: BinaryIO) -> MergeCounts
 
 @dataclass(frozen=True)
 class _Part:
-    """What of a file comes after the starts: the bytes from one place up to another, and the clients that had a call pending there."""
+    """The part of a file after its starts: from which byte up to which one, and the clients that have a call pending at its end."""
 
     path: str
     begin: int

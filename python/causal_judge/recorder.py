@@ -134,7 +134,7 @@ class Recorder:
             return self._calls.get(name)
 
     def _go_on(self) -> None:
-        """Takes in what the log has, and gives each of its pending calls up."""
+        """Takes in the events of the log, and records each call that is pending after them as lost."""
         for number, event in self._file.events():
             fault = self._progress.fault_of(event)
             if fault:

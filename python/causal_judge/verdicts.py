@@ -56,7 +56,7 @@ class Verdict:
 
     @property
     def reasons(self) -> Mapping[str, str]:
-        """For each criterion what the explanation says below its line; where that is "as for" another one, what it says below that one's."""
+        """For each criterion the lines that the explanation has below it. Where these are "as for" another one, the lines below that."""
         found: dict[str, list[str]] = {criterion: [] for criterion in CRITERIA}
         criterion = CRITERIA[0]
         for line in self.explanation.splitlines():
@@ -124,7 +124,7 @@ def explain(log: Log, *, program: str | os.PathLike[str] | None = None, timeout:
 
 
 def _lack_of(unmet: tuple[Line, ...]) -> str:
-    """What a log lacks of which these lines are no yes."""
+    """Says what a log does not meet, and what it is not known to meet, by its lines that are no yes."""
     answers = {answer: ", ".join(line.criterion for line in unmet if line.answer == answer) for answer in ("no", "unknown")}
     lacks = [f"does not meet {answers['no']}"] if answers["no"] else []
     return " and ".join([*lacks, f"is not known to meet {answers['unknown']}"] if answers["unknown"] else lacks)
