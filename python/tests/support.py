@@ -90,6 +90,14 @@ class Unreachable(Exception):
     """No answer came."""
 
 
+def run_threads(threads):
+    """Starts threads, and waits until all have ended."""
+    for thread in threads:
+        thread.start()
+    for thread in threads:
+        thread.join()
+
+
 def raising(error):
     """A call that raises."""
 

@@ -5,7 +5,7 @@ import random
 import unittest
 
 from causal_judge import Recorder
-from support import FolderCase, Refused, Unreachable, events_of, many, needs_program, verdicts_of
+from support import ClientCase, FolderCase, Refused, Unreachable, events_of, many, needs_program, verdicts_of
 
 CLIENTS, KEYS, CALLS, SEEDS = 16, 5, 40, 3
 
@@ -22,16 +22,16 @@ async def raise_later(error):
     raise error
 
 
-class AsyncCase(FolderCase, unittest.IsolatedAsyncioTestCase):
+class AsyncCase(ClientCase, unittest.IsolatedAsyncioTestCase):
+    """The same, with a client whose calls are awaited."""
+
     def setUp(self):
         super().setUp()
-        self.recorder = Recorder(self.log, fails=Refused)
-        self.addCleanup(self.recorder.close)
         self.alice = self.recorder.async_client("alice")
 
     def endings(self):
         """The words of what the log has, without begins."""
-        return [event[0] for event in events_of(self.log) if event[0] != "begin"]
+        return [event[0] for event in super().endings()]
 
 
 class Answers(AsyncCase):

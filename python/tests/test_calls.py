@@ -6,7 +6,7 @@ import time
 import unittest
 from unittest import mock
 
-from support import ClientCase, Refused, Unreachable, events_of, raising
+from support import ClientCase, Refused, Unreachable, events_of, raising, run_threads
 
 
 class Calls(ClientCase):
@@ -196,11 +196,7 @@ class NewValues(ClientCase):
 
     def test_threads(self):
         found = []
-        threads = [threading.Thread(target=lambda: found.extend(self.alice.new_value() for _ in range(500))) for _ in range(8)]
-        for thread in threads:
-            thread.start()
-        for thread in threads:
-            thread.join()
+        run_threads([threading.Thread(target=lambda: found.extend(self.alice.new_value() for _ in range(500))) for _ in range(8)])
         self.assertEqual(len(set(found)), 4000)
 
 

@@ -7,7 +7,7 @@ import time
 import unittest
 
 from causal_judge import Recorder
-from support import FolderCase, Refused, Unreachable, events_of, many, needs_program, verdicts_of
+from support import FolderCase, Refused, Unreachable, events_of, many, needs_program, run_threads, verdicts_of
 
 CLIENTS, KEYS, CALLS, SEEDS = 16, 6, 40, 3
 OWN = "wwr"  # the first calls of each client are of a key of its own, so that a stale read is no matter of how threads take turns
@@ -94,11 +94,7 @@ def recorded(path, seed, stale):
     memory, notes = SharedMemory(random.Random(rng.random()), stale), {f"client {number}": [] for number in range(CLIENTS)}
     with Recorder(path, fails=Refused) as recorder:
         given = [(memory, recorder.client(name), random.Random(rng.random()), noted) for name, noted in notes.items()]
-        threads = [threading.Thread(target=calls, args=one) for one in given]
-        for thread in threads:
-            thread.start()
-        for thread in threads:
-            thread.join()
+        run_threads([threading.Thread(target=calls, args=one) for one in given])
     return notes
 
 
@@ -137,11 +133,7 @@ class Threads(FolderCase):
                     refused.append(1)
 
         with Recorder(self.log) as recorder:
-            threads = [threading.Thread(target=read, args=(recorder.client("alice"),)) for _ in range(4)]
-            for thread in threads:
-                thread.start()
-            for thread in threads:
-                thread.join()
+            run_threads([threading.Thread(target=read, args=(recorder.client("alice"),)) for _ in range(4)])
         self.assertEqual(len(events_of(self.log)), 2 * (800 - len(refused)))
 
     def test_call_that_is_ended_twice_at_once(self):
@@ -150,11 +142,7 @@ class Threads(FolderCase):
             for number in range(200):
                 call, raised = recorder.client("alice").begin_write("k", number), []
                 barrier = threading.Barrier(2)
-                threads = [threading.Thread(target=end, args=(action, barrier, raised)) for action in (call.end, call.lost)]
-                for thread in threads:
-                    thread.start()
-                for thread in threads:
-                    thread.join()
+                run_threads([threading.Thread(target=end, args=(action, barrier, raised)) for action in (call.end, call.lost)])
                 self.assertEqual(raised, [RuntimeError])
         self.assertEqual(len(events_of(self.log)), 400)
 
