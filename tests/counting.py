@@ -24,11 +24,16 @@ def end(passed, failed, skipped=0):
     sys.exit(1 if failed or not passed + skipped else 0)
 
 
-def end_after(cases):
-    """Counts cases, each a name and whether it holds, prints those that do not, and ends the process."""
-    passed, failed = 0, 0
+def counted(cases):
+    """How many cases hold and how many do not, each a name and whether it holds. Those that do not are printed."""
+    passed = failed = 0
     for name, holds in cases:
-        passed, failed = passed + holds, failed + (not holds)
+        passed, failed = passed + bool(holds), failed + (not holds)
         if not holds:
             print(f"{name}: no", flush=True)
-    end(passed, failed)
+    return passed, failed
+
+
+def end_after(cases):
+    """Counts cases, and ends the process."""
+    end(*counted(cases))

@@ -26,7 +26,7 @@ from concurrent.futures import ThreadPoolExecutor
 from typing import NamedTuple
 
 from command_words import with_program
-from counting import end
+from counting import counted, end
 
 HERE = pathlib.Path(__file__).resolve().parent
 SECONDS, JOBS, MOST_STALE_RUNS = 600, 4, 40
@@ -197,7 +197,7 @@ def main():
     parser = argparse.ArgumentParser(description=__doc__, formatter_class=argparse.RawDescriptionHelpFormatter)
     parser.add_argument("--long", action="store_true")
     given = with_program(parser)
-    program, counts, skipped = str(pathlib.Path(given.program[0]).resolve()), [0, 0], 0
+    program, counts, skipped = str(pathlib.Path(given.program[0]).resolve()), (0, 0), 0
     with tempfile.TemporaryDirectory(prefix="live-stores-") as room, ThreadPoolExecutor(JOBS) as pool:
         for example in (REDIS, ETCD) if given.long else (REDIS,):
             if example.lacks():
@@ -205,10 +205,7 @@ def main():
                 skipped += 1
                 continue
             for cases in pool.map(lambda part: list(part()), parts_of(example, program, room)):
-                for name, holds in cases:
-                    counts[not holds] += 1
-                    if not holds:
-                        print(f"{name}: no", flush=True)
+                counts = tuple(map(sum, zip(counts, counted(cases))))
     end(*counts, skipped)
 
 

@@ -16,11 +16,9 @@ The pages are those that the program writes, and have to be the pieces joined by
 """
 
 import argparse
-import json
 import random
 import re
 import shutil
-import sys
 import tempfile
 
 import browser
@@ -30,7 +28,7 @@ import page_model
 import page_parts
 import page_views
 from command_words import with_program
-from counting import end
+from counting import counted, end
 
 FORBIDDEN = re.compile(r"innerHTML|outerHTML|insertAdjacent|document\.write|\beval\b|\bFunction\(|\.style\b|\.src\b|\bfetch\b|\bimport\b")
 ENDS = ("</script", "</style", "<!--")
@@ -61,16 +59,6 @@ def same_pages(pages):
     for page in pages:
         if page.written is not None:
             yield f"the page of {page.name} is the pieces joined", page.written == page.joined()
-
-
-def counted(cases):
-    """How many cases hold and how many do not, which are printed."""
-    passed = failed = 0
-    for name, holds in cases:
-        passed, failed = passed + bool(holds), failed + (not holds)
-        if not holds:
-            print(f"{name}: no", flush=True)
-    return passed, failed
 
 
 def main():
