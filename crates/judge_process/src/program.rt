@@ -105,8 +105,8 @@ fn words_of_process<P: Env + AllocGlobal>(rt: &P) -> Result<Vec<String>, Usage> 
 const BAD_WORDS: &str =
     "error: invalid UTF-8 was detected in one or more arguments\n\nFor more information, try '--help'.\n";
 
-/// Writes the line of a run that failed, and where more than a number is to be said, what is wrong with its input, in a second line, where
-/// memory suffices for it. Returns the exit status.
+/// Writes the line of a run that failed, and where more than a number is to be said, a second line on what is wrong with its input. The
+/// second line is left out where memory does not suffice for both. Returns the exit status.
 pub(crate) fn report_refused<P: AllocGlobal + Eprint>(
     rt: &P,
     error: &RunError,
@@ -117,7 +117,7 @@ pub(crate) fn report_refused<P: AllocGlobal + Eprint>(
     ensures { result ≤ 4 }
 {
     let status = report(rt, Err(*error));
-    if detail == Detail::Reason {
+    if detail == Detail::Reason && status == status_of(&Err(*error)) {
         if let Ok(Some(reason)) = reason_of(rt.alloc(), input, form, error) {
             let _ = rt.eprintln(reason);
         }
