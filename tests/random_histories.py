@@ -9,6 +9,8 @@ from collections import Counter
 from command_words import with_program
 from counting import end
 
+ENOUGH = 4
+
 
 def kept(prefix, form):
     """The name of a file with a form, which stays."""
@@ -18,7 +20,8 @@ def kept(prefix, form):
 
 
 def run_random(text, prefix, make, faults, named):
-    """Makes histories from a seed by `make`, prints those in which `faults` finds something, and all of `named` that it never saw."""
+    """Makes histories from a seed by `make`, prints those in which `faults` finds something, and all of `named` that it never saw, where there
+    are enough histories: four for each of them."""
     parser = argparse.ArgumentParser(description=text, formatter_class=argparse.RawDescriptionHelpFormatter)
     parser.add_argument("seed", type=int)
     parser.add_argument("count", type=int)
@@ -32,7 +35,8 @@ def run_random(text, prefix, make, faults, named):
             print(kept(prefix, form), *found, sep="\n  ", flush=True)
     for what, times in sorted(seen.items()):
         print(f"{times:8} {what}")
-    missing = [what for what in named if not seen[what]]
+    asked = named if given.count >= ENOUGH * len(named) else []
+    missing = [what for what in asked if not seen[what]]
     for what in missing:
         print(f"never seen: {what}")
-    end(given.count + len(named) - wrong - len(missing), wrong + len(missing))
+    end(given.count + len(asked) - wrong - len(missing), wrong + len(missing))
