@@ -147,14 +147,16 @@ def zoomed(view, by):
     return [view[2] * by, view[3] * by]
 
 
+def zoom_faults(window, whole, act, steps):
+    """Whether each of these acts, one after the other, shows so much of the whole."""
+    for what, part in steps:
+        act(what)
+        yield f"{what} shows {seen(window)} of {whole}", near(seen(window)[2:], zoomed(whole, part))
+
+
 def button_faults(window, whole):
-    window.click("#picture-closer")
-    closer = seen(window)
-    yield f"the button + shows {closer} of {whole}", near(closer[2:], zoomed(whole, 0.5))
-    window.click("#picture-closer")
-    yield f"the button + again: {seen(window)}", near(seen(window)[2:], zoomed(whole, 0.25))
-    window.click("#picture-wider")
-    yield f"the button -: {seen(window)}", near(seen(window)[2:], zoomed(whole, 0.5))
+    steps = (("#picture-closer", 0.5), ("#picture-closer", 0.25), ("#picture-wider", 0.5))
+    yield from zoom_faults(window, whole, window.click, steps)
     window.click("#picture-all")
     yield f"the button All: {seen(window)}", near(seen(window), whole)
     window.click("#picture-wider")
@@ -169,9 +171,8 @@ def key_faults(window, whole):
     centred(window)
     window.run(FOCUSED)
     scrolled = window.run("scrollY")
-    window.press("+")
-    closer, unit = seen(window), whole[2] / box_of(window)[2] / 2
-    yield f"the key + shows {closer} of {whole}", near(closer[2:], zoomed(whole, 0.5))
+    yield from zoom_faults(window, whole, window.press, (("+", 0.5),))
+    unit = whole[2] / box_of(window)[2] / 2
     for key, at, by in (
         ("ArrowRight", 0, STRIDE * unit), ("ArrowDown", 1, STRIDE * unit), ("ArrowLeft", 0, -STRIDE * unit), ("ArrowUp", 1, -STRIDE * unit),
         ("PageUp", 1, None), ("PageDown", 1, None),
@@ -182,10 +183,7 @@ def key_faults(window, whole):
         by = by or min(before[1], before[3] / 2) * -1 if key == "PageUp" else by or min(whole[3] - before[3] - before[1], before[3] / 2)
         due = [value + (by if number == at else 0) for number, value in enumerate(before)]
         yield f"{key} moves {before} to {after}, and not to {due}", near(after, due)
-    window.press("=")
-    yield f"the key = zooms in: {seen(window)}", near(seen(window)[2:], zoomed(whole, 0.25))
-    window.press("-")
-    yield f"the key - zooms out: {seen(window)}", near(seen(window)[2:], zoomed(whole, 0.5))
+    yield from zoom_faults(window, whole, window.press, (("=", 0.25), ("-", 0.5)))
     window.press("Home")
     yield f"Home shows all: {seen(window)}", near(seen(window), whole)
     yield "the page did not scroll", window.run("scrollY") == scrolled
