@@ -1,4 +1,4 @@
-//! A core is judged by itself, and not with the history that it is of.
+//! A core is judged by itself, without the history that it comes from.
 
 use crate::case_files::pattern_of;
 use crate::histories::memory;

@@ -1,4 +1,4 @@
-//! What is seen of steps at a desk, one after the other.
+//! What a desk answers to steps, one after the other.
 
 ghost use Rattle.std.specs.Prelude.{◌≡◌};
 
@@ -29,7 +29,7 @@ enum Step {
     On(usize, Event),
 }
 
-/// What is done with a case.
+/// What a step does with a case.
 #[derive(Clone, Copy)]
 enum Event {
     Check(OpId),
@@ -40,7 +40,7 @@ enum Event {
     Settle,
 }
 
-/// What is seen of a step.
+/// What the tests see of a step.
 #[derive(Clone, Copy, Debug, PartialEq)]
 enum Seen {
     /// The number of a case, or of the verdicts that were put.
@@ -205,7 +205,7 @@ const FILED: [(Step, Seen); 10] = [
     (Step::Take, Seen::Nothing),
 ];
 
-/// `tests/refused_memory.py` refuses each allocation in turn. A file that memory was refused to is filed once more.
+/// `tests/refused_memory.py` refuses each allocation in turn. The test files a case once more where memory was refused.
 #[test]
 fn file(rt: HostRuntime) -> Result<(), Fail> {
     let unwanted = match first_unwanted(&rt, &FILED) {
@@ -238,7 +238,7 @@ const WORKED: [Seen; 7] = [
     Seen::Stands(Answer::Yes),
 ];
 
-/// What is seen where memory is refused to the check of the first, the second or the third piece: the piece that was taken then
+/// What is seen where the check of the first, the second or the third piece is refused memory: the piece that was taken then
 /// stays open until the case is settled.
 fn abandoned_at(piece: u32) -> [Seen; 7] {
     [
@@ -268,7 +268,7 @@ fn abandoned(rt: HostRuntime) -> Result<(), Fail> {
     Ok(())
 }
 
-/// The number of the first step of which something else is seen than wanted.
+/// The number of the first step that gives something else than wanted.
 fn first_unwanted<P: Wait + AllocGlobal>(
     rt: &P,
     cases: &[(Step, Seen)],
@@ -326,7 +326,7 @@ impl<K: ShelfName> Given<K> {
     }
 }
 
-/// What is seen of a step.
+/// What the tests see of a step.
 fn seen_of<K: ShelfName, P: Wait + AllocGlobal>(
     rt: &P,
     desk: &Desk<Memory, K>,
@@ -413,7 +413,7 @@ fn filed_or_back<K: ShelfName, P: Wait + AllocGlobal>(
     }
 }
 
-/// Files a case 64 times: what is seen of the last.
+/// Files a case 64 times. Returns what is seen of the last.
 fn filled<K: ShelfName, P: Wait + AllocGlobal>(
     rt: &P,
     desk: &Desk<Memory, K>,

@@ -18,7 +18,7 @@ pub const NEVER: Failing = Failing {
     kind: ErrorKind::Other,
 };
 
-/// Counts one more call, and answers how it fails, where it does.
+/// Counts one more call, and returns how it fails, where it does.
 fn count(failing: Failing, calls: &mut u64) -> io::Result<()> {
     *calls = calls.saturating_add(1);
     if failing.first <= *calls && *calls < failing.end {

@@ -2,7 +2,7 @@
 //! seals, clients that run at the same time, what is found where memory was refused before, and runs of the whole engine over readers and
 //! writers in memory, which give or take some bytes a call, or fail.
 //!
-//! What the words of a command line and an input give is a case of the crate `cases`. What a contract says of every input has no test.
+//! The crate `cases` tests what the words of a command line and an input give. No test repeats what a contract says of every input.
 #![tactic(auto)]
 
 #[cfg(test)]

@@ -11,8 +11,8 @@ use std::sync::Wait;
 use std::test::Fail;
 use std::thread::Threads;
 
-/// For each case its name, what is expected and the lines, and what is wanted. A percent sign is written for a line feed. A line that
-/// begins with two blanks goes on where the line before it ends.
+/// For each case its name, what is expected and the lines, and what is wanted. A percent sign means a line feed. A line that
+/// begins with two blanks continues the line before it.
 const LINES: &str = r#"
 no_line | - | 0
 one_line | - ["memory",[]]% | 0 cc yes; cm yes; ccv yes%
@@ -55,7 +55,7 @@ fn lines_in_pieces_are_answered_in_order(rt: HostRuntime) -> Result<(), Fail> {
     Ok(())
 }
 
-/// The cases of which `judge --lines` by so many workers says something else, where so many bytes come a read call.
+/// The cases for which `judge --lines` with so many workers does not give what is wanted, where each read call gives so many bytes.
 fn otherwise<P: Threads + Wait + Sync + AllocGlobal>(
     rt: &P,
     workers: usize,
@@ -74,7 +74,7 @@ fn otherwise<P: Threads + Wait + Sync + AllocGlobal>(
     Ok(otherwise)
 }
 
-/// What `judge --lines` by so many workers says of a case whose bytes come so many a read call.
+/// What `judge --lines` with so many workers says of a case, where each read call gives so many bytes.
 fn said<P: Threads + Wait + Sync + AllocGlobal>(
     rt: &P,
     workers: usize,

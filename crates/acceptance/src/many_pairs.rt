@@ -1,5 +1,5 @@
-//! Up to where the search for patterns goes: a happened-before relation with more than 100,000 pairs that the causal order
-//! doesn't have is given up.
+//! The limit of the search for patterns: it gives up a happened-before relation with more than 100,000 pairs that the causal
+//! order doesn't have.
 
 use crate::histories::{joined, memory};
 use cert_check::Criterion;

@@ -57,7 +57,7 @@ impl Gate for Meeting {
     fn leave(&self, _op: OpId) {}
 }
 
-/// The histories that are sealed of two clients of the causal store, and whether the clients ran at the same time.
+/// The sealed histories of two clients of the causal store, and whether the clients ran at the same time.
 fn driven_two<P: Threads + Wait + Sync + AllocGlobal>(
     rt: &P,
     text: &str,
@@ -77,7 +77,7 @@ fn driven_two<P: Threads + Wait + Sync + AllocGlobal>(
     Ok(format!(in rt.alloc(); "{said} {met}")?)
 }
 
-/// The texts of what was sealed, one after the other.
+/// The texts of the sealed histories, one after the other.
 fn text_of(alloc: Global, seals: &[Sealed<Memory>]) -> Result<String, AllocError> {
     let mut said = String::new(alloc);
     for sealed in seals {

@@ -1,11 +1,11 @@
-//! Steps of sessions, and what a history says of them.
+//! Steps of sessions, and the operations of a history as text.
 
 use history::{Advice, History, MAX_SESSIONS, TakenIn};
 use objects::{Register, RegisterCall, RegisterRet};
 use recorder::Session;
 use std::alloc::{AllocError, Global};
 
-/// Advice that tells nothing but a stamp.
+/// Advice with nothing but a stamp.
 pub fn advice(alloc: Global, stamp: u64) -> Advice {
     Advice {
         counts: [0; MAX_SESSIONS],
@@ -14,17 +14,17 @@ pub fn advice(alloc: Global, stamp: u64) -> Advice {
     }
 }
 
-/// Begins a call: whether it has begun.
+/// Begins a call. Returns whether it has begun.
 pub fn begun(session: &mut Session<Register>, call: RegisterCall) -> bool {
     session.begin(call).is_ok()
 }
 
-/// Ends the pending call, with advice that nothing was taken in: whether it has ended.
+/// Ends the pending call, with advice that nothing was taken in. Returns whether it has ended.
 pub fn ended(alloc: Global, session: &mut Session<Register>, ret: RegisterRet) -> bool {
     session.finish(ret, advice(alloc, 0)).is_ok()
 }
 
-/// The operations of a history, session by session, each session with a semicolon behind it.
+/// The operations of a history, session by session, each session with a semicolon after it.
 pub fn operations_of(alloc: Global, history: &History<Register>) -> Result<String, AllocError> {
     let mut text = String::new(alloc);
     for session in 0..history.sessions() {

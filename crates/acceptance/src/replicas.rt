@@ -1,4 +1,4 @@
-//! What two replicas of a queue answer and tell, by each store and delivery.
+//! What two replicas of a queue answer and report, for each store and delivery.
 
 use causal_memory::{AsTakenIn, CausalReplica};
 use lamport_store::{ByStamp, LamportReplica};
@@ -51,7 +51,7 @@ fn answer_of_second<P: UpdateOrder>(
     Ok(())
 }
 
-/// Asks a replica, adds its answer to the others, and gives its update.
+/// Makes a call at a replica, adds its answer to the others, and returns its update.
 fn act<P: UpdateOrder>(
     alloc: Global,
     answers: &mut String,

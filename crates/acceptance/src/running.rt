@@ -20,7 +20,7 @@ pub fn said_over<P: Threads + Wait + Sync + AllocGlobal>(
     told(rt.alloc(), ended, sink)
 }
 
-/// The status of a run that ended so, what it wrote, and its line where it failed. A percent sign is written for a line feed.
+/// The status of a run that ended so, what it wrote, and its line where it failed. A percent sign means a line feed.
 pub fn told(
     alloc: Global,
     ended: Result<Outcome, RunError>,

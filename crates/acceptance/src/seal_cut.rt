@@ -11,14 +11,14 @@ use std::test::Fail;
 use std::thread;
 use std::thread::Threads;
 
-/// So many recorders are filled one after the other, and so many seals are taken of each meanwhile.
+/// How many recorders the test fills, one after the other. It takes `SEALS` seals of each meanwhile.
 const RECORDERS: u64 = 20;
 
 const SEALS: u64 = 50;
 
 const PLACES: u64 = 24;
 
-/// Turns of waiting, after which a thread goes on alone.
+/// How many turns a thread waits before it goes on alone.
 const TURNS: u64 = 10_000_000;
 
 /// What a thread of a round does.
@@ -36,7 +36,7 @@ struct Progress {
     steps: AtomicU64,
 }
 
-/// Waits for a count: whether it was reached within so many turns, as it is where the threads run at once.
+/// Waits for a count. Returns whether it was reached within `TURNS` turns, as it is where the threads run at once.
 fn reached(count: &AtomicU64, wanted: u64) -> bool {
     for _ in 0..TURNS {
         if count.load(Ordering::SeqCst) >= wanted {
@@ -47,7 +47,7 @@ fn reached(count: &AtomicU64, wanted: u64) -> bool {
     false
 }
 
-/// Begins each write, and ends it once it was read. Whether each step was made.
+/// Begins each write, and ends it once it was read. Returns whether each step was made.
 fn write_all(alloc: Global, progress: &Progress, mut session: Session<Register>) -> bool {
     let mut made = true;
     for value in 0..PLACES {
@@ -59,7 +59,7 @@ fn write_all(alloc: Global, progress: &Progress, mut session: Session<Register>)
     made
 }
 
-/// Reads each value once its write was begun. Whether each step was made.
+/// Reads each value once its write was begun. Returns whether each step was made.
 fn read_all(alloc: Global, progress: &Progress, mut session: Session<Register>) -> bool {
     let mut made = true;
     for value in 0..PLACES {
@@ -105,7 +105,7 @@ fn seal_all(alloc: Global, lanes: &Lanes<Register>) -> bool {
     made
 }
 
-/// Plays a part once the other threads run: whether all went well.
+/// Plays a part once the other threads run. Returns whether all went well.
 fn play(alloc: Global, lanes: &Lanes<Register>, progress: &Progress, part: Part) -> bool {
     progress.started.fetch_add(1, Ordering::SeqCst);
     reached(&progress.started, 3)
@@ -116,7 +116,7 @@ fn play(alloc: Global, lanes: &Lanes<Register>, progress: &Progress, part: Part)
         }
 }
 
-/// Fills a recorder while seals are taken. Whether each step was made, and each seal is a cut.
+/// Fills a recorder while seals are taken. Returns whether each step was made and each seal is a cut.
 fn round<R: Threads + Sync>(rt: &R, alloc: Global) -> Result<bool, RecordError> {
     let (lanes, mut sessions) = new_recorder::<Register>(alloc, 2, PLACES as usize, 0)?;
     let (Some(reader), Some(writer)) = (sessions.pop(), sessions.pop()) else {

@@ -80,7 +80,7 @@ fn sealed_before(alloc: Global, at: usize) -> Result<(String, usize), RecordErro
     })
 }
 
-/// What a looker seals, and how many looks there are. A walk that memory broke off goes on.
+/// What a looker seals, and how many looks there are. A walk that a refusal of memory stopped goes on.
 fn sealed_by(mut stepping: SteppingLooker<'_>) -> Result<(String, usize), RecordError> {
     let alloc = stepping.alloc;
     let looker = &stepping.looker;

@@ -1,4 +1,4 @@
-//! What seals hold of sessions, what they are told, and how they meet.
+//! What seals hold of sessions, which receipts they are given, and how they meet.
 
 ghost use Rattle.std.specs.Prelude.{◌≡◌, IfOk};
 ghost use Rattle.std.specs.Arc.{arc_value};
@@ -28,7 +28,7 @@ fn one_session(
     }
 }
 
-/// Writes a value. What memory refused is asked again.
+/// Writes a value. Begins it again where memory was refused.
 fn write(
     alloc: Global,
     session: &mut Session<Register>,
@@ -42,7 +42,7 @@ fn write(
     end(alloc, session, value)
 }
 
-/// Begins a write. What memory refused is asked again.
+/// Begins a write. Begins it again where memory was refused.
 fn begin_write(session: &mut Session<Register>) -> Result<(), RecordError>
     ensures lane { session.new.lane ≡ session.old.lane }
     ensures cells { session.new.cells ≡ session.old.cells }
@@ -69,7 +69,7 @@ fn end(
     }
 }
 
-/// A seal that takes this receipt. A call that memory refuses is made again.
+/// A seal that is given these receipts. Makes the call again where memory was refused.
 fn seal_told(
     alloc: Global,
     lanes: &Lanes<Register>,
@@ -117,7 +117,7 @@ fn told_later(
     told_by(alloc, lanes, session, receipt)
 }
 
-/// A seal that takes a receipt. The session meets it once its last call has returned.
+/// A seal that is given a receipt. The session meets it once its last call has returned.
 fn told_by(
     alloc: Global,
     lanes: &Lanes<Register>,
@@ -148,7 +148,7 @@ fn a_seal_holds_what_it_is_told_and_more(rt: HostRuntime) -> Result<(), Fail> {
     Ok(())
 }
 
-/// What is sealed of a session that was dropped with a read pending behind a write.
+/// What is sealed of a session that was dropped with a read pending after a write.
 fn dropped(alloc: Global) -> Result<String, RecordError> {
     let (lanes, sessions) = new_recorder::<Register>(alloc, 2, 2, 0)?;
     drop_second(alloc, sessions);

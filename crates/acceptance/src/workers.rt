@@ -19,7 +19,7 @@ use std::test::Fail;
 use std::thread;
 use std::thread::Threads;
 
-/// Turns of waiting, after which a thread goes on alone.
+/// How many turns a thread waits before it goes on alone.
 const TURNS: u64 = 1_000_000;
 
 /// The first operation of the first session.
@@ -78,7 +78,7 @@ impl Gate for Hold {
     }
 }
 
-/// Waits for a flag: whether it was set within so many turns.
+/// Waits for a flag. Returns whether it was set within `TURNS` turns.
 pub fn is_set_in_time(flag: &AtomicBool) -> bool {
     for _turn in 0..TURNS {
         if flag.load(Ordering::SeqCst) {
@@ -110,7 +110,7 @@ fn gate_two(rt: HostRuntime) -> Result<(), Fail> {
 /// What two threads do at once with a case.
 #[derive(Clone, Copy, Debug)]
 enum Parts {
-    /// Both work. The first piece is held until the second has left, so none of them does it all.
+    /// Both work. The first piece is held until the second has left, so neither thread does all the work.
     Work,
     /// Each checks the first operation of a session of its own, and puts its verdict.
     PutOneEach,
@@ -172,7 +172,7 @@ fn two_threads_share_a_case(rt: HostRuntime) -> Result<(), Fail> {
     Ok(())
 }
 
-/// What comes of a case that two threads share.
+/// What two threads leave of a case that they share.
 fn together<P: Threads + Wait + Sync + AllocGlobal>(
     rt: &P,
     parts: Parts,
@@ -314,7 +314,7 @@ const SECOND_PATH: [OpId; 3] = [
     },
 ];
 
-/// Puts a pattern while the first piece is held, and lets it go then.
+/// Puts a pattern while the first piece is held, and then lets the piece go.
 fn refute_held<K: ShelfName, P: Wait + AllocGlobal>(
     rt: &P,
     desk: &Desk<Memory, K>,
@@ -340,7 +340,7 @@ fn sum(parts: Vec<Result<u32, DeskError>>) -> Result<u32, DeskError> {
     Ok(sum)
 }
 
-/// What the threads left, who put so many verdicts.
+/// What the threads left, after they put so many verdicts.
 fn left_by<K: ShelfName, P: Wait + AllocGlobal>(
     rt: &P,
     desk: &Desk<Memory, K>,

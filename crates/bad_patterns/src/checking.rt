@@ -46,8 +46,8 @@ pub fn check_pattern(
 
 /// Whether the operations of a pattern are as its kind says.
 ///
-/// The history has distinct values. Fails for want of memory alone. Of each operation and each line of the pattern it asks for a
-/// few entries and a source at most, and once for an initial value.
+/// The history has distinct values. Fails for want of memory alone. For each operation and each line of the pattern it asks for at
+/// most a few entries and a source. It asks for an initial value at most once.
 pub fn is_shown<M: KnownMemory>(alloc: Global, h: &M, pattern: &Pattern) -> Result<bool, AllocError>
     requires { IsDifferentiated (M.history h.now) }
     ensures { IfOk result (λ yes. IsTrue yes ↔ IsShownBy (M.history h.now) pattern.now) }

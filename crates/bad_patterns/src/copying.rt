@@ -8,9 +8,9 @@ use crate::path::Path;
 use crate::pattern::Pattern;
 use std::alloc::{AllocError, Global};
 
-/// What is copied one by one, in a list of such.
+/// A type whose lists are copied item by item.
 trait Copied: Drop + Sized {
-    /// An equal one.
+    /// An equal item.
     fn copy(&self, alloc: Global) -> Result<Self, AllocError>
         ensures { IfOk result (λ copy. copy ≡ self.now) };
 }

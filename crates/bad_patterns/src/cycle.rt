@@ -10,9 +10,9 @@ use crate::path::Path;
 use crate::routes::ends_of;
 use history::OpId;
 
-/// Whether these links, of which there is at least one, are a cycle of the history.
+/// Whether there is at least one link and these links are a cycle of the history.
 ///
-/// Of each operation of the links it asks for a few entries and a source at most.
+/// For each operation of the links it asks for at most a few entries and a source.
 pub fn is_cycle<M: KnownMemory>(h: &M, links: &[Link]) -> bool
     ensures { IsTrue result ↔ IsCycle (M.history h.now) links.now }
 {

@@ -4,8 +4,7 @@ use crate::path::Path;
 use history::OpId;
 use std::marker::Model;
 
-/// One line of a derivation for an operation. It gives a pair of operations, of which the first happened before the
-/// second.
+/// One line of a derivation for an operation. It gives a pair of operations: the first happened before the second.
 ///
 /// Lines are numbered from 0, and a line refers to smaller numbers only.
 #[derive(Debug, Drop)]
@@ -21,7 +20,7 @@ pub enum Line {
     Rf(u64, OpId),
 }
 
-/// Lines, each of which rests on lines before it: at least 1 and at most 100,000, where they derive something.
+/// Lines, each of which rests on lines before it. If they derive something, there are at least 1 and at most 100,000 of them.
 #[derive(Debug, Drop)]
 pub struct Derivation {
     lines: Vec<Line>,

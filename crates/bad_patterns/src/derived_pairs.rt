@@ -18,13 +18,13 @@ use std::alloc::{AllocError, Global};
 /// How many lines a derivation may have.
 pub const MAX_LINES: usize = 100_000;
 
-/// Two operations, the one that happened before first.
+/// Two operations: the first happened before the second.
 pub type Pair = (OpId, OpId);
 
 /// The pair that the last line gives, where the lines are a derivation for the operation.
 ///
-/// The history has distinct values. Fails for want of memory alone. Of each operation and each line of the derivation it asks
-/// for a few entries and a source at most.
+/// The history has distinct values. Fails for want of memory alone. For each operation and each line of the derivation it asks for
+/// at most a few entries and a source.
 pub fn derived_pair<M: KnownMemory>(
     alloc: Global,
     h: &M,
@@ -61,7 +61,7 @@ fn given_pair<M: KnownMemory>(h: &M, op: OpId, pairs: &[Pair], line: &Line) -> O
     }
 }
 
-/// The ends of a path with an edge, where another path goes from where it ends to the operation.
+/// The ends of the first path, if it has an edge and the second path goes from its end to the operation.
 fn causal_pair<M: KnownMemory>(h: &M, op: OpId, first: &Path, second: &Path) -> Option<Pair>
     ensures { MatchOption result ((a b : OpId) → ¬ GivesCausalPair (M.history h.now) op first.now second.now a b)
         (λ pair. GivesCausalPair (M.history h.now) op first.now second.now pair.0 pair.1) }
@@ -76,7 +76,7 @@ fn causal_pair<M: KnownMemory>(h: &M, op: OpId, first: &Path, second: &Path) -> 
     }
 }
 
-/// The pair of two pairs, where the first ends where the second begins.
+/// The pair that joins two pairs, if the first ends where the second begins.
 fn joined_pair(pairs: &[Pair], i: u64, j: u64) -> Option<Pair>
     ensures { MatchOption result ((a b : OpId) → ¬ GivesJoinedPair pairs.now i j a b)
         (λ pair. GivesJoinedPair pairs.now i j pair.0 pair.1) }
@@ -91,7 +91,7 @@ fn joined_pair(pairs: &[Pair], i: u64, j: u64) -> Option<Pair>
     }
 }
 
-/// A write that happened before a read of another write of its variable, and that write.
+/// A write that happened before a read, and the read's source, which is another write of its variable.
 fn rival_pair<M: KnownMemory>(h: &M, op: OpId, pairs: &[Pair], i: u64, read: OpId) -> Option<Pair>
     requires { IsDifferentiated (M.history h.now) }
     ensures { MatchOption result ((a b : OpId) → ¬ GivesRivalPair (M.history h.now) op pairs.now i read a b)
@@ -121,7 +121,7 @@ fn comes_before_source<M: KnownMemory>(
     read.is_in_program_past_of(op) && are_rival_writes(h, write, source)
 }
 
-/// The pair of a number, where there is one.
+/// The pair with a number, if there is one.
 fn pair_at(pairs: &[Pair], i: u64) -> Option<Pair>
     ensures { result ≡ slice_get pairs.now i }
 {

@@ -62,7 +62,7 @@ pub fn is_edge<M: KnownMemory>(h: &M, a: OpId, b: OpId) -> bool
     is_later(h, a, b) || reads_from(h, a, b)
 }
 
-/// Whether the second is an operation of the history that is later than the first in one session.
+/// Whether the second is an operation of the history and is later than the first in the same session.
 fn is_later<M: KnownMemory>(h: &M, a: OpId, b: OpId) -> bool
     ensures { IsTrue result ↔ (Precedes a b × IsOp (M.history h.now) b) }
 {

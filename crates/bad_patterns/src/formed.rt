@@ -10,22 +10,22 @@ use operations::{elements_of, word_and_rest};
 use serde_json::Value;
 use std::alloc::{AllocError, Global};
 
-/// What a JSON value may be the form of.
+/// A type whose values have a form as JSON values.
 pub(crate) trait Formed: Drop + Sized {
     /// Its form.
     ghost form: { Self → Data };
 
-    /// What a value is the form of. Fails for want of memory alone.
+    /// The item whose form a value is. Fails for want of memory alone.
     fn read(alloc: Global, value: &Value) -> Result<Option<Self>, AllocError>
         ensures { IfOk result (IsRead form (view value.now)) };
 }
 
-/// What is written as a list of a word and two things.
+/// A type whose values are written as a list of a word and two things.
 pub(crate) trait WordedPair: Drop + Sized {
     /// Its form.
     ghost worded_form: { Self → Data };
 
-    /// What is written as a list of this word and these two. Fails for want of memory alone.
+    /// The item that is written as a list of this word and these two. Fails for want of memory alone.
     fn read_worded(
         alloc: Global,
         word: &str,
@@ -37,7 +37,7 @@ pub(crate) trait WordedPair: Drop + Sized {
     ghost parts: { HasTwoParts worded_form };
 }
 
-/// The list that a value is the form of.
+/// The list whose form a value is.
 pub(crate) fn read_list<T: Formed>(
     alloc: Global,
     value: &Value,
@@ -58,7 +58,7 @@ pub(crate) fn read_list<T: Formed>(
     Ok(Some(items))
 }
 
-/// What is written as a list of a word and two things, of which a value is the form.
+/// The item whose form a value is, written as a list of a word and two things.
 pub(crate) fn read_worded_pair<T: WordedPair>(
     alloc: Global,
     value: &Value,

@@ -29,8 +29,8 @@ pub fn is_derivation_of_cycle<M: KnownMemory>(
     Ok(pair.0 == pair.1)
 }
 
-/// Whether a derivation for the operation gives a write and a read of the initial value of its variable, which is the
-/// operation or before it in program order.
+/// Whether a derivation for the operation gives a write and a read of the initial value of its variable, where the read is the
+/// operation or is before it in program order.
 ///
 /// Fails for want of memory alone. The cost is that of `derived_pair`.
 pub fn is_derivation_of_initial_read<M: KnownMemory>(

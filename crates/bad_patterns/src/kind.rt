@@ -39,7 +39,7 @@ impl Kind {
         }
     }
 
-    /// The name, as patterns and reports have it.
+    /// The name, as in patterns and reports.
     pub fn name(self) -> &'static str
         ensures { result.now ≡ kind_name self }
     {
@@ -54,7 +54,7 @@ impl Kind {
         }
     }
 
-    /// The kind of this name, or none where the word is the name of none.
+    /// The kind with this name, or none if no kind has it.
     pub fn named(word: &str) -> Option<Kind>
         ensures { IsRead kind_name word.now result }
     {

@@ -10,8 +10,8 @@ use std::marker::Model;
 pub enum Link {
     /// An edge of the causal order, from the first operation to the second.
     Co(OpId, OpId),
-    /// A conflict, from the write that the path begins at to the other write of its variable, which the read that the
-    /// path ends at reads from.
+    /// A conflict, from the write that the path begins at to the operation, which is another write of its variable. The path ends
+    /// at a read that reads from that other write.
     Cf(Path, OpId),
 }
 

@@ -3,8 +3,8 @@ ghost use Rattle.std.specs.Prelude.{◌≡◌};
 use history::OpId;
 use std::marker::Model;
 
-/// Operations, one after the other, of which each is to be joined to the next by an edge of the causal order: the two
-/// stand in one session in this order, or the next one reads from it.
+/// Operations, one after the other. An edge of the causal order should join each to the next: both are in one session in this
+/// order, or the next one reads from it.
 ///
 /// It goes from its first operation to its last. One operation alone is a path with no edge.
 #[derive(Debug, Drop)]

@@ -18,13 +18,13 @@ use operations::{elements_of, word_and_rest};
 use serde_json::Value;
 use std::alloc::{AllocError, Global};
 
-/// The pattern that a JSON value is the form of, where it is one.
+/// The pattern whose form a JSON value is, if there is one.
 ///
 /// The form is a list of the name of the kind and what shows it: `["CyclicCO",path]`, `["ThinAirRead",op]`,
 /// `["WriteCOInitRead",path]`, `["WriteCORead",path,path]`, `["WriteHBInitRead",op,lines]`, `["CyclicHB",op,lines]` or
 /// `["CyclicCF",links]`. An operation is `[session,index]`, a path is a list of operations, links are a list of
 /// `["co",op,op]` and `["cf",path,op]`, and lines are a list of `["co",path,path]`, `["tr",i,j]` and `["rf",i,op]` with line
-/// numbers i and j. A path, links and lines may be empty, and the operations may be of no history.
+/// numbers i and j. A path, links and lines may be empty, and the operations need not be of any history.
 ///
 /// Fails for want of memory alone. O(n) for n operations, links and lines of the pattern.
 pub fn read_pattern(alloc: Global, value: &Value) -> Result<Option<Pattern>, AllocError>
@@ -39,7 +39,7 @@ pub fn read_pattern(alloc: Global, value: &Value) -> Result<Option<Pattern>, All
     }
 }
 
-/// The pattern of a kind, of what shows it.
+/// The pattern of a kind, read from what shows it.
 fn read_kind(alloc: Global, kind: Kind, rest: &[Value]) -> Result<Option<Pattern>, AllocError>
     ensures { IfOk result (IsRead form_of (worded (kind_name kind) (map view rest.now))) }
 {
@@ -56,7 +56,7 @@ fn read_kind(alloc: Global, kind: Kind, rest: &[Value]) -> Result<Option<Pattern
     }
 }
 
-/// The pattern of a kind, of the one thing that shows it.
+/// The pattern of a kind, read from the one thing that shows it.
 fn read_part(alloc: Global, kind: Kind, part: &Value) -> Result<Option<Pattern>, AllocError>
     ensures { IfOk result (IsRead form_of (worded (kind_name kind) (view part.now ∷ []))) }
 {
@@ -86,7 +86,7 @@ fn read_two_paths(
     Ok(Some(Pattern::WriteCORead(above, below)))
 }
 
-/// The pattern of a kind, of the operation and the derivation that show it.
+/// The pattern of a kind, read from the operation and the derivation that show it.
 fn read_derived(
     alloc: Global,
     kind: Kind,
@@ -108,7 +108,7 @@ fn read_derived(
     }
 }
 
-/// The links that a value is the form of.
+/// The links whose form a value is.
 fn read_links(alloc: Global, value: &Value) -> Result<Option<Links>, AllocError>
     ensures { IfOk result (IsRead links_form (view value.now)) }
 {
@@ -156,7 +156,7 @@ impl WordedPair for Link {
     }
 }
 
-/// The path that a value is the form of.
+/// The path whose form a value is.
 ///
 /// Fails for want of memory alone. O(n) for n operations.
 pub fn read_path(alloc: Global, value: &Value) -> Result<Option<Path>, AllocError>
@@ -175,7 +175,7 @@ impl Formed for OpId {
     }
 }
 
-/// The operation that a value is the form of.
+/// The operation whose form a value is.
 pub fn read_op(value: &Value) -> Option<OpId>
     ensures { IsRead op_form (view value.now) result }
 {

@@ -11,7 +11,7 @@ use crate::reading::{read_op, read_path};
 use serde_json::Value;
 use std::alloc::{AllocError, Global};
 
-/// The derivation that a value is the form of: a list of `["co",path,path]`, `["tr",i,j]` and `["rf",i,op]`.
+/// The derivation whose form a value is: a list of `["co",path,path]`, `["tr",i,j]` and `["rf",i,op]`.
 ///
 /// A line may refer to any line. Fails for want of memory alone. O(n) for n lines and operations of their paths.
 pub fn read_lines(alloc: Global, value: &Value) -> Result<Option<Derivation>, AllocError>
@@ -99,7 +99,7 @@ fn read_rival_line(first: &Value, second: &Value) -> Option<Line>
     Some(Line::Rf(i, read))
 }
 
-/// The number of a line that a value is the form of.
+/// The number of a line whose form a value is.
 fn read_number(value: &Value) -> Option<u64>
     ensures { IsRead number_form (view value.now) result }
 {

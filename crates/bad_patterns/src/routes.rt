@@ -24,9 +24,9 @@ fn is_path<M: KnownMemory>(h: &M, ops: &[OpId]) -> bool
     true
 }
 
-/// The operations that a path goes from and to, where it is one of the history's causal order.
+/// The first and the last operation of a path, if it is a path of the history's causal order.
 ///
-/// Of each operation of the path it asks for its entry and its source at most.
+/// For each operation of the path it asks at most for its entry and its source.
 pub fn ends_of<M: KnownMemory>(h: &M, path: &Path) -> Option<(OpId, OpId)>
     ensures { MatchOption result ((a b : OpId) → ¬ GoesFrom (M.history h.now) path.now a b)
         (λ ends. GoesFrom (M.history h.now) path.now ends.0 ends.1) }

@@ -1,14 +1,14 @@
 use bad_patterns::Kind;
 use history::OpId;
 
-/// What a board answers of a case.
+/// What a board answers about a case.
 #[derive(Clone, Copy, Debug, PartialEq, Eq)]
 pub enum Answer {
     /// Every row has a verdict, and each explains its operation.
     Yes,
     /// A pattern of this kind was accepted.
     No(Kind),
-    /// Every row has a verdict, and this is the first operation that its verdict does not explain; or none, where the case
+    /// Every row has a verdict, and this is the first operation that its verdict does not explain; or `None` if the case
     /// has no certificate.
     Unknown(Option<OpId>),
     /// So many rows have no verdict.

@@ -21,8 +21,8 @@ pub const MAX_CASES: usize = 64;
 
 /// What is known of some cases: for each its mark, its rows, which row is handed out next, and the pattern that refutes it.
 ///
-/// It has no case file: whoever checks a piece or a pattern does that elsewhere, and puts what came of it. No event but
-/// the making of a board takes memory, and none waits.
+/// It has no case file: callers check pieces and patterns elsewhere, and put the results. Only the making of a board
+/// takes memory, and no event waits.
 #[derive(Drop)]
 pub struct Board<M: Mark> {
     cases: Vec<FiledCase<M>>,
@@ -130,7 +130,7 @@ impl<M: Mark> Board<M> {
         None
     }
 
-    /// Puts a verdict on an operation into a row of a case. The mark is that of the file that the verdict is of.
+    /// Puts a verdict on an operation into a row of a case. The mark is that of the file that was checked.
     ///
     /// Refused in this order: `NoSuch` where there is no such case, `Stranger` where its mark is of another place, `NoSuch`
     /// where it has no such row, `Doubled` where the row has a verdict. The board is then as before. O(1).
@@ -198,7 +198,7 @@ impl<M: Mark> Board<M> {
         }
     }
 
-    /// How a case stands.
+    /// The answer for a case.
     ///
     /// Refused in this order: `NoSuch` where there is no such case, `Stranger` where its mark is of another place. O(n) for
     /// n rows.
@@ -233,7 +233,7 @@ impl<M: Mark> Board<M> {
         }
     }
 
-    /// The row of an operation of a case, where there is one: the outcome of its piece, or none as long as no verdict came.
+    /// The row of an operation of a case, where there is one: the outcome of its piece, or `None` until a verdict comes.
     ///
     /// Refused in this order: `NoSuch` where there is no such case, `Stranger` where its mark is of another place. O(1).
     pub fn row(

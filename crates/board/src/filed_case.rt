@@ -56,14 +56,14 @@ impl<M: Mark> FiledCase<M> {
         &self.mark
     }
 
-    /// Whether a mark is of the place of the case's own.
+    /// Whether a mark has the same place as the case's own.
     fn is_of(&self, mark: &M) -> bool
         ensures { result ≡ (M.place self.now.mark == M.place mark.now) }
     {
         self.mark.place() == mark.place()
     }
 
-    /// The operation that is due: the first free one, where no pattern was accepted.
+    /// The operation that is due: the first free one, if no pattern was accepted.
     pub(crate) fn due(&self) -> Option<OpId>
         ensures { MatchOption result (IsIdle self.now) (IsDue self.now) }
     {
@@ -136,7 +136,7 @@ impl<M: Mark> FiledCase<M> {
         }
     }
 
-    /// Keeps a pattern where there is none.
+    /// Keeps a pattern if there is none yet.
     pub(crate) fn refute(&mut self, pattern: Pattern)
         ensures { self.new ≡ refuted self.old pattern }
     {
@@ -163,7 +163,7 @@ impl<M: Mark> FiledCase<M> {
         self.pattern.as_ref()
     }
 
-    /// How the case stands.
+    /// The answer for the case.
     #[tactic(auto, using(crate::proofs::Verdicts::first_verdict))]
     pub(crate) fn standing(&self) -> Answer
         ensures { IsStanding self.now result }

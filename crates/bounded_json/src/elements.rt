@@ -36,7 +36,7 @@ impl<K: Element> Elements<K> {
         }
     }
 
-    /// Whether the token was a small number behind small numbers alone, and then it is one of the elements.
+    /// Adds the token to the elements if it is a small number and they are small numbers alone. Returns whether it did.
     ///
     /// Fails for want of memory alone. O(1), on average.
     #[inline(always)]
@@ -59,9 +59,9 @@ impl<K: Element> Elements<K> {
         Ok(true)
     }
 
-    /// The elements and one more behind them.
+    /// The elements and one more after them.
     ///
-    /// Fails for want of memory alone. O(1), on average, and O(n) where n numbers stood alone.
+    /// Fails for want of memory alone. O(1), on average, and O(n) where the elements before were n small numbers alone.
     pub(crate) fn with(self, alloc: Global, element: K) -> Result<Elements<K>, AllocError>
         ensures { IfOk result
             (λ elements. elements_view K.stands_for elements ≡ elements_view K.stands_for self ++ K.stands_for element ∷ []) }

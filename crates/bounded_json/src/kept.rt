@@ -14,7 +14,7 @@ use std::alloc::{AllocError, Global};
 
 /// A value that the elements of a list are read into.
 pub(crate) trait Element: Drop {
-    /// What it stands for.
+    /// The data that it represents.
     ghost stands_for: { Self → Data };
 
     fn of_leaf(alloc: Global, leaf: Leaf) -> Self

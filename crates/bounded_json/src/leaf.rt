@@ -1,6 +1,6 @@
 use serde_json::Number;
 
-/// What is kept of a JSON value that is no list: of an object nothing but that it is one.
+/// What is kept of a JSON value that is no list; of an object, only that it is one.
 #[derive(Drop)]
 pub enum Leaf {
     Null,

@@ -64,7 +64,7 @@ fn read<P: Place, K: Kept>(
     }
 }
 
-/// The elements of a list that are kept at its place, each cut at its own; the others are passed.
+/// The elements of a list that its place keeps, each cut at its own place. It passes over the others.
 #[cycle(read)]
 fn read_elements<P: Place, K: Kept>(
     alloc: Global,
@@ -111,7 +111,7 @@ pub fn read_value<P: Place>(
     read(alloc, token, reader, place, depth)
 }
 
-/// The value that the text is, where one is all of it.
+/// The value that makes up the whole text.
 fn read_whole<P: Place, K: Kept>(alloc: Global, text: &str, place: P) -> Result<K, TextError>
     ensures read { IfOk result (λ k. IsWholeCut P.limit P.inside place text.now (K.stands_for k)) }
     ensures refused { IfErr result (IsWholeRefused text.now) }
@@ -126,8 +126,8 @@ fn read_whole<P: Place, K: Kept>(alloc: Global, text: &str, place: P) -> Result<
     Ok(value)
 }
 
-/// The value of a JSON text, cut at its place: of a list the first elements that its place keeps, and of an object none of
-/// its members.
+/// The value of a JSON text, cut at its place: it has the first elements of a list, as many as its place keeps, and no
+/// members of an object.
 ///
 /// `NotJson` exactly where `serde_json` refuses the text, also for what is not kept. `Memory` only where an allocation was
 /// refused. O(n) for a text of n bytes, and it takes no more memory than the text and what is kept.

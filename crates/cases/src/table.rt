@@ -68,7 +68,7 @@ pub fn read_table<R: AllocGlobal + Files>(rt: &R, name: &str) -> Result<Table> {
     Ok(table)
 }
 
-/// Takes a line into a table, and returns whether it may stand there.
+/// Takes a line into a table, and returns whether the line may be there.
 fn take_line<R: AllocGlobal + Files>(rt: &R, table: &mut Table, line: &str) -> Result<bool> {
     let Some(line) = TableLine::of(line) else {
         return Ok(false);

@@ -31,7 +31,7 @@ pub const NO_MEMORY: u8 = 4;
 
 /// Judges the history in the input, as the program's `judge` does.
 ///
-/// The text that comes of it is put into the buffer `answer`, and `needed` becomes the number of its bytes: what the program
+/// Puts the resulting text into the buffer `answer`, and the number of its bytes into `needed`: what the program
 /// writes to standard output, with status 0, or what it writes to standard error, with status 1. Status 3 where the buffer is
 /// smaller than the text, and status 4 for want of memory; the buffer is then as it was.
 #[unsafe(no_mangle)]

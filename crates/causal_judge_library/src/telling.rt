@@ -1,4 +1,4 @@
-//! What comes of a call, handed over in the buffer of its caller.
+//! The outcome of a call, handed over in the buffer of its caller.
 
 ghost use Rattle.std.specs.Prelude.{◌≡◌, IfOk, string_bytes};
 ghost use Rattle.causal_judge_library.specs.Calls.{IsTold, refusal_text};
@@ -8,7 +8,7 @@ use crate::{ANSWERED, NO_MEMORY, REFUSED, TOO_SMALL};
 use engine::{RunError, fault_line, status_of};
 use std::alloc::{AllocError, Global};
 
-/// Puts into the buffer what comes of a call, and returns the call's status.
+/// Puts the outcome of a call into the buffer, and returns the call's status.
 pub fn tell(
     alloc: Global,
     outcome: Result<String, RunError>,
@@ -36,7 +36,7 @@ fn tell_failure(alloc: Global, error: RunError, answer: &mut [u8], needed: &mut 
     }
 }
 
-// The status of a call that has nothing to tell for want of memory.
+// The status of a call that returns no text for want of memory.
 fn tell_nothing(needed: &mut usize) -> u8
     ensures status { result ≡ NO_MEMORY }
     ensures needed { needed.new ≡ 0 }

@@ -3,7 +3,7 @@ ghost use Rattle.causal_memory.specs.Laws.Order.{length_within};
 
 use replica::{UpdateOf, UpdateOrder};
 
-/// The order in which updates were taken in: each goes behind those before it. Advice tells it.
+/// The order in which updates were taken in: each goes after those taken in before it. Advice reports it.
 #[derive(Clone, Copy, Debug, PartialEq, Eq)]
 pub struct AsTakenIn;
 

@@ -8,7 +8,7 @@ use replica::{Delivery, UpdateOf};
 /// The updates that a replica has taken in and its own ones, in the order in which it took them in, which its answers follow.
 ///
 /// With causal delivery this order respects causality (Ahamad, Neiger, Burns, Kohli and Hutto, "Causal memory", 1995): each
-/// update stands behind the earlier ones of its session, and behind all that its writer had taken in of sessions other than its
+/// update is after the earlier ones of its session, and after all that its writer had taken in of sessions other than its
 /// own and the replica's. O(1).
 pub fn taken_in<O: SeqObject>(replica: &CausalReplica<O>) -> &[UpdateOf<O::Call>]
     ensures updates { result.now ≡ replica.now.taken }

@@ -4,7 +4,8 @@ ghost use Rattle.std.specs.Prelude.{◌↔◌, ◌≤◌, ℕ, IsTrue, slice_ind
 
 /// Whether each of some counts is at most the one at its place, where a place past the end has 0.
 ///
-/// O(k) for k counts. Where there are as many of both nothing ends it early, so that several counts are compared at once.
+/// O(k) for k counts. If both lists have the same length, the comparison never ends early, so that several counts are compared at
+/// once.
 pub fn is_at_most(counts: &[u16], bounds: &[u16]) -> bool
     ensures { IsTrue result ↔ ((s : ℕ) → slice_index_or counts.now s 0 ≤ slice_index_or bounds.now s 0) }
 {

@@ -14,8 +14,8 @@ pub struct ByOperation<T> {
     alloc: Global,
 }
 
-/// For each operation a count of each session: how many of its operations are in the past of the operation, itself among
-/// them, where nothing else is said.
+/// For each operation a count of each session: how many operations of the session are in the past of the operation, itself
+/// included, unless a comment says otherwise.
 pub type Vectors = ByOperation<u16>;
 
 impl<T> Model for ByOperation<T> {
@@ -69,9 +69,9 @@ impl<T> ByOperation<T> {
 }
 
 impl<T: Copy> ByOperation<T> {
-    /// The lists of so many sessions, each session's lists as a function of its number makes them.
+    /// The lists of so many sessions. A function makes the lists of each session from its number.
     ///
-    /// Fails for want of memory, and where the lists of a session can't be made. Besides making them O(k) for k sessions.
+    /// Fails for want of memory, and if the function fails. O(k) for k sessions, besides making the lists.
     pub fn from_sessions<F: Fn(usize) -> Result<Rows<T>, AllocError>>(
         alloc: Global,
         sessions: usize,
@@ -87,7 +87,7 @@ impl<T: Copy> ByOperation<T> {
         Ok(lists)
     }
 
-    /// Puts a session with no operations behind the others.
+    /// Adds a session with no operations after the others.
     ///
     /// Fails for want of memory alone, and the sessions are then as they were. O(1), on average.
     pub fn push_session(&mut self) -> Result<(), AllocError>
@@ -97,7 +97,7 @@ impl<T: Copy> ByOperation<T> {
         self.push_rows(Rows::new(self.alloc))
     }
 
-    /// Puts a session whose operations have these lists behind the others.
+    /// Adds a session after the others. Its operations have these lists.
     ///
     /// Fails for want of memory alone, and the sessions are then as they were. O(1), on average.
     pub fn push_rows(&mut self, rows: Rows<T>) -> Result<(), AllocError>
@@ -108,7 +108,7 @@ impl<T: Copy> ByOperation<T> {
         Ok(())
     }
 
-    /// Puts the list of one operation more behind those of its session.
+    /// Adds the list of one more operation after those of its session.
     ///
     /// Fails for want of memory alone, and the lists are then as they were. O(m) for m items, on average.
     pub fn push(&mut self, session: usize, list: &[T]) -> Result<(), AllocError>

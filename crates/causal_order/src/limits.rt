@@ -1,4 +1,4 @@
-//! Up to where the operations of a session can follow one another.
+//! How far the operations of a session can follow one another.
 
 ghost use Rattle.std.specs.Prelude.{◌<◌, ◌≤◌, length, IfOk};
 ghost use Rattle.causal_order.specs.Steps.Waiting.{AreLimits, IsLimit};

@@ -70,7 +70,7 @@ fn range_of(len: usize, ends: &[usize], i: usize) -> (usize, usize)
 }
 
 impl<T: Copy> Rows<T> {
-    /// Puts a copy of a list behind the others.
+    /// Adds a copy of a list after the others.
     ///
     /// Fails for want of memory alone, and the lists are then as they were. O(m) for m items, on average.
     pub fn push(&mut self, row: &[T]) -> Result<(), AllocError>

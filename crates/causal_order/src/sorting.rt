@@ -12,22 +12,21 @@ use crate::waits::Waits;
 use history::OpId;
 use std::alloc::{AllocError, Global};
 
-/// What a topological sort of operations comes to.
+/// The result of a topological sort of operations.
 #[derive(Debug, Drop)]
 pub enum OrderOrCycle {
-    /// For each operation its session, in an order in which each comes behind those before it in its session and those for
-    /// which it waits.
+    /// For each operation its session, in an order in which each operation comes after those before it in its session and after
+    /// those that it waits for.
     Order(Vec<u8>),
-    /// Operations, each of which comes before the next one of its session, or is waited for by the next one; the last is the
-    /// first.
+    /// Operations: each comes before the next one in their session, or the next one waits for it. The last is the first.
     Cycle(Vec<OpId>),
 }
 
-/// An order of all operations in which each comes behind those that it waits for, or operations that wait for one another.
+/// An order of all operations in which each comes after those that it waits for, or operations that wait for one another.
 ///
-/// The order goes by the topological rule: again and again the next operation of the least session whose next operation
-/// waits for nothing that is not placed. A cycle has two operations at least, and at most two of each session and one more.
-/// Fails for want of memory alone. O(n k) for n operations of k sessions.
+/// The order follows the topological rule: it takes again and again the next operation of the least session whose next operation
+/// waits for nothing that is not placed. A cycle has two operations at least, and at most two of each session and one more. Fails
+/// for want of memory alone. O(n k) for n operations of k sessions.
 pub fn topological_sort(alloc: Global, waits: &Waits) -> Result<OrderOrCycle, AllocError>
     ensures sorted { IfOk result (IsSorted waits.now) }
     ensures kept { IfOk result (λ _. AreWaits waits.now) }

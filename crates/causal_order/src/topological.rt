@@ -100,9 +100,8 @@ impl Walk {
     /// Places operations by the topological rule: again and again the next one of the least session that can go on,
     /// until none can.
     ///
-    /// A session can go on where its next operation has a vector, is below the session's limit, and all that its vector
-    /// counts of other sessions is placed. Fails for want of memory alone, and what was placed by the rule until then stays
-    /// placed.
+    /// A session can go on if its next operation has a vector, is below the session's limit, and all that its vector counts of
+    /// other sessions is placed. Fails for want of memory alone, and then the operations that the rule has placed stay placed.
     /// O(p k + k^2) for p operations that are placed and k sessions.
     pub fn run_to(&mut self, vectors: &Vectors, limits: &[u16]) -> Result<(), AllocError>
         requires few { length vectors.now ≤ MAX_SESSIONS }
@@ -169,8 +168,8 @@ impl Walk {
         missing == counts.len()
     }
 
-    /// The first session from `start` on, other than `own`, of which a vector counts more than is placed, or how many
-    /// sessions there are.
+    /// The first session from `start` on, other than `own`, of which a vector counts more operations than are placed. If there is
+    /// none, the number of sessions.
     pub(crate) fn first_missing(&self, counts: &[u16], own: usize, start: usize) -> usize
         requires { length counts.now ≤ MAX_SESSIONS }
         ensures bound { result ≤ length counts.now }

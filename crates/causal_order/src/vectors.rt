@@ -8,9 +8,9 @@ use crate::by_operation::Vectors;
 use history::{History, OpId};
 use object_trait::SeqObject;
 
-/// Whether the vector of an operation counts a past: the operation itself as the last of its session, only operations
-/// that are there, and with its predecessor in program order and the last counted operation of each other session all
-/// that these count, where none of those others counts the operation.
+/// Whether the vector of an operation counts a past. It does if it counts the operation itself as the last of its session, only
+/// operations that exist, and all that its predecessor in program order and the last counted operation of each other session
+/// count, and if none of those last operations counts the operation.
 ///
 /// The vectors are those of the history, one for each operation. O(k^2) for k sessions.
 pub fn vector_ok<O: SeqObject>(h: &History<O>, v: &Vectors, op: OpId) -> bool
@@ -45,7 +45,7 @@ pub fn count_at(v: &Vectors, op: OpId, session: usize) -> usize
     }
 }
 
-/// Whether the vector of an operation counts another: not where it has none. O(1).
+/// Whether the vector of an operation counts another. It does not if the operation has no vector. O(1).
 pub fn has_counted(v: &Vectors, op: OpId, earlier: OpId) -> bool
     ensures { IsTrue result ↔ IsCounted v.now op earlier }
 {
@@ -68,7 +68,7 @@ fn counts_itself_last(v: &Vectors, op: OpId) -> bool
     count != 0 && count - 1 == op.index
 }
 
-/// Whether the vector of an operation counts only operations that are there.
+/// Whether the vector of an operation counts only operations that exist.
 fn counts_existing<O: SeqObject>(h: &History<O>, v: &Vectors, op: OpId) -> bool
     requires { HasListOf v.now op }
     ensures { IsTrue result ↔ ((s : ℕ) → count v.now op s ≤ length (session h.now s)) }
@@ -108,8 +108,8 @@ fn counts_with_others(v: &Vectors, op: OpId) -> bool
     true
 }
 
-/// Whether the vector of an operation counts all that the last operation that it counts of a session counts, and that
-/// one doesn't count the operation.
+/// Whether the vector of an operation counts all that its last counted operation of a session counts, and that one doesn't count
+/// the operation.
 fn counts_with_last(v: &Vectors, op: OpId, session: usize) -> bool
     requires own { HasListOf v.now op }
     requires held { CountsHeld v.now op }

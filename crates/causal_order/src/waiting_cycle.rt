@@ -12,10 +12,10 @@ use crate::topological::Walk;
 use history::{MAX_SESSIONS, OpId};
 use std::alloc::{AllocError, Global};
 
-/// A cycle, where no session can go on behind a walk and this one has an operation that isn't placed.
+/// A cycle, if no session can go on after a walk and this session has an operation that isn't placed.
 ///
-/// It goes from the next operation of a session to the last operation of that session for which another next operation
-/// waits, and on to this one. Fails for want of memory alone. O(k^2) for k sessions.
+/// It goes from the next operation of a session to the last operation of that session that another next operation waits for, and
+/// on to that next operation. Fails for want of memory alone. O(k^2) for k sessions.
 pub(crate) fn cycle_from(
     alloc: Global,
     waits: &Vectors,
@@ -67,8 +67,8 @@ fn awaited(waits: &Vectors, walk: &Walk, session: usize) -> OpId
     OpId::at(from, usize::from(counts[from]) - 1)
 }
 
-/// Operations that are not placed, each of them awaited by the next operation of the session of the one before it: one more
-/// than there are sessions.
+/// Operations that are not placed, one more than there are sessions: the next operation of the session of each waits for the
+/// operation after it.
 fn awaited_in_turn(
     alloc: Global,
     waits: &Vectors,
@@ -91,7 +91,7 @@ fn awaited_in_turn(
     Ok(chain)
 }
 
-/// The places of two operations of one session, of which the second is as early as can be.
+/// The places of two operations of one session. The second is as early as possible.
 fn first_repetition(ops: &[OpId], sessions: usize) -> (usize, usize)
     requires many { sessions < length ops.now }
     requires few { (j : ℕ) (a : Operation) → StandsAt ops.now j a → a.session < sessions }

@@ -35,7 +35,7 @@ impl Model for Waits {
 }
 
 impl Waits {
-    /// Of the operations of a history none waits for another.
+    /// No operation of a history waits for another.
     ///
     /// Fails for want of memory alone. O(n k) for n operations of k sessions.
     pub fn of<O: SeqObject>(alloc: Global, h: &History<O>) -> Result<Waits, AllocError>
@@ -70,7 +70,7 @@ impl Waits {
     }
 }
 
-/// Puts a session of which no operation waits behind the sessions before it.
+/// Adds a session after the sessions before it. None of its operations waits.
 fn push_zeros<O: SeqObject>(
     alloc: Global,
     h: &History<O>,

@@ -12,11 +12,11 @@ use history::{History, OpId};
 use object_trait::SeqObject;
 use std::alloc::{AllocError, Global};
 
-/// Whether the vector of an operation and the one list explain its known return, by a walk over the list that goes on from
-/// operation to operation.
+/// Whether the vector of an operation and the one list explain its known return. The walk over the list goes on from operation to
+/// operation.
 ///
-/// Fails for want of memory alone. O(p + q + k^2) for k sessions, p numbers between where the walk stands and the operation,
-/// and q between the operation and the last call before it that settles its answer.
+/// Fails for want of memory alone. O(p + q + k^2) for k sessions, p numbers between the walk's place and the operation, and q
+/// between the operation and the last call before it that settles its answer.
 pub fn is_arbitrated_piece<O: SeqObject>(
     alloc: Global,
     walk: &mut ListWalk,

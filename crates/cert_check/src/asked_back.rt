@@ -1,4 +1,4 @@
-//! Known returns of a session asked for from the end of a schedule back.
+//! Checks the known returns of a session from the end of a schedule back.
 
 ghost use Rattle.std.specs.Prelude.{◌≤◌, ◌↔◌, length, take, IfOk, IfSome, IsTrue};
 ghost use Rattle.history.specs.History.{IsOp};
@@ -15,14 +15,14 @@ use history::{History, OpId};
 use object_trait::SeqObject;
 use std::alloc::{AllocError, Global};
 
-/// How far before a known return the call is looked for that settles it.
+/// How far before a known return the check looks for the call that settles it.
 const MAX_BACK: usize = 256;
 
-/// Whether the known returns of a session up to an operation are the answers at their places in its schedule, where they are so in
-/// front of a place of it. None where a call that settles one of them isn't found near before it.
+/// Whether the known returns of a session up to an operation are the answers at their places in its schedule, given that those
+/// before a place of it are. None if the call that settles one of them isn't found near before it.
 ///
-/// Fails for want of memory alone. O(p + q r + k) for p numbers behind that place, q known returns of the session among them, r
-/// numbers before each up to the call that settles it, which are at most 256, and k sessions.
+/// Fails for want of memory alone. O(p + q r + k) for p numbers after that place, q known returns of the session among them, r
+/// numbers (at most 256) from each back to the call that settles it, and k sessions.
 pub fn are_answered_behind<O: SeqObject>(
     alloc: Global,
     h: &History<O>,
@@ -56,7 +56,7 @@ pub fn are_answered_behind<O: SeqObject>(
 }
 
 /// Whether the return of an operation at a place of the schedule of another, where it is known, is the answer after the operations
-/// before it. None where the call that settles it isn't found near before it.
+/// before it. None if the call that settles it isn't found near before it.
 fn is_answered_near<O: SeqObject>(
     alloc: Global,
     h: &History<O>,

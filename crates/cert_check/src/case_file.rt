@@ -9,9 +9,9 @@ use history::History;
 use object_trait::SeqObject;
 use std::marker::Model;
 
-/// A history, the criterion by which it is to be judged and, where there is one, a certificate of it.
+/// A history, the criterion by which to judge it and optionally a certificate of it.
 ///
-/// The certificate is for that criterion and has the shape of the history. Nothing else of it is known.
+/// The certificate is for that criterion and has the shape of the history. Nothing else is known of it.
 #[derive(Drop)]
 pub struct CaseFile<O: SeqObject> {
     history: History<O>,
@@ -35,8 +35,8 @@ impl<O: SeqObject> Model for CaseFile<O> {
 impl<O: SeqObject> CaseFile<O> {
     /// The case file of a history, a criterion and a certificate or none.
     ///
-    /// `ShapeMismatch` where there is a certificate and it is for another criterion or has not the shape of the history.
-    /// O(n) for n operations, and O(n k) for one list and k sessions.
+    /// `ShapeMismatch` if there is a certificate and it is for another criterion or does not have the shape of the history. O(n)
+    /// for n operations, and O(n k) for one list and k sessions.
     pub fn new(
         history: History<O>,
         criterion: Criterion,

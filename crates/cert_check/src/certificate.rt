@@ -9,10 +9,10 @@ use std::alloc::{AllocError, Global};
 /// For each operation, a list of session numbers, each of which names that session's next operation.
 pub type Schedules = ByOperation<u8>;
 
-/// What is offered as a proof that a history meets a criterion: the past of each operation as a vector, and in which
-/// order the calls explain the known returns.
+/// An offered proof that a history meets a criterion: the past of each operation as a vector, and the order in which the calls
+/// explain the known returns.
 ///
-/// Nothing is taken on trust: a certificate says something only where each of its pieces is checked.
+/// Nothing is taken on trust: a certificate proves something only if each of its pieces has been checked.
 #[derive(Debug, Drop)]
 pub enum Certificate {
     /// For causal consistency: for each operation a schedule of its past.

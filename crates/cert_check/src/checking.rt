@@ -13,7 +13,7 @@ use history::OpId;
 use object_trait::SeqObject;
 use std::alloc::{AllocError, Global};
 
-/// What the check of one piece of a certificate comes to.
+/// The result of the check of one piece of a certificate.
 #[derive(Clone, Copy, Debug, PartialEq, Eq)]
 pub enum Outcome {
     /// The piece explains its operation.

@@ -1,4 +1,4 @@
-//! The calls on which the answer to a known return rests.
+//! The calls on which a known return depends.
 
 ghost use Rattle.std.specs.Prelude.{◌≡◌, ◌≤◌, ◌↔◌, ◌∷◌, List, length, filter, take, IfOk, IfSome, IsSome, IsTrue, MatchOption};
 ghost use Rattle.history.specs.declared.op_id.OpId.{OpId as Operation};
@@ -15,11 +15,11 @@ use history::{History, OpId};
 use object_trait::{SeqObject, replay};
 use std::alloc::{AllocError, Global};
 
-/// Whether the return of an operation, where it is known, is the answer after the operations before a place of a list, of those
-/// that its vector counts.
+/// Whether the return of an operation, where it is known, is the answer after those operations before a place of a list that its
+/// vector counts.
 ///
 /// Fails for want of memory alone. O(p) for p numbers between that place and the last call before it that settles the answer, or
-/// before it where none does; O(1) where the answer depends on no call.
+/// all numbers before that place if none does; O(1) where the answer depends on no call.
 pub fn is_answered_at<O: SeqObject>(
     alloc: Global,
     h: &History<O>,
@@ -41,8 +41,8 @@ pub fn is_answered_at<O: SeqObject>(
     Ok(answered.unwrap())
 }
 
-/// The same for the operations that the vector of another operation counts, where the numbers from one place on tell it: none where
-/// they don't. From the front they do.
+/// The same for the operations that the vector of another operation counts, if the numbers from one place on decide it; none if
+/// they don't. From the front they always do.
 pub fn is_answered_back_to<O: SeqObject>(
     alloc: Global,
     h: &History<O>,
@@ -93,9 +93,9 @@ fn is_answered_after<O: SeqObject>(
     Ok(known == answer)
 }
 
-/// Calls after which the answer to a call is the one after the operations before a place of a list, of those that the vector of
-/// an operation counts: the calls from the last one on that settles the answer, of those on which it may depend. None where they
-/// would have to be looked for in front of another place.
+/// Calls that give a call the same answer as those operations before a place of a list that the vector of an operation counts.
+/// These are the calls on which the answer may depend, from the last one on that settles it. None if the search would have to go
+/// back before another place.
 fn calls_before<O: SeqObject>(
     alloc: Global,
     h: &History<O>,
@@ -138,7 +138,7 @@ fn calls_before<O: SeqObject>(
     Ok(Some(found))
 }
 
-/// The call of an operation, where the vector of another counts it and the answer to a call may depend on it.
+/// The call of an operation, if the vector of another counts it and the answer to a call may depend on it.
 fn considered_call<O: SeqObject>(
     h: &History<O>,
     v: &Vectors,

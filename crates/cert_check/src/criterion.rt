@@ -2,11 +2,11 @@ ghost use Rattle.std.specs.Prelude.{◌≡◌};
 ghost use Rattle.operations.specs.Reads.{IsRead};
 ghost use Rattle.cert_check.specs.CriterionNames.{name_of};
 
-/// What a history can be judged by.
+/// The criteria by which a history can be judged.
 ///
-/// In each, some causal order explains the known returns: of each operation alone (`Cc`), of it and of the operations
-/// before it in its session together (`Cm`), or of each operation alone where all calls are taken in one order (`Ccv`).
-/// A history that meets `Cm` or `Ccv` meets `Cc`.
+/// In each, some causal order explains the known returns: of each operation alone (`Cc`), of it and of the operations before it in
+/// its session together (`Cm`), or of each operation alone with all calls in one order (`Ccv`). A history that meets `Cm` or `Ccv`
+/// meets `Cc`.
 #[derive(Clone, Copy, Debug, PartialEq, Eq)]
 pub enum Criterion {
     /// Causal consistency.
@@ -29,7 +29,7 @@ impl Criterion {
         }
     }
 
-    /// The criterion of this name, or none where the word is the name of none.
+    /// The criterion of this name, or none if no criterion has it.
     pub fn named(word: &str) -> Option<Criterion>
         ensures { IsRead name_of word.now result }
     {

@@ -4,7 +4,7 @@ ghost use Rattle.cert_check.specs.DeskErrors.{number_of};
 use std::alloc::{AllocError, AllocFailed};
 use thiserror::Error;
 
-/// Why a desk refused: a case file was not made or not filed, or what is asked of a case was not done.
+/// Why a desk refused to make or file a case file, or to do what was asked of a case.
 #[derive(Clone, Copy, Debug, PartialEq, Eq, Error)]
 pub enum DeskError {
     /// An allocation was refused.
@@ -13,7 +13,7 @@ pub enum DeskError {
     /// The number of workers is not from 1 to 16.
     #[error("not 1 to 16 workers")]
     BadWorkers,
-    /// The certificate is for another criterion, or has not the shape of the history.
+    /// The certificate is for another criterion, or does not have the shape of the history.
     #[error("a certificate of another shape")]
     ShapeMismatch,
     /// A desk has at most 64 cases.

@@ -3,7 +3,7 @@ ghost use Rattle.cert_check.specs.Steps.Replays.{kept_of};
 
 use history::OpId;
 
-/// The operations whose known returns are kept, where those of all others are hidden.
+/// The operations whose known returns are kept; those of all others are hidden.
 #[derive(Clone, Copy)]
 pub enum Kept {
     /// This operation alone.

@@ -21,16 +21,15 @@ pub fn causal_convergence_is_causally_consistent<O: SeqObject>()
     ensures { (h : HistoryValue O.Start O.Call O.Ret) → Meets O.answer h Criterion.Ccv → Meets O.answer h Criterion.Cc }
 {}
 
-/// A certificate that fits a history, and of which every piece explains its operation, shows that the history meets the
-/// certificate's criterion.
+/// If a certificate fits a history and every piece explains its operation, the history meets the certificate's criterion.
 pub fn explained_certificates_show_their_criterion<O: SeqObject>()
     ensures { (h : HistoryValue O.Start O.Call O.Ret) (c : Certificate) → HasShapeOf h c
         → IsExplainedThroughout O.answer h c → Meets O.answer h (criterion_of c) }
 {}
 
-/// Where a certificate fits a history and every piece explains its operation, it names what shows its criterion: one
-/// operation is before another in the causal order where the vector of the other counts it, the schedule of an operation
-/// or the one list cut to its past is a linearization of this past, and the one list is the arbitration.
+/// If a certificate fits a history and every piece explains its operation, it names what shows its criterion: one operation is
+/// before another in the causal order if the vector of the other counts it, the schedule of an operation or the one list cut to its
+/// past is a linearization of this past, and the one list is the arbitration.
 pub fn explained_certificates_are_witnesses<O: SeqObject>()
     ensures { (h : HistoryValue O.Start O.Call O.Ret) (c : Certificate) → HasShapeOf h c
         → IsExplainedThroughout O.answer h c → IsWitness O.answer h c }

@@ -1,5 +1,5 @@
-//! Certificates that a history meets a criterion, and their checker: the three criteria of causal consistency, what the
-//! pieces of a certificate show of them, and how the criteria lie to one another.
+//! Certificates that a history meets a criterion, and their checker: the three criteria of causal consistency, what the pieces of a
+//! certificate show of them, and how the criteria relate to one another.
 #![tactic(auto)]
 
 mod arbitrated;

@@ -12,7 +12,7 @@ use history::{History, OpId};
 use object_trait::SeqObject;
 use std::alloc::{AllocError, Global};
 
-/// How far a list was gone through: the numbers before a place name so many operations of each session.
+/// How far a walk over a list has gone: a place, and how many operations of each session the numbers before it name.
 #[derive(Drop)]
 pub struct ListWalk {
     pub place: usize,
@@ -29,9 +29,9 @@ impl ListWalk {
         Ok(ListWalk { place: 0, naming })
     }
 
-    /// Goes behind an operation of the list, and gives its place.
+    /// Goes to just after an operation of the list, and gives the operation's place.
     ///
-    /// O(p) for p numbers between where the walk stands and that place; from the front, where the operation was passed.
+    /// O(p) for p numbers between the walk's place and that one; counted from the front if the walk has passed the operation.
     pub fn go_behind<O: SeqObject>(&mut self, h: &History<O>, list: &[u8], op: OpId) -> usize
         requires names { NamesOperations h.now list.now }
         requires counts { AreCountsAt list.now self.old.place (length h.now.1) self.old.naming.counts.items }
@@ -47,7 +47,7 @@ impl ListWalk {
         place
     }
 
-    /// Goes back to the front, where an operation was passed, and gives the place where the walk stands then.
+    /// Goes back to the front if the walk has passed an operation, and gives the walk's new place.
     fn place_before(&mut self, op: OpId) -> usize
         ensures before { slice_index_or self.new.naming.counts.items op.session 0 ≤ op.index }
         ensures counts { (list : List ℕ) (n : ℕ) → AreCountsAt list self.old.place n self.old.naming.counts.items

@@ -15,7 +15,7 @@ use history::{History, OpId};
 use object_trait::SeqObject;
 use std::alloc::{AllocError, Global};
 
-/// How far the operations that a list of session numbers names have been gone through.
+/// How many operations of each session a list of session numbers has named so far.
 #[derive(Drop)]
 pub struct Naming {
     /// For each session, how many of its operations were named.
@@ -31,7 +31,7 @@ impl Naming {
         Ok(Naming { counts })
     }
 
-    /// As many operations of each session are named as these counts say. O(k) for k sessions.
+    /// These counts of operations of each session are named. O(k) for k sessions.
     pub fn at(alloc: Global, counts: &[u16]) -> Result<Naming, AllocError>
         ensures { IfOk result (λ naming. naming.counts.items ≡ counts.now) }
     {
@@ -97,7 +97,7 @@ impl Naming {
         is_at_most(&self.counts, vector) && is_at_most(vector, &self.counts)
     }
 
-    /// Names the next operation of a session. Whether it is there and comes after all others that its own vector counts.
+    /// Names the next operation of a session. Returns whether it exists and comes after all others that its own vector counts.
     fn step<O: SeqObject>(
         &mut self,
         h: &History<O>,
@@ -122,10 +122,10 @@ impl Naming {
         needs.get(next).is_met(v, next, &self.counts)
     }
 
-    /// Goes on from the end of one list to that of another, from the place where they part. Whether each operation that
-    /// the other names is there and comes after all others that its own vector counts, as in the first.
+    /// Goes on from the end of one list to that of another, from the place where they part. Returns whether each operation that the
+    /// other names exists and comes after all others that its own vector counts, as in the first.
     ///
-    /// O(p) for p numbers of both behind that place, where each need is one operation.
+    /// O(p) for p numbers of both after that place, if each need is one operation.
     pub fn go_on<O: SeqObject>(
         &mut self,
         h: &History<O>,
@@ -152,7 +152,7 @@ impl Naming {
         true
     }
 
-    /// Counts one operation of a session off again.
+    /// Takes one operation of a session off the count.
     fn count_off(&mut self, session: usize)
         requires inside { session < length self.old.counts.items }
         requires counted { 1 ≤ slice_index_or self.old.counts.items session 0 }
@@ -162,7 +162,7 @@ impl Naming {
         self.counts[session] = count - 1;
     }
 
-    /// Goes back over a place of a list, and gives the operation that is named there.
+    /// Goes back over a place of a list, and gives the operation that the list names there.
     pub fn back(&mut self, list: &[u8], place: usize) -> OpId
         requires within { place < length list.now }
         requires counts { AreCountsAt list.now (place + 1) (length self.old.counts.items) self.old.counts.items }
@@ -193,7 +193,7 @@ impl Naming {
         unreachable!()
     }
 
-    /// Goes on from a place of a list to that of an operation behind it, and names that too. O(p) for p numbers up to there.
+    /// Goes on from a place of a list to a later operation, names that too and gives its place. O(p) for p numbers up to there.
     pub fn on_to<O: SeqObject>(
         &mut self,
         h: &History<O>,
@@ -231,7 +231,7 @@ impl Naming {
     }
 }
 
-/// So many numbers of two lists are compared at once.
+/// How many numbers of two lists are compared at once.
 const BLOCK: usize = 64;
 
 /// How many numbers two lists have in common from the front. O(p) for p such numbers.
@@ -261,7 +261,7 @@ fn shared_blocks(left: &[u8], right: &[u8]) -> usize
     shared
 }
 
-/// Whether two lists have the same block at a place: without an early end, so that several numbers are compared at once.
+/// Whether two lists have the same block at a place. The loop does not end early, so that several numbers are compared at once.
 fn are_same_in_block(left: &[u8], right: &[u8], place: usize) -> bool
     requires left { place + BLOCK ≤ length left.now }
     requires right { place + BLOCK ≤ length right.now }

@@ -9,7 +9,7 @@ use object_trait::SeqObject;
 use std::alloc::{AllocError, Global};
 use std::marker::Model;
 
-/// What must have been named before an operation, where all that was named came after what its own vector counts.
+/// What must be named before an operation, if every operation named so far came after all that its own vector counts.
 #[derive(Clone, Copy, Debug, PartialEq, Eq)]
 pub enum Need {
     /// Nothing beyond the operation before it in its session.
@@ -74,9 +74,9 @@ impl Needs {
         }
     }
 
-    /// The needs by the vectors of a history.
+    /// The needs that the vectors of a history give.
     ///
-    /// Fails for want of memory alone. O(n k^2) for n operations and k sessions, and O(n k) where each needs one other.
+    /// Fails for want of memory alone. O(n k^2) for n operations and k sessions, and O(n k) if each needs one other.
     pub fn of<O: SeqObject>(alloc: Global, h: &History<O>, v: &Vectors) -> Result<Needs, AllocError>
         requires { AreVectorsOf h.now v.now }
         ensures { IfOk result (AreNeedsOf v.now) }
@@ -153,8 +153,8 @@ fn before(v: &Vectors, op: OpId) -> &[u16]
     }
 }
 
-/// The last operation of another session that the vector of an operation counts, where the operation before doesn't and
-/// the two count all else.
+/// The last operation of another session that the vector of an operation counts, if the operation before doesn't count it and the
+/// two together count all the rest.
 fn last_of(v: &Vectors, op: OpId, before: &[u16], session: usize) -> Option<Need>
     requires own { HasListOf v.now op }
     requires before { before.now ≡ vector_before v.now op.session op.index }
@@ -172,8 +172,8 @@ fn last_of(v: &Vectors, op: OpId, before: &[u16], session: usize) -> Option<Need
     Some(Need::After(u8::try_from(session).ok()?, count - 1))
 }
 
-/// Whether each count of a vector is at most that of one of two others, where operations of its own session before it go
-/// without saying.
+/// Whether each count of a vector is at most that of one of two others. In the operation's own session, the operations before it
+/// need not be covered.
 fn is_covered(vector: &[u16], before: &[u16], other: &[u16], op: OpId) -> bool
     ensures { IsTrue result ↔ IsCovered vector.now before.now other.now op }
 {

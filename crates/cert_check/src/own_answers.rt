@@ -12,7 +12,7 @@ use history::{History, OpId};
 use object_trait::SeqObject;
 use std::alloc::{AllocError, Global};
 
-/// Whether what the schedule of an operation names explains its own known return.
+/// Whether the operations in the schedule of an operation explain its own known return.
 ///
 /// Fails for want of memory alone. O(p + k) for k sessions and p numbers from the last call before it on that settles the answer, and
 /// O(k) where the answer depends on no call.

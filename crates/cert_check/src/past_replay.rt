@@ -1,4 +1,4 @@
-//! Schedules gone through one after another, for the known returns of sessions.
+//! Checks schedules one after another for the known returns of sessions.
 
 ghost use Rattle.std.specs.Prelude.{◌≡◌, ◌↔◌, ◌≤◌, length, take, IfOk, IfSome, IsTrue};
 ghost use Rattle.history.specs.History.{IsOp};
@@ -17,12 +17,12 @@ use object_trait::SeqObject;
 use std::alloc::{AllocError, Global};
 use std::marker::Model;
 
-/// Asks schedules of a history for known returns, one after another: each from where it parts from the one before, or by a replay that
-/// goes on from the end of the one before where it begins with that.
+/// Checks the known returns in schedules of a history, one schedule after another. It checks each only from where it parts from the
+/// one before, or continues a replay from the end of the one before if the schedule begins with that one.
 #[derive(Drop)]
 pub struct PastReplay<'a, O: SeqObject> {
     history: &'a History<O>,
-    /// A schedule that answers all known returns of a session that it names, and what stands at its end, where it was replayed.
+    /// A schedule that answers all known returns of a session that it names, and the replay at its end if it was replayed.
     schedule: &'a [u8],
     session: u64,
     replay: Option<Replay<O>>,
@@ -57,11 +57,11 @@ impl<'a, O: SeqObject> PastReplay<'a, O> {
         }
     }
 
-    /// Whether what the schedule of an operation names explains the known returns of its session up to it.
+    /// Whether the operations in the schedule of an operation explain the known returns of its session up to it.
     ///
-    /// Fails for want of memory alone. Where the schedule begins with the whole one before, of the same session, that was replayed, one
-    /// call of the object for each number behind it. Else the known returns behind what both begin with are asked for from the end
-    /// back; and where a call that settles one of them isn't near before it, one call for each number of the schedule.
+    /// Fails for want of memory alone. If the one before is of the same session and was replayed, and the schedule begins with all
+    /// of it: one call of the object for each number after it. Otherwise the known returns after the common beginning are checked
+    /// from the end back; if the call that settles one of them isn't near before it, one call for each number of the schedule.
     pub fn explains(
         &mut self,
         alloc: Global,
@@ -87,7 +87,7 @@ impl<'a, O: SeqObject> PastReplay<'a, O> {
         }
     }
 
-    /// The same, asked from the end of the schedule back. None where a replay goes on, or where that doesn't tell it.
+    /// The same, checked from the end of the schedule back. None where a replay can continue, or where that check doesn't decide it.
     fn asked_back(
         &self,
         alloc: Global,
@@ -109,7 +109,7 @@ impl<'a, O: SeqObject> PastReplay<'a, O> {
         are_answered_behind(alloc, self.history, v, schedule, front, op)
     }
 
-    /// How many numbers a schedule begins with alike with the one before, where that is of the same session.
+    /// How many numbers a schedule shares from the front with the one before, if that is of the same session; else 0.
     fn answered_front(&self, schedule: &[u8], op: OpId) -> usize
         ensures { AreAnswered O.answer self.now (program_past op) schedule.now result }
     {
@@ -131,7 +131,7 @@ impl<'a, O: SeqObject> PastReplay<'a, O> {
         self.session = op.session;
     }
 
-    /// Whether what the schedule of an operation names explains the known returns of its session up to it, by a replay.
+    /// Whether the operations in the schedule of an operation explain the known returns of its session up to it, by a replay.
     fn replays(&mut self, alloc: Global, schedule: &'a [u8], op: OpId) -> Result<bool, AllocError>
         requires good { (v : Counts) × IsVectorOk self.old v op × IsSchedule self.old v op schedule.now }
         ensures exact { IfOk result (λ yes. IsTrue yes
@@ -148,8 +148,8 @@ impl<'a, O: SeqObject> PastReplay<'a, O> {
         Ok(yes)
     }
 
-    /// A replay that stands at a place of a schedule, before which the known returns of its session up to an operation are
-    /// answered: at the end of the schedule before, where it begins with that, or at its beginning.
+    /// A replay at a place of a schedule, with the known returns of its session up to an operation answered before that place. The
+    /// place is the end of the schedule before if that was replayed, is of the same session and begins this one; else the front.
     fn begun(
         &mut self,
         alloc: Global,

@@ -1,4 +1,4 @@
-//! The pieces of a certificate, checked one after another.
+//! Checks the pieces of a certificate one after another.
 
 ghost use Rattle.std.specs.Prelude.{◌≡◌, ◌↔◌, IfOk, IsSome, IsTrue, Some};
 ghost use Rattle.history.specs.History.{IsOp};
@@ -23,8 +23,8 @@ use object_trait::SeqObject;
 use std::alloc::{AllocError, Global};
 use std::marker::Model;
 
-/// Checks pieces of the certificate of a case file one after another. The schedule of each is gone through from where it parts
-/// from the one before.
+/// Checks pieces of the certificate of a case file one after another. It goes through the schedule of each from where it parts from
+/// the one before.
 #[derive(Drop)]
 pub struct PieceChecker<'a, O: SeqObject> {
     file: &'a CaseFile<O>,
@@ -108,10 +108,10 @@ impl<'a, O: SeqObject> PieceChecker<'a, O> {
         self.certificate
     }
 
-    /// What the check of the piece of an operation comes to.
+    /// The result of the check of the piece of an operation.
     ///
-    /// Fails for want of memory alone. As `check_piece`, but its schedule is gone through from where it parts from that of the piece
-    /// before; and so it is asked, for causal memory, for the known returns of its session.
+    /// Fails for want of memory alone. As `check_piece`, but it goes through the schedule from where it parts from that of the
+    /// piece before. For causal memory it checks the known returns of the session in the same way.
     pub fn check(&mut self, alloc: Global, op: OpId) -> Result<Outcome, AllocError>
         requires is_op { IsOp self.old.0 op }
         ensures exact { IfOk result (λ outcome. (outcome ≡ Outcome.Explained) ↔ IsExplainedIn O.answer self.old op) }

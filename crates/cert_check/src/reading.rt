@@ -19,18 +19,18 @@ use std::alloc::{AllocError, Global};
 
 /// The certificate whose form the value is.
 ///
-/// The form is `["cc", vectors, schedules]`, `["cm", vectors, schedules]` or `["ccv", vectors, list]`. Vectors have for
-/// each session, for each of its operations, one list of counts, each a whole number from 0 to 65,535; schedules
-/// likewise one list of session numbers, each from 0 to 15; the list has such session numbers. A list may have any
-/// length: whether a certificate has the shape of a history is not asked here. `BadCertificate` for every other value,
-/// `Memory` only where an allocation was refused. O(n) for n numbers.
+/// The form is `["cc", vectors, schedules]`, `["cm", vectors, schedules]` or `["ccv", vectors, list]`. Vectors have for each
+/// session, for each of its operations, one list of counts, each a whole number from 0 to 65,535; schedules likewise one list of
+/// session numbers, each from 0 to 15; the list has such session numbers. A list may have any length: this function does not check
+/// that a certificate has the shape of a history. `BadCertificate` for every other value, `Memory` only where an allocation was
+/// refused. O(n) for n numbers.
 pub fn read_certificate(alloc: Global, value: &Value) -> Result<Certificate, CertError>
     ensures { IsReadAs (view value.now) result }
 {
     read_form(alloc, value)?.ok_or(CertError::BadCertificate)
 }
 
-/// The certificate whose form a compact value is, as [`read_certificate`] says it.
+/// The certificate whose form a compact value is; [`read_certificate`] describes the form.
 ///
 /// `BadCertificate` for every value that is the form of none, `Memory` only where an allocation was refused. O(n) for n
 /// numbers.
@@ -53,7 +53,7 @@ fn read_form<S: Source>(alloc: Global, value: &S) -> Result<Option<Certificate>,
     }
 }
 
-/// The certificate for a criterion, of what stands behind its name.
+/// The certificate for a criterion, read from the elements after its name.
 fn read_parts<S: Source>(
     alloc: Global,
     criterion: Criterion,
@@ -67,7 +67,7 @@ fn read_parts<S: Source>(
     }
 }
 
-/// The certificate for a criterion, of the vectors and what stands behind them.
+/// The certificate for a criterion, read from the vectors and the elements after them.
 fn read_vectors<S: Source>(
     alloc: Global,
     criterion: Criterion,

@@ -10,7 +10,7 @@ use crate::source::{Listed, Source};
 use causal_order::{ByOperation, Rows};
 use std::alloc::{AllocError, Global};
 
-/// The numbers, where each is in range.
+/// The numbers, if each is in range.
 fn read_whole_numbers<T: Number>(
     alloc: Global,
     wholes: &[u16],
@@ -64,7 +64,7 @@ pub(crate) fn read_numbers<T: Number, S: Source>(
     }
 }
 
-/// The values that a value is the list of, or none where it is no list of lists.
+/// The values that a value is the list of, or none if it is no list of lists.
 fn lists_of<S: Source>(value: &S) -> Option<&[S]>
     ensures { MatchOption result ((lists : List (List Data)) → S.stands_for value.now ≢ list (map list lists))
         (λ values. S.stands_for value.now ≡ list (map S.stands_for values.now)) }

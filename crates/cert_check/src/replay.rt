@@ -13,7 +13,7 @@ use history::{History, OpId};
 use object_trait::SeqObject;
 use std::alloc::{AllocError, Global};
 
-/// How far a replay over a list of session numbers has come.
+/// The state of a replay over a list of session numbers.
 #[derive(Drop)]
 pub struct Replay<O: SeqObject> {
     /// The operations that were named.
@@ -23,7 +23,7 @@ pub struct Replay<O: SeqObject> {
 }
 
 impl<O: SeqObject> Replay<O> {
-    /// A replay that has come nowhere.
+    /// A replay at the front.
     pub fn new(alloc: Global, h: &History<O>) -> Result<Replay<O>, AllocError>
         ensures { IfOk result (λ replay. (list : List ℕ) → IsReplayAt O.stands h.now list 0 [] replay.naming.counts.items replay.object) }
     {
@@ -46,7 +46,7 @@ impl<O: SeqObject> Replay<O> {
         self.naming.name_next(h, session)
     }
 
-    /// Takes in the call of an operation. Whether its return, where it is known, is the answer.
+    /// Takes in the call of an operation. Returns whether its return, where it is known, is the answer.
     pub fn take_in(&mut self, h: &History<O>, next: OpId) -> Result<bool, AllocError>
         requires { IsOp h.now next }
         ensures counts { self.new.naming.counts.items ≡ self.old.naming.counts.items }
@@ -58,7 +58,7 @@ impl<O: SeqObject> Replay<O> {
         take_in_call(&mut self.object, h, next)
     }
 
-    /// Takes in the call of an operation. Whether its return, where it is kept and known, is the answer.
+    /// Takes in the call of an operation. Returns whether its return, where it is kept and known, is the answer.
     fn take_in_kept(&mut self, h: &History<O>, kept: Kept, next: OpId) -> Result<bool, AllocError>
         requires { IsOp h.now next }
         ensures counts { self.new.naming.counts.items ≡ self.old.naming.counts.items }
@@ -71,8 +71,8 @@ impl<O: SeqObject> Replay<O> {
         Ok(answered || !kept.keeps(next))
     }
 
-    /// Takes in what a list names from a place on, until a known return that is kept is not the answer. Whether there is
-    /// none.
+    /// Takes in the operations that a list names from a place on, until a kept known return is not the answer. Returns whether
+    /// there is no such return.
     ///
     /// Fails for want of memory alone. One call of the object for each number.
     pub fn go_through(
@@ -100,7 +100,7 @@ impl<O: SeqObject> Replay<O> {
     }
 }
 
-/// Has an object take in the call of an operation. Whether its return, where it is known, is the answer.
+/// Has an object take in the call of an operation. Returns whether its return, where it is known, is the answer.
 ///
 /// Fails for want of memory alone. One call of the object.
 pub fn take_in_call<O: SeqObject>(

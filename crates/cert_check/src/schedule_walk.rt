@@ -1,4 +1,4 @@
-//! Schedules gone through one after another.
+//! A walk through schedules, one after another.
 
 ghost use Rattle.std.specs.Prelude.{◌≡◌, ◌↔◌, IfOk, IsTrue};
 ghost use Rattle.history.specs.History.{IsOp};
@@ -15,13 +15,13 @@ use object_trait::SeqObject;
 use std::alloc::{AllocError, Global};
 use std::marker::Model;
 
-/// Goes through schedules of a history one after another, through each from where it parts from the one before.
+/// Goes through schedules of a history one after another, and starts each where it parts from the one before.
 #[derive(Drop)]
 pub struct ScheduleWalk<'a, O: SeqObject> {
     history: &'a History<O>,
     vectors: &'a Vectors,
     needs: Needs,
-    /// The schedule that was gone through last, and how far each session is named at its end.
+    /// The last schedule of the walk, and how far each session is named at its end.
     schedule: &'a [u8],
     naming: Naming,
 }
@@ -64,8 +64,8 @@ impl<'a, O: SeqObject> ScheduleWalk<'a, O> {
 
     /// Whether the vector and the schedule of an operation are good.
     ///
-    /// O(p + k^2) for k sessions and p numbers of the schedule and of the one before, behind the place where they part, where
-    /// each need is one operation.
+    /// O(p + k^2) for k sessions and p numbers of the schedule and of the one before after the place where they part, if each need
+    /// is one operation.
     pub fn is_schedule(&mut self, schedule: &'a [u8], op: OpId) -> bool
         requires is_op { IsOp self.old.0 op }
         ensures exact { IsTrue result ↔ (IsVectorOk self.old.0 self.old.1 op × IsSchedule self.old.0 self.old.1 op schedule.now) }

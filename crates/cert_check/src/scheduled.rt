@@ -39,11 +39,9 @@ pub fn is_scheduled_piece<O: SeqObject>(
     replay.go_through(h, schedule, 0, kept)
 }
 
-/// Whether the vector and the schedule of an operation are good, by going on from another list that names operations
-/// well.
+/// Whether the vector and the schedule of an operation are good, continuing from another list that names operations well.
 ///
-/// O(p + k^2) for k sessions and p numbers of both lists behind the place where they part, where each need is one
-/// operation.
+/// O(p + k^2) for k sessions and p numbers of both lists after the place where they part, if each need is one operation.
 pub fn is_schedule<O: SeqObject>(
     naming: &mut Naming,
     h: &History<O>,

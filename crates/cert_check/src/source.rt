@@ -24,13 +24,13 @@ pub(crate) enum Listed<'a, S> {
 
 /// A value that a certificate is read from.
 pub(crate) trait Source {
-    /// What it stands for.
+    /// The JSON value that it represents.
     ghost stands_for: { Self → Data };
 
     fn listed(&self) -> Listed<'_, Self>
         ensures { IsListed stands_for (stands_for self.now) result };
 
-    /// The word that stands first in the list that it is, and what stands behind it.
+    /// The first element of the list, a word, and the elements after it.
     fn word_and_rest(&self) -> Option<(&str, &[Self])>
         ensures { MatchOption result ((word : List ℕ) (ds : List Data) → stands_for self.now ≢ worded word ds)
             (λ p. stands_for self.now ≡ worded p.0.now (map stands_for p.1.now)) };
@@ -58,7 +58,7 @@ impl Source for Value {
     }
 }
 
-/// The word that stands first, and what stands behind it.
+/// The first element, a word, and the elements after it.
 fn word_first(values: &[Compact]) -> Option<(&str, &[Compact])>
     ensures { MatchOption result ((word : List ℕ) (ds : List Data) → list (map compact_view values.now) ≢ worded word ds)
         (λ p. list (map compact_view values.now) ≡ worded p.0.now (map compact_view p.1.now)) }

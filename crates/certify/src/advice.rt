@@ -1,4 +1,4 @@
-//! What a store told of the operations of a history.
+//! What a store reported of the operations of a history.
 
 ghost use Rattle.std.specs.Prelude.{◌≡◌, ◌*◌, ◌<◌, ◌≤◌, ◌↔◌, length, IsTrue};
 ghost use Rattle.history.specs.History.{many_before, session as operations_of};
@@ -9,7 +9,7 @@ use history::{Advice, History, MAX_OPERATIONS, MAX_SESSIONS};
 use memory_order::IndexedMemory;
 use object_trait::SeqObject;
 
-/// Whether there is advice: one entry for each operation of a history, which has some, also where all entries are empty.
+/// Whether there is advice: the history has operations, and each has an entry, even if all entries are empty.
 ///
 /// Takes no memory. O(k) for k sessions.
 pub fn is_advised<O: SeqObject>(h: &History<O>, advice: &[Option<Advice>]) -> bool
@@ -18,7 +18,7 @@ pub fn is_advised<O: SeqObject>(h: &History<O>, advice: &[Option<Advice>]) -> bo
     !advice.is_empty() && advice.len() == many_before(h, h.sessions())
 }
 
-/// Whether advice decides of a memory history: there is any, and values are not distinct.
+/// Whether advice decides for a memory history: there is advice, and values are not distinct.
 ///
 /// Takes no memory. O(k) for k sessions.
 pub fn advice_decides(memory: &IndexedMemory, advice: &[Option<Advice>]) -> bool

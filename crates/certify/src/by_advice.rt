@@ -1,4 +1,4 @@
-//! Certificates from what a store told of each operation.
+//! Certificates from what a store reported of each operation.
 
 ghost use Rattle.std.specs.Prelude.{◌≡◌, ◌<◌, ◌≤◌, length, IfOk};
 ghost use Rattle.history.specs.History.{IsOp};
@@ -22,7 +22,7 @@ use std::alloc::{AllocError, Global};
 
 /// The certificate of a criterion from advice where there is any, and by program order alone where there is none.
 ///
-/// There always is one. Whether it explains the known returns is for the checker of certificates to say. Fails for want of
+/// There always is one. The checker of certificates decides whether it explains the known returns. Fails for want of
 /// memory alone. O(n (n + k)) for n operations of k sessions and orders of at most n entries.
 pub fn make_as_advised<O: SeqObject>(
     alloc: Global,
@@ -44,8 +44,8 @@ pub fn make_as_advised<O: SeqObject>(
 /// The certificate of a criterion from advice, which nobody has to trust: the past of an operation is what the store had
 /// taken in, its schedule has the updates in the store's order, and the one list of causal convergence goes by stamps.
 ///
-/// There always is one, whatever the advice. Whether it explains the known returns is for the checker of certificates to
-/// say. Fails for want of memory alone. O(n (n + k)) for n operations of k sessions and orders of at most n entries.
+/// There always is one, whatever the advice. The checker of certificates decides whether it explains the known returns.
+/// Fails for want of memory alone. O(n (n + k)) for n operations of k sessions and orders of at most n entries.
 pub fn make_by_advice<O: SeqObject>(
     alloc: Global,
     h: &History<O>,
@@ -75,7 +75,7 @@ pub fn make_by_advice<O: SeqObject>(
     }
 }
 
-/// For each operation, its schedule by the order that is told of it, or by stamps where none is.
+/// For each operation, its schedule by the order in its advice, or by stamps if this order is missing or empty.
 fn told_schedules<O: SeqObject>(
     alloc: Global,
     h: &History<O>,

@@ -1,4 +1,4 @@
-//! Schedules in the order in which a store had taken updates in.
+//! Schedules in the order in which a store had taken in updates.
 
 ghost use Rattle.std.specs.Prelude.{◌≡◌, ◌<◌, ◌≤◌, ◌↔◌, ℕ, IsTrue, not, length, IfOk, IfSome, MatchOption, OnOk};
 ghost use Rattle.history.specs.History.{IsOp, session as operations_of};
@@ -11,7 +11,7 @@ use history::{Advice, History, MAX_OPERATIONS, MAX_SESSIONS, OpId};
 use object_trait::SeqObject;
 use std::alloc::{AllocError, Global};
 
-/// The order that is told of the operation at an index of a session.
+/// The order in the advice on the operation at an index of a session; empty where there is no advice.
 pub(crate) fn order_at(told: &[Option<Advice>], index: usize) -> &[u8]
     requires { index < length told.now }
     ensures { result.now ≡ order_at told.now index }
@@ -22,8 +22,8 @@ pub(crate) fn order_at(told: &[Option<Advice>], index: usize) -> &[u8]
     }
 }
 
-/// The schedule of an operation by the order that is told of it: what each entry but the last names, the own queries once
-/// they are due, and the operation itself.
+/// The schedule of an operation by the order in its advice: what each entry but the last names, the own queries once they
+/// are due, and the operation itself.
 ///
 /// Fails for want of memory alone. O(m + p) for an order of m entries and p operations that are placed.
 pub(crate) fn schedule_by_order<O: SeqObject>(
@@ -78,7 +78,7 @@ fn ask<O: SeqObject>(
     place_before(walk, session, end)
 }
 
-/// Up to which index the own queries of an operation may come, from one on.
+/// The index up to which, from a given one on, the own queries of an operation may come.
 fn end_of_asked<O: SeqObject>(
     h: &History<O>,
     told: &[Option<Advice>],
@@ -121,7 +121,7 @@ fn may_come<O: SeqObject>(
     }
 }
 
-/// Places the next update of a session, and the queries before it just before it; nothing where there is none.
+/// Places the next update of a session, with the queries before it directly before it; places nothing if there is no update.
 fn name<O: SeqObject>(h: &History<O>, session: usize, walk: &mut Walk) -> Result<(), AllocError>
     requires few { length h.now.1 ≤ MAX_SESSIONS }
     ensures { OnOk result (IsNamed O.query h.now session walk.old walk.new) }

@@ -11,10 +11,10 @@ use history::History;
 use object_trait::SeqObject;
 use std::alloc::{AllocError, Global};
 
-/// The certificate of a criterion by program order alone: the past of an operation is what stands before it in its
+/// The certificate of a criterion by program order alone: the past of an operation is what comes before it in its
 /// session, and the one list of causal convergence has the sessions one after another.
 ///
-/// There always is one. Whether it explains the known returns is for the checker of certificates to say. Fails for want of
+/// There always is one. The checker of certificates decides whether it explains the known returns. Fails for want of
 /// memory alone. O(n (p + k)) for n operations of k sessions with at most p operations each.
 pub fn make_by_program_order<O: SeqObject>(
     alloc: Global,
@@ -47,7 +47,7 @@ fn sessions_in_turn<O: SeqObject>(alloc: Global, h: &History<O>) -> Result<Vec<u
     Ok(list)
 }
 
-/// Puts a number so many times behind the others.
+/// Appends a number to a list so many times.
 fn push_repeated(number: u8, times: usize, list: &mut Vec<u8>) -> Result<(), AllocError>
     ensures { OnOk result (list.new.items ≡ list.old.items ++ replicate times number) }
 {

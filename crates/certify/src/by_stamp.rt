@@ -1,4 +1,4 @@
-//! Operations by the stamps that a store told.
+//! Operations by the stamps that a store reported.
 
 ghost use Rattle.std.specs.Prelude.{◌≡◌, ◌++◌, ◌<◌, ◌≤◌, length, IfOk, OnOk};
 ghost use Rattle.history.specs.History.{session as operations_of};
@@ -34,7 +34,7 @@ pub(crate) fn operations_by_stamp<O: SeqObject>(
     Ok(ops)
 }
 
-/// Puts the operations of a session behind those of the sessions before it.
+/// Appends the operations of a session to those of the sessions before it.
 fn push_stamped<O: SeqObject>(
     h: &History<O>,
     advice: &[Option<Advice>],
@@ -56,7 +56,7 @@ fn push_stamped<O: SeqObject>(
     Ok(())
 }
 
-/// The sessions of those of the operations that the vector of an operation counts.
+/// The sessions of the operations that the vector of an operation counts.
 pub(crate) fn counted_sessions(
     alloc: Global,
     ops: &[Stamped],

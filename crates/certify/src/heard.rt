@@ -1,4 +1,4 @@
-//! Vectors as a store told them.
+//! Vectors as a store reported them.
 
 ghost use Rattle.std.specs.Prelude.{◌≡◌, ◌<◌, ◌≤◌, [], length, take, IfOk};
 ghost use Rattle.history.specs.declared.limits.TheConstants.{MAX_OPERATIONS as most_operations};
@@ -13,7 +13,7 @@ use object_trait::SeqObject;
 use std::alloc::{AllocError, Global};
 use std::marker::Model;
 
-/// What is known of an operation: for each session how many of its operations the store had taken in, and its clock.
+/// What is known of an operation: how many operations of each session the store had taken in, and its clock.
 #[derive(Drop)]
 pub(crate) struct Heard {
     counts: [u16; MAX_SESSIONS],
@@ -71,7 +71,7 @@ impl Heard {
     }
 }
 
-/// The vectors that a store told: an operation without advice has the counts of the one before it, and itself counted.
+/// The vectors that a store reported: an operation without advice has the counts of the one before it, and counts itself.
 ///
 /// Fails for want of memory alone. O(n k) for n operations of k sessions.
 pub(crate) fn told_vectors<O: SeqObject>(

@@ -1,4 +1,4 @@
-//! What the makers of certificates share. Nobody trusts them: a certificate is believed for its pieces alone.
+//! What the makers of certificates share. Nobody trusts them: only the pieces of a certificate make it credible.
 #![tactic(auto)]
 
 mod advice;

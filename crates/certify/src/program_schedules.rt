@@ -9,7 +9,7 @@ use history::{History, MAX_SESSIONS};
 use object_trait::SeqObject;
 use std::alloc::{AllocError, Global};
 
-/// For each operation, the schedule of what stands before it in its session and of itself.
+/// For each operation, the schedule of the operations before it in its session and of itself.
 ///
 /// Fails for want of memory alone. O(n p) for n operations in sessions of at most p operations.
 pub(crate) fn own_schedules<O: SeqObject>(

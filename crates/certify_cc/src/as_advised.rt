@@ -1,4 +1,4 @@
-//! Certificates from what a store told, or as they are made without it.
+//! Certificates from what a store reported, or made without it.
 
 ghost use Rattle.std.specs.Prelude.{◌≡◌, ◌⊎◌, IfNone, IfOk, IfSome, IsSome, IsSomeAnd};
 ghost use Rattle.history.specs.declared.op_id.OpId.{OpId as Operation};
@@ -19,12 +19,12 @@ use object_trait::SeqObject;
 use objects::Memory;
 use std::alloc::{AllocError, Global};
 
-/// The certificate of causal consistency from what a store told of each operation, or by program order alone where the advice is
-/// empty or of another length than the history.
+/// The certificate of causal consistency from what a store reported of each operation, or by program order alone where the advice
+/// is empty or of another length than the history.
 ///
-/// There always is one, of the shape of the history. Whether it explains the known returns is for the checker of
-/// certificates to say: nobody trusts advice. Fails for want of memory alone. O(n (n + k)) for n operations of k sessions
-/// and orders of at most n entries; O(n (p + k)) without advice, for sessions of at most p operations.
+/// There always is one, of the shape of the history. The checker of certificates decides whether it explains the known
+/// returns: nobody trusts advice. Fails for want of memory alone. O(n (n + k)) for n operations of k sessions and orders of
+/// at most n entries; O(n (p + k)) without advice, for sessions of at most p operations.
 pub fn make<O: SeqObject>(
     alloc: Global,
     h: &History<O>,
@@ -39,8 +39,8 @@ pub fn make<O: SeqObject>(
 }
 
 /// The certificate of causal consistency of a memory history: from advice where there is any and values are not distinct, else
-/// by the sources of its reads: the past of an operation is what is before it in the order that program order and these make, and in
-/// the schedule of a read its source stands as late as this order lets it.
+/// by the sources of its reads. By the sources, the past of an operation is what is before it in the order that program order and
+/// the sources make, and in the schedule of a read its source comes as late as this order lets it.
 ///
 /// Where values are distinct the sources decide, whatever the advice. `None` where they leave no certificate. Fails for
 /// want of memory alone. O(n (n + k)) for n operations of k sessions and orders of at most n entries where advice decides.

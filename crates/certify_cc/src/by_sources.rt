@@ -22,12 +22,12 @@ use memory_order::{CausalOrder, IndexedMemory};
 use std::alloc::{AllocError, Global};
 
 /// A certificate of causal consistency of a memory history: the past of an operation is what is before it in the order
-/// that program order and the sources of the reads make, and in the schedule of a read its source stands as late as this
+/// that program order and the sources of the reads make, and in the schedule of a read its source comes as late as this
 /// order lets it.
 ///
 /// The source of a known read of a value that is not the initial one is the first write of that value. `None` where the
 /// order is cyclic, or where a read has no source. The certificate explains all known returns where none of them is an
-/// overwritten value; else that is for the checker of certificates to say. So on distinct values, where no bad pattern
+/// overwritten value; else the checker of certificates decides whether it does. So on distinct values, where no bad pattern
 /// against causal consistency is present, there is one and it shows the criterion. Fails for want of memory alone.
 /// O(n (n + p k)) for n operations of k sessions, where at most p operations of a past count the source of its read.
 pub(crate) fn make_by_sources(

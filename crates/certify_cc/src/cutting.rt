@@ -11,18 +11,18 @@ use causal_order::{MAX_PLACED, Vectors, Walk};
 use history::MAX_SESSIONS;
 use std::alloc::{AllocError, Global};
 
-/// What a walk through all operations places below some limits, in its order, perhaps with more behind it. It goes over to other
-/// limits from where the walk places the first operation that only one of them has.
+/// What a walk through all operations places below some limits, in its order, perhaps with more after it. It changes to other
+/// limits from the place where the walk has the first operation that is below only one of the two limits.
 #[derive(Drop)]
 pub struct Cutting {
     walk: Walk,
     limits: Vec<u16>,
-    /// For each operation of the whole walk that was looked at, how many are placed before it; and at last how many in all.
+    /// For each examined operation of the whole walk, how many are placed before it; and as the last entry how many in all.
     starts: Vec<usize>,
 }
 
 impl Cutting {
-    /// Nothing, which is what is below limits of 0.
+    /// An empty walk, with limits of 0.
     ///
     /// Fails for want of memory alone.
     pub fn new(alloc: Global, sessions: usize) -> Result<Cutting, AllocError>
@@ -38,14 +38,14 @@ impl Cutting {
         })
     }
 
-    /// For each placed operation its session, in order.
+    /// The session of each placed operation, in order.
     pub fn schedule(&self) -> &[u8]
         ensures { result.now ≡ self.now.walk }
     {
         self.walk.schedule()
     }
 
-    /// Goes over to the full walk to other limits, which have with each operation all that its vector counts.
+    /// Changes to the full walk to other limits, which have with each operation all that its vector counts.
     ///
     /// Fails for want of memory alone. O(k + m) for k sessions and m operations of the whole walk from the first one that is
     /// below the limits before or these and not below both, up to the last one that is below either.
@@ -101,7 +101,7 @@ impl Cutting {
         Ok(())
     }
 
-    /// Places the next operation of a session behind what is cut, and then goes on by the topological rule up to some limits.
+    /// Places the next operation of a session after what is cut, and then goes on by the topological rule up to some limits.
     ///
     /// Fails for want of memory alone. O(p k + k^2) for p operations that are placed and k sessions.
     pub fn run_behind(
@@ -125,7 +125,7 @@ impl Cutting {
     }
 }
 
-/// How many operations limits leave behind a walk.
+/// How many operations below the limits the walk has not placed.
 fn room_of(limits: &[u16], walk: &Walk) -> usize
     requires { length limits.now ≤ MAX_SESSIONS }
     ensures { room (length limits.now) limits.now walk.now ≤ result }

@@ -11,8 +11,8 @@ use cert_check::Certificate;
 /// On distinct values, where no bad pattern against causal consistency is present, every piece of the certificate made by
 /// sources explains its operation.
 ///
-/// Of these patterns a cycle of the causal order and a read from thin air leave no such certificate, so that the law asks
-/// for the two others alone. It holds of values that are not distinct too.
+/// A cycle of the causal order or a read from thin air leaves no such certificate, so the law requires only that the two
+/// other patterns are absent. It also holds if values are not distinct.
 pub fn certificates_by_sources_explain()
     ensures { (h : MemoryHistory) (c : Certificate) → IsMemoryHistory h → ¬ HasOverwrittenStart h → ¬ HasOverwrittenRead h
         → IsBySources h c → IsExplainedThroughout memory_answer h c }

@@ -15,8 +15,8 @@ use history::{MAX_SESSIONS, OpId};
 use memory_order::CausalOrder;
 use std::alloc::{AllocError, Global};
 
-/// Goes over to the schedule of an operation: a walk through its past by the topological rule. Where it has a source, what
-/// isn't after the source comes first, then the source, then the rest.
+/// Changes to the schedule of an operation: a walk through its past by the topological rule. If it has a source, what isn't
+/// after the source comes first, then the source, then the rest.
 ///
 /// Fails for want of memory alone. O(m + p k + k^2 + k log n) for n operations of k sessions, p of which are in the past and
 /// count the source, and m operations of the whole walk from the first one that only one of this cut and the one before has.
@@ -47,7 +47,7 @@ pub fn schedule_of(
     cutting.run_behind(vectors, write.session_place(), vectors.get(op))
 }
 
-/// For each session, how many of its operations are in the past of an operation and before a write and what is after it.
+/// For each session, how many of its operations are in the past of an operation and come before a write and all after it.
 fn limits_apart_from(
     alloc: Global,
     vectors: &Vectors,

@@ -1,4 +1,4 @@
-//! The one walk through all operations, from which walks through closed sets of them are cut.
+//! The one walk through all operations; walks through closed sets of operations are cut from it.
 
 ghost use Rattle.std.specs.Prelude.{◌≡◌, ◌≤◌, ℕ, List, [], length, slice_index_or, take, IfOk};
 ghost use Rattle.causal_order.specs.Schedules.{placed};
@@ -12,7 +12,7 @@ use object_trait::SeqObject;
 use std::alloc::{AllocError, Global};
 use std::marker::Model;
 
-/// A walk, and where in it each operation stands.
+/// A walk, and the place of each operation in it.
 #[derive(Drop)]
 pub struct WholeWalk {
     walk: Walk,
@@ -29,7 +29,7 @@ impl Model for WholeWalk {
 }
 
 impl WholeWalk {
-    /// For each placed operation its session, in order.
+    /// The session of each placed operation, in order.
     pub fn schedule(&self) -> &[u8]
         ensures { result.now ≡ self.now }
     {

@@ -1,4 +1,4 @@
-//! Certificates from what a store told, or as they are made without it.
+//! Certificates from what a store reported, or as they are made without it.
 
 ghost use Rattle.std.specs.Prelude.{◌≡◌, ◌⊎◌, IfNone, IfOk, IfSome, IsSome, IsSomeAnd};
 ghost use Rattle.history.specs.declared.op_id.OpId.{OpId as Operation};
@@ -21,11 +21,11 @@ use object_trait::SeqObject;
 use objects::Memory;
 use std::alloc::{AllocError, Global};
 
-/// The certificate of causal convergence from what a store told of each operation, or by program order alone where the advice is
-/// empty or of another length than the history.
+/// The certificate of causal convergence from what a store reported of each operation, or by program order alone where the advice
+/// is empty or of another length than the history.
 ///
-/// There always is one, of the shape of the history. Whether it explains the known returns is for the checker of
-/// certificates to say: nobody trusts advice. Fails for want of memory alone. O(n (n + k)) for n operations of k sessions
+/// There always is one, of the shape of the history. The checker of certificates decides whether it explains the known
+/// returns: nobody trusts advice. Fails for want of memory alone. O(n (n + k)) for n operations of k sessions
 /// and orders of at most n entries; O(n (p + k)) without advice, for sessions of at most p operations.
 pub fn make<O: SeqObject>(
     alloc: Global,
@@ -67,7 +67,7 @@ pub fn make_memory(
 
 /// The certificate that [`make_memory`] makes, for a caller that has what is known of the history already.
 ///
-/// Fails for want of memory alone. What [`make_memory`] takes, without making what is known.
+/// Fails for want of memory alone. It costs what [`make_memory`] takes, without making what is known.
 pub fn make_indexed(
     alloc: Global,
     memory: &IndexedMemory,

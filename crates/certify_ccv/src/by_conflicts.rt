@@ -24,7 +24,7 @@ use std::alloc::{AllocError, Global};
 ///
 /// The source of a known read of a value that is not the initial one is the first write of that value. `None` where a
 /// read has no source, or where that order and these conflicts are cyclic. The certificate explains all known returns
-/// where none of them is an overwritten initial value; else that is for the checker of certificates to say. So on distinct
+/// where none of them is an overwritten initial value; else the checker of certificates decides that. So on distinct
 /// values, where no bad pattern against causal convergence is present, there is one and it shows the criterion. Fails for
 /// want of memory alone. O(n k log n) for n operations of k sessions.
 pub(crate) fn make_by_sources(

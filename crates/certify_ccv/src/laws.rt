@@ -11,9 +11,9 @@ use cert_check::Certificate;
 /// On distinct values, where no bad pattern against causal convergence is present, every piece of the certificate made by
 /// conflicts explains its operation.
 ///
-/// Of these patterns a cycle of the causal order and its conflicts and a read from thin air leave no such certificate, and
-/// an overwritten read makes such a cycle, so that the law asks for reads of overwritten initial values alone. It holds of
-/// values that are not distinct too.
+/// Two of these patterns leave no such certificate: a cycle of the causal order and its conflicts, and a read from thin air.
+/// An overwritten read makes such a cycle. So the law assumes the absence of reads of overwritten initial values alone. It also
+/// holds of values that are not distinct.
 pub fn certificates_by_conflicts_explain()
     ensures { (h : MemoryHistory) (c : Certificate) → IsMemoryHistory h → ¬ HasOverwrittenStart h → HasShapeOf h c
         → IsByConflicts h c → IsExplainedThroughout memory_answer h c }

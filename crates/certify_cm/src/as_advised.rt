@@ -1,4 +1,4 @@
-//! Certificates from what a store told, or as they are made without it.
+//! Certificates from what a store reported, or as they are made without it.
 
 ghost use Rattle.std.specs.Prelude.{◌≡◌, ◌⊎◌, IfNone, IfOk, IfSome, IsSome, IsSomeAnd};
 ghost use Rattle.memory_order.specs.HappenedBeforePatterns.{HasStartOverwrittenInHB};
@@ -18,11 +18,11 @@ use object_trait::SeqObject;
 use objects::Memory;
 use std::alloc::{AllocError, Global};
 
-/// The certificate of causal memory from what a store told of each operation, or by program order alone where the advice is
+/// The certificate of causal memory from what a store reported of each operation, or by program order alone where the advice is
 /// empty or of another length than the history.
 ///
-/// There always is one, of the shape of the history. Whether it explains the known returns is for the checker of
-/// certificates to say: nobody trusts advice. Fails for want of memory alone. O(n (n + k)) for n operations of k sessions
+/// There always is one, of the shape of the history. The checker of certificates decides whether it explains the known
+/// returns: nobody trusts advice. Fails for want of memory alone. O(n (n + k)) for n operations of k sessions
 /// and orders of at most n entries; O(n (p + k)) without advice, for sessions of at most p operations.
 pub fn make<O: SeqObject>(
     alloc: Global,
@@ -39,7 +39,7 @@ pub fn make<O: SeqObject>(
 
 /// The certificate of causal memory of a memory history: from advice where there is any and values are not distinct, else
 /// by its happened-before relations: the past of an operation is what is before it in the order that program order and the sources of
-/// the reads make, and its schedule takes the operations of its session in turn, each behind what its relation puts before it.
+/// the reads make, and its schedule takes the operations of its session in turn, each after what its relation puts before it.
 ///
 /// Where values are distinct the sources decide, whatever the advice. `None` where they leave no certificate. Fails for
 /// want of memory alone. O(n (n + k)) for n operations of k sessions and orders of at most n entries where advice decides.
@@ -65,7 +65,7 @@ pub fn make_memory(
 
 /// The certificate that [`make_memory`] makes, for a caller that has what is known of the history already.
 ///
-/// Fails for want of memory alone. What [`make_memory`] takes, without making what is known.
+/// Fails for want of memory alone. It costs what [`make_memory`] takes, without making what is known.
 pub fn make_indexed(
     alloc: Global,
     memory: &IndexedMemory,

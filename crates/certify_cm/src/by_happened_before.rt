@@ -22,14 +22,14 @@ use std::alloc::{AllocError, Global};
 /// operation.
 ///
 /// The source of a known read of a value that is not the initial one is the first write of that value. The schedule takes
-/// the operations of its session in turn, up to it. Before each comes what the relation puts before it and isn't placed
-/// yet, by the topological rule. `None` where the order is cyclic, where a read has no source, or where the relation of some
+/// the operations of its session in turn, up to it. What the relation puts before each and isn't placed yet comes before
+/// it, by the topological rule. `None` where the order is cyclic, where a read has no source, or where the relation of some
 /// operation is cyclic or has more than 100,000 pairs that the order doesn't have.
 ///
 /// On distinct values the certificate explains all known returns where no relation puts a write before a read of the
 /// initial value. So where no bad pattern against causal memory is present, it shows the criterion, and there is one unless
 /// a relation has so many pairs.
-/// Where values are not distinct, whether it explains is for the checker of certificates to say. Fails for want of memory
+/// Where values are not distinct, the checker of certificates decides whether it explains them. Fails for want of memory
 /// alone. O(n p k + n k (k^2 + log n) + m k^2 log p) for n operations of k sessions, pasts of at most p operations and m
 /// pairs more in each relation.
 pub(crate) fn make_by_sources(
@@ -95,10 +95,10 @@ fn schedules_by_happened_before(
     Ok(Some(schedules))
 }
 
-/// Puts the schedules of a session behind those of the sessions before it. Whether none of the session's happened-before
-/// relations is cyclic or given up.
+/// Puts the schedules of a session after those of the sessions before it. Returns whether none of the session's
+/// happened-before relations is cyclic or given up.
 ///
-/// The schedule of an operation goes on from that of the operation before it, from the first turn that doesn't stand.
+/// The schedule of an operation goes on from that of the operation before it, from the first turn that is no longer valid.
 fn push_schedules(
     alloc: Global,
     order: &CausalOrder,

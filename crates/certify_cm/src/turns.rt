@@ -20,7 +20,7 @@ use std::alloc::{AllocError, Global};
 #[derive(Drop)]
 pub struct Turns {
     walk: Walk,
-    /// For each turn how many operations are placed before it.
+    /// How many operations are placed before each turn.
     starts: Vec<usize>,
 }
 
@@ -35,15 +35,15 @@ impl Turns {
         }
     }
 
-    /// For each placed operation its session, in order.
+    /// The session of each placed operation, in order.
     pub fn schedule(&self) -> &[u8]
         ensures { result.now ≡ self.now.walk }
     {
         self.walk.schedule()
     }
 
-    /// Goes on until the first `to` operations of the session have had their turns: before each comes by the topological rule
-    /// what its vector counts and isn't placed yet. What the vectors count is for the caller to say.
+    /// Goes on until the first `to` operations of the session have had their turns. What an operation's vector counts and isn't
+    /// placed yet comes before it, by the topological rule. The caller decides what the vectors count.
     ///
     /// Fails for want of memory alone. O(p k + t k^2) for p operations that are placed in t turns, and k sessions.
     pub fn go_on(
@@ -82,11 +82,11 @@ impl Turns {
     }
 }
 
-/// How many of so many turns of a session stand by the vectors now, where they were made before the raises behind the first
-/// ones, of which there are so many: those before the first operation of the session that was raised since, or that counts one
-/// that was.
+/// How many of the first `turns` turns of a session are still valid by the vectors now, if they were made after the first
+/// `raises` raises and before the others: those before the first operation of the session that was raised since, or that counts
+/// one that was.
 ///
-/// O(r + t) for r raises since and t turns that don't stand.
+/// O(r + t) for r raises since and t turns that are no longer valid.
 pub fn standing(
     h: &History<Memory>,
     happened: &HappenedBefore,
@@ -109,7 +109,7 @@ pub fn standing(
     first
 }
 
-/// The index of the first of so many operations of a session that is an operation or counts it, or how many they are.
+/// The index of the first of the session's first `turns` operations that is `other` or counts it, or `turns` if none is or does.
 ///
 /// O(t) for t operations from that one on.
 fn first_with(

@@ -10,11 +10,11 @@ use objects::{AddRemoveSet, Counter, Counters, Queue, Queues, Register, Sets};
 use std::alloc::{AllocError, Global};
 
 // The histories of these objects are judged as a store advises: no pattern is looked for, and certificates are made from what a
-// store told of each operation, or where nothing is told by program order alone. Each implementation is written out: one for all
-// objects of a kind makes every call at an object under keys several times as long to prove.
+// store reported of each operation, or by program order alone if it reported nothing. Each implementation is written out: one for
+// all objects of a kind makes every call at an object under keys several times as long to prove.
 
-/// A certificate from what a store told, or by program order alone where the advice is empty or of another length than the
-/// history, for any object.
+/// A certificate for any object: from what a store reported, or by program order alone if the advice is empty or of another
+/// length than the history.
 fn certificate_for<O: SeqObject>(
     alloc: Global,
     h: &History<O>,

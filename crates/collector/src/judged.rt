@@ -14,13 +14,13 @@ use std::alloc::{AllocError, Global};
 
 /// An object whose histories are judged: how patterns are looked for, and how certificates are made.
 ///
-/// Of some histories and criteria both are exact: a pattern is found where the criterion is not met, and where it is met the
+/// For some histories and criteria both are exact: if the criterion is not met, a pattern is found, and if it is met, the
 /// certificate that is made explains every operation.
 pub trait Judged: Refutable {
     /// Whether find and make are exact for a history and a criterion.
     ghost decides: { HistoryValue Self.Start Self.Call Self.Ret → AnyCriterion → Type 0 };
 
-    /// Whether a pattern of a kind may be found: of a memory, what `pattern_search::find` says of its kind.
+    /// Whether a pattern of a kind may be found: for a memory, what `pattern_search::find` says of its kind.
     ghost finds: { HistoryValue Self.Start Self.Call Self.Ret → AnyCriterion → AnyKind → Type 0 };
 
     /// A pattern that shows that the history does not meet the criterion, where the search finds one.
@@ -35,9 +35,9 @@ pub trait Judged: Refutable {
         ensures kind { IfOk result (λ found. IfSome found (λ pattern. finds h.now criterion (kind_of pattern))) }
         ensures decided { decides h.now criterion → IfOk result (λ found. IfNone found (Meets Self.answer h.now criterion)) };
 
-    /// A certificate for the criterion, where one is made: from what a store told of each operation, unless what the history
-    /// says of itself decides. Empty advice is none. Whether it explains the known returns is for the checker of certificates to
-    /// say: nobody trusts advice.
+    /// A certificate for the criterion, where one is made: from what a store reported of each operation, unless what the history
+    /// says of itself decides. Empty advice is none. The checker of certificates decides whether the certificate explains the
+    /// known returns: nobody trusts advice.
     ///
     /// Fails for want of memory alone.
     fn make(

@@ -19,12 +19,12 @@ use std::thread::Threads;
 
 /// What is known of a history and a criterion.
 ///
-/// A pattern is looked for first: `No` with its kind where one is found. Else a certificate is made, and its pieces are
+/// It looks for a pattern first: `No` with its kind where one is found. Else it makes a certificate, and its pieces are
 /// checked as `judge_with` does: `Yes` where every piece explains its operation, and `Unknown` with the first operation whose
 /// piece does not. `Unknown` with no operation where no certificate is made. It is never `Open`.
 ///
-/// The advice is what a store told of each operation, in order; none where it is empty. It can help to a certificate, and
-/// nobody trusts it: whatever it says, what is answered is so.
+/// The advice is what a store reported of each operation, in order; empty advice is none. It can help to make a certificate,
+/// and nobody trusts it: the answer is correct whatever the advice says.
 ///
 /// `BadWorkers` where `workers` is not 1 to 16, and then nothing else happens; else `Memory`. The cost is that of `find`, of
 /// `make` and of `judge_with`.
@@ -94,8 +94,8 @@ fn judge_file<O: Judged + Send + Sync, R: Threads + Wait + Sync, G: Gate>(
 ///
 /// `Yes` where every piece explains its operation, and then the history meets the criterion; else `Unknown` with the first
 /// operation whose piece does not. `Unknown` with no operation where there is no certificate. The workers are threads that
-/// take pieces from a desk of their own, and each check of theirs is between `enter` and `leave` of the gate; the calling
-/// thread checks what they leave, and tells the gate of none of that.
+/// take pieces from a desk of their own, and each of their checks is between `enter` and `leave` of the gate. The calling
+/// thread checks what they leave, and calls the gate for none of that.
 ///
 /// `BadWorkers` where `workers` is not 1 to 16, and then nothing else happens; else `Memory`. The cost is that of
 /// `first_unexplained`.

@@ -59,8 +59,8 @@ fn answer_on<
     }
 }
 
-/// What the certificate of a filed case shows. The workers check its pieces, and what they leave is settled; where the desk
-/// does not say then what the pieces show, they are checked here.
+/// What the certificate of a filed case shows. The workers check its pieces, and what they leave is settled. If the desk then
+/// does not say what the pieces show, they are checked here.
 fn answer_of_ticket<
     O: Refutable + Send + Sync,
     K: ShelfName + Send + Sync,

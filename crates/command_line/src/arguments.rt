@@ -1,4 +1,4 @@
-//! The options of commands, as `clap` is told of them.
+//! The options of commands, as `clap` receives them.
 ghost use Rattle.std.specs.Prelude.{◌≡◌, ◌-◌, codes, false};
 ghost use Rattle.clap.specs.Words.{rule_of};
 ghost use Rattle.command_line.specs.CommandLine.{all, every, expect, flag, number_option, store, why, workers};
@@ -35,7 +35,7 @@ pub fn flag_option<'a>(alloc: Global, name: &'a str, help: &'a str) -> Arg<'a>
         .help(help)
 }
 
-/// Whether the reason of a refusal is said.
+/// Whether the program gives the reason of a refusal.
 pub fn why_option<'a>(alloc: Global) -> Arg<'a>
     ensures rule { rule_of result ≡ why }
     ensures local { result.global ≡ false }
@@ -117,7 +117,7 @@ pub fn all_option<'a>(alloc: Global) -> Arg<'a>
         )
 }
 
-/// After how many events a log is judged again.
+/// The number of events after which a log is judged again.
 pub fn every_option<'a>(alloc: Global) -> Arg<'a>
     ensures rule { rule_of result ≡ every }
     ensures local { result.global ≡ false }

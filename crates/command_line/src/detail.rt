@@ -1,6 +1,6 @@
-//! How much is said of an input that is refused.
+//! How much the program says of a refused input.
 
-/// How much is said of an input that is refused.
+/// How much the program says of a refused input.
 #[derive(Clone, Copy, Debug, PartialEq, Eq)]
 pub enum Detail {
     /// One line, with the number of the refusal.

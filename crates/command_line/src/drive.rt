@@ -9,9 +9,9 @@ pub const MAX_SEALS: u8 = 8;
 /// A store that the program can drive.
 #[derive(Clone, Copy, Debug, PartialEq, Eq)]
 pub enum Store {
-    /// Updates stand in the order in which each replica takes them in.
+    /// Each replica keeps updates in the order in which it takes them in.
     Causal,
-    /// Updates stand in the order of their stamps, which logical clocks give.
+    /// Each replica keeps updates in the order of their stamps, which logical clocks give.
     Lamport,
 }
 
@@ -20,7 +20,7 @@ pub enum Store {
 pub struct Drive {
     /// The store.
     pub store: Store,
-    /// When its replicas take in what the others tell them.
+    /// When its replicas take in what the others send them.
     pub delivery: Delivery,
     /// How many histories are sealed while clients run; one more is sealed at the end.
     pub seals: u8,

@@ -1,4 +1,4 @@
-//! What the words of a command line order, and what is said of other words.
+//! What the words of a command line order, and what the program says of other words.
 #![tactic(auto)]
 
 mod arguments;

@@ -1,4 +1,4 @@
-//! What is done with a log of events.
+//! What the program does with a log of events.
 
 use crate::expected::Expected;
 use crate::form::{ListForm, LongForm};
@@ -7,7 +7,7 @@ use crate::workers::Workers;
 /// The most events after which a log may be judged again.
 pub const MAX_EVERY: u32 = 2_147_483_647;
 
-/// What is done with a log of events, which has one event a line.
+/// What the program does with a log of events, which has one event a line.
 #[derive(Clone, Copy, Debug, PartialEq, Eq)]
 pub enum LogOrder {
     /// Judges the run that the log records.

@@ -1,4 +1,4 @@
-//! What is said of words that `clap` takes, and that give no task.
+//! What the program says of words that `clap` takes but that give no task.
 
 use crate::expected::expected_in;
 use crate::settings::setting_alone;
@@ -105,7 +105,7 @@ fn text_of(alloc: Global, fault: &str, usage: &str) -> Result<String, AllocError
     )
 }
 
-/// What is said of words that `clap` takes, and that give no task: which of them are at fault, and what was possible.
+/// What the program says of words that `clap` takes but that give no task: which of them are at fault, and what was possible.
 ///
 /// Fails for want of memory alone. O(n) for n words.
 pub(crate) fn text_of_misuse<S: AsStr>(alloc: Global, words: &[S]) -> Result<String, AllocError> {
@@ -245,7 +245,7 @@ fn value_after<'a, S: AsStr>(words: &'a [S], name: &str, front: &str) -> Option<
     None
 }
 
-// The first word after `drive` that is no option and no value of one, where it names no store.
+// The first word after `drive` that is no option and no value of one, if it names no store.
 fn store_of<'a, S: AsStr>(words: &'a [S]) -> Option<&'a str> {
     let [_, command, further @ ..] = words else {
         return None;

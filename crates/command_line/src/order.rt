@@ -24,9 +24,9 @@ use std::convert::AsStr;
 /// What a command line asks for.
 #[derive(Clone, Copy, Debug, PartialEq, Eq)]
 pub enum Task {
-    /// An order on an input, which is read whole, or line by line; and how much is said where the input is refused.
+    /// An order on an input, which is read whole, or line by line; and how much the program says if the input is refused.
     OfInput(Order, Detail),
-    /// A page on an input or on a log of events; and how much is said where the input is refused.
+    /// A page on an input or on a log of events; and how much the program says if the input is refused.
     OfPage(Page, Detail),
     /// An order on a log of events, which is read event by event.
     OfLog(LogOrder),
@@ -73,8 +73,9 @@ pub enum Usage {
 ///   `cc`, `cm` and `ccv`, each at most once, joined by commas; and `--lines`, and then `--skip-blank`; and `--long`; and with `--long`
 ///   and without `--lines`, `--events`, and then `--every N` for a number from 1 to 2,147,483,647.
 /// - `check` takes `--workers N`.
-/// - `explain` takes nothing, `--json`, `--json` and `--certificates`, `--svg`, or `--html`; with `--long` besides, `--certificates` is
-///   left out; and with `--all N`, for a number from 1 to 1,000,000, `--svg` too. With `--long` it takes `--events`.
+/// - `explain` takes nothing, `--json`, `--json` and `--certificates`, `--svg`, or `--html`. With `--long` it does not take
+///   `--certificates`, and with `--all N`, for a number from 1 to 1,000,000, neither `--certificates` nor `--svg`. With `--long` it
+///   takes `--events`.
 /// - `refute` takes `--long`, and `events` takes `--names`.
 /// - `drive` takes `causal` or `lamport`, which can't be left out, `--eager`, `--seals N` for a number from 0 to 8, or nothing for 0,
 ///   `--workers N`, and `--stop S` for a number from 0 to 15.
@@ -82,9 +83,9 @@ pub enum Usage {
 ///
 /// An option and its value are two words, or one as in `--workers=N`.
 ///
-/// Any other words give a `Usage`. It is `Help` where `clap` finds a request for help or for the version, and `Fault` for all else: an
-/// unknown command, option or further word, no command, or a number or list that is missing or that the option doesn't take. `Memory`
-/// comes in the place of either where memory ran out.
+/// Any other words give a `Usage`. It is `Help` where `clap` finds a request for help or for the version, and `Fault` for all
+/// else: an unknown command, option or further word, no command, or a number or list that is missing or that the option doesn't
+/// take. If memory ran out, it is `Memory` instead of either.
 pub fn command_of<S: AsStr>(alloc: Global, words: &[S]) -> Result<Task, Usage>
     ensures task { MatchResult result (λ task. IsCommandLine task (map S.text words.now))
         (λ _. GivesNoTask (map S.text words.now)) }
@@ -106,7 +107,7 @@ fn task_in<S: AsStr>(words: &[S]) -> Option<Task>
     task_of(word.as_str(), further)
 }
 
-// What is said of words that give no task. `clap` would take a few of them, as `judge --`.
+// What the program says of words that give no task. `clap` would take a few of them, as `judge --`.
 fn usage_of<S: AsStr>(alloc: Global, words: &[S]) -> Usage
     ensures { IsUsageFor (fault_of command_line (map S.text words.now)) result }
 {
@@ -116,7 +117,7 @@ fn usage_of<S: AsStr>(alloc: Global, words: &[S]) -> Usage
     }
 }
 
-// What is said of words that `clap` takes, and that give no task.
+// What the program says of words that `clap` takes but that give no task.
 fn fault_of_misuse<S: AsStr>(alloc: Global, words: &[S]) -> Usage
     ensures { IsUsageFor [] result }
 {
@@ -126,7 +127,7 @@ fn fault_of_misuse<S: AsStr>(alloc: Global, words: &[S]) -> Usage
     }
 }
 
-/// The fault that this text tells of, or `Memory`.
+/// The fault that this text describes, or `Memory`.
 pub fn fault_with(alloc: Global, text: &str) -> Usage
     ensures { IsUsageFor [] result }
 {

@@ -2,7 +2,7 @@
 
 use crate::length::Length;
 
-/// How many reads a page lists at most, where nobody says how many.
+/// How many reads a page lists at most, if no number is given.
 pub const USUAL_LISTED: u32 = 10_000;
 
 /// A page to open in a browser, which says why each criterion is met or not met, and lists reads that show a fault.

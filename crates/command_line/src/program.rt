@@ -1,4 +1,4 @@
-//! The commands of the program, as `clap` is told of them.
+//! The commands of the program, as `clap` receives them.
 ghost use Rattle.std.specs.Prelude.{◌≡◌, false, IfOk};
 ghost use Rattle.clap.specs.Words.{app_of};
 ghost use Rattle.clap.specs.declared.builder.Command.TheViews.{out-Command};

@@ -201,7 +201,7 @@ impl Said {
         }
     }
 
-    // An order on an input, with as much on a refused one as was said.
+    // An order on an input, with the detail that the options give for a refused input.
     fn of_input(&self, order: Order) -> Task
         ensures { result ≡ OfInput order (detail_for self.now) }
     {
@@ -347,7 +347,7 @@ impl Said {
         self.json || self.certificates || self.svg
     }
 
-    // What a page is of; none of a log where it was not said that it may have any length.
+    // What a page is of; none for a log that was not said to have any length.
     fn page_of(&self) -> Option<PageOf>
         ensures { result ≡ page_of_what self.now.events self.now.long }
     {
@@ -446,7 +446,7 @@ impl Said {
         }
     }
 
-    // The drive that is asked for, where a store is named.
+    // The drive that is asked for, if a store is named.
     fn drive(&self) -> Option<Drive>
         ensures { result ≡ drive_for self.now }
     {

@@ -59,7 +59,7 @@ pub enum Setting {
     All(u32),
     /// A reason is given as JSON.
     Json,
-    /// Certificates stand with it.
+    /// Certificates come with it.
     Certificates,
     /// A reason is given as a picture.
     Svg,
@@ -171,7 +171,7 @@ impl Setting {
 }
 
 impl CommandName {
-    /// Whether this can be said to the command.
+    /// Whether the command takes this.
     pub fn takes(self, setting: &Setting) -> bool
         ensures { result ≡ takes self setting.now }
     {

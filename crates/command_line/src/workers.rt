@@ -35,7 +35,7 @@ impl Workers {
         Some(Workers { count })
     }
 
-    /// As many workers as there are where nobody says how many.
+    /// The number of workers if no number is given.
     pub fn usual() -> Workers
         ensures { result ≡ 2 }
     {

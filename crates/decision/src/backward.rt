@@ -5,14 +5,14 @@ use history::OpId;
 use memory_order::{CausalOrder, KnownRead};
 use std::alloc::{AllocError, Global};
 
-/// Which write of a variable may be placed next, since a read of the session that stands behind it is placed.
+/// Which write of a variable may be placed next, given that a read of the session after it is placed.
 #[derive(Clone, Copy, Debug, PartialEq, Eq)]
 enum Lock {
-    /// Each.
+    /// Any write.
     Open,
-    /// None: the read returned the initial value.
+    /// No write: the read returned the initial value.
     Start,
-    /// The one at this place, from which the read has its value.
+    /// The write at this place, which gave the read its value.
     Write(usize),
 }
 
@@ -28,7 +28,7 @@ struct Backward<'a> {
     readers: Vec<u16>,
     /// For each variable, by the place of its first write.
     locks: Vec<Lock>,
-    /// The session that was looked at last.
+    /// The session chosen last; the search for the next one starts there.
     at: u8,
     /// The sessions of the operations that are placed, the last operation first.
     placed: Vec<u8>,
@@ -37,10 +37,11 @@ struct Backward<'a> {
 /// The sessions of what is before an operation and of the operation, as the vector of the operation counts it, in an order in
 /// which each known read of its session reads what was last written, if there is such an order.
 ///
-/// It is made from its end: each operation after those that program order and the sources put behind it, those of other
-/// sessions as soon as they can be, and no write between a read of the session and its source. Where values are distinct,
-/// some operation can always be placed unless a happened-before relation shows a bad pattern; whether the order is right is
-/// for its checker to say. Fails for want of memory alone. O(n k) for n operations of k sessions.
+/// It is made from its end. An operation is placed once those that program order and the sources put after it are placed;
+/// operations of other sessions are placed as soon as they can be, and no write of its variable comes between a read of the
+/// session and its source. Where values are distinct, some operation can always be placed unless a happened-before relation
+/// shows a bad pattern. A checker decides whether the order is right. Fails for want of memory alone. O(n k) for n
+/// operations of k sessions.
 pub(crate) fn order_of_past(
     alloc: Global,
     order: &CausalOrder,
@@ -62,7 +63,7 @@ pub(crate) fn order_of_past(
 }
 
 impl<'a> Backward<'a> {
-    /// With nothing placed of what the vector of an operation of a session counts.
+    /// The state in which nothing is placed of what the vector of an operation of a session counts.
     fn of(
         alloc: Global,
         order: &CausalOrder,
@@ -103,7 +104,7 @@ impl<'a> Backward<'a> {
         self.left.get(session).copied().unwrap_or(0)
     }
 
-    /// The session whose last operation is to be placed next: another one where that can be, and else the own one.
+    /// The session whose last operation is placed next: another session if its operation can be placed, else the own one.
     fn next_session(&mut self) -> Option<u8> {
         let at = self.at;
         let sessions = self.sessions;
@@ -153,7 +154,7 @@ impl<'a> Backward<'a> {
         self.demands.get(place).copied().unwrap_or(Demand::Nothing)
     }
 
-    /// Whether a variable is open, or locked in this very way.
+    /// Whether a variable is open or has exactly this lock.
     fn admits(&self, variable: usize, lock: Lock) -> bool {
         let now = self.locks.get(variable).copied().unwrap_or(Lock::Open);
         now == Lock::Open || now == lock
@@ -177,7 +178,7 @@ impl<'a> Backward<'a> {
         Ok(())
     }
 
-    /// Opens the variable of a write, and locks that of a read of the own session up to its source.
+    /// Opens the variable of a write; locks the variable of a read of the own session up to its source.
     fn meet_demand(&mut self, session: u8, demand: Demand) {
         match demand {
             Demand::Nothing => {}
@@ -194,7 +195,7 @@ impl<'a> Backward<'a> {
     }
 }
 
-/// What a read with this source locks its variable to.
+/// The lock that a read with this source puts on its variable.
 fn lock_of(source: Option<usize>) -> Lock {
     match source {
         Some(place) => Lock::Write(place),

@@ -18,8 +18,8 @@ use memory_order::{CausalOrder, IndexedMemory};
 use pattern_search::{Searched, SearchedKinds, find_conflicts, find_in, search_happened_before};
 use std::alloc::{AllocError, Global};
 
-/// How many pairs that the causal order doesn't have make the happened-before relations of a history dearer than orders of its
-/// sessions.
+/// The number of pairs missing from the causal order at which the happened-before relations of a history cost more than orders of
+/// its sessions.
 const FEW_PAIRS: u32 = 64;
 
 /// What is decided of a memory history and a criterion.
@@ -29,8 +29,8 @@ pub enum Decision {
     Meets,
     /// It does not meet the criterion: the pattern shows that. Its kind is the first that is against the criterion and present.
     Excluded(Pattern),
-    /// It does not meet the criterion, since this kind is present, the first that is against it; a derivation that shows the kind
-    /// might have more than 100,000 lines. Only where some happened-before relation has more than 19,999 pairs that the causal
+    /// It does not meet the criterion: this kind is the first against it that is present. A derivation that shows the kind might
+    /// have more than 100,000 lines. Occurs only where some happened-before relation has more than 19,999 pairs that the causal
     /// order doesn't have.
     ExcludedBy(Kind),
     /// Its values are not distinct, and nothing is decided.
@@ -40,10 +40,10 @@ pub enum Decision {
 /// Whether a memory history of distinct values meets a criterion.
 ///
 /// It does exactly where no kind of bad pattern against the criterion is present (Bouajjani, Enea, Guerraoui and Hamza, "On
-/// Verifying Causal Consistency", POPL 2017), so kinds are looked for, and no certificate is made. Where it does not, the decision
-/// names the first kind that is present, whether a pattern of it is found or not. For causal memory orders of
-/// the sessions' pasts are tried before happened-before relations are made, which have no limit on their pairs. `Open` exactly
-/// where values are not distinct.
+/// Verifying Causal Consistency", POPL 2017), so the search is for kinds, and no certificate is made. Where it does not, the
+/// decision names the first kind that is present, whether a pattern of it is found or not. For causal memory, orders of the
+/// sessions' pasts are tried before happened-before relations without a limit on their pairs are made. `Open` exactly where
+/// values are not distinct.
 ///
 /// Fails for want of memory alone. O(n k (k + log n)) for n operations of k sessions, and for causal memory besides, where no
 /// such orders are found, for each session O(n (log n + k^2) + m k log n) for m pairs that the happened-before relation of
@@ -73,7 +73,7 @@ pub struct Decisions {
     pub ccv: Decision,
 }
 
-/// What `decide` decides for each criterion. Of a history in which no kind against causal consistency is present these kinds are
+/// What `decide` decides for each criterion. If no kind against causal consistency is present in a history, these kinds are
 /// looked for once.
 ///
 /// Fails for want of memory alone. What `decide` costs for causal memory and for causal convergence.
@@ -99,7 +99,7 @@ pub fn decide_all(alloc: Global, memory: &IndexedMemory) -> Result<Decisions, Al
     })
 }
 
-/// What is decided of a memory history that no pattern against causal consistency is in.
+/// What is decided of a memory history without a pattern against causal consistency.
 fn decide_all_consistent(alloc: Global, memory: &IndexedMemory) -> Result<Decisions, AllocError>
     requires distinct { IsDifferentiated memory.now }
     requires free { IsFreeOf memory.now Cc }
@@ -132,7 +132,7 @@ fn decide_by_patterns(
     }
 }
 
-/// Whether a memory history of distinct values meets causal memory: what is against causal consistency is looked for first.
+/// Whether a memory history of distinct values meets causal memory: the kinds against causal consistency are looked for first.
 fn decide_causal_memory(alloc: Global, memory: &IndexedMemory) -> Result<Decision, AllocError>
     requires distinct { IsDifferentiated memory.now }
     ensures { IfOk result (IsDecided memory.now Cm) }
@@ -143,7 +143,7 @@ fn decide_causal_memory(alloc: Global, memory: &IndexedMemory) -> Result<Decisio
     decide_consistent(alloc, memory)
 }
 
-/// Whether a memory history that no pattern against causal consistency is in meets causal memory.
+/// Whether a memory history without a pattern against causal consistency meets causal memory.
 fn decide_consistent(alloc: Global, memory: &IndexedMemory) -> Result<Decision, AllocError>
     requires distinct { IsDifferentiated memory.now }
     requires free { IsFreeOf memory.now Cc }
@@ -198,7 +198,7 @@ fn is_clear_by_few(alloc: Global, order: &CausalOrder) -> Result<bool, AllocErro
     Ok(searched.is_nothing())
 }
 
-/// Whether a memory history that no pattern against causal consistency is in meets causal convergence.
+/// Whether a memory history without a pattern against causal consistency meets causal convergence.
 fn decide_convergent(alloc: Global, memory: &IndexedMemory) -> Result<Decision, AllocError>
     requires distinct { IsDifferentiated memory.now }
     requires free { IsFreeOf memory.now Cc }

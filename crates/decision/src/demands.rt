@@ -4,7 +4,7 @@ use history::{MAX_OPERATIONS, MAX_SESSIONS, OpId};
 use memory_order::{CausalOrder, KnownRead, Write};
 use std::alloc::{AllocError, Global};
 
-/// What an operation demands of the operations round it. A variable is named by the place of its first write.
+/// What an operation demands of the operations around it. The place of its first write names a variable.
 #[derive(Clone, Copy, Debug, PartialEq, Eq)]
 pub(crate) enum Demand {
     /// Nothing: it neither writes nor is a known read of a variable that is written.
@@ -13,19 +13,19 @@ pub(crate) enum Demand {
     Write {
         variable: usize,
     },
-    /// It reads what was written at a place, or the initial value, so between that and it nobody may write the variable.
+    /// It reads what was written at a place, or the initial value, so nobody may write the variable between that and the read.
     Read {
         variable: usize,
         source: Option<usize>,
     },
 }
 
-/// The place of an operation in a table of all that there may be.
+/// The place of an operation in a table of all possible operations.
 pub(crate) fn place_at(session: u8, index: u16) -> usize {
     usize::from(session) * MAX_OPERATIONS + usize::from(index)
 }
 
-/// The place of an operation, if it is one that there may be.
+/// The place of an operation, if it is within the limits of this table.
 pub(crate) fn place_of(op: OpId) -> Option<usize> {
     match (u8::try_from(op.session), u16::try_from(op.index)) {
         (Ok(session), Ok(index)) => Some(place_at(session, index)),
@@ -46,7 +46,7 @@ pub(crate) fn demands_of(alloc: Global, order: &CausalOrder) -> Result<Vec<Deman
     Ok(demands)
 }
 
-/// Enters the writes of a history, given by variable and operation.
+/// Enters the writes of a history, which are in the order of variable and operation.
 fn set_writes(writes: &[Write], demands: &mut [Demand]) {
     let mut first: Option<&Write> = None;
     for write in writes {
@@ -61,7 +61,7 @@ fn set_writes(writes: &[Write], demands: &mut [Demand]) {
     }
 }
 
-/// What a known read demands, by the writes of its history, given by variable and operation. O(log n) for n writes.
+/// What a known read demands, by the writes of its history in the order of variable and operation. O(log n) for n writes.
 fn demand_of(writes: &[Write], read: &KnownRead) -> Demand {
     let source = match read.source {
         Some(source) => place_of(source),

@@ -15,7 +15,7 @@ use history::OpId;
 use memory_order::CausalOrder;
 use std::alloc::{AllocError, Global};
 
-/// Whether for each session an order was found of what is before its last operation, in which the session's known reads
+/// Whether an order of what is before its last operation was found for each session, in which the session's known reads
 /// read what was last written. Then the history meets causal memory: the order, cut to the past of an earlier operation of
 /// the session, is one for that operation.
 ///

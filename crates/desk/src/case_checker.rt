@@ -58,9 +58,9 @@ impl<'a, O: Refutable, K: ShelfName> CaseChecker<'a, O, K> {
         &self.ticket
     }
 
-    /// What the check of a piece of the case comes to.
+    /// The result of the check of a piece of the case.
     ///
-    /// Fails for want of memory alone. As `check_piece`, but for what its schedule shares with the one before.
+    /// Fails for want of memory alone. Costs as much as `check_piece`, except for what its schedule shares with the one before.
     pub fn check(&mut self, alloc: Global, op: OpId) -> Result<Verdict<O, K>, AllocError>
         requires { HasPiece self.old.file op }
         ensures ticket { IfOk result (λ v. v.case_of ≡ self.old) }

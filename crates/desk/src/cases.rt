@@ -161,7 +161,7 @@ impl<O: Refutable, K: ShelfName> Cases<O, K> {
         )
     }
 
-    /// Takes a pattern against a case, which passes its test, as the board does.
+    /// Takes a pattern that passes its test against a case, as the board does.
     #[tactic(auto, using(crate::proofs::TrueCases::refusals_agree))]
     pub fn refute(
         &mut self,
@@ -181,7 +181,7 @@ impl<O: Refutable, K: ShelfName> Cases<O, K> {
             .refute(ticket.index(), ticket.token(), pattern, true)
     }
 
-    /// How a case stands, where there is one of the ticket's number and place.
+    /// The answer for a case, if there is one of the ticket's number and place.
     pub fn ask(&self, shelf: &Shelf<O>, ticket: &Ticket<O, K>) -> Result<Answer, BoardError>
         requires { shelf.now ≡ K.shelf }
         ensures answer { IfOk result (λ a. (s : CaseState _) → slice_get self.now ticket.now.number ≡ Some s → IsStanding s a) }

@@ -25,9 +25,9 @@ use std::sync::{Mutex, Wait};
 
 /// Case files, and what is known of them: a shelf, and a board under a lock.
 ///
-/// Threads share it by reference. Whatever the lock guards is true of the files: each verdict is what the check of its piece
-/// comes to, and each pattern passes its test. Tickets and verdicts are to go to the desk that gave them. No call waits but
-/// for the lock, and none holds it while a piece or a pattern is tested.
+/// Threads share it by reference. Whatever the lock guards is true of the files: each verdict is the result of the
+/// check of its piece, and each pattern passes its test. Give tickets and verdicts only to the desk that gave them. Calls wait
+/// for the lock alone, and none holds it while it tests a piece or a pattern.
 #[derive(Drop)]
 pub struct Desk<O: Refutable, K: ShelfName> {
     alloc: Global,
@@ -188,7 +188,7 @@ impl<O: Refutable, K: ShelfName> Desk<O, K> {
         }
     }
 
-    /// How a case stands.
+    /// The answer for a case.
     ///
     /// Refuted: `No`, with the kind of the pattern. Else without a certificate `Unknown(None)`. Else `Open` with the number of
     /// rows that have no verdict, where there are any. Else `Yes` where every verdict explains its operation, or `Unknown` with

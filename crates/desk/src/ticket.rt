@@ -12,7 +12,7 @@ use std::marker::Model;
 
 /// Names a case of a desk: its number, and its file.
 ///
-/// It is to go to the desk that gave it.
+/// Give it only to the desk that gave it.
 #[derive(Drop)]
 pub struct Ticket<O: SeqObject, K: ShelfName> {
     number: u32,

@@ -8,7 +8,7 @@ use cert_check::CaseFile;
 use object_trait::SeqObject;
 use std::marker::{Model, PhantomData};
 
-/// Shows which file stands at a place of a shelf.
+/// Shows which file is at a place of a shelf.
 #[derive(Drop)]
 pub struct Token<O: SeqObject, K: ShelfName> {
     pushed: Pushed<CaseFile<O>>,

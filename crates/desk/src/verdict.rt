@@ -8,7 +8,7 @@ use history::OpId;
 use object_trait::SeqObject;
 use std::marker::Model;
 
-/// What the check of one piece of a case came to. Its type keeps that it is what `check_piece` says of that case file.
+/// The result of the check of one piece of a case. Its type ensures that it is what `check_piece` says of that case file.
 #[derive(Drop)]
 pub struct Verdict<O: SeqObject, K: ShelfName> {
     ticket: Ticket<O, K>,
@@ -63,7 +63,7 @@ impl<O: SeqObject, K: ShelfName> Verdict<O, K> {
         self.op
     }
 
-    /// What the check of its piece came to.
+    /// The result of the check of its piece.
     pub fn outcome(&self) -> Outcome
         ensures outcome { result ≡ self.now.outcome }
         ensures truth { IsOutcome O.answer self.now.case_of.file self.now.op result }

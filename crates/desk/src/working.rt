@@ -14,12 +14,12 @@ use refutable::Refutable;
 use std::alloc::{AllocError, Global};
 use std::sync::Wait;
 
-/// How often one call of `work` takes a piece.
+/// How many pieces one call of `work` takes at most.
 const MAX_TURNS: u32 = 65_536;
 
 impl<O: Refutable, K: ShelfName> Desk<O, K> {
     /// Takes pieces, checks each outside the lock, between `enter` and `leave` of the gate, and puts the verdicts, until
-    /// nothing is left to take or 65,536 pieces were taken. Gives how many verdicts it put.
+    /// nothing is left to take or 65,536 pieces were taken. Returns how many verdicts it put.
     ///
     /// A verdict that comes second is passed over. Fails for want of memory alone: the piece that it had taken stays without a
     /// verdict, and the verdicts already put stay. The cost of a piece is that of `check_piece`, but for what its schedule shares
@@ -108,7 +108,7 @@ impl<O: Refutable, K: ShelfName> Desk<O, K> {
     /// Checks each piece of a case whose row has no verdict yet, outside the lock, and puts the verdicts.
     ///
     /// A verdict that comes second is passed over. Fails for want of memory alone: the verdicts already put stay. Once it has
-    /// come back without an error, each row of the case had a verdict when it was looked at. O(n) for n operations, and what
+    /// returned without an error, each row of the case had a verdict when it was looked at. O(n) for n operations, and what
     /// `check` takes for each piece that is checked.
     pub fn settle(&self, rt: &impl Wait, ticket: &Ticket<O, K>) -> Result<(), DeskError>
         ensures { IfErr result (λ e. e ≡ DeskError.Memory) }

@@ -22,7 +22,7 @@ pub(crate) struct Client<O: SeqObject, P: UpdateOrder> {
 }
 
 impl<O: SeqObject, P: UpdateOrder> Client<O, P> {
-    /// Takes in its mailbox, and records a call between `enter` and `leave` of the gate.
+    /// Takes in the updates in its mailbox, and records a call between `enter` and `leave` of the gate.
     pub(crate) fn play<R: Wait, G: Gate>(
         &mut self,
         rt: &R,

@@ -10,13 +10,13 @@ pub enum DriveError {
     /// The history has no session.
     #[error("the history has no session")]
     BadLimits,
-    /// The history has no session of the number that is to stop.
+    /// The history does not have the session that is to stop.
     #[error("there is no such session")]
     NoSuch,
     /// An allocation was refused.
     #[error("no memory")]
     Memory,
-    /// The clock of a replica stood at the greatest stamp. No run meets this.
+    /// The clock of a replica was at the greatest stamp. No run meets this.
     #[error("the clock stands at the greatest stamp")]
     ClockFull,
     /// A cell that was to be set held a value, or a client left nothing. No run meets this.
@@ -47,7 +47,7 @@ impl<T: Drop> From<AllocFailed<T>> for DriveError {
 }
 
 impl DriveError {
-    /// The number by which the refusal is reported.
+    /// The number that reports the refusal.
     pub fn number(&self) -> u8
         ensures { result ≡ number_of self.now }
     {

@@ -26,15 +26,15 @@ use std::marker::{Brand, PhantomData};
 use std::sync::Wait;
 use std::thread::Threads;
 
-/// Calls a store as the sessions of a history call, whose returns are ignored, and seals what is recorded.
+/// Calls a store with the calls of the sessions of a history, ignoring its returns, and seals what is recorded.
 ///
-/// A client thread for each session makes its calls at a replica of its own, whose order of updates `P` gives, and tells the
-/// others through mailboxes. Each call is between `enter` and `leave` of the gate. While clients run, the seals of the plan are
-/// taken, each by the client that records the last call of an equal share; a seal that none takes, since there are no calls, is
-/// taken at the end. Then one more is taken, which is told all receipts and stands last.
+/// A client thread for each session makes its calls at a replica of its own, whose order of updates `P` gives, and sends the
+/// updates to the others through mailboxes. Each call is between `enter` and `leave` of the gate. While clients run, the seals of
+/// the plan are taken, each by the client that records the last call of an equal share; a seal that no client takes, since there
+/// are no calls, is taken at the end. Then one more seal is taken, which is given all receipts and is the last in the list.
 ///
-/// Refused in this order: `BadLimits` where the history has no session, `NoSuch` where it doesn't have the session that is to
-/// stop, and else for want of memory in any client; all clients have ended then. `ClockFull` and `CellGaveBack` come in no run.
+/// Refuses in this order: `BadLimits` if the history has no session, `NoSuch` if it doesn't have the session that is to stop, and
+/// then for want of memory in any client, after all clients have ended. No run returns `ClockFull` or `CellGaveBack`.
 ///
 /// Beside what the store takes, O(n) for n calls, and a seal for each of the plan and one more.
 pub fn drive<
@@ -59,7 +59,7 @@ pub fn drive<
     drive_input::<O, P, R, G>(rt, alloc, history, plan, gate)
 }
 
-/// The same for an input that has sessions, and the one that stops.
+/// The same for an input that has sessions, among them the one that stops, if one does.
 fn drive_input<
     O: SeqObject + Send + Sync,
     P: UpdateOrder + Send + Sync,
@@ -93,7 +93,7 @@ fn drive_input<
     seals_of(&run, results)
 }
 
-/// The clients of all sessions, each in a thread of its own where one can be made. `K` names the run.
+/// The clients of all sessions, each in its own thread where one can be made. `K` names the run.
 fn play_all<
     O: SeqObject + Send + Sync,
     K: RunName<O::Start, O::Call, O::Ret> + Send + Sync,

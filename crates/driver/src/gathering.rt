@@ -1,4 +1,4 @@
-//! What the clients leave, put together.
+//! Gathering what the clients leave.
 
 ghost use Rattle.std.specs.Prelude.{◌≡◌, ◌++◌, length, IfErr, IfOk, OnOk};
 ghost use Rattle.snapshot.specs.Seals.{AreReceiptsOf};
@@ -35,7 +35,7 @@ pub(crate) fn gather<O: SeqObject>(
     Ok((receipts, seals))
 }
 
-/// Puts what a client leaves behind what others left.
+/// Appends what a client leaves to what others left.
 fn keep<O: SeqObject>(
     played: Played<O>,
     receipts: &mut Vec<Receipt<O>>,

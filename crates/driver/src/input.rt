@@ -8,8 +8,8 @@ use crate::drive_error::DriveError;
 use history::{History, MAX_OPERATIONS, OpId};
 use object_trait::SeqObject;
 
-/// Refuses an input without sessions with `BadLimits`, and then a session that is to stop and that it does not have with
-/// `NoSuch`. O(1).
+/// Refuses an input without sessions with `BadLimits`, and then, with `NoSuch`, an input that lacks the session that is to
+/// stop. O(1).
 pub fn check_input<O: SeqObject>(input: &History<O>, stop: Option<usize>) -> Result<(), DriveError>
     ensures can { OnOk result (CanDrive stop input.now) }
     ensures refused { IfErr result (λ e. RefusesDrive stop input.now e) }
@@ -46,7 +46,7 @@ pub fn calls_in<O: SeqObject>(input: &History<O>) -> u64 {
     calls
 }
 
-/// How many calls of a session are ended: all, but for the last one of the session that stops.
+/// How many calls of a session end: all except the last one of the session that stops.
 pub(crate) fn ended_calls<O: SeqObject>(input: &History<O>, stop: Option<usize>, s: usize) -> usize
     ensures within { result ≤ length (session input.now s) }
     ensures short { result ≤ MAX_OPERATIONS }

@@ -6,7 +6,7 @@ use replica::UpdateOf;
 use std::alloc::{AllocError, Global};
 use std::sync::Wait;
 
-/// A mailbox for each session, for the updates that it has not taken in. Nothing is claimed of what comes through.
+/// A mailbox for each session, for the updates that it has not taken in. No contract states what comes through.
 #[derive(Drop)]
 pub struct Mailboxes<C: Copy> {
     boxes: Vec<SegQueue<UpdateOf<C>>>,

@@ -3,7 +3,7 @@ use replica::Delivery;
 /// How the clients of a store are driven.
 #[derive(Clone, Copy, Debug, PartialEq, Eq)]
 pub struct DrivePlan {
-    /// When a replica takes in what other clients tell it.
+    /// When a replica takes in what other clients send it.
     pub delivery: Delivery,
     /// How many seals are taken while clients run.
     pub seals: u8,

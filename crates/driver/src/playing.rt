@@ -21,8 +21,8 @@ use std::sync::Wait;
 /// Plays a session to its end, and takes the seals that fall due at its calls. The client of a session that stops begins its
 /// last call, doesn't ask its replica, and never ends it.
 ///
-/// Each call is between `enter` and `leave` of the gate. Fails for want of memory; `ClockFull` and `CellGaveBack` come in no
-/// run. Beside what the store and the seals take, O(n) for n calls.
+/// Each call is between `enter` and `leave` of the gate. Fails for want of memory; no run returns `ClockFull` or
+/// `CellGaveBack`. Beside what the store and the seals take, O(n) for n calls.
 pub fn play<O: SeqObject, P: UpdateOrder, R: Wait, G: Gate>(
     rt: &R,
     run: &Run<O>,
@@ -68,7 +68,7 @@ fn client_of<O: SeqObject, P: UpdateOrder>(
     })
 }
 
-/// Plays so many calls of a session: the receipt of the last one, if there is one.
+/// Plays so many calls of a session, and returns the receipt of the last one, if there is one.
 fn play_ended<O: SeqObject, P: UpdateOrder, R: Wait, G: Gate>(
     rt: &R,
     run: &Run<O>,

@@ -5,9 +5,9 @@ ghost use Rattle.driver.specs.declared.drive_error.DriveError.{DriveError};
 
 use std::marker::Brand;
 
-/// Says which run the sessions that are handed to clients, and what the clients leave, are of.
+/// Says to which run the sessions that clients receive belong, and to which run what the clients leave belongs.
 ///
-/// It has no calls. Whoever makes a run passes `Brand` where the name is asked for, and picks the run there.
+/// It has no functions. The maker of a run passes `Brand` where a name is required, and picks the run there.
 pub(crate) trait RunName<S, C, R> {
     /// A session that a client may take.
     ghost ready: { SessionState C R → Type 0 };

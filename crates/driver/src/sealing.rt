@@ -13,9 +13,9 @@ use object_trait::SeqObject;
 use recorder::Receipt;
 use snapshot::{Sealed, seal};
 
-/// The seals that the clients took, in order, and one more that is told all receipts; or why the last client gave up that did.
+/// The seals that the clients took, in order, and one more that is given all receipts; or why the last client that gave up did so.
 ///
-/// Fails for want of memory beside. O(n) for n calls, beside the seals that are taken.
+/// Also fails for want of memory. O(n) for n calls, beside the seals that are taken.
 pub fn seals_of<O: SeqObject>(
     run: &Run<O>,
     results: Vec<Result<Played<O>, DriveError>>,
@@ -34,7 +34,7 @@ pub fn seals_of<O: SeqObject>(
     Ok(sealed)
 }
 
-/// The seals that were taken while clients ran, in order. One that fell due at no call is taken now.
+/// The seals that were taken while clients ran, in order. A seal that fell due at no call is taken now.
 pub(crate) fn in_order<O: SeqObject>(
     run: &Run<O>,
     mut taken: Vec<NumberedSeal<O>>,
@@ -51,7 +51,7 @@ pub(crate) fn in_order<O: SeqObject>(
     Ok(sealed)
 }
 
-/// The seal of a number, taken out of those that were taken; where it is not there, it is taken now.
+/// Takes the seal of a number out of those that were taken. If it is missing, it is taken now.
 fn numbered<O: SeqObject>(
     run: &Run<O>,
     taken: &mut Vec<NumberedSeal<O>>,
@@ -68,7 +68,7 @@ fn numbered<O: SeqObject>(
     }
 }
 
-/// The seal at a place, which leaves.
+/// Takes the seal at a place out of the list.
 fn take_out<O: SeqObject>(run: &Run<O>, taken: &mut Vec<NumberedSeal<O>>, at: usize) -> Sealed<O>
     requires place { at < vec_len taken.old }
     requires seals { AreSealsOf run.now.lanes.now taken.old.items }
@@ -78,7 +78,7 @@ fn take_out<O: SeqObject>(run: &Run<O>, taken: &mut Vec<NumberedSeal<O>>, at: us
     taken.remove(at).sealed
 }
 
-/// Seals what is recorded, told nothing.
+/// Seals what is recorded, without receipts.
 pub(crate) fn seal_now<O: SeqObject>(run: &Run<O>) -> Result<Sealed<O>, DriveError>
     ensures seal { IfOk result (λ sealed. IsSealOf run.now.lanes.now sealed) }
     ensures refused { IfErr result IsGivenUp }
@@ -87,7 +87,7 @@ pub(crate) fn seal_now<O: SeqObject>(run: &Run<O>) -> Result<Sealed<O>, DriveErr
     seal_told(run, &none)
 }
 
-/// Seals what is recorded, told the receipts for all calls.
+/// Seals what is recorded, given the receipts for all calls.
 fn seal_all<O: SeqObject>(run: &Run<O>, receipts: &Vec<Receipt<O>>) -> Result<Sealed<O>, DriveError>
     requires told { AreReceiptsOf run.now.lanes.now receipts.now.items }
     requires calls { StandForCalls run.now.plan.stop run.now.input.now receipts.now.items }
@@ -98,7 +98,7 @@ fn seal_all<O: SeqObject>(run: &Run<O>, receipts: &Vec<Receipt<O>>) -> Result<Se
     seal_told(run, receipts)
 }
 
-/// Seals what is recorded, told these receipts.
+/// Seals what is recorded, given these receipts.
 fn seal_told<O: SeqObject>(
     run: &Run<O>,
     receipts: &Vec<Receipt<O>>,

@@ -5,7 +5,7 @@ use object_trait::SeqObject;
 use recorder::Session;
 use std::marker::{Model, PhantomData};
 
-/// Where the client of a session finds it, and leaves what it played.
+/// The place where a client finds its session and leaves what it played.
 #[derive(Drop)]
 pub(crate) struct Seat<O: SeqObject, K: RunName<O::Start, O::Call, O::Ret>> {
     pub(crate) own: Option<Session<O>>,

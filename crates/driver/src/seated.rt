@@ -78,7 +78,7 @@ fn play_index<
     }
 }
 
-/// The clients of all seats, each in a thread of its own where one can be made.
+/// The clients of all seats, each in its own thread where one can be made.
 pub(crate) fn play_seats<
     O: SeqObject + Send + Sync,
     K: RunName<O::Start, O::Call, O::Ret> + Send + Sync,

@@ -27,7 +27,7 @@ impl<O: SeqObject, K: RunName<O::Start, O::Call, O::Ret>> Seat<O, K> {
         }
     }
 
-    /// What the client of a session left; refused with `CellGaveBack` where that of no such session was here.
+    /// What the client of a session left. Refuses with `CellGaveBack` if the client of that session left nothing here.
     fn left_by(self, s: usize) -> Result<Result<Played<O>, DriveError>, DriveError>
         ensures left { IfOk result (K.left s) }
         ensures refused { IfErr result IsGivenUp }

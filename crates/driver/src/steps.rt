@@ -1,4 +1,4 @@
-//! The steps of one call, with the refusals that may come.
+//! The steps of one call, with their possible refusals.
 
 ghost use Rattle.std.specs.Prelude.{◌≡◌, ◌<◌, ◌+◌, true, IfErr, IfOk, OnOk};
 ghost use Rattle.history.specs.declared.limits.TheConstants.{MAX_OPERATIONS};
@@ -44,7 +44,7 @@ pub(crate) fn ask<O: SeqObject, P: UpdateOrder>(
     }
 }
 
-/// Ends the call that is pending with a return that it may have.
+/// Ends the pending call with a return that it may have.
 pub(crate) fn finish<O: SeqObject>(
     session: &mut Session<O>,
     ret: O::Ret,

@@ -11,7 +11,7 @@ use std::sync::Wait;
 /// No mailbox has more updates than this.
 const MAX_UPDATES: usize = MAX_SESSIONS * MAX_OPERATIONS;
 
-/// Takes in what is in the mailbox of a session.
+/// Takes in the updates in the mailbox of a session.
 pub(crate) fn take_in<O: SeqObject, P: UpdateOrder, R: Wait>(
     rt: &R,
     run: &Run<O>,

@@ -1,4 +1,4 @@
-//! Answers to inputs that stand in memory, made by the calling thread alone.
+//! Answers to inputs that are in memory, made by the calling thread alone.
 
 ghost use Rattle.std.specs.Prelude.{◌≡◌, ◌<◌, ◌≤◌, IfErr, IfOk, OnOk, Some, length, string_bytes};
 ghost use Rattle.command_line.specs.declared.form.Form.TheVariants.{Json};
@@ -18,7 +18,7 @@ use command_line::{Length, Order};
 use operations::read_history;
 use std::alloc::Global;
 
-/// The answer that a run of `judge` writes, where the input is all that it reads. No thread is started.
+/// The answer that a run of `judge` writes for this input. It starts no thread.
 ///
 /// Refuses what such a run refuses, and fails for want of memory. The cost is that of reading the input and of
 /// [`report_alone`](crate::report_alone).
@@ -31,7 +31,7 @@ pub fn judge_alone(alloc: Global, input: &[u8]) -> Result<String, RunError>
     report_of(alloc, input)
 }
 
-/// The answer that a run of `check` writes, where the input is all that it reads. No thread is started.
+/// The answer that a run of `check` writes for this input. It starts no thread.
 ///
 /// Refuses what such a run refuses, and fails for want of memory. The cost is that of reading the input and of
 /// [`answer_of_certificate_alone`].
@@ -44,7 +44,7 @@ pub fn check_alone(alloc: Global, input: &[u8]) -> Result<String, RunError>
     line_of(alloc, input)
 }
 
-/// The answer that a run of `explain --json` writes, where the input is all that it reads. No thread is started.
+/// The answer that a run of `explain --json` writes for this input. It starts no thread.
 ///
 /// Refuses what such a run refuses, and fails for want of memory. The cost is that of reading the input and of
 /// [`explanation_alone`].
@@ -57,7 +57,7 @@ pub fn explain_alone(alloc: Global, input: &[u8]) -> Result<String, RunError>
     reasons_of(alloc, input)
 }
 
-/// The answer that a run of `refute` writes, where the input is all that it reads. No thread is started.
+/// The answer that a run of `refute` writes for this input. It starts no thread.
 ///
 /// Refuses what such a run refuses, and fails for want of memory. The cost is that of reading the input and of testing its
 /// pattern.

@@ -15,7 +15,7 @@ use std::alloc::{AllocError, Global};
 pub enum Evidence {
     /// This certificate shows that it meets the criterion.
     Certified(Certificate),
-    /// This is the reason, and no certificate is at hand.
+    /// This is the reason, without a certificate.
     Reasoned(Reason),
 }
 

@@ -31,8 +31,8 @@ use std::thread::Threads;
 
 /// The JSON text of the reasons on the history in the input, with a certificate of each criterion that is met.
 ///
-/// Refuses what is no history, and fails for want of memory. The certificates are those of [`explanation_with_certificates`],
-/// and so is the cost, beside O(n) for n bytes that are read and written.
+/// Refuses what is no history, and fails for want of memory. The certificates and the cost are those of
+/// [`explanation_with_certificates`], and O(n) for n bytes that are read and written.
 pub fn explain_with_certificates<T: Threads + Wait + Sync>(
     rt: &T,
     alloc: Global,
@@ -46,13 +46,13 @@ pub fn explain_with_certificates<T: Threads + Wait + Sync>(
     Ok(certified_text(alloc, &explanation)?)
 }
 
-/// Why each criterion is met by a history, or is not, or why that is unknown, with a certificate of what is met.
+/// Why a history meets each criterion or does not, or why that is unknown, with a certificate of each criterion that it meets.
 ///
 /// It judges as [`report_on`](crate::report_on) does. A memory history that is decided to meet a criterion gets the certificate that its
-/// sources give, which explains every known return; for causal memory there is none where a happened-before relation has more
+/// sources give, which explains every known return. There is none for causal memory where a happened-before relation has more
 /// than 100,000 pairs that the causal order doesn't have. Other certificates are made and checked as for a report.
 ///
-/// Fails for want of memory alone. What a report takes, and what the makers of certificates take.
+/// Fails for want of memory alone. It costs what a report takes, and what the makers of certificates take.
 #[tactic(auto, using(crate::proofs::EvidenceLaws::each_founded))]
 pub fn explanation_with_certificates<T: Threads + Wait + Sync>(
     rt: &T,
@@ -75,7 +75,7 @@ pub fn explanation_with_certificates<T: Threads + Wait + Sync>(
     }
 }
 
-// The same for the histories of one object, in which no patterns are looked for.
+// The same for the histories of one object, without a search for patterns.
 fn of_object<O: Judged + Send + Sync, T: Threads + Wait + Sync>(
     rt: &T,
     alloc: Global,
@@ -92,7 +92,7 @@ fn of_object<O: Judged + Send + Sync, T: Threads + Wait + Sync>(
     Ok(CertifiedExplanation { cc, cm, ccv })
 }
 
-// The same for the histories of a memory: where values are distinct the criteria are decided.
+// The same for the histories of a memory. If values are distinct, the criteria are decided.
 fn of_memory<T: Threads + Wait + Sync>(
     rt: &T,
     alloc: Global,
@@ -165,7 +165,7 @@ fn evidence_of_decision(
     }
 }
 
-// What the pieces of a certificate show that the causal order of a history gives, where one is made.
+// What the pieces of the certificate that the causal order of a history gives show, if one is made.
 fn evidence_by_order<T: Threads + Wait + Sync>(
     rt: &T,
     alloc: Global,

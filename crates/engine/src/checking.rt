@@ -1,4 +1,4 @@
-//! What is said of a history and a certificate of it.
+//! The answer on a history and a certificate of it.
 
 ghost use Rattle.std.specs.Prelude.{◌≡◌, IfErr, IfOk, MatchOption, Some, map, string_bytes};
 ghost use Rattle.bounded_json.specs.Compact.{compact_view};
@@ -24,7 +24,7 @@ use std::alloc::Global;
 use std::sync::Wait;
 use std::thread::Threads;
 
-/// The line on the certificate in the input, which stands there behind its history.
+/// The line on the certificate in the input. The certificate comes there after its history.
 pub fn check<T: Threads + Wait + Sync>(
     rt: &T,
     alloc: Global,
@@ -40,9 +40,9 @@ pub fn check<T: Threads + Wait + Sync>(
     Ok(report_line(alloc, criterion, answer)?)
 }
 
-/// What the pieces of a certificate of a history show, checked by so many workers.
+/// What the pieces of a certificate of a history show. This many workers check them.
 ///
-/// `Yes` where every piece explains its operation, and then the history meets the certificate's criterion; else `Unknown`
+/// `Yes` if every piece explains its operation, and then the history meets the certificate's criterion; else `Unknown`
 /// with the first operation whose piece doesn't. `ShapeMismatch` where the certificate does not have the shape of the
 /// history, and `Memory` where an allocation was refused. O(n k (p + k)) for n operations with pasts of p operations in k
 /// sessions, or O(n (n + k^2)) where the certificate has one list, shared by the workers.
@@ -98,7 +98,7 @@ pub(crate) fn answer_of_pieces<O: Judged + Send + Sync, T: Threads + Wait + Sync
     }
 }
 
-/// What the certificate of a case file shows, its pieces checked by workers, at most as many as are given.
+/// What the certificate of a case file shows. At most the given number of workers check its pieces.
 ///
 /// Fails for want of memory alone. The cost is that of `check_piece` for each operation, shared by the workers.
 #[tactic(auto, using(crate::proofs::JudgeErrors::memory_alone))]

@@ -1,4 +1,4 @@
-//! What is said of a history and a certificate of it, found by the calling thread alone.
+//! The answer on a history and a certificate of it, found by the calling thread alone.
 
 ghost use Rattle.std.specs.Prelude.{◌≡◌, IfErr, IfOk};
 ghost use Rattle.cert_check.specs.Certificates.{HasShapeOf, criterion_of};
@@ -14,8 +14,8 @@ use object_trait::SeqObject;
 use operations::{AnyHistory, History};
 use std::alloc::Global;
 
-/// What the pieces of a certificate of a history show, as [`answer_of_certificate`](crate::answer_of_certificate) says it. No
-/// thread is started.
+/// What the pieces of a certificate of a history show: the answer of [`answer_of_certificate`](crate::answer_of_certificate). It
+/// starts no thread.
 ///
 /// `ShapeMismatch` where the certificate does not have the shape of the history, and `Memory` where an allocation was refused.
 /// It costs what `answer_of_certificate` costs one worker.

@@ -11,7 +11,7 @@ const CLAIM_PARTS: usize = 3;
 #[derive(Clone, Copy, Drop)]
 pub(crate) enum ClaimPlace {
     Claim,
-    /// A claim of which the history is read by itself.
+    /// A claim whose history is read by itself.
     LongClaim,
     History(HistoryPlace),
     Pattern(PatternPlace),

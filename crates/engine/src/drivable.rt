@@ -12,9 +12,9 @@ use objects::{AddRemoveSet, Counter, Counters, Memory, Queue, Queues, Register, 
 use operations::{AnyHistory, History, PlainHistory};
 use std::alloc::{AllocError, Global};
 
-/// An object that has a name, so that its histories stand among those of any object.
+/// An object that has a name, so that its histories are among those of any object.
 ///
-/// Its laws hold for every implementation: what is so of histories of the object is so of them there.
+/// Its laws hold for every implementation: what holds of histories of the object holds of them there too.
 pub trait Drivable: SeqObject {
     /// A history of the object, among those of any object.
     ghost any: { HistoryValue Self.Start Self.Call Self.Ret → NamedHistory };

@@ -23,14 +23,14 @@ use std::alloc::Global;
 use std::sync::Wait;
 use std::thread::Threads;
 
-/// Drives a store with the calls of a history, as the order says, and tells what was recorded: for each sealed history its
+/// Drives a store with the calls of a history, as the order says, and returns what was recorded: for each sealed history its
 /// compact text, a line feed, and the three lines of what is known of it.
 ///
-/// The returns in the history are ignored. A client thread for each session makes its calls at a replica of its own, between
+/// It ignores the returns in the history. A client thread for each session makes its calls at a replica of its own, between
 /// `enter` and `leave` of the gate. As many histories are sealed while clients run as the order says, and one more at the end,
 /// in which each session begins with the calls that it was to make; only a session that stops leaves its last one open.
 ///
-/// Refused in this order: `BadLimits` where the history has no session, `NoSuch` where it lacks the one that is to stop; else
+/// Refuses in this order: `BadLimits` where the history has no session, `NoSuch` where it lacks the one that is to stop; else
 /// `Memory`, and then all clients have ended. Its cost is that of the store, of the seals, and of [`report_on`] for each.
 pub fn drive_with<T: Threads + Wait + Sync, G: Gate>(
     rt: &T,
@@ -58,7 +58,7 @@ pub fn drive_with<T: Threads + Wait + Sync, G: Gate>(
 
 /// What a drive of its store writes for the history in the input, as [`drive_with`] drives it, at an open gate.
 ///
-/// Refuses what is no history, and what the drive refuses. O(n) for n bytes, and what [`drive_with`] takes.
+/// Refuses what is no history, and what the drive refuses. It costs O(n) for n bytes, and what [`drive_with`] takes.
 pub fn drive_input<T: Threads + Wait + Sync>(
     rt: &T,
     alloc: Global,

@@ -1,4 +1,4 @@
-//! Judging a history of which criteria are expected to be met.
+//! Judging a history that is expected to meet some criteria.
 ghost use Rattle.std.specs.Prelude.{◌≡◌, ◌≢◌, ◌⊎◌, IfErr, IfOk, OnOk};
 ghost use Rattle.std.specs.Io.KnownBytes.{Appends, IsAtEnd};
 ghost use Rattle.engine.specs.Expecting.{Judges, outcome_for, outcome_in};
@@ -26,7 +26,7 @@ use std::sync::Wait;
 use std::thread::Threads;
 
 /// Judges the history in the input as [`run`](crate::run) does for `judge`, with the same output, the same errors and the same cost,
-/// and returns what comes of the report that was written.
+/// and returns the outcome of the report that was written.
 #[tactic(auto, using(crate::proofs::Reported::judge_fails))]
 pub fn judge_expecting<P: Threads + Wait + Sync + AllocGlobal, R: Source, W: Write>(
     rt: &P,
@@ -122,7 +122,7 @@ fn write_report<W: Write>(alloc: Global, writer: &mut W, report: &Report) -> Res
     write_output(writer, text.as_bytes())
 }
 
-/// What comes of a report where these criteria are expected to be met: [`Outcome::Met`] where each of them has a yes,
+/// The outcome of a report if these criteria are expected to be met: [`Outcome::Met`] where each of them has a yes,
 /// [`Outcome::Excluded`] where one has a no, and else [`Outcome::Unknown`].
 pub fn outcome_of(report: &Report, expected: Expected) -> Outcome
     ensures { result ≡ outcome_for expected report.now }
@@ -133,7 +133,7 @@ pub fn outcome_of(report: &Report, expected: Expected) -> Outcome
     cc.worse(cm.worse(ccv))
 }
 
-// What comes of the answer for a criterion that is expected to be met, or isn't.
+// The outcome of the answer for a criterion that is expected to be met, or isn't.
 fn outcome_of_answer(is_expected: bool, answer: Answer) -> Outcome
     ensures { result ≡ outcome_in is_expected answer }
 {

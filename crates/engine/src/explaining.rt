@@ -46,7 +46,7 @@ pub fn explain_as_json<T: Threads + Wait + Sync>(
     Ok(explanation_text(alloc, &explanation)?)
 }
 
-/// Why each criterion is met by a history, or is not, or why that is unknown.
+/// Why a history meets each criterion or does not, or why that is unknown.
 ///
 /// It judges as [`report_on`] does, at the same cost, and keeps the pattern that it finds, with the fewest operations
 /// that its kind takes.
@@ -67,7 +67,7 @@ pub fn explanation_of<T: Threads + Wait + Sync>(
     }
 }
 
-// The same for the histories of a memory, in which patterns are looked for.
+// The same for the histories of a memory, with a search for patterns.
 pub(crate) fn explanation_of_memory<T: Threads + Wait + Sync>(
     rt: &T,
     alloc: Global,
@@ -84,7 +84,7 @@ pub(crate) fn explanation_of_memory<T: Threads + Wait + Sync>(
     )
 }
 
-/// Why each criterion is met by a history of a memory, or is not, where `check` says what the certificate of a case file shows.
+/// Why a history of a memory meets each criterion or does not. `check` returns what the certificate of a case file shows.
 ///
 /// Fails for want of memory alone.
 pub(crate) fn explanation_by<F: Fn(CaseFile<Memory>) -> Result<Answer, RunError>>(
@@ -102,7 +102,7 @@ pub(crate) fn explanation_by<F: Fn(CaseFile<Memory>) -> Result<Answer, RunError>
     explanation_of_decisions(alloc, &memory, decisions, check)
 }
 
-// Why each criterion is met by a history of a memory, or is not, where this was decided of it.
+// Why a history of a memory meets each criterion or does not, from this decision on it.
 #[tactic(auto, using(crate::proofs::Reasons::each_reason))]
 fn explanation_of_decisions<F: Fn(CaseFile<Memory>) -> Result<Answer, RunError>>(
     alloc: Global,
@@ -122,7 +122,7 @@ fn explanation_of_decisions<F: Fn(CaseFile<Memory>) -> Result<Answer, RunError>>
     Ok(Explanation { cc, cm, ccv })
 }
 
-// What a decision shows, and where it is open, what the pieces of a certificate show.
+// What a decision shows; if it is open, what the pieces of a certificate show.
 #[tactic(auto, using(crate::proofs::Reasons::answer_is_reason))]
 fn reason_of_decision<F: Fn(CaseFile<Memory>) -> Result<Answer, RunError>>(
     alloc: Global,

@@ -12,8 +12,8 @@ use objects::Memory;
 use operations::{AnyHistory, History};
 use std::alloc::Global;
 
-/// Why each criterion is met by a history, or is not, or why that is unknown, as [`explanation_of`](crate::explanation_of) says
-/// it. No thread is started.
+/// Why a history meets each criterion or does not, or why that is unknown: the reasons of
+/// [`explanation_of`](crate::explanation_of). It starts no thread.
 ///
 /// Fails for want of memory alone. It costs what [`report_alone`] costs.
 pub fn explanation_alone(alloc: Global, history: AnyHistory) -> Result<Explanation, RunError>
@@ -26,7 +26,7 @@ pub fn explanation_alone(alloc: Global, history: AnyHistory) -> Result<Explanati
     }
 }
 
-// The same for the histories of a memory, in which patterns are looked for.
+// The same for the histories of a memory, with a search for patterns.
 fn explanation_of_memory_alone(
     alloc: Global,
     history: History<Memory>,

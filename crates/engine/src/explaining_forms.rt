@@ -1,4 +1,4 @@
-//! The forms in which it is said why a history meets each criterion, or does not.
+//! The forms of the reasons why a history meets each criterion, or does not.
 
 ghost use Rattle.std.specs.Prelude.{IfErr, IfOk, string_bytes};
 ghost use Rattle.engine.specs.Running.{IsOutput, IsOutputError};

@@ -24,9 +24,9 @@ use wording::OwnNames;
 /// The reasons on the history in the input, in words: for each criterion the line of `judge`, and after it what shows it, in lines that
 /// begin with two spaces. What shows two criteria is given once.
 ///
-/// Refuses what is no history, and fails for want of memory. It judges as [`report_on`](crate::report_on) does. Where a
-/// certificate does not explain an operation it is made once more, and the piece of the operation is replayed. Beside that, O(n)
-/// for n bytes that are read and written.
+/// Refuses what is no history, and fails for want of memory. It judges as [`report_on`](crate::report_on) does. If a
+/// certificate does not explain an operation, it makes the certificate once more and replays the piece of the operation.
+/// Besides that, it costs O(n) for n bytes that are read and written.
 pub fn explain_in_words<T: Threads + Wait + Sync>(
     rt: &T,
     alloc: Global,
@@ -40,7 +40,7 @@ pub fn explain_in_words<T: Threads + Wait + Sync>(
     Ok(text_of_explanation(alloc, &history, &explanation)?)
 }
 
-/// Why each criterion is met by a history, or is not, or why that is unknown.
+/// Why a history meets each criterion or does not, or why that is unknown.
 pub(crate) fn explanation_of_copy<T: Threads + Wait + Sync>(
     rt: &T,
     alloc: Global,
@@ -93,7 +93,7 @@ fn text_of_explanation(
     text_of_reasons(alloc, &OwnNames, explanation, lines)
 }
 
-/// The text of one reason, with these lines after the line of `judge`. A line that has a line feed is left out.
+/// The text of one reason, with these lines after the line of `judge`. It leaves out a line that has a line feed.
 pub(crate) fn text_with_lines(
     alloc: Global,
     criterion: Criterion,
@@ -107,7 +107,7 @@ pub(crate) fn text_with_lines(
     format!(in alloc; "{line}{words}")
 }
 
-/// Lines, each after two spaces. A line that has a line feed is left out.
+/// Lines, each after two spaces. It leaves out a line that has a line feed.
 pub(crate) fn indented_text(alloc: Global, lines: &[String]) -> Result<String, AllocError>
     ensures { IfOk result (λ text. IsIndented (string_bytes text)) }
 {

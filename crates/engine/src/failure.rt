@@ -25,7 +25,7 @@ pub enum RunError {
     /// The certificate in the input does not have the shape of the history.
     #[error("the certificate does not have the shape of the history")]
     ShapeMismatch,
-    /// What stands behind the history in the input is not the name of a criterion and a pattern that shows that the history does
+    /// What comes after the history in the input is not the name of a criterion and a pattern that shows that the history does
     /// not meet it.
     #[error("the pattern does not show that the history does not meet the criterion")]
     NotThatPattern,
@@ -35,13 +35,13 @@ pub enum RunError {
     /// The history in the input does not have the session that is to stop.
     #[error("the history does not have the session that is to stop")]
     NoSuch,
-    /// The input has more bytes than are read.
+    /// The input has more bytes than a run reads.
     #[error("the input has more than {most} bytes", most = crate::input::MAX_INPUT_BYTES)]
     TooLong,
     /// An allocation was refused.
     #[error("no memory")]
     Memory,
-    /// The reader failed, or it did not come to its end in as many read calls as a run makes.
+    /// The reader failed, or it did not reach its end in as many read calls as a run makes.
     #[error("the input could not be read")]
     ReadFault,
     /// The writer failed, or took nothing.
@@ -99,7 +99,7 @@ impl From<ReadError> for RunError {
     }
 }
 
-// `ClockFull` and `CellGaveBack` come in no run.
+// No run meets `ClockFull` or `CellGaveBack`.
 impl From<DriveError> for RunError {
     ghost use Rattle.std.specs.Prelude.{◌≡◌};
     ghost use Rattle.engine.specs.Failure.{drive_failure};

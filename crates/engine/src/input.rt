@@ -19,8 +19,8 @@ const CHUNK_BYTES: usize = 65_536;
 
 /// Reads all that the source has.
 ///
-/// Refused are more than [`MAX_INPUT_BYTES`], at the first read that passes them. An interrupted read is made again.
-/// Any other error of the source is a read fault, and so is a source that did not come to its end in
+/// It refuses more than [`MAX_INPUT_BYTES`], at the first read that passes them. It makes an interrupted read again.
+/// Any other error of the source is a read fault, and so is a source that did not reach its end in
 /// [`MAX_READ_CALLS`] calls. O(n) for n bytes.
 pub fn read_input<R: Source>(alloc: Global, reader: &mut R) -> Result<Vec<u8>, RunError>
     ensures all { IfOk result (λ input. IfSome (R.remaining reader.old) (λ bytes. input.items ≡ bytes)) }
@@ -32,7 +32,7 @@ pub fn read_input<R: Source>(alloc: Global, reader: &mut R) -> Result<Vec<u8>, R
     ensures errors { IfErr result IsInputError }
     ensures reader { Gives (R.remaining reader.old) (R.remaining reader.new) }
 
-    // However often the source could be called, and whatever it tells of its calls.
+    // However often the source could be called, and whatever it reports of its calls.
     ensures calls { CallsAtMost R.called MAX_READ_CALLS reader.old reader.new }
     ensures end_found { OnOk result (EndsBy R.called MAX_READ_CALLS IsEnd reader.old reader.new) }
     ensures fault { result ≡ Err RunError.ReadFault → FindsNoEnd R.called MAX_READ_CALLS reader.old reader.new }

@@ -21,14 +21,14 @@ use std::thread::Threads;
 
 /// What is known of a history, for each criterion.
 ///
-/// Of a memory history it is decided first: `Yes` where it meets the criterion, and `No` with the kind of a bad pattern that
-/// is present where it does not. Where that is open, and of the other objects, a certificate is made, and the workers check
-/// its pieces: `Yes` where every piece explains its operation, and `Unknown` with the first operation whose piece does not.
-/// `Unknown` with no operation where no certificate is made. What is known of a memory history is made once for all
+/// A memory history is decided first: `Yes` where it meets the criterion, and `No` with the kind of a bad pattern that
+/// is present where it does not. Where that is open, and for the other objects, a certificate is made, and the workers check
+/// its pieces: `Yes` if every piece explains its operation, and `Unknown` with the first operation whose piece does not.
+/// `Unknown` with no operation if no certificate is made. What is known of a memory history is made once for all
 /// criteria, and the certificates for the three are made, checked and dropped one after the other.
 ///
-/// The advice is what a store told of each operation, in order; none where it is empty. A certificate is made from it where it
-/// is there, and nobody trusts it: whatever it says, each answer is true of the history.
+/// The advice is what a store reported for each operation, in order; if it is empty, there is none. If there is advice, a
+/// certificate is made from it. Nobody trusts the advice: whatever it says, each answer is true of the history.
 ///
 /// Fails for want of memory alone. O(n (n + p k + k^2)) for n operations with pasts of p operations in k sessions, and what
 /// the search for patterns and the makers of certificates take.
@@ -81,7 +81,7 @@ pub fn report_on<T: Threads + Wait + Sync>(
     }
 }
 
-// The same for the histories of a memory, in which patterns are looked for.
+// The same for the histories of a memory, with a search for patterns.
 fn report_on_memory<T: Threads + Wait + Sync>(
     rt: &T,
     alloc: Global,
@@ -102,7 +102,7 @@ fn report_on_memory<T: Threads + Wait + Sync>(
     )
 }
 
-// The same for the histories of one object, in which no patterns are looked for.
+// The same for the histories of one object, without a search for patterns.
 pub(crate) fn report_on_object<O: Judged + Send + Sync, T: Threads + Wait + Sync>(
     rt: &T,
     alloc: Global,

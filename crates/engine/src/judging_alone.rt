@@ -15,8 +15,8 @@ use objects::Memory;
 use operations::{AnyHistory, History};
 use std::alloc::Global;
 
-/// What is known of a history, for each criterion, as [`report_on`](crate::report_on) says it without advice. No thread is
-/// started.
+/// What is known of a history, for each criterion: the report of [`report_on`](crate::report_on) without advice. It starts no
+/// thread.
 ///
 /// Fails for want of memory alone. It costs what `report_on` costs one worker.
 #[tactic(auto, using(crate::proofs::Founded::founded_is_true, crate::proofs::Founded::founded_names))]
@@ -38,7 +38,7 @@ pub fn report_alone(alloc: Global, history: AnyHistory) -> Result<Report, RunErr
     }
 }
 
-// The same for the histories of a memory, in which patterns are looked for.
+// The same for the histories of a memory, with a search for patterns.
 fn report_on_memory_alone(alloc: Global, history: History<Memory>) -> Result<Report, RunError>
     ensures truth { IfOk result (EachIsTrueOf (AnyHistory.Memory history)) }
     ensures unknown { IfOk result (EachIsKnownOnDistinctValues (AnyHistory.Memory history)) }
@@ -53,7 +53,7 @@ fn report_on_memory_alone(alloc: Global, history: History<Memory>) -> Result<Rep
     )
 }
 
-// The same for the histories of one object, in which no patterns are looked for.
+// The same for the histories of one object, without a search for patterns.
 fn report_on_object_alone<O: Judged>(alloc: Global, history: History<O>) -> Result<Report, RunError>
     ensures founded { IfOk result (λ report. (criterion : Criterion)
         → IsFoundedOn O.answer O.excluded history criterion (answer_for report criterion)) }

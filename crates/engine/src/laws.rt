@@ -21,7 +21,7 @@ use command_line::Order;
 use lines::Source;
 use operations::AnyHistory;
 
-/// A report on the form of a history is a report on that history: no other start can be taken, for instance.
+/// A report on the form of a history is a report on that history. For instance, it cannot be one on a history with another start.
 pub fn report_is_on_the_history_of_its_input()
     ensures { (input text : List ℕ) (history : AnyHistory) → IsAnyHistory history → IsJson input (form_of history)
         → (report : IsReport input text) → report.history ≡ history }
@@ -55,19 +55,19 @@ pub fn long_distinct_values_are_decided()
         → ((kind : Kind) × (answer_for report.report criterion ≡ Answer.No kind)) ↔ ¬ Meets memory_answer h criterion }
 {}
 
-/// An input that is answered is not refused: the most that can come in place of its answer is want of memory.
+/// An input that has an answer is never refused. Only want of memory can come in place of its answer.
 pub fn answered_input_is_not_refused()
     ensures { (order : Order) (input text : List ℕ) (error : RunError) → IsOutput order input text
         → IsOutputError order input error → failure_status error ≡ 4 }
 {}
 
-/// An input is refused in one way: no other refusal can come in the place of the first.
+/// An input has one refusal at most: no other refusal can come in its place.
 pub fn input_is_refused_in_one_way()
     ensures { (order : Order) (input : List ℕ) (first second : RunError) → IsOutputError order input first
         → IsOutputError order input second → failure_status first ≡ 1 → failure_status second ≡ 1 → first ≡ second }
 {}
 
-/// What is longer than may be is not answered, and refused for that alone.
+/// An input that is too long gets no answer, and can be refused for its length alone.
 pub fn too_long_input_is_refused_as_such()
     ensures output { (order : Order) (bytes : List ℕ) (before after : Option (List ℕ)) → MAX_INPUT_BYTES < length bytes
         → ¬ Completes order (Some bytes) before after }
@@ -75,7 +75,7 @@ pub fn too_long_input_is_refused_as_such()
         → Fails order (Some bytes) error → (error ≡ RunError.TooLong) ⊎ ((error ≡ RunError.Memory) ⊎ (error ≡ RunError.ReadFault)) }
 {}
 
-/// What counts the calls of a source, by one at most for each, counts no more than were made.
+/// A count that grows by at most one with each call of a source grows by no more than the number of calls that were made.
 pub fn calls_are_counted<S: Source>()
     ensures { (count : S → ℕ) → ((a : S) (outcome : CallOutcome) (b : S) → S.called a outcome b → count b ≤ count a + 1)
         → (most : ℕ) (old new : S) → CallsAtMost S.called most old new → count new ≤ count old + most }

@@ -1,4 +1,4 @@
-//! The answer to a line that is to hold a history, or that is blank.
+//! The answer to a line that should hold a history, or that is blank.
 ghost use Rattle.std.specs.Prelude.{◌≡◌, ◌≤◌, ◌↔◌, ◌++◌, ℕ, List, length, IfErr, IfOk, IsTrue, OnErr, OnOk};
 ghost use Rattle.lines.specs.Clerks.{AppendsAnswer};
 ghost use Rattle.lines.specs.Lines.{ended};
@@ -15,10 +15,10 @@ use command_line::{BlankLines, Judging, Length, LineJudging};
 use lines::{Fault, Outcome, is_blank};
 use std::alloc::{AllocError, Global};
 
-/// Appends the answer to a line and a line feed, and returns what comes of it: the lines of the report on its history joined by
-/// `; `, or the line of its refusal. Nothing answers a blank line that is skipped.
+/// Appends the answer to a line and a line feed, and returns the outcome. The answer is the lines of the report on its history
+/// joined by `; `, or the line of its refusal. A blank line that is skipped gets an empty answer.
 ///
-/// Fails for want of memory alone, and then the text is as it was. No thread is started.
+/// Fails for want of memory alone, and then the text is as it was. It starts no thread.
 pub(crate) fn append_answer(
     alloc: Global,
     line: &[u8],
@@ -46,7 +46,7 @@ fn is_skipped(blank: BlankLines, line: &[u8]) -> bool
     }
 }
 
-// Appends the answer to a line that is to hold a history, and a line feed.
+// Appends the answer to a line that should hold a history, and a line feed.
 fn append_answer_on_history(
     alloc: Global,
     line: &[u8],
@@ -114,7 +114,7 @@ fn without_end(line: &[u8]) -> &[u8]
     front
 }
 
-/// Appends the line of a refusal and a line feed. Want of memory is none.
+/// Appends the line of a refusal and a line feed. Want of memory is no refusal.
 ///
 /// Fails for want of memory alone, and then the text is as it was.
 pub(crate) fn append_refusal(

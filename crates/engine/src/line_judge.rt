@@ -17,13 +17,13 @@ use std::thread::Threads;
 
 /// Judges the history in each line of the input, and writes a line for each, in order: the lines of its report joined by `; `, or
 /// the line of its refusal as [`fault_line`](crate::fault_line) has it. A blank line that is skipped is answered by a blank line.
-/// Returns what comes of all.
+/// Returns the outcome of all.
 ///
-/// The limit of bytes of an input is each line's; a longer line is refused as a too long input is, and its rest is passed over. The
-/// last line may lack its line feed. As many lines as there are workers are judged side by side, each by one thread, and what is
-/// written of whole lines that are at hand is written before more is read, as [`answer_lines`] says.
+/// Each line has the byte limit of an input. A longer line is refused like an input that is too long, and its rest is passed over. The
+/// last line may lack its line feed. As many lines as there are workers are judged side by side, each by one thread. The answers to
+/// whole lines that are at hand are written before more is read, as [`answer_lines`] says.
 ///
-/// It fails where the reader or the writer does, or memory runs out for a line. What was answered before stays written then. The
+/// It fails if the reader or the writer does, or memory runs out for a line. What was answered before stays written then. The
 /// cost is that of `judge` for each line.
 #[tactic(auto, using(crate::proofs::LineAnswerLaws::not_written))]
 pub fn judge_lines<P: Threads + Wait + Sync + AllocGlobal, R: Source, W: Write>(

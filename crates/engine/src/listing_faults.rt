@@ -34,8 +34,8 @@ use std::sync::Wait;
 use std::thread::Threads;
 use wording::{Names, OwnNames};
 
-/// Why a history meets each criterion or does not, and its reads that show a fault; none where values are not distinct, and of objects
-/// that have no keys to read.
+/// Why a history meets each criterion or does not, and its reads that show a fault. There are no such reads where values are not
+/// distinct, nor for objects that have no keys to read.
 #[derive(Drop)]
 pub struct FaultReport {
     pub explanation: Explanation,
@@ -62,7 +62,7 @@ pub fn list_faults<T: Threads + Wait + Sync>(
     }
 }
 
-// The list of the history in an input, within the limits. A memory is read once more, as a history of any length.
+// The list of the history in an input, within the limits. A memory history is read once more, as one of any length.
 fn list_in_limited_input<T: Threads + Wait + Sync>(
     rt: &T,
     alloc: Global,
@@ -136,7 +136,7 @@ pub fn list_in_long<T: Threads + Wait + Sync, N: Names>(
     }
 }
 
-// The list of a history within the limits, and the same as one of any length where it is one of a memory.
+// The list of a history within the limits. A memory history is given a second time, as one of any length.
 fn list_in_limited<T: Threads + Wait + Sync, N: Names>(
     rt: &T,
     alloc: Global,
@@ -367,7 +367,7 @@ fn value_of_report(alloc: Global, report: &FaultReport) -> Result<Value, AllocEr
     Ok(Value::Array(values))
 }
 
-// The form of the faults, where there are such.
+// The form of the faults, if there are any.
 fn value_of_faults(alloc: Global, faults: &Option<Faults>) -> Result<Value, AllocError>
     ensures { IfOk result (λ value. view value ≡ list_form faults.now) }
 {

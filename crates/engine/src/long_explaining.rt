@@ -38,10 +38,10 @@ impl LongExplanation {
     }
 }
 
-/// Why each criterion is met by a memory history of any length, or is not, or why that is unknown.
+/// Why a memory history of any length meets each criterion or does not, or why that is unknown.
 ///
-/// A `no` has a pattern where few operations show it by themselves: these are judged as a history of their own, and the pattern that is
-/// found there is tested in the whole. Else it has its kind. Unknown, with no operation, exactly where values are not distinct.
+/// A `no` has a pattern if few operations show it by themselves: these are judged as a history of their own, and the pattern that is
+/// found there is tested in the whole. Else the `no` has its kind. Unknown, with no operation, exactly where values are not distinct.
 ///
 /// Fails for want of memory alone. O(n (k + log n)) for n operations of k sessions.
 pub(crate) fn explanation_of_long<W: SessionWork>(
@@ -87,7 +87,7 @@ fn explanation_of_indexed<W: SessionWork>(
     })
 }
 
-// What is gathered of the kinds that are named, each once.
+// What is gathered of the kinds that the decisions name, each once.
 fn found_of(
     alloc: Global,
     index: &LongIndex,
@@ -100,7 +100,7 @@ fn found_of(
     Ok(found)
 }
 
-// Gathers what a decision names, unless that was done before.
+// Gathers the kind that a decision names, unless it was gathered before.
 fn push_found(
     alloc: Global,
     index: &LongIndex,
@@ -149,7 +149,7 @@ fn reason_of(
     }
 }
 
-// The pattern of a kind in the whole history, where one was found: it is tested there.
+// The pattern of a kind in the whole history, if one was found. It is tested there.
 fn pattern_of(
     alloc: Global,
     index: &LongIndex,

@@ -1,4 +1,4 @@
-//! The forms in which it is said why a memory history of any length meets each criterion, or does not.
+//! The forms of the reasons why a memory history of any length meets each criterion, or does not.
 
 ghost use Rattle.std.specs.Prelude.{◌≡◌, IfErr, IfOk, string_bytes};
 ghost use Rattle.command_line.specs.declared.length.Length.TheVariants.{Any};
@@ -25,8 +25,8 @@ use wording::{Names, OwnNames};
 
 /// Why the memory history in the input, of any length, meets each criterion or does not, in a form.
 ///
-/// Of a history within the limits of [`History`] it is what `explain` says, but for the words after a yes. Refuses what is no such history,
-/// and fails for want of memory. The cost is that of reading it and of [`explanation_of_long`].
+/// For a history within the limits of [`History`] it is the text of `explain`, except for the words after a yes. Refuses what is no such
+/// history, and fails for want of memory. The cost is that of reading it and of [`explanation_of_long`].
 pub fn explain_long<T: Threads + Wait + Sync>(
     rt: &T,
     alloc: Global,

@@ -35,10 +35,10 @@ pub(crate) fn report_on_long_input<W: SessionWork>(
     report_on_long(work, alloc, &history)
 }
 
-/// What is known of a memory history of any length, for each criterion. Whoever works shares the sessions, and starts threads or none.
+/// What is known of a memory history of any length, for each criterion. `work` goes over the sessions, and starts threads or none.
 ///
-/// Of a history within the limits of [`History`](operations::History) it is what [`report_alone`](crate::report_alone) says. Else it is
-/// decided: `Yes` exactly where the history meets the criterion, and `No` with the kind of a bad pattern that is present exactly where
+/// For a history within the limits of [`History`](operations::History) it is the report of [`report_alone`](crate::report_alone). Else it
+/// is decided: `Yes` exactly where the history meets the criterion, and `No` with the kind of a bad pattern that is present exactly where
 /// it does not; `Unknown` with no operation for all three criteria where values are not distinct.
 ///
 /// Fails for want of memory alone. O(n (k + log n)) for n operations of k sessions.

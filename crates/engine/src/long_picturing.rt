@@ -16,10 +16,10 @@ use picture::{picture_of_history, picture_of_pattern};
 use std::alloc::{AllocError, Global};
 use wording::{Names, OwnNames};
 
-/// The picture of the pattern of the first criterion that is not met, with these names, the sessions of its operations alone and how many
-/// operations are left out between them. Where no pattern is at hand, what is known of each criterion is all that it shows.
+/// The picture of the pattern of the first criterion that is not met, with these names. It shows the sessions of its operations alone, and
+/// how many operations are left out between them. If no pattern is at hand, it shows only what is known of each criterion.
 ///
-/// Fails for want of memory alone. What [`picture_of_pattern`] takes for a few operations.
+/// Fails for want of memory alone. It costs what [`picture_of_pattern`] takes for a few operations.
 pub(crate) fn picture_of_long<N: Names>(
     alloc: Global,
     history: &LongHistory,
@@ -48,7 +48,7 @@ pub(crate) fn picture_of_long<N: Names>(
     picture_of_title(alloc, said)
 }
 
-// The picture of what was gathered of a reason, where it shows a pattern.
+// The picture of what was gathered of a reason, if it shows a pattern.
 fn picture_of_found<N: Names>(
     alloc: Global,
     history: &LongHistory,

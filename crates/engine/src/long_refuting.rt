@@ -1,4 +1,4 @@
-//! What is said of a memory history of any length and a pattern of it.
+//! The answer on a memory history of any length and a pattern of it.
 
 ghost use Rattle.std.specs.Prelude.{◌≡◌, ◌≢◌, ◌∷◌, [], IfErr, IfOk, MatchOption, string_bytes};
 ghost use Rattle.serde_json.specs.Data.{Data};
@@ -62,7 +62,7 @@ fn read_long_claim(alloc: Global, input: &[u8]) -> Result<LongClaim, RunError>
     }
 }
 
-// The claim of an input, of whose value this much is seen.
+// The claim of an input, from the part of its value that was seen.
 
 fn claim_after_history(alloc: Global, input: &[u8], seen: &Value) -> Result<LongClaim, RunError>
     requires { IsSeenOf input.now (view seen.now) }

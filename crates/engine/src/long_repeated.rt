@@ -1,4 +1,4 @@
-//! Which writes of a memory history of any length are of values that are not distinct.
+//! The writes of a memory history of any length whose values are not distinct.
 
 ghost use Rattle.std.specs.Prelude.{◌<◌, length};
 
@@ -19,7 +19,7 @@ struct LongWrite {
     op: OpId,
 }
 
-/// Adds a line for each write of a value that its variable was written before, or has at first: for the first eight of them.
+/// Adds a line for each of the first eight writes of a value that was written to its variable before, or is its initial value.
 ///
 /// Fails for want of memory alone. O(n log n) for n operations, and 32 bytes for each write.
 pub(crate) fn push_repeated<N: Names>(
@@ -73,7 +73,7 @@ fn push_writes(
     Ok(())
 }
 
-// What is said of a write: that it is one of the initial value, or that the one before it is of the same value.
+// The line on a write: that it writes the initial value, or that the write before it has the same value.
 fn line_of<N: Names>(
     alloc: Global,
     history: &LongHistory,
@@ -98,7 +98,7 @@ fn line_of<N: Names>(
     }
 }
 
-// What is said of two writes of one value.
+// The line on two writes of one value.
 fn line_of_two<N: Names>(
     alloc: Global,
     names: &N,

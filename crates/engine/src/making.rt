@@ -1,4 +1,4 @@
-//! The certificates that are made of histories of a memory.
+//! Making certificates of histories of a memory.
 
 ghost use Rattle.std.specs.Prelude.{◌≡◌, IfErr, IfOk, IfSome};
 ghost use Rattle.cert_check.specs.Certificates.{HasShapeOf, criterion_of};
@@ -10,7 +10,7 @@ use memory_order::IndexedMemory;
 use objects::Memory;
 use std::alloc::{AllocError, Global};
 
-/// The case file of a history of a memory and a criterion, with the certificate that is made of them, where one is made.
+/// The case file of a history of a memory and a criterion, with the certificate that is made of them, if one is made.
 ///
 /// Fails for want of memory alone.
 #[tactic(auto, using(crate::proofs::Founded::made_is_file))]
@@ -33,7 +33,7 @@ pub(crate) fn file_of_memory(
     }
 }
 
-/// The certificate of a history of a memory, where one is made: from advice, where it decides; else by the sources of its reads.
+/// The certificate of a history of a memory, if one is made: from advice if that decides, else by the sources of its reads.
 pub(crate) fn certificate_of(
     alloc: Global,
     memory: &IndexedMemory,

@@ -1,4 +1,4 @@
-//! What is known of a history of a memory, whoever checks the pieces of certificates: threads, or the calling thread alone.
+//! What is known of a history of a memory, whether threads or the calling thread alone check the pieces of certificates.
 
 ghost use Rattle.std.specs.Prelude.{◌≡◌, IfErr, IfOk};
 ghost use Rattle.memory_order.specs.Memory.{memory_answer};
@@ -21,7 +21,7 @@ use objects::Memory;
 use operations::{AnyHistory, History};
 use std::alloc::Global;
 
-/// What is known of a history of a memory, for each criterion, where `check` says what the certificate of a case file shows.
+/// What is known of a history of a memory, for each criterion. `check` returns what the certificate of a case file shows.
 ///
 /// Fails for want of memory alone.
 pub(crate) fn report_by<F: Fn(CaseFile<Memory>) -> Result<Answer, RunError>>(
@@ -42,7 +42,7 @@ pub(crate) fn report_by<F: Fn(CaseFile<Memory>) -> Result<Answer, RunError>>(
     report_of_decisions(alloc, &memory, advice, decisions, check)
 }
 
-// What is known of a history of a memory where this was decided of it.
+// What is known of a history of a memory, from this decision on it.
 #[tactic(auto, using(crate::proofs::EachAnswer::each_true, crate::proofs::EachAnswer::each_known, crate::proofs::EachAnswer::each_names))]
 fn report_of_decisions<F: Fn(CaseFile<Memory>) -> Result<Answer, RunError>>(
     alloc: Global,
@@ -65,7 +65,7 @@ fn report_of_decisions<F: Fn(CaseFile<Memory>) -> Result<Answer, RunError>>(
     Ok(Report { cc, cm, ccv })
 }
 
-/// What is known of a history of a memory and a criterion: what its decision says, and where that is open, what the pieces of
+/// What is known of a history of a memory and a criterion: what its decision says, or if that is open, what the pieces of
 /// a certificate show.
 #[tactic(auto, using(crate::proofs::Founded::founded_is_true, crate::proofs::Founded::founded_names))]
 pub(crate) fn answer_by<F: Fn(CaseFile<Memory>) -> Result<Answer, RunError>>(
@@ -93,7 +93,7 @@ pub(crate) fn answer_by<F: Fn(CaseFile<Memory>) -> Result<Answer, RunError>>(
     }
 }
 
-// What the pieces of a certificate of a history of a memory show, where one is made.
+// What the pieces of a certificate of a history of a memory show, if one is made.
 fn answer_by_certificate<F: Fn(CaseFile<Memory>) -> Result<Answer, RunError>>(
     alloc: Global,
     memory: &IndexedMemory,

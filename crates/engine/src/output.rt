@@ -7,7 +7,7 @@ use std::io::Write;
 
 /// Writes the whole text, in as many calls as the writer needs.
 ///
-/// A writer that fails, or takes nothing, is a write fault. How much it took by then is not said. O(n) for n bytes.
+/// A writer that fails, or takes nothing, is a write fault. The contract does not say how much it took by then. O(n) for n bytes.
 pub fn write_output<W: Write>(writer: &mut W, text: &[u8]) -> Result<(), RunError>
     ensures written { OnOk result (Appends (W.contents writer.old) (W.contents writer.new) text.now) }
     ensures error { IfErr result (λ e. e ≡ RunError.WriteFault) }

@@ -13,9 +13,9 @@ use wording::{
     Names, OwnNames, repeated_variables, words_of_kept, words_of_pattern, words_without_variables,
 };
 
-/// The lines on a pattern of a history of a memory: its words, and its core where it has one.
+/// The lines on a pattern of a history of a memory: its words, and its core if it has one.
 ///
-/// Fails for want of memory alone. What the words take, and what [`core_text`] takes.
+/// Fails for want of memory alone. It costs what the words take, and what [`core_text`] takes.
 pub(crate) fn lines_with_core<N: Names>(
     alloc: Global,
     history: &History<Memory>,
@@ -28,10 +28,10 @@ pub(crate) fn lines_with_core<N: Names>(
     Ok(lines)
 }
 
-/// Puts behind other lines what shows that a history without the variables whose values are not distinct does not meet a criterion,
-/// where that is so.
+/// Adds the lines that show that a history without the variables whose values are not distinct does not meet a criterion, if
+/// [`excluded_without`] finds that.
 ///
-/// Fails for want of memory alone. What [`excluded_without`] takes, and the lines on a pattern.
+/// Fails for want of memory alone. It costs what [`excluded_without`] and the lines on a pattern take.
 pub(crate) fn push_without_variables<N: Names>(
     alloc: Global,
     lines: &mut Vec<String>,
@@ -51,7 +51,7 @@ pub(crate) fn push_without_variables<N: Names>(
     }
 }
 
-// Puts what shows that a part does not meet a criterion behind other lines.
+// Adds the lines that show that a part does not meet a criterion.
 fn push_excluded<N: Names>(
     alloc: Global,
     lines: &mut Vec<String>,
@@ -76,7 +76,7 @@ fn push_excluded<N: Names>(
     }
 }
 
-// Puts the core of a pattern behind other lines, where it has one.
+// Adds the core of a pattern, if it has one.
 fn push_core<N: Names>(
     alloc: Global,
     lines: &mut Vec<String>,
@@ -95,7 +95,7 @@ fn push_core<N: Names>(
     Ok(())
 }
 
-// Puts lines behind others.
+// Adds lines after others.
 fn push_all(lines: &mut Vec<String>, more: Vec<String>) -> Result<(), AllocError> {
     for line in more {
         lines.push(line)?;

@@ -22,11 +22,11 @@ use std::sync::Wait;
 use std::thread::Threads;
 use wording::{Names, OwnNames};
 
-/// The picture of the history in the input, as an SVG text: with the pattern of the first criterion that is not met, where one is
+/// The picture of the history in the input, as an SVG text: with the pattern of the first criterion that is not met, if one is
 /// at hand, and else all of the history, with the first operation that a certificate does not explain drawn out.
 ///
 /// Refuses what is no history, and fails for want of memory. It judges as [`report_on`](crate::report_on) does, at the same cost
-/// beside reading the input and drawing the picture.
+/// plus that of reading the input and drawing the picture.
 pub fn explain_as_picture<T: Threads + Wait + Sync>(
     rt: &T,
     alloc: Global,
@@ -73,7 +73,7 @@ fn picture_of_object<O: Judged + Labelled + Send + Sync, T: Threads + Wait + Syn
     Ok(picture_with_report(alloc, &history, &OwnNames, &report)?)
 }
 
-/// The picture of a history of a memory, with these names. It costs what [`explain_as_picture`] costs but for reading.
+/// The picture of a history of a memory, with these names. It costs what [`explain_as_picture`] costs without the reading.
 pub(crate) fn picture_of_memory<T: Threads + Wait + Sync, N: Names>(
     rt: &T,
     alloc: Global,
@@ -102,7 +102,7 @@ fn picture_with_explanation<N: Names>(
     }
 }
 
-// The picture of the pattern of the first criterion that is not met, where a reason has one.
+// The picture of the pattern of the first criterion that is not met, if a reason has one.
 fn picture_of_first<N: Names>(
     alloc: Global,
     history: &History<Memory>,
@@ -120,7 +120,7 @@ fn picture_of_first<N: Names>(
     picture_of_reason(alloc, history, names, Criterion::Ccv, &explanation.ccv)
 }
 
-// The picture of the pattern of a reason, where it has one.
+// The picture of the pattern of a reason, if it has one.
 fn picture_of_reason<N: Names>(
     alloc: Global,
     history: &History<Memory>,
@@ -157,7 +157,7 @@ fn picture_with_report<O: Labelled, N: Names>(
     picture_of_history(alloc, history, names, lines.as_slice(), marked)
 }
 
-/// The lines of a report in one.
+/// The lines of a report, joined to one line.
 pub(crate) fn title_of(alloc: Global, report: &Report) -> Result<String, AllocError> {
     let cc = report_line(alloc, Criterion::Cc, report.cc)?;
     let cm = report_line(alloc, Criterion::Cm, report.cm)?;
@@ -168,7 +168,7 @@ pub(crate) fn title_of(alloc: Global, report: &Report) -> Result<String, AllocEr
     format!(in alloc; "{cc}, {cm}, {ccv}")
 }
 
-// What is said of an operation that is not explained.
+// The sentence on an operation that is not explained.
 fn sentence_about<N: Names>(alloc: Global, names: &N, op: OpId) -> Result<String, AllocError> {
     let name = names.operation(alloc, op)?;
     format!(in alloc; "The certificate that was made does not explain {name}.")

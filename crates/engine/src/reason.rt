@@ -26,7 +26,7 @@ pub enum Reason {
     Shown(Pattern),
     /// A pattern of this kind is in it, which might be too long to write: it does not.
     Present(Kind),
-    /// It is not known. The first operation that the certificate made does not explain, where one was made.
+    /// It is not known. With the first operation that the certificate does not explain, if one was made.
     Unexplained(Option<OpId>),
 }
 

@@ -13,7 +13,7 @@ use wording::{Names, Worded, push_unexplained, words_of_repeated_values};
 
 /// The lines that say why a history meets a criterion, does not, or why that is not known.
 ///
-/// What they say is no promise, but for the parts of the history in them: each is judged by itself before it is told. Fails for
+/// The lines promise nothing, except for the parts of the history in them: each is judged by itself before it is written. Fails for
 /// want of memory alone. The cost is that of the words and the core of a pattern, or that of a certificate where one does not
 /// explain an operation or a memory meets causal memory, and of the history without the variables whose values are not distinct.
 pub(crate) fn lines_of_reason<N: Names>(
@@ -45,7 +45,7 @@ fn lines_of_met(
     one_line(alloc, words)
 }
 
-// Whether a certificate is made of a history that meets a criterion. For causal memory a memory may have none.
+// Whether a certificate is made of a history that meets a criterion. A memory history may have none for causal memory.
 fn has_certificate(
     alloc: Global,
     history: &AnyHistory,
@@ -59,14 +59,14 @@ fn has_certificate(
     }
 }
 
-// A line alone.
+// One line, as a list.
 fn one_line(alloc: Global, words: &'static str) -> Result<Vec<String>, AllocError> {
     let mut lines = Vec::new(alloc);
     lines.push(String::from_str(alloc, words)?)?;
     Ok(lines)
 }
 
-// The lines on a pattern: patterns are known for memories alone.
+// The lines on a pattern. Only memories have known patterns.
 fn lines_of_pattern<N: Names>(
     alloc: Global,
     history: &AnyHistory,
@@ -82,7 +82,7 @@ fn lines_of_pattern<N: Names>(
     }
 }
 
-/// The lines on a kind whose pattern is not at hand.
+/// The lines on a kind, without its pattern.
 pub(crate) fn lines_of_kind(alloc: Global, kind: Kind) -> Result<Vec<String>, AllocError> {
     let kind = kind.name();
     let mut lines = Vec::new(alloc);
@@ -118,8 +118,8 @@ fn lines_of_unknown<N: Names>(
     }
 }
 
-// The lines on what is not known of a memory, whose values are not distinct: which these are, what the certificate that is made
-// does not explain, and what the other variables show.
+// The lines on what is not known of a memory whose values are not distinct: which values these are, what the certificate that is
+// made does not explain, and what the other variables show.
 fn lines_of_memory<N: Names>(
     alloc: Global,
     history: &History<Memory>,

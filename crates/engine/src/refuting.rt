@@ -1,4 +1,4 @@
-//! What is said of a history and a pattern of it.
+//! The answer on a history and a pattern of it.
 
 ghost use Rattle.std.specs.Prelude.{◌≡◌, ◌≢◌, ◌∷◌, ◌↔◌, [], IfErr, IfOk, IsTrue, MatchOption, Some, string_bytes};
 ghost use Rattle.serde_json.specs.Data.{string};
@@ -46,7 +46,7 @@ pub fn refute(alloc: Global, input: &[u8]) -> Result<String, RunError>
     }
 }
 
-// Whether a pattern shows that a history does not meet a criterion. Patterns are known for memories alone.
+// Whether a pattern shows that a history does not meet a criterion. Only memories have known patterns.
 fn is_pattern_of(
     alloc: Global,
     history: &AnyHistory,
@@ -105,7 +105,7 @@ fn claim_of(alloc: Global, value: &Value) -> Result<Claim, RunError>
     })
 }
 
-/// The criterion whose name a value is.
+/// The criterion that a value names.
 pub(crate) fn criterion_in(value: &Value) -> Option<Criterion>
     ensures { MatchOption result ((criterion : AnyCriterion) → view value.now ≢ string (name_of criterion))
         (λ criterion. view value.now ≡ string (name_of criterion)) }

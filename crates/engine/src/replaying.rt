@@ -1,4 +1,4 @@
-//! What a script is answered.
+//! The answer to a script.
 
 ghost use Rattle.std.specs.Prelude.{IfErr, IfOk, string_bytes};
 ghost use Rattle.engine.specs.Running.{IsOutput, IsOutputError};
@@ -10,7 +10,7 @@ use std::alloc::Global;
 
 /// The lines of the replies to the steps of the script in the input.
 ///
-/// Refuses what is no script, and fails for want of memory. O(n) for n bytes, and what [`script::replay`] takes.
+/// Refuses what is no script, and fails for want of memory. It costs O(n) for n bytes, and what [`script::replay`] takes.
 pub fn replay(alloc: Global, input: &[u8]) -> Result<String, RunError>
     ensures output { IfOk result (λ text. IsOutput Order.Replay input.now (string_bytes text)) }
     ensures error { IfErr result (IsOutputError Order.Replay input.now) }

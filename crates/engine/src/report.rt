@@ -1,4 +1,4 @@
-//! What is said of a history, and the lines that say it.
+//! The report on a history, and its lines.
 
 ghost use Rattle.std.specs.Prelude.{◌≡◌, IfOk, string_bytes};
 ghost use Rattle.engine.specs.Report.{line_for, text_for};

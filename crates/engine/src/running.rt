@@ -28,9 +28,9 @@ use std::thread::Threads;
 
 /// Reads the whole input, makes the whole answer that the order asks for, and then writes it.
 ///
-/// Nothing is written before the answer is made: after every error but a write fault the writer is as it was. How much
-/// was written before a write fault is not said, nor how much was read before an error; how many read calls are made is
-/// said by [`read_input`]. O(n log n) for an input of n bytes, and what [`report_on`](crate::report_on) or
+/// It writes nothing before the answer is made: after every error but a write fault the writer is as it was. The contract does
+/// not say how much was written before a write fault, nor how much was read before an error. [`read_input`] says how many read
+/// calls are made. It costs O(n log n) for an input of n bytes, and what [`report_on`](crate::report_on) or
 /// [`answer_of_certificate`](crate::answer_of_certificate) takes for its history, or [`script::replay`] for its script.
 pub fn run<P: Threads + Wait + Sync + AllocGlobal, R: Source, W: Write>(
     rt: &P,

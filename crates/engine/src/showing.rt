@@ -22,7 +22,7 @@ use std::alloc::{AllocError, Global};
 use std::sync::Wait;
 use std::thread::Threads;
 
-/// What shows that a history of a memory meets a criterion: a certificate, but where causal memory has none.
+/// What shows that a history of a memory meets a criterion: a certificate, except that causal memory may have none.
 #[tactic(auto, using(crate::proofs::EvidenceLaws::certified_is_evidence, crate::proofs::EvidenceLaws::lacking_is_causal_memory))]
 pub(crate) fn evidence_of_met(
     alloc: Global,
@@ -40,7 +40,7 @@ pub(crate) fn evidence_of_met(
     }
 }
 
-// The certificate of a history of a memory that meets a criterion. There is one but for causal memory.
+// The certificate of a history of a memory that meets a criterion. There is always one, except for causal memory.
 fn certificate_of_met(
     alloc: Global,
     memory: &IndexedMemory,
@@ -72,7 +72,7 @@ fn certificate_of_consistent(
     certify_cc::make_indexed(alloc, memory, &[])
 }
 
-// The certificate of a history of a memory that meets causal memory, where one is made.
+// The certificate of a history of a memory that meets causal memory, if one is made.
 fn certificate_of_causal_memory(
     alloc: Global,
     memory: &IndexedMemory,
@@ -115,7 +115,7 @@ pub(crate) fn evidence_of_object<O: Judged + Send + Sync, T: Threads + Wait + Sy
     evidence_by(rt, alloc, copy, made, criterion, workers)
 }
 
-/// What the pieces of a certificate show, where one was made.
+/// What the pieces of a certificate show, if one was made.
 pub(crate) fn evidence_by<O: Judged + Send + Sync, T: Threads + Wait + Sync>(
     rt: &T,
     alloc: Global,

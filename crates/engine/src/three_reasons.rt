@@ -17,8 +17,8 @@ pub(crate) struct ReasonLines {
     pub ccv: Vec<String>,
 }
 
-/// The text of an explanation: for each criterion the line of `judge`, and after it the lines of its reason. Lines that were given for a
-/// criterion before are not given again: one line names that criterion. The remarks of the names come last.
+/// The text of an explanation: for each criterion the line of `judge`, and after it the lines of its reason. If the lines were given for a
+/// criterion before, one line names that criterion instead. The remarks of the names come last.
 ///
 /// Fails for want of memory alone. O(n) for n bytes of lines.
 pub(crate) fn text_of_reasons<N: Names>(

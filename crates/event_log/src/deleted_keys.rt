@@ -45,7 +45,7 @@ fn missed_counts(alloc: Global, calls: &[LoggedCall], keys: &[u32]) -> Result<Ve
     Ok(counts)
 }
 
-/// Those of some keys that rise of which reads got nothing, each with how many.
+/// Of some keys that rise, those with reads that got nothing, each with the number of these reads.
 ///
 /// Fails for want of memory alone. O(n log k) for n calls and k keys.
 pub(crate) fn missed_reads(

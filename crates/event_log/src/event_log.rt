@@ -221,7 +221,7 @@ impl EventLog {
         }
     }
 
-    /// The history that the events stand for: the clients' sessions, each in the order of begins, and then the forks of lost writes.
+    /// The history that the events represent: the clients' sessions, each in the order of begins, and then the forks of lost writes.
     ///
     /// Fails for want of memory, and where the history has more than `long_history::MAX_NUMBERS` operations or sessions.
     /// O(n log n) for n calls and clients. Besides the history it takes 4 bytes for each call and each client, 8 for each lost write and
@@ -235,7 +235,7 @@ impl EventLog {
         LongHistory::of(start, sessions)
     }
 
-    /// For each session of the history the calls that its operations stand for, in order. Both operations of a fork stand for one call.
+    /// For each session of the history the calls of its operations, in order. Both operations of a fork are of one call.
     ///
     /// Fails for want of memory alone. O(n log n) for n calls and clients.
     pub fn origins(&self, alloc: Global) -> Result<Rows<LoggedCall>, AllocError>
@@ -246,7 +246,7 @@ impl EventLog {
         origins_of(alloc, &outcomes)
     }
 
-    /// The keys of which reads are left out of the history, in order, each with how many: reads that got nothing of a key that some delete
+    /// The keys with reads that the history leaves out, in order, each with how many: reads that got nothing of a key that some delete
     /// names, so that no write can be named as their source.
     ///
     /// Fails for want of memory alone. O(n log n) for n calls.

@@ -1,7 +1,7 @@
 //! The log of the events of a memory's clients, as they come.
 //!
 //! An [`EventLog`] takes one event after the other, each where it may come next and no other. It keeps the calls of the run and not the
-//! events, and gives the history that its events stand for, for each operation of it the call, and the reads that the history leaves out.
+//! events, and gives the history that its events represent, for each operation of it the call, and the reads that the history leaves out.
 #![tactic(auto)]
 
 mod chains;

@@ -76,7 +76,7 @@ impl LoggedCall {
         self.ending
     }
 
-    /// Of a lost write its key and value.
+    /// The key and value of a lost write.
     pub(crate) fn lost_pair(&self) -> Option<(u32, u32)>
         ensures { result ≡ lost_pair self.now.call self.now.ending }
     {
@@ -86,7 +86,7 @@ impl LoggedCall {
         }
     }
 
-    /// Of a read that got a value its key and the value.
+    /// The key and value of a read that got a value.
     pub(crate) fn got_pair(&self) -> Option<(u32, u32)>
         ensures { result ≡ got_pair self.now.call self.now.ending }
     {

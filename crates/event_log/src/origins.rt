@@ -1,4 +1,4 @@
-//! The calls that the operations of the history of a log stand for.
+//! The calls of the operations in the history of a log.
 
 ghost use Rattle.std.specs.Prelude.{◌≡◌, ◌++◌, [], All, Contains, IfOk, OnOk, filter, map};
 ghost use Rattle.std.specs.List.{range_with_len};
@@ -13,7 +13,7 @@ use crate::outcomes::Outcomes;
 use causal_order::Rows;
 use std::alloc::{AllocError, Global};
 
-/// For each session of the history the calls that its operations stand for.
+/// For each session of the history the calls of its operations.
 ///
 /// Fails for want of memory alone. O(n log n) for n calls and clients.
 pub(crate) fn origins_of(
@@ -27,7 +27,7 @@ pub(crate) fn origins_of(
     Ok(origins)
 }
 
-/// The calls that the operations of the clients' sessions stand for.
+/// The calls of the operations in the clients' sessions.
 fn of_clients(alloc: Global, outcomes: &Outcomes<'_>) -> Result<Rows<LoggedCall>, AllocError>
     ensures { IfOk result (λ origins. origins ≡ map (client_origins outcomes.now) (range_with_len 0 (clients outcomes.now))) }
 {
@@ -44,7 +44,7 @@ fn of_clients(alloc: Global, outcomes: &Outcomes<'_>) -> Result<Rows<LoggedCall>
     Ok(origins)
 }
 
-/// Puts those of some calls that have an operation into `standing`, in place of what it has.
+/// Puts the calls that have an operation into `standing`, in place of what it has.
 fn collect_standing(
     outcomes: &Outcomes<'_>,
     calls: &[LoggedCall],

@@ -1,4 +1,4 @@
-//! What decides which operations the calls of a log stand for.
+//! What decides which operations the calls of a log have in its history.
 
 ghost use Rattle.std.specs.Prelude.{◌≡◌, ◌<◌, ◌≤◌, ℕ, List, length, Contains, IfOk, Some};
 ghost use Rattle.events.specs.declared.event.ClientCall.TheVariants.{WriteTo, ReadOf, DeleteOf};
@@ -26,7 +26,7 @@ use std::marker::Model;
 #[derive(Drop)]
 pub(crate) struct Outcomes<'a> {
     log: &'a EventLog,
-    /// Keys with values: of lost writes, those that a read returned, in order.
+    /// Keys with values of lost writes that a read returned, in order.
     returned: Vec<(u32, u32)>,
     /// The keys of deletes that did not fail, each once, in order.
     deleted: Vec<u32>,
@@ -74,7 +74,7 @@ impl<'a> Outcomes<'a> {
         self.log.clients() as usize
     }
 
-    /// The operation in the session of its client that a call stands for, if there is one. O(log n) for n calls.
+    /// The operation of a call in the session of its client, if there is one. O(log n) for n calls.
     pub(crate) fn operation(&self, call: &LoggedCall) -> Option<LongEntry>
         requires { Contains (run_calls self.now) call.now }
         ensures { result ≡ operation_in self.now call.now.place call.now.call call.now.ending }
@@ -93,7 +93,7 @@ impl<'a> Outcomes<'a> {
         }
     }
 
-    /// The fork of a call: of a lost write whose value was returned the read of its mark, and the write. O(log n) for n calls.
+    /// The fork of a call: for a lost write whose value was returned, the read of its mark and the write. O(log n) for n calls.
     pub(crate) fn fork(&self, call: &LoggedCall) -> Option<[LongEntry; 2]>
         requires { Contains (run_calls self.now) call.now }
         ensures { result ≡ fork_in self.now call.now.place call.now.call call.now.ending }
@@ -164,7 +164,7 @@ impl<'a> Outcomes<'a> {
         self.deleted.binary_search(&key).is_ok()
     }
 
-    /// The keys of which reads are left out, in order, each with how many.
+    /// The keys with reads that the history leaves out, in order, each with how many.
     pub(crate) fn left_out(&self, alloc: Global) -> Result<Vec<(u32, u32)>, AllocError>
         ensures { IfOk result (λ counts. AreLeftOut self.now counts.items) }
     {

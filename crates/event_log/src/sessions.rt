@@ -43,7 +43,7 @@ fn client_sessions(alloc: Global, outcomes: &Outcomes<'_>) -> Result<Rows<LongEn
     Ok(sessions)
 }
 
-/// Puts the operations that some calls stand for into `session`, in place of what it has.
+/// Puts the operations of some calls into `session`, in place of what it has.
 fn collect_operations(
     outcomes: &Outcomes<'_>,
     calls: &[LoggedCall],

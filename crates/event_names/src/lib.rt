@@ -1,6 +1,6 @@
-//! The operations of a history that stands for a log of events, by the names that the log has and the numbers of its lines.
+//! The operations of a history that represents a log of events, by the names that the log has and the numbers of its lines.
 //!
-//! It gives [`LogNames`] over a [`LogTables`], which says what each operation stands for and what the log calls its clients, keys and
+//! It gives [`LogNames`] over a [`LogTables`], which says what each operation represents and what the log calls its clients, keys and
 //! values. Nobody trusts these texts: they say something of any operation and of any number.
 #![tactic(auto)]
 

@@ -9,10 +9,10 @@ use history::OpId;
 use std::alloc::{AllocError, Global};
 use wording::{Names, counted, listed, name_of};
 
-/// Of how many keys it is told.
+/// How many keys are listed by name.
 const MAX_KEYS: usize = 8;
 
-/// The names that a log has, for the history that it stands for.
+/// The names that a log has, for the history that it represents.
 ///
 /// An operation is named by the line on which its call begins. A lost write that was read is three operations: `line 160 (call)` is the
 /// write of its mark in the session of its client, `line 160 (later)` the read of the mark, and `line 160` the write itself.
@@ -21,7 +21,7 @@ pub struct LogNames<'a, T: LogTables> {
     pub tables: &'a T,
 }
 
-/// What a number of a value stands for.
+/// What a number of a value represents.
 enum Held {
     /// The value of a log that has this number.
     Value(u32),
@@ -42,7 +42,7 @@ impl<'a, T: LogTables> LogNames<'a, T> {
         self.tables.line(stood.place)
     }
 
-    // What the value of a variable stands for.
+    // What the value of a variable represents.
     fn held(&self, key: u32, value: u64) -> Held {
         if is_mark(key) {
             return Held::Mark;
@@ -273,7 +273,7 @@ fn listed_keys<T: LogTables>(
     listed(alloc, &named, keys.len().saturating_sub(MAX_KEYS))
 }
 
-// What is said of reads that are left out, of so many keys.
+// What is said of reads that are left out, at this many keys.
 fn left_out_words(
     alloc: Global,
     reads: u64,

@@ -4,7 +4,7 @@ use events::{ClientCall, Ending};
 use history::OpId;
 use std::alloc::{AllocError, Global};
 
-/// A call of a log for which an operation of its history stands.
+/// A call of a log that an operation of its history represents.
 #[derive(Clone, Copy, Debug, PartialEq, Eq)]
 pub struct StoodFor {
     /// The client that called.
@@ -19,10 +19,10 @@ pub struct StoodFor {
 
 /// What is known of the operations of a log's history, and of its names.
 ///
-/// Nothing is asked of an answer: other names only make other texts. Names are JSON texts with no line feed, in which no character disturbs
-/// a terminal. Each call that gives a text fails for want of memory alone.
+/// No contract restricts an answer: other names only make other texts. Names are JSON texts with no line feed, in which no character
+/// disturbs a terminal. Each call that gives a text fails for want of memory alone.
 pub trait LogTables {
-    /// The call for which an operation of the history stands: none where the history has no such operation.
+    /// The call that an operation of the history represents: none where the history has no such operation.
     fn stood_for(&self, op: OpId) -> Option<StoodFor>;
 
     /// How many sessions are those of clients: the first ones. The others are those of lost writes.
@@ -40,6 +40,6 @@ pub trait LogTables {
     /// A value as it is written.
     fn value_name(&self, alloc: Global, value: u32) -> Result<String, AllocError>;
 
-    /// The keys of which reads that found nothing are left out of the history, each with how many there are.
+    /// The keys at which reads found nothing and are left out of the history, each with the number of these reads.
     fn left_out(&self) -> &[(u32, u32)];
 }

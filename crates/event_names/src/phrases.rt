@@ -52,7 +52,7 @@ pub(crate) fn value_name<T: LogTables>(
     shortened(alloc, tables.value_name(alloc, value)?)
 }
 
-// A name that is no text in quotes, with a word before it.
+// A name, with a word before it if the name is no text in quotes.
 fn with_word(alloc: Global, name: String, word: &'static str) -> Result<String, AllocError> {
     if name.starts_with('"') {
         Ok(name)

@@ -28,7 +28,7 @@ impl Escape {
     }
 }
 
-/// A JSON text, where it is longer than some 60 letters with three dots, in its quotes, for what is left out. No escape is cut.
+/// A JSON text. If it is longer than some 60 letters, three dots within its quotes replace what is left out. No escape is cut.
 ///
 /// Fails for want of memory alone. O(n) for a text of n letters.
 pub(crate) fn shortened(alloc: Global, text: String) -> Result<String, AllocError> {

@@ -1,4 +1,4 @@
-//! The log that some lines have.
+//! The log that lines give.
 
 ghost use Rattle.std.specs.Prelude.{◌≡◌, ◌<◌, [], IfErr, IfOk, IfSome, OnOk, length, slice_get, codes, Some, None, if◌then◌else◌};
 ghost use Rattle.event_reader.specs.Names.{same_name, text_name};
@@ -87,7 +87,7 @@ impl Book {
         Ok(self.values.number(value)?)
     }
 
-    /// The call that is said.
+    /// The call that a line says, with the numbers of its names.
     pub(crate) fn call(&mut self, call: SaidCall<'_>) -> Result<ClientCall, LogFault>
         ensures call { IfOk result (λ c. c ≡ call_of self.old (call_view call.entry)) }
         ensures named { IfOk result (IsCallNamed self.new) }
@@ -106,7 +106,7 @@ impl Book {
         }
     }
 
-    /// The ending of a pending call that is said, where the call can end so.
+    /// The ending that a line says for a pending call, where the call can end so.
     pub(crate) fn ending(
         &mut self,
         call: ClientCall,
@@ -194,7 +194,7 @@ impl Book {
         self.log
     }
 
-    /// Adds an event, from the line with this number. Where it may not follow, it is refused for this reason.
+    /// Adds an event, from the line with this number. Refuses an event that may not follow, for this reason.
     pub(crate) fn add(&mut self, event: Event, line: u64, reason: Reason) -> Result<(), LogFault>
         requires { IsNamed self.old event }
         ensures follows { OnOk result (MayFollow self.old event) }

@@ -1,4 +1,4 @@
-//! What a line has in it.
+//! The content of a line.
 
 ghost use Rattle.std.specs.Prelude.{◌≡◌, IfErr, IfOk};
 ghost use Rattle.serde_json.specs.View.{view};
@@ -11,14 +11,14 @@ use lines::is_blank;
 use serde_json::Value;
 use std::alloc::{AllocError, Global};
 
-/// What a line has in it.
+/// The content of a line.
 #[derive(Drop)]
 pub(crate) enum Content {
     /// Too many bytes.
     TooLong,
     /// Nothing.
     Blank,
-    /// What is no JSON.
+    /// Bytes that are no JSON.
     NotJson,
     /// A JSON value.
     Json(Value),
@@ -44,7 +44,7 @@ fn read_json(alloc: Global, line: &[u8]) -> Result<Value, TextError>
     }
 }
 
-/// What a line has in it. Fails for want of memory alone. O(n) for a line of n bytes.
+/// The content of a line. Fails for want of memory alone. O(n) for a line of n bytes.
 pub(crate) fn content_of(alloc: Global, line: &[u8]) -> Result<Content, AllocError>
     ensures { IfOk result (IsContent line.now) }
 {

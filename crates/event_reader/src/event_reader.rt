@@ -22,7 +22,7 @@ use std::marker::Model;
 pub struct EventReader {
     alloc: Global,
     lines: LineReader,
-    /// Where texts are put after their escapes are read.
+    /// Holds texts after their escapes are read.
     scratch: Scratch<Global>,
     book: Book,
     /// How many lines were read.
@@ -89,12 +89,12 @@ impl EventReader {
     }
     /// Reads lines until the log has so many events, or to the end.
     ///
-    /// After [`Progress::More`] call it again with a greater number, and after an end or a fault no more. It makes read calls only where no
-    /// whole line is held, and returns as soon as it has the events.
+    /// After [`Progress::More`] call it again with a greater number. Do not call it again after an end or a fault. It makes read calls only
+    /// where it holds no whole line, and returns as soon as it has the events.
     ///
-    /// Refused where a line does not follow those before it: the first one. `Memory` where an allocation was refused, or where there
-    /// are more events, names or lines than have numbers; `Read` where the source fails, or a line came to no end in as many read
-    /// calls as may be made for one. O(n) for n bytes, on average.
+    /// Refuses the first line that does not follow those before it. `Memory` where an allocation was refused, or where there
+    /// are more events, names or lines than have numbers; `Read` where the source fails, or a line did not end within the read
+    /// calls that are allowed for one line. O(n) for n bytes, on average.
     pub fn read<R: Source>(&mut self, source: &mut R, most: u32) -> Result<Progress, LogFault>
         ensures read { IfOk result (Reads (R.remaining source.old) (R.remaining source.new) self.old self.new) }
         ensures fault { IfErr result (FaultsAt (R.remaining source.old) self.old) }

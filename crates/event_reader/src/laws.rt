@@ -1,4 +1,4 @@
-//! What holds of texts and their logs. The functions do nothing: what they ensure is the law.
+//! Laws of texts and their logs. The functions do nothing: what they ensure is the law.
 
 ghost use Rattle.std.specs.Prelude.{◌≡◌, ℕ, Bool, List, Some};
 ghost use Rattle.serde_json.specs.Data.{Data};

@@ -16,7 +16,7 @@ pub enum LogFault {
     /// An allocation was refused, or there are more events, names or lines than have numbers.
     #[error("no memory")]
     Memory,
-    /// The reader failed, or a line came to no end in as many read calls as may be made for one.
+    /// The reader failed, or a line did not end within the read calls that are allowed for one line.
     #[error("the log could not be read")]
     Read,
 }
@@ -56,7 +56,7 @@ impl From<Fault> for LogFault {
     }
 }
 
-/// A line is refused.
+/// The fault of a line that is refused.
 pub(crate) fn refused(reason: Reason, line: u64) -> LogFault
     ensures { result ≡ LogFault.Refused (record { reason = reason; line = line }) }
 {

@@ -54,7 +54,7 @@ pub(crate) fn value_name_of(value: &Value) -> Option<NameValue<'_>>
     }
 }
 
-/// Writes what tells a name apart. The text is empty before. O(n) for a text of n bytes.
+/// Writes the text that identifies a name. The text is empty before. O(n) for a text of n bytes.
 pub(crate) fn write_name(code: &mut String, name: NameValue<'_>) -> Result<(), AllocError>
     requires { string_bytes code.old ≡ [] }
     ensures { OnOk result (string_bytes code.new ≡ name_in name.entry) }

@@ -62,7 +62,7 @@ impl Names {
         Ok(text)
     }
 
-    /// The number of a name, which is put into the table where it is not there.
+    /// The number of a name. Adds the name to the table where it is not there.
     ///
     /// Fails where memory runs out, or the number is not below 2^32. O(n) for a name of n bytes, on average.
     pub(crate) fn number(&mut self, name: NameValue<'_>) -> Result<u32, AllocError>
@@ -92,7 +92,7 @@ fn push_name(text: &mut String, name: &str) -> Result<(), AllocError>
     }
 }
 
-// The place of a name, which is put there where it is not.
+// The place of a name. Adds the name where it is not there.
 fn place_in(names: &mut IndexSet<String>, name: &str) -> Result<usize, AllocError>
     ensures number { IfOk result (λ place. place ≡ number_in (map string_bytes names.old.keys) name.now) }
     ensures within { IfOk result (λ place. place < length (map string_bytes names.new.keys)) }

@@ -1,4 +1,4 @@
-//! Reading lines of the common forms token by token. What it does not read is read by [`content_of`](crate::content::content_of).
+//! Reading lines of the common forms token by token. [`content_of`](crate::content::content_of) reads all other lines.
 
 ghost use Rattle.std.specs.Prelude.{◌≡◌, [], ◌∷◌, IfOk, IfSome, Some};
 ghost use Rattle.json.specs.Token.{Token as Tokens};
@@ -151,7 +151,7 @@ fn said_of_text<'a>(
     Ok(said_of_tokens(&mut reader))
 }
 
-/// The event that a line says, where it has a common form: none where it is to be read otherwise. O(n) for a line of n bytes.
+/// The event that a line says, where it has a common form; none where another function has to read it. O(n) for a line of n bytes.
 pub(crate) fn quick_said<'a>(
     line: &'a [u8],
     scratch: &'a mut Scratch<Global>,

@@ -10,7 +10,7 @@ pub enum Reason {
     NotJson,
     /// It has more than [`MAX_LINE_BYTES`](crate::MAX_LINE_BYTES) bytes.
     TooLong,
-    /// It has not the form of an event.
+    /// It does not have the form of an event.
     NoForm,
     /// A start that comes after a begin, or that is the second of its key.
     LateStart,
@@ -18,7 +18,7 @@ pub enum Reason {
     CallPending,
     /// An end, a fail or a loss while no call of the client is pending.
     NothingPending,
-    /// An end by which the pending call does not end: of a read by nothing but a value or null, of others by nothing but `"ok"`.
+    /// An end that does not fit the pending call: a read ends only with a value or null, any other call only with `"ok"`.
     WrongEnd,
 }
 

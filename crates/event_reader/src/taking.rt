@@ -52,7 +52,7 @@ fn take_begin(
     book.add(Event::Begins(client, call), line, Reason::CallPending)
 }
 
-// The pending call of the client with this number ends.
+// Ends the pending call of the client with this number.
 fn take_ending(
     book: &mut Book,
     client: u32,
@@ -89,7 +89,7 @@ fn take_end(
     }
 }
 
-/// Adds what is said, from the line with this number. O(1) beside the names, on average.
+/// Adds the event that a line says, from the line with this number. O(1) besides the names, on average.
 pub(crate) fn take_said(book: &mut Book, said: Said<'_>, line: u64) -> Result<(), LogFault>
     ensures added { OnOk result (AddsSaid line book.old (said_view said.entry) book.new) }
     ensures fault { IfErr result (IsSaidFault book.old (said_view said.entry) line) }

@@ -1,4 +1,4 @@
-//! What holds of logs, and of the histories that they stand for. The functions do nothing: what they ensure is the law.
+//! What holds of logs, and of the histories that they represent. The functions do nothing: what they ensure is the law.
 
 ghost use Rattle.std.specs.Prelude.{◌≡◌, ◌≢◌, ◌↔◌, ◌≤◌, ◌^◌, ℕ, List, length, take, None};
 ghost use Rattle.history.specs.History.{session};
@@ -37,7 +37,7 @@ pub fn values_are_distinct()
     ensures { (es : List Event) → HasDistinctValues es → IsDifferentiated (history_of es) }
 {}
 
-/// Where each read of a log returns what was begun before, no read of its history lacks a source, nor does one of a cut's.
+/// Where each read of a log returns what was begun before, no read of its history lacks a source, and no read of a cut's history does.
 pub fn reads_have_sources()
     ensures whole { (es : List Event) → IsAllowed es → ReturnsWhatWasBegun es → ¬ LacksSource (history_of es) }
     ensures cut { (es : List Event) (n : ℕ) → IsAllowed es → ReturnsWhatWasBegun es → ¬ LacksSource (history_of (take n es)) }
@@ -51,8 +51,8 @@ pub fn sessions_of_cuts()
     ensures plain { (es : List Event) (n client : ℕ) → IsAllowed es → HasPlainEnds es → BeginsSession (take n es) es client }
 {}
 
-/// Where no call is lost, fails or gets nothing, each cut of a log of distinct values meets what the log meets. So a criterion that
-/// a cut does not meet, the log does not meet.
+/// Where no call is lost, fails or gets nothing, each cut of a log of distinct values meets what the log meets. So the log does not
+/// meet a criterion that a cut does not meet.
 pub fn cuts_meet_what_the_log_meets()
     ensures { (es : List Event) (n : ℕ) → IsAllowed es → EndsWell es → HasStartsBefore es n → ReturnsWhatWasBegun es
         → IsDifferentiated (history_of es) → (criterion : Criterion)

@@ -32,7 +32,7 @@ pub fn certificate_value(alloc: Global, certificate: &Certificate) -> Result<Val
     }
 }
 
-// The list of the sessions, in it for each operation of a session the list of its forms.
+// The list of the sessions. Each session is the list of its operations, and each operation is the list of its forms.
 fn lists_value<T: Written>(alloc: Global, lists: &ByOperation<T>) -> Result<Value, AllocError>
     ensures { IfOk result (λ value. view value ≡ list_form (list_form (list_form T.form)) lists.now) }
 {
@@ -44,7 +44,7 @@ fn lists_value<T: Written>(alloc: Global, lists: &ByOperation<T>) -> Result<Valu
     Ok(Value::Array(values))
 }
 
-// The list of the operations of a session, of each the list of its forms.
+// The list of the operations of a session. Each operation is the list of its forms.
 fn session_value<T: Written>(
     alloc: Global,
     lists: &ByOperation<T>,

@@ -8,7 +8,7 @@ ghost use Rattle.operations.specs.Reads.{list_form, worded};
 use serde_json::Value;
 use std::alloc::{AllocError, Global};
 
-/// What has a form as a JSON value.
+/// A type whose values have a form as JSON values.
 pub trait Written: Sized {
     /// Its form.
     ghost form: { Self → Data };

@@ -42,7 +42,7 @@ impl TakenIn {
     }
 }
 
-/// What a store tells of one operation. Nobody trusts it: whoever uses it checks what follows.
+/// What a store reported of one operation. Nobody trusts it: whoever uses it checks what follows.
 #[derive(Debug, Drop)]
 pub struct Advice {
     /// For each session, how many of its operations the store had taken in, the operation itself included.

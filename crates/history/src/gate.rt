@@ -1,7 +1,7 @@
 use crate::op_id::OpId;
 
-/// Is told by a thread of each operation that it comes to: before what it does there, and after. What it does is up to
-/// whoever passes it: a test holds threads here.
+/// Each thread calls it for each operation that it reaches: before its work there, and after. Whoever passes the gate decides
+/// what it does: a test holds threads here.
 pub trait Gate: Sync {
     /// The operation is about to be called, or its piece to be checked.
     fn enter(&self, op: OpId);

@@ -7,7 +7,7 @@ use object_trait::SeqObject;
 use std::alloc::{AllocError, Global};
 use std::marker::Model;
 
-/// What each session called on an object, in order, each call with the return that it had where that is known.
+/// What each session called on an object, in order, each call with its return, if that is known.
 ///
 /// A history has at most [`MAX_SESSIONS`] sessions of at most [`MAX_OPERATIONS`] operations. In each session the known
 /// returns come first, and each fits its call. The start is what the object held before.
@@ -45,7 +45,7 @@ impl<O: SeqObject> History<O> {
         &self.start
     }
 
-    /// What the type keeps: the value is a history. The method does nothing: what it ensures is the law.
+    /// The invariant of the type: the value is a history. The method does nothing: its contract is the law.
     pub fn value_is_history(&self)
         ensures { IsHistory O.is_start O.matches self.now }
     {

@@ -1,11 +1,11 @@
-//! A reader that keeps what it reads, so that it can be said what is wrong with it.
+//! A reader that keeps what it reads, so that a message can say what is wrong with it.
 
 use command_line::Detail;
 use std::alloc::Global;
 use std::io;
 use std::io::Read;
 
-/// A reader of the same bytes, which keeps them where more than a number is to be said of a refusal, and memory suffices.
+/// A reader of the same bytes, which keeps them if the detail is `Reason` and memory suffices.
 #[derive(Drop)]
 pub(crate) struct Keeping<R> {
     reader: R,
@@ -14,7 +14,7 @@ pub(crate) struct Keeping<R> {
 }
 
 impl<R> Keeping<R> {
-    /// A reader of the same bytes, of which so much is to be said.
+    /// A reader of the same bytes, for a refusal in this detail.
     pub(crate) fn of(alloc: Global, detail: Detail, reader: R) -> Keeping<R> {
         let kept = match detail {
             Detail::Number => None,
@@ -42,7 +42,7 @@ impl<R: Read> Read for Keeping<R> {
     }
 }
 
-// Keeps what was read, or nothing of all where memory runs out.
+// Keeps what was read. If memory runs out, it keeps nothing at all.
 fn keep(kept: &mut Option<Vec<u8>>, bytes: &[u8]) {
     if let Some(all) = kept {
         if all.extend_from_slice(bytes).is_err() {

@@ -38,8 +38,8 @@ pub(crate) fn report_followed<P: Eprint>(rt: &P, followed: &Followed) -> u8
     followed.outcome.status()
 }
 
-/// Writes the lines of a log that had no answer, and returns the exit status. Where there is no memory for the lines, that is what the
-/// process ends with.
+/// Writes the lines of a log that had no answer, and returns the exit status. If there is no memory for the lines, it returns the
+/// status for want of memory.
 pub(crate) fn report_error<P: AllocGlobal + Eprint>(rt: &P, error: &LogError) -> u8
     ensures { result ≤ 4 }
 {

@@ -22,7 +22,7 @@ impl<R> Noticing<R> {
         }
     }
 
-    /// What is said of the lines that were noticed, in a line each, where there is nothing more to read.
+    /// What is said of the lines that were noticed, in a line each, once there is nothing more to read.
     pub(crate) fn remarks(&mut self, alloc: Global) -> Result<String, AllocError> {
         self.noticed.remarks(alloc)
     }

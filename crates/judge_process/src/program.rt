@@ -24,8 +24,8 @@ const USAGE_STATUS: u8 = 2;
 /// Does what the process's words order, and returns its exit status.
 ///
 /// An answer or the help goes to standard output. What is wrong goes to standard error: the text of a usage fault,
-/// with status 2, or the line of a run that failed. Where standard input has nothing yet and does not wait for it, as a
-/// pipe that must not block, it is asked again a millisecond later, and each time counts as a read call.
+/// with status 2, or the line of a run that failed. If standard input has nothing yet and does not wait for it, like a
+/// pipe that must not block, it is read again a millisecond later, and each time counts as a read call.
 pub fn status_of_process<
     P: Env + Threads + Wait + Sync + AllocGlobal + Input + Print + Eprint + Clock,
 >(rt: &P) -> u8
@@ -59,7 +59,7 @@ fn status_of_order<P: Threads + Wait + Sync + AllocGlobal + Input + Print + Epri
     }
 }
 
-// What comes of an order on an input.
+// The outcome of an order on an input.
 fn outcome_of<P: Threads + Wait + Sync + AllocGlobal + Print, R: Source>(
     rt: &P,
     reader: &mut R,
@@ -105,8 +105,8 @@ fn words_of_process<P: Env + AllocGlobal>(rt: &P) -> Result<Vec<String>, Usage> 
 const BAD_WORDS: &str =
     "error: invalid UTF-8 was detected in one or more arguments\n\nFor more information, try '--help'.\n";
 
-/// Writes the line of a run that failed, and where more than a number is to be said, a second line on what is wrong with its input. The
-/// second line is left out where memory does not suffice for both. Returns the exit status.
+/// Writes the line of a run that failed, and if the detail is `Reason`, a second line on what is wrong with its input. The
+/// second line is left out if memory does not suffice for both. Returns the exit status.
 pub(crate) fn report_refused<P: AllocGlobal + Eprint>(
     rt: &P,
     error: &RunError,
@@ -125,8 +125,8 @@ pub(crate) fn report_refused<P: AllocGlobal + Eprint>(
     status
 }
 
-/// Writes the line of a run that failed, and returns the exit status. Where there is no memory for the line, that is
-/// what the process ends with.
+/// Writes the line of a run that failed, and returns the exit status. If there is no memory for the line, it returns the
+/// status for want of memory.
 pub(crate) fn report<P: AllocGlobal + Eprint>(rt: &P, outcome: Result<(), RunError>) -> u8
     ensures status { (result ≡ status_for outcome) ⊎ (result ≡ 4) }
     ensures few { result ≤ 4 }

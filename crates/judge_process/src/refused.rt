@@ -7,7 +7,7 @@ use refusal_words::{InputForm, Refusal, reason_for};
 use script::ScriptError;
 use std::alloc::{AllocError, Global};
 
-/// What is wrong with an input of this form, where, and what is wanted; nothing where the run failed for another reason.
+/// What is wrong with an input of this form, where, and what is wanted; nothing if the run failed for another reason.
 pub(crate) fn reason_of(
     alloc: Global,
     input: Option<&[u8]>,

@@ -16,8 +16,8 @@ use std::alloc::{AllocError, Global};
 /// The core of a pattern against a criterion: the operations of the pattern and the writes that its reads read from, as a history
 /// of their own, where this does not meet the criterion by itself.
 ///
-/// Sessions keep their numbers, and their operations their order. It is judged anew, and nothing is said where it meets the
-/// criterion, or where its values are not distinct. Fails for want of memory alone. O(n (m + log n)) for n operations and m of
+/// Sessions keep their numbers, and their operations their order. It is judged anew, and `None` is returned if it meets the
+/// criterion, or if its values are not distinct. Fails for want of memory alone. O(n (m + log n)) for n operations and m of
 /// the core, and what [`decide`](decision::decide) takes for the core.
 pub fn core_of(
     alloc: Global,
@@ -37,7 +37,7 @@ pub fn core_of(
 
 /// The core of a pattern as JSON text on one line, where it has one.
 ///
-/// Fails for want of memory alone. What [`core_of`] takes.
+/// Fails for want of memory alone. It costs what [`core_of`] takes.
 pub fn core_text(
     alloc: Global,
     history: &History<Memory>,

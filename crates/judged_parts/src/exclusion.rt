@@ -13,7 +13,7 @@ use std::alloc::{AllocError, Global};
 
 /// What is decided of a history that does not meet a criterion: none where it meets it, or where its values are not distinct.
 ///
-/// Fails for want of memory alone. What [`decide`] takes.
+/// Fails for want of memory alone. It costs what [`decide`] takes.
 pub(crate) fn exclusion_of(
     alloc: Global,
     history: &History<Memory>,

@@ -19,15 +19,15 @@ use std::alloc::{AllocError, Global};
 /// The most operations of a pattern, with the sources of its reads, that are left out one after the other.
 pub const MAX_LEFT_OUT: usize = 512;
 
-/// A pattern of the same kind whose operations, with the sources of its reads, show the kind by themselves, and no longer without any one
-/// of them: of a write, without the reads from it too.
+/// A pattern of the same kind whose operations, with the sources of its reads, show the kind by themselves. Without any one of them they
+/// no longer show it; a write that is left out takes the reads from it along.
 ///
-/// They are some of those of the given pattern. Each of these in turn, from the last by session and index to the first, is left out where
+/// They are some of those of the given pattern. Each of these in turn, from the last by session and index to the first, is left out if
 /// what is left still shows the kind. So the first of them stay, where there is a choice. A pattern that needs all of them, or has more
-/// than [`MAX_LEFT_OUT`] of them, is given back as it is. That no operation can be left out is no promise; the pattern is tested.
+/// than [`MAX_LEFT_OUT`] of them, is returned as it is. No contract says that no operation can be left out; the pattern is tested.
 ///
 /// Fails for want of memory alone. O(n (k + log n)) for n operations of k sessions, and what [`decide`](decision::decide) takes for a
-/// history of the operations of the pattern, as often as they are.
+/// history of the operations of the pattern, once for each of them.
 pub fn with_fewest_operations(
     alloc: Global,
     history: &History<Memory>,

@@ -1,4 +1,4 @@
-//! The operations of a pattern and the sources of its reads. What is gathered is no promise: a core is judged by itself.
+//! The operations of a pattern and the sources of its reads. No contract says what is gathered: a core is judged by itself.
 
 use bad_patterns::{Derivation, Line, Link, Links, Path, Pattern};
 use history::{History, OpId};
@@ -74,12 +74,12 @@ fn ops_of(alloc: Global, pattern: &Pattern) -> Result<Vec<OpId>, AllocError> {
     Ok(ops)
 }
 
-// Puts the operations of a path behind others.
+// Puts the operations of a path after others.
 fn push_path(ops: &mut Vec<OpId>, path: &Path) -> Result<(), AllocError> {
     ops.extend_from_slice(path.ops())
 }
 
-// Puts the operations of links behind others.
+// Puts the operations of links after others.
 fn push_links(ops: &mut Vec<OpId>, links: &Links) -> Result<(), AllocError> {
     for link in links.links() {
         match link {
@@ -96,7 +96,7 @@ fn push_links(ops: &mut Vec<OpId>, links: &Links) -> Result<(), AllocError> {
     Ok(())
 }
 
-// Puts the operations of a derivation behind others.
+// Puts the operations of a derivation after others.
 fn push_derivation(ops: &mut Vec<OpId>, derivation: &Derivation) -> Result<(), AllocError> {
     for line in derivation.lines() {
         match line {

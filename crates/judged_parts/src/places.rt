@@ -1,22 +1,22 @@
-//! Where the operations of a part stand in the whole.
+//! Where the operations of a part are in the whole.
 
 use history::{History, OpId};
 use objects::Memory;
 use std::alloc::{AllocError, Global};
 
-/// For each session of a part the operations of the whole that it keeps, in order.
+/// The operations of the whole that each session of a part keeps, in order.
 #[derive(Debug, Drop)]
 pub struct Places {
     sessions: Vec<Vec<OpId>>,
 }
 
 impl Places {
-    /// Of each session of a part these operations of the whole. What they name is no promise: a part is judged by itself.
+    /// These operations of the whole for each session of a part. No contract says what they name: a part is judged by itself.
     pub fn of(sessions: Vec<Vec<OpId>>) -> Places {
         Places { sessions }
     }
 
-    /// Those of the operations at all variables but some. Fails for want of memory alone. O(n m) for n operations and m variables.
+    /// The places of the operations at all variables but some. Fails for want of memory alone. O(n m) for n operations and m variables.
     pub(crate) fn without(
         alloc: Global,
         history: &History<Memory>,
@@ -29,7 +29,8 @@ impl Places {
         Ok(Places { sessions })
     }
 
-    /// Those of a list in order, of a whole of so many sessions. Fails for want of memory alone. O(k m) for k sessions and m operations.
+    /// The places of the operations in a list in order, of a whole of so many sessions. Fails for want of memory alone. O(k m) for
+    /// k sessions and m operations.
     pub(crate) fn listed(
         alloc: Global,
         sessions: usize,
@@ -42,7 +43,7 @@ impl Places {
         Ok(Places { sessions: listed })
     }
 
-    /// The operation of the whole that an operation of the part is, and itself where it is none of the part.
+    /// The operation of the whole that an operation of the part is. An operation that is not in the part is returned as it is.
     pub fn in_whole(&self, op: OpId) -> OpId {
         let kept = self.sessions.get(op.session_place());
         match kept.and_then(|kept| kept.get(op.place())) {

@@ -1,4 +1,4 @@
-//! Patterns of a part, told in the operations of the whole. What they name is no promise: a pattern is checked as it was found.
+//! Patterns of a part, in the operations of the whole. No contract says what they name: a pattern is checked as it was found.
 
 use crate::places::Places;
 use bad_patterns::{Derivation, Line, Link, Links, Path, Pattern};

@@ -24,7 +24,7 @@ pub struct Excluded {
     pub decision: Decision,
 }
 
-/// The history without some variables, where this does not meet a criterion: then the whole does not meet it either.
+/// The history without some variables, if this part does not meet a criterion. Then the whole does not meet it either.
 ///
 /// None where the part meets the criterion, or where values of other variables are not distinct. Fails for want of memory
 /// alone. O(n m) for n operations and m variables, and what [`decide`](decision::decide) takes for the part.

@@ -5,7 +5,7 @@ ghost use Rattle.replica.specs.Updates.{key};
 
 use replica::{UpdateOf, UpdateOrder};
 
-/// The order of stamps; of one stamp that of sessions, and of one session that of numbers. Advice does not tell it.
+/// The order by stamp, within one stamp by session, and within one session by number. Advice does not report it.
 #[derive(Clone, Copy, Debug, PartialEq, Eq)]
 pub struct ByStamp;
 
@@ -41,7 +41,7 @@ impl UpdateOrder for ByStamp {
     }
 }
 
-/// Whether one update stands before another.
+/// Whether one update is before another.
 fn goes_before<C: Copy>(one: &UpdateOf<C>, other: &UpdateOf<C>) -> bool
     ensures { result ≡ goes_before (key one.now) (key other.now) }
 {

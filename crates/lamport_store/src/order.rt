@@ -8,8 +8,8 @@ use replica::UpdateOf;
 
 /// The updates that a replica has taken in and its own ones, in the order of their stamps, which its answers follow.
 ///
-/// It is the total order of Lamport ("Time, clocks and the ordering of events in a distributed system", 1978): stamps rise, of
-/// one stamp sessions, and of one session numbers, so that no two are alike. O(1).
+/// It is the total order of Lamport ("Time, clocks and the ordering of events in a distributed system", 1978): stamps rise,
+/// sessions rise within one stamp, and numbers rise within one session, so that no two are alike. O(1).
 pub fn taken_in<O: SeqObject>(replica: &LamportReplica<O>) -> &[UpdateOf<O::Call>]
     ensures updates { result.now ≡ replica.now.taken }
     ensures rising { IsRising (map key result.now) }

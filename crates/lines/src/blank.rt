@@ -3,7 +3,7 @@
 ghost use Rattle.std.specs.Prelude.{◌≡◌};
 ghost use Rattle.lines.specs.Lines.{is_blank as is_blank_line};
 
-/// Whether a line has nothing but spaces, tabs and carriage returns. It stops at the first other byte.
+/// Whether a line has nothing but spaces, tabs and carriage returns. The test stops at the first other byte.
 pub fn is_blank(line: &[u8]) -> bool
     ensures { result ≡ is_blank_line line.now }
 {

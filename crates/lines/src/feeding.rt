@@ -13,7 +13,7 @@ use memchr::memchr;
 pub(crate) enum LineEnd {
     /// At the line feed with this index.
     Feed(usize),
-    /// Nowhere in more bytes than are read of a line.
+    /// Nowhere: the line has more bytes than are read of one.
     TooLong,
     /// At the end of the stream.
     Stream,
@@ -32,7 +32,7 @@ fn end_at(index: usize, most: usize) -> LineEnd
     }
 }
 
-/// Where the first line of some bytes ends, where they show it. O(n) for a line of n bytes.
+/// Where the first line of some bytes ends, if they show it. O(n) for a line of n bytes.
 pub(crate) fn first_end(bytes: &[u8], most: usize) -> Option<LineEnd>
     ensures found { IfSome result (EndsIn most bytes.now) }
     ensures within { IfSome result (λ e. (reader : Option (List ℕ)) → IsStreamOver reader e) }
@@ -51,9 +51,9 @@ pub(crate) fn first_end(bytes: &[u8], most: usize) -> Option<LineEnd>
     }
 }
 
-/// Reads on until the line ends whose beginning the bytes are, or has more bytes than are read of one.
+/// Reads on until the line that begins with these bytes ends, or has more bytes than are read of one.
 ///
-/// It fails where memory runs out, or the reader does, or the line came to no end in [`MAX_READ_CALLS`] calls.
+/// It fails if memory runs out, or the reader fails, or the line did not end in [`MAX_READ_CALLS`] calls.
 pub(crate) fn read_to_end<R: Source>(
     reader: &mut R,
     chunk: &mut [u8],

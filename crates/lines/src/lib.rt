@@ -1,5 +1,5 @@
 //! Answering a stream line by line: each line of what is read is answered by a line of what is written, in order, by several
-//! threads side by side. What an answer is, a [`Clerk`] says.
+//! threads side by side. A [`Clerk`] makes the answers.
 #![tactic(auto)]
 
 mod answering;

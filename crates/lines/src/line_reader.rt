@@ -13,7 +13,7 @@ use crate::source::Source;
 use std::alloc::{AllocError, Global};
 use std::marker::Model;
 
-/// Reads a stream line by line, and never waits for more of it than the line that is asked for.
+/// Reads a stream line by line, and never waits for more of it than the line that the caller asks for.
 ///
 /// It holds one line, and what was read with its end: at most a chunk of 65,536 bytes more than a line may have.
 #[derive(Drop)]
@@ -22,11 +22,11 @@ pub struct LineReader {
     chunk: Vec<u8>,
     /// What was read.
     bytes: Vec<u8>,
-    /// Where the line begins that was found last.
+    /// Where the line that was found last begins.
     start: usize,
     /// Where it ends.
     end: usize,
-    /// Where that begins that belongs to no line yet.
+    /// Where the bytes that belong to no line yet begin.
     at: usize,
     /// The most bytes of a line.
     most: usize,
@@ -68,10 +68,10 @@ impl LineReader {
 
     /// Finds the next line, and lets go of the last one. It makes read calls only where no whole line is held.
     ///
-    /// A line that is too long stays held, and so it is found again.
+    /// A line that is too long stays held, so the next call finds it again.
     ///
-    /// It fails where memory runs out, or the reader does, or the line came to no end in [`MAX_READ_CALLS`] calls: what was read
-    /// before is held then. O(n) for n bytes that are read, in all calls together.
+    /// It fails if memory runs out, or the reader fails, or the line did not end in [`MAX_READ_CALLS`] calls: it then holds what
+    /// was read before. O(n) for n bytes that are read, in all calls together.
     pub fn next<R: Source>(&mut self, reader: &mut R) -> Result<Found, Fault>
         ensures found { IfOk result (FindsNext (R.remaining reader.old) (R.remaining reader.new) self.old self.new) }
         ensures kept { OnErr result (TakesSome (R.remaining reader.old) self.old.held self.new.held) }

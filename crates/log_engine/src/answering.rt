@@ -28,7 +28,7 @@ pub(crate) struct LogAnswer {
 
 /// Reads a log to its end, makes the whole answer, and then writes it.
 ///
-/// Nothing is written before the answer is made: after every error but a write fault the writer is as it was.
+/// It writes nothing before the answer is made: after every error except a write fault the writer is unchanged.
 pub(crate) fn answer_log<P: Threads + Wait + Sync + AllocGlobal, R: Source, W: Write>(
     rt: &P,
     source: &mut R,
@@ -71,7 +71,7 @@ fn answer_to<T: Threads + Wait + Sync>(
     }
 }
 
-// An answer of which nothing is expected.
+// An answer without expected criteria.
 fn met(text: String) -> LogAnswer
     ensures text { string_bytes result.text ≡ string_bytes text }
     ensures outcome { result.outcome ≡ Outcome.Met }
@@ -82,7 +82,7 @@ fn met(text: String) -> LogAnswer
     }
 }
 
-// The report on a log, whose names are let go before its history is made.
+// The report on a log. The names are dropped before the history is made.
 fn judged_log<T: Threads + Wait + Sync>(
     rt: &T,
     alloc: Global,

@@ -1,4 +1,4 @@
-//! Saying why the history that a log stands for meets each criterion or does not, with the names that the log has.
+//! Saying why the history of a log meets each criterion or does not, with the names that the log has.
 
 ghost use Rattle.std.specs.Prelude.{◌≡◌, IfErr, IfOk, string_bytes};
 ghost use Rattle.engine.specs.Steps.Listed.{IsListOf};
@@ -15,7 +15,7 @@ use std::alloc::Global;
 use std::sync::Wait;
 use std::thread::Threads;
 
-/// Why the history that a log stands for meets each criterion or does not, in a form.
+/// Why the history of a log meets each criterion or does not, in a form.
 ///
 /// Fails for want of memory alone. The cost is that of [`explained_as`].
 pub(crate) fn explained_log<T: Threads + Wait + Sync>(
@@ -33,7 +33,7 @@ pub(crate) fn explained_log<T: Threads + Wait + Sync>(
     Ok(explained_as(rt, alloc, &history, &names, form)?)
 }
 
-/// The reads of that history that show a fault, at most so many of them, in a form.
+/// The reads of the history of a log that show a fault, at most so many of them, in a form.
 ///
 /// Fails for want of memory alone. The cost is that of [`list_in_long`].
 pub(crate) fn listed_log<T: Threads + Wait + Sync>(

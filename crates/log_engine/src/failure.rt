@@ -17,7 +17,7 @@ pub enum LogError {
     /// An allocation was refused, or the log has too many events or names to be numbered.
     #[error("no memory")]
     Memory,
-    /// The reader failed, or it came to no end of a line in as many read calls as may be made for one.
+    /// The reader failed, or it did not reach the end of a line within the read calls allowed for one line.
     #[error("the log could not be read")]
     ReadFault,
     /// The writer failed, or took nothing.
@@ -89,8 +89,8 @@ pub fn status_of_error(error: &LogError) -> u8
     }
 }
 
-/// What standard error is told of a log that had no answer, with no line feed at the end: `refused N LINE`, where a line was refused,
-/// and what is wrong there in a second line; else `read fault`, `write fault` or `no memory`.
+/// The text for standard error after a log that had no answer, with no line feed at the end: if a line was refused, `refused N LINE`
+/// and a second line with what is wrong there; else `read fault`, `write fault` or `no memory`.
 pub fn error_lines(alloc: Global, error: &LogError) -> Result<String, AllocError>
     ensures { IfOk result (λ lines. string_bytes lines ≡ lines_for error.now) }
 {

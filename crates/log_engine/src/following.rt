@@ -1,4 +1,4 @@
-//! What is done with a log.
+//! Carrying out an order on a log.
 
 ghost use Rattle.std.specs.Prelude.{◌≡◌, ◌≢◌, ℕ, None, Some, IfErr, IfOk};
 ghost use Rattle.log_engine.specs.LogAnswers.{FollowsLog, IsLogError, WritesFirstCuts, every_in, expected_in};
@@ -13,24 +13,25 @@ use std::io::Write;
 use std::sync::Wait;
 use std::thread::Threads;
 
-/// What came of a log.
+/// The outcome for a log.
 #[derive(Clone, Copy, Debug, PartialEq, Eq)]
 pub struct Followed {
-    /// What came of the criteria that are expected to be met.
+    /// The outcome for the criteria that are expected to be met.
     pub outcome: Outcome,
-    /// Whether the log's last line is not whole, and was passed over.
+    /// Whether the log's last line is incomplete, and was skipped.
     pub torn: bool,
 }
 
-/// Does what is ordered of the log that a source has, one event a line, and writes the answer.
+/// Carries out an order on the log that a source has, one event a line, and writes the answer.
 ///
-/// With `every` in the order, the log is judged after each so many events and at its end, and each line is written before more is read;
-/// it ends early at the first cut of which something else comes than is expected. Else the whole log is read before the answer is made,
-/// and the whole answer is made before it is written.
+/// With `every` in the order, it judges the log after each so many events and at its end, and writes each line before it reads more; it
+/// ends early at the first cut whose outcome is not the expected one. Else it reads the whole log before it makes the answer, and makes
+/// the whole answer before it writes it.
 ///
-/// Fails with the first line that is refused, for want of memory, and where the source or the writer fails; with `Memory` too where
-/// `every` is 0, which no command line gives. After every error but a write fault nothing was written, or with `every` the lines on some
-/// first cuts, each as expected. O(n (k + log n)) for a history of n operations in k sessions, for each cut, and the cost of reading.
+/// Fails with the first line that is refused, for want of memory, and where the source or the writer fails; also with `Memory` if
+/// `every` is 0, which no command line gives. After every error except a write fault it has written nothing, or with `every` the lines
+/// on some first cuts, each as expected. O(n (k + log n)) for a history of n operations in k sessions, for each cut, and the cost of
+/// reading.
 pub fn follow_log<P: Threads + Wait + Sync + AllocGlobal, R: Source, W: Write>(
     rt: &P,
     source: &mut R,

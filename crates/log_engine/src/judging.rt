@@ -1,4 +1,4 @@
-//! Judging the history that a log stands for.
+//! Judging the history of a log.
 
 ghost use Rattle.std.specs.Prelude.{◌≡◌, IfErr, IfOk};
 ghost use Rattle.log_engine.specs.Reports.{IsReportOn};
@@ -7,10 +7,9 @@ use engine::{Report, RunError, SessionWork, report_on_long};
 use event_log::EventLog;
 use std::alloc::Global;
 
-/// What is known of the history that a log stands for, for each criterion. Whoever works shares the sessions, and starts threads or
-/// none.
+/// What is known of the history of a log, for each criterion. `work` shares out the sessions, and starts threads or none.
 ///
-/// It is decided: `Unknown` exactly where values are not distinct, as [`report_on_long`] has it. Fails for want of memory alone.
+/// The report decides: `Unknown` exactly where values are not distinct, as for [`report_on_long`]. Fails for want of memory alone.
 /// O(n (k + log n)) for n calls of k clients and lost writes that were read.
 pub fn report_on_log<W: SessionWork>(
     work: &W,
@@ -25,7 +24,7 @@ pub fn report_on_log<W: SessionWork>(
     report_on_long(work, alloc, &history)
 }
 
-/// The same of a log that is let go before its history is judged, and so takes less memory.
+/// The same, but drops the log before it judges the history, and so takes less memory.
 pub(crate) fn report_on_last_log<W: SessionWork>(
     work: &W,
     alloc: Global,

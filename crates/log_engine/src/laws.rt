@@ -13,8 +13,8 @@ use cert_check::Criterion;
 use collector::Answer;
 use events::Event;
 
-/// A report on a log whose history has distinct values leaves nothing unknown: a line is a yes exactly where the history meets the
-/// criterion, and a no exactly where it does not.
+/// A report on a log whose history has distinct values leaves nothing unknown: a line is a yes exactly if the history meets the
+/// criterion, and a no exactly if it does not.
 pub fn distinct_values_are_decided()
     ensures met { (events : List Event) (report : Report) → IsReportOn events report → IsDifferentiated (history_of events)
         → (criterion : Criterion) → answer_for report criterion ≡ Answer.Yes ↔ Meets memory_answer (history_of events) criterion }

@@ -1,8 +1,8 @@
-//! Answers to logs of events: the history that a log stands for is judged, explained or written.
+//! Answers to logs of events: judges, explains or writes the history of a log.
 //!
-//! It gives [`follow_log`], which does what is ordered of a log, event by event as it is read, [`call_lines`], on which lines the calls of its
-//! operations begin, and [`LogError`], why a log has no answer. What is said of a history comes from the engine; which history a log has,
-//! from `events` and `event_reader`.
+//! It gives [`follow_log`], which carries out an order on a log, event by event as it is read, [`call_lines`], which gives the lines on
+//! which the calls of its operations begin, and [`LogError`], why a log has no answer. The engine gives the answers on a history;
+//! `events` and `event_reader` define which history a log has.
 #![tactic(auto)]
 
 mod answering;

@@ -14,7 +14,7 @@ use std::alloc::{AllocError, Global};
 /// line for each operation. Lines are counted from 1.
 ///
 /// A lost write that was read is three operations with one line. Fails with the first line that is refused, and for want of memory.
-/// O(n log n) for n calls, and the cost of reading. Which lines are named is tested, not proved.
+/// O(n log n) for n calls, and the cost of reading. Tests, not proofs, cover which lines it names.
 pub fn call_lines(alloc: Global, log: &[u8]) -> Result<String, LogError>
     ensures { IfErr result (IsLogError (Some log.now)) }
 {
@@ -39,7 +39,7 @@ fn lines_text(alloc: Global, reader: &EventReader) -> Result<String, AllocError>
     Ok(text)
 }
 
-// Puts the list of the lines of calls after a text.
+// Appends the list of the lines of calls to a text.
 fn push_lines(
     alloc: Global,
     text: &mut String,

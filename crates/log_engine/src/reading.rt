@@ -14,7 +14,7 @@ use std::alloc::Global;
 #[derive(Drop)]
 pub(crate) struct WholeLog {
     pub reader: EventReader,
-    /// Whether its last line is not whole, and was passed over.
+    /// Whether its last line is incomplete, and was skipped.
     pub torn: bool,
 }
 

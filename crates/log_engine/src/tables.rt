@@ -1,4 +1,4 @@
-//! What a log that was read knows of the operations of its history, and of its names.
+//! What a log that was read says about the operations of its history, and about its names.
 
 use causal_order::Rows;
 use event_log::LoggedCall;
@@ -7,13 +7,13 @@ use event_reader::{EventReader, Names};
 use operations::OpId;
 use std::alloc::{AllocError, Global};
 
-/// What a log that was read knows of the operations of its history, and of its names.
+/// What a log that was read says about the operations of its history, and about its names.
 #[derive(Drop)]
 pub(crate) struct Tables<'a> {
     reader: &'a EventReader,
-    /// For each session of the history the calls for which its operations stand.
+    /// For each session of the history, the calls that its operations represent.
     calls: Rows<LoggedCall>,
-    /// The keys of which reads are left out, each with how many.
+    /// The keys with reads that are left out, each with the number of these reads.
     left_out: Vec<(u32, u32)>,
 }
 

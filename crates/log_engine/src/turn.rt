@@ -34,7 +34,7 @@ pub(crate) fn write_cut<K: SessionWork, W: Write>(
     Ok(outcome_of(&report, expected))
 }
 
-// How many events there are, and the lines of a report, joined.
+// The number of events, and the joined lines of a report.
 fn line_of_cut(alloc: Global, events: u32, report: &Report) -> Result<Vec<u8>, AllocError>
     ensures { IfOk result (λ line. line.items ≡ cut_line events report.now) }
 {

@@ -26,7 +26,7 @@ pub(crate) struct Watch<'a, K> {
 }
 
 /// Judges a log after each so many events and at its end, and writes a line on each of these cuts before it reads on. It ends early at
-/// the first cut of which something else comes than is expected.
+/// the first cut whose outcome is not the expected one.
 ///
 /// Each cut is judged whole. Lines that were written before an error stay written.
 pub(crate) fn watch_log<K: SessionWork, R: Source, W: Write>(
@@ -50,7 +50,7 @@ pub(crate) fn watch_log<K: SessionWork, R: Source, W: Write>(
     Err(LogError::Memory)
 }
 
-// How many events come before the next cut. None does where no event comes between two of them.
+// How many events come before the next cut. There is no next cut if no event comes between two cuts.
 fn next_cut(judged: u32, every: u32) -> Result<u32, LogError>
     ensures next { IfOk result (λ events. events ≡ judged + every) }
     ensures error { IfErr result (λ e. e ≡ LogError.Memory) }
@@ -62,7 +62,7 @@ fn next_cut(judged: u32, every: u32) -> Result<u32, LogError>
 }
 
 impl<K: SessionWork> Watch<'_, K> {
-    // Reads on to the next cut, and writes the line on it. Returns what came of the log where that is the last one.
+    // Reads on to the next cut, and writes the line on it. Returns the outcome for the log if that cut is the last one.
     fn turn<R: Source, W: Write>(
         &self,
         reader: &mut EventReader,
@@ -102,7 +102,7 @@ impl<K: SessionWork> Watch<'_, K> {
         }
     }
 
-    // Writes the line on a whole log, unless its last events were judged before, where so many were.
+    // Writes the line on a whole log, unless `judged` is not 0 and all its events were judged before.
     fn write_last<W: Write>(
         &self,
         writer: &mut W,
@@ -121,7 +121,7 @@ impl<K: SessionWork> Watch<'_, K> {
     }
 }
 
-// What came of a log that is not read on after a cut of which something else came than was expected.
+// The outcome for a log whose reading ends at a cut because the outcome there was not the expected one.
 fn stopped(outcome: Outcome) -> Option<Followed>
     ensures some { IfSome result (λ followed. (followed ≡ record { outcome = outcome; torn = false }) × (outcome ≢ Outcome.Met)) }
     ensures none { result ≡ None → outcome ≡ Outcome.Met }

@@ -9,7 +9,7 @@ use event_reader::{EventReader, Names};
 use long_writer::write_long;
 use std::alloc::{AllocError, Global};
 
-/// The history that a log stands for, in the form that `judge` reads, and a line feed.
+/// The history of a log, in the form that `judge` reads, and a line feed.
 ///
 /// Fails for want of memory alone. O(n log n) for n calls.
 pub(crate) fn history_text(alloc: Global, reader: EventReader) -> Result<String, AllocError>
@@ -35,7 +35,7 @@ pub(crate) fn names_text(alloc: Global, reader: &EventReader) -> Result<String, 
     Ok(text)
 }
 
-// Puts a list of names after a text.
+// Appends a list of names to a text.
 fn push_names(alloc: Global, text: &mut String, names: &Names) -> Result<(), AllocError> {
     text.push_str("[")?;
     'names: for place in 0..names.len() {

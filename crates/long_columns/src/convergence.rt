@@ -12,7 +12,7 @@ use std::alloc::{AllocError, Global};
 
 /// Whether the causal order and the conflicts of writes have no cycle together.
 ///
-/// The edges stand for all conflicts, as those of [`crate::sweep`] do. Fails for want of memory alone. O(e log e) for e edges, and the cost
+/// The edges represent all conflicts, as those of [`crate::sweep`] do. Fails for want of memory alone. O(e log e) for e edges, and the cost
 /// of [`order`].
 pub fn is_convergent(
     alloc: Global,

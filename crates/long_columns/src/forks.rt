@@ -96,7 +96,7 @@ fn look_at(
     }
 }
 
-/// Notes those of the writes that a read has in its past, but for what its source has there.
+/// Notes those of the writes that are in the past of a read, except those in the past of its source.
 fn leave(
     words: &ForkWords,
     source: u32,

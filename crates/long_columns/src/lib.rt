@@ -1,10 +1,10 @@
 //! Which operations of a session are before and after each operation in the causal order, and what that shows.
 //!
 //! [`sweep`] makes a column for each session that writes, two numbers an operation, or two bits for each of 64 sessions with one write. It
-//! finds by it which writes overwrote what reads after them returned, and which writes conflict; [`is_convergent`] says whether the
-//! conflicts make a cycle. Both serve to decide causal consistency and causal convergence of long histories. The columns by themselves,
-//! [`find_past_ends`] and [`find_firsts`], and what a read shows of one, [`look`] with the table of last writes that [`advance`] moves,
-//! serve to list all faulty reads. The crate uses long_order.
+//! finds from them which writes overwrote what reads after them returned, and which writes conflict; [`is_convergent`] says whether the
+//! conflicts make a cycle. Both serve to decide causal consistency and causal convergence of long histories. To list all
+//! faulty reads, [`find_past_ends`] and [`find_firsts`] make the columns by themselves, and [`look`], with the table of last writes that
+//! [`advance`] moves, says what a read shows of one. The crate uses long_order.
 #![tactic(auto)]
 
 mod convergence;

@@ -14,12 +14,12 @@ use std::sync::Wait;
 use std::thread;
 use std::thread::Threads;
 
-/// Finds whether writes overwrote what reads after them returned, and edges that stand for all conflicts of writes.
+/// Finds whether writes overwrote what reads after them returned, and edges that represent all conflicts of writes.
 ///
 /// The order is one that [`long_order::causal_order`] gives. No thread is started. Fails for want of memory alone. O(n k) for n operations
-/// and k sessions that write, where 64 sessions with one write each count as one. It takes 12 bytes an operation and 4 a variable, for
-/// sessions with one write 24 and 8 in their place, and 8 an edge: of these there is at most one for each write that is read and each
-/// session that writes.
+/// and k sessions that write, where 64 sessions with one write each count as one. It takes 12 bytes an operation and 4 a variable, or 24
+/// and 8 for sessions with one write, and 8 an edge. There is at most one edge for each write that is read and each session that
+/// writes.
 pub fn sweep(alloc: Global, index: &LongIndex, order: &[u32]) -> Result<Swept, AllocError>
     requires { IsOrderBy index.now.history [] order.now }
     ensures start { IfOk result (λ s. IsTrue s.has_overwritten_start ↔ HasOverwrittenStart index.now.history) }

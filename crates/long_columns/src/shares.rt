@@ -1,4 +1,4 @@
-//! What of a list of sessions falls to a part: the sessions with one write each, and the others.
+//! The share that a part has of a list of sessions: the sessions with one write each, and the others.
 
 ghost use Rattle.std.specs.Prelude.{◌≡◌, ◌↔◌, ◌⊎◌, ◌%◌, ◌<◌, ◌≤◌, ℕ, Some, length, slice_get, IfOk, IfSome, MatchOption, OnOk};
 ghost use Rattle.history.specs.declared.op_id.OpId.{OpId as Operation};

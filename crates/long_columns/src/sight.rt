@@ -9,6 +9,6 @@ pub enum Sight {
     OverwrittenStart,
     /// The read returned another write, which is in the past of this one.
     OverwrittenRead,
-    /// The write, the first number, has to come before the read's source, the second, and CO does not say so.
+    /// The write (the first number) has to come before the read's source (the second), and CO does not say so.
     Conflict(u32, u32),
 }

@@ -20,7 +20,7 @@ pub struct Swept {
     pub has_overwritten_start: bool,
     /// Some read returned a value that another write before it in the causal order had overwritten.
     pub has_overwritten_read: bool,
-    /// If no read did, conflicts that stand for all: each has the numbers of two writes, the one that comes first and the other.
+    /// If no read did, conflicts that represent all: each has the numbers of two writes, the one that comes first and the other.
     pub edges: Vec<(u32, u32)>,
 }
 

@@ -81,7 +81,7 @@ fn give(index: &LongIndex, operation: u32, words: &mut Vec<u64>)
     add_word(words, index.source(operation), word);
 }
 
-/// Gives each place, and no other, the bits of the places at which it stands in a list: from one place on, and only 64.
+/// Gives each operation the bits of its places in a list, from the place `from` on and only 64; gives no other bits.
 fn mark(places: &[u32], from: usize, words: &mut Vec<u64>)
     requires from { from ≤ length places.now }
     requires below { (k n : ℕ) → slice_get places.now k ≡ Some n → n < length words.old.items }

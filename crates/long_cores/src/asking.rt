@@ -1,4 +1,4 @@
-//! What is asked of numbers of operations that were gathered: nothing is known of a number that is of none.
+//! Questions about numbers of gathered operations. A number that is of no operation has no answer.
 
 use history::OpId;
 use long_index::{LongIndex, Part};

@@ -16,11 +16,11 @@ use objects::Memory;
 use pattern_search::find;
 use std::alloc::{AllocError, Global};
 
-/// Few operations of a long history that show a kind of bad pattern by themselves, which is the first that is present against the
-/// criterion.
+/// A few operations of a long history that show a kind of bad pattern by themselves. The kind is the first that is present against
+/// the criterion.
 ///
-/// They are gathered and judged by themselves. Nothing is promised of how many they are, nor that there is a core: mostly there is one
-/// of a few operations. Fails for want of memory alone. O(n (k + log n)) for n operations of k sessions, and what
+/// It gathers them and judges them by themselves. It does not promise how many they are, nor that there is a core: mostly there is
+/// one of a few operations. Fails for want of memory alone. O(n (k + log n)) for n operations of k sessions, and what
 /// [`find`](pattern_search::find) takes for a history within the limits of `History`, twice.
 pub fn core_of_kind(
     alloc: Global,
@@ -37,7 +37,7 @@ pub fn core_of_kind(
     }
 }
 
-/// The part with these operations, which are in order, where it shows the kind by itself.
+/// The part with these operations, which are in order, if it shows the kind by itself.
 fn judged(
     alloc: Global,
     index: &LongIndex,
@@ -61,7 +61,7 @@ fn judged(
     }
 }
 
-/// A pattern of the kind, where the search finds one and none of a kind before it.
+/// A pattern of the kind, if the search finds one and none of a kind before it.
 fn pattern_of_kind(
     alloc: Global,
     history: &History<Memory>,
@@ -80,8 +80,8 @@ fn pattern_of_kind(
     }
 }
 
-/// The core of the operations that a core's pattern with the fewest operations names, with the sources of their reads, where these show the
-/// kind by themselves, and else the core.
+/// A core narrowed to the operations that its pattern with the fewest operations names, with the sources of their reads, if these
+/// show the kind by themselves. Otherwise the core.
 fn narrowed(
     alloc: Global,
     index: &LongIndex,

@@ -1,4 +1,4 @@
-//! The operations that are gathered for each kind. What is gathered is no promise: it is judged by itself.
+//! The operations that are gathered for each kind. Nothing is promised of them: they are judged by themselves.
 
 use crate::asking::{op_of, source_of};
 use crate::happened::happened_before;
@@ -12,7 +12,7 @@ use long_index::{LongIndex, Part};
 use long_order::causal_order;
 use std::alloc::{AllocError, Global};
 
-/// Operations that may show a kind by themselves, with the sources of their reads, in order and each once. None, where none were found.
+/// Operations that may show a kind by themselves, with the sources of their reads, in order and each once. Empty if none were found.
 ///
 /// Fails for want of memory alone. O(n (k + log n)) for n operations of k sessions.
 pub(crate) fn ops_of_kind(
@@ -72,7 +72,7 @@ fn thin_air_reads(alloc: Global, index: &LongIndex) -> Result<Vec<u32>, AllocErr
     Ok(operations)
 }
 
-/// Those of ways from a write to a read of a value that it overwrote.
+/// The operations of ways from a write to a read of a value that it overwrote.
 fn overwritten(alloc: Global, index: &LongIndex, sight: Sight) -> Result<Vec<u32>, AllocError> {
     match causal_order(alloc, index)? {
         Some(order) => with_ends(alloc, &least_overwriting(alloc, index, &order, sight)?),
@@ -80,7 +80,7 @@ fn overwritten(alloc: Global, index: &LongIndex, sight: Sight) -> Result<Vec<u32
     }
 }
 
-/// Those that show a kind of happened-before.
+/// The operations that show a kind of happened-before.
 fn happened(alloc: Global, index: &LongIndex, kind: Kind) -> Result<Vec<u32>, AllocError> {
     match causal_order(alloc, index)? {
         Some(order) => happened_before(alloc, index, &order, kind),
@@ -88,7 +88,7 @@ fn happened(alloc: Global, index: &LongIndex, kind: Kind) -> Result<Vec<u32>, Al
     }
 }
 
-/// Those of a cycle of the causal order and of conflicts, with a way for each conflict that shows it.
+/// The operations of a cycle of the causal order and of conflicts, with a way for each conflict that shows it.
 fn conflicting(alloc: Global, index: &LongIndex) -> Result<Vec<u32>, AllocError> {
     let Some(order) = causal_order(alloc, index)? else {
         return Ok(Vec::new(alloc));
@@ -109,8 +109,8 @@ fn conflicting(alloc: Global, index: &LongIndex) -> Result<Vec<u32>, AllocError>
     Ok(operations)
 }
 
-/// Puts what shows that one operation comes before another after others: nothing where the second reads from the first, and else a way
-/// from the first to a read from the second.
+/// Appends what shows that one operation comes before another: nothing if the second reads from the first, or else a way from the
+/// first to a read from the second.
 fn push_step(
     alloc: Global,
     index: &LongIndex,
@@ -138,7 +138,7 @@ fn reads_from(alloc: Global, index: &LongIndex, write: u32) -> Result<Vec<u32>, 
     Ok(reads)
 }
 
-/// The sources of those that read from a write.
+/// The sources of the operations that read from a write.
 fn sources_of(
     alloc: Global,
     index: &LongIndex,

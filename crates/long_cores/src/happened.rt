@@ -12,8 +12,8 @@ use std::alloc::{AllocError, Global};
 /// The most steps that are followed.
 const MAX_STEPS: usize = 65_536;
 
-/// Operations that show one of the two kinds of happened-before: of the first session that shows it, up to the least of its operations
-/// that does. None, where no session shows it.
+/// Operations that show one of the two kinds of happened-before, for the least operation that shows it of the first session that
+/// does. Empty if no session shows it.
 ///
 /// The order is one that [`long_order::causal_order`] gives. Fails for want of memory alone. O(n (k + log n)) for n operations of
 /// k sessions.
@@ -78,11 +78,11 @@ struct Tracing {
     run: Run,
     /// The operation.
     last: u32,
-    /// Of each write the number after that of the read of it that was placed last, or 0.
+    /// For each write, the number after that of the read of it that was placed last, or 0.
     readers: Vec<u32>,
-    /// Sessions that wait at a time, from which the session itself is to be reached.
+    /// Sessions that wait, each at a time. The session itself is still to be reached from them.
     pending: Vec<(u32, u32)>,
-    /// Those that were.
+    /// Those that were followed.
     seen: Vec<(u32, u32)>,
     operations: Vec<u32>,
 }
@@ -168,7 +168,7 @@ impl Tracing {
         Ok(())
     }
 
-    /// Notes a session at a time, and tells whether it was noted before.
+    /// Records a session at a time. Returns whether it was recorded before.
     fn is_seen(&mut self, waiting: (u32, u32)) -> Result<bool, AllocError> {
         if self.seen.contains(&waiting) {
             return Ok(true);

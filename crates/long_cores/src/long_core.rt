@@ -35,14 +35,14 @@ impl LongCore {
         &self.history
     }
 
-    /// A bad pattern of this history, whose operations are numbered as they stand in it.
+    /// A bad pattern of this history. It numbers the operations as this history does.
     pub fn pattern(&self) -> &Pattern
         ensures { result.now ≡ self.now.pattern }
     {
         &self.pattern
     }
 
-    /// The operation of the whole that an operation of the part is, and itself where it is none of the part. O(1).
+    /// The operation of the whole that an operation of the part is. An operation that is not of the part stays itself. O(1).
     pub fn in_whole(&self, op: OpId) -> OpId {
         self.places.in_whole(op)
     }
@@ -60,7 +60,7 @@ impl LongCore {
 pub enum Gathered {
     /// Operations that show it by themselves.
     Core(LongCore),
-    /// Operations of the whole, in order and each once, that do not fit a history of at most 16 sessions of 256 operations, or that do
-    /// not show the kind by themselves. None, where none were found.
+    /// Operations of the whole, in order and each once, that do not fit a history of at most 16 sessions of 256 operations, or that
+    /// do not show the kind by themselves. Empty if none were found.
     Operations(Vec<OpId>),
 }

@@ -9,8 +9,8 @@ use long_columns::{Sight, advance, find_firsts, find_past_ends, look};
 use long_index::{LongIndex, Part};
 use std::alloc::{AllocError, Global};
 
-/// The legs of ways in the causal order that show a read of a value that was overwritten: of all sessions whose writes show one in their
-/// first read that does, the fewest. None, where no read shows it.
+/// The legs of ways in the causal order that show a read of a value that was overwritten. It takes the first
+/// read that the writes of each session show, and returns the fewest legs of all sessions. Empty if no read shows it.
 ///
 /// The order is one that [`long_order::causal_order`] gives. Fails for want of memory alone. O(n k) for n operations of k sessions.
 pub(crate) fn least_overwriting(
@@ -65,7 +65,7 @@ impl Overwriting {
     }
 }
 
-/// What the first read that shows it shows of a session's writes, with the session's last write of its variable in its past.
+/// The first read that a session's writes show as wanted, with the session's last write of its variable in its past.
 fn first_overwriting(
     alloc: Global,
     index: &LongIndex,

@@ -156,7 +156,7 @@ fn start_of(
     Ok(start)
 }
 
-/// Puts an initial value after those of lower keys, where there is room for one that is not 0.
+/// Appends an initial value that is not 0 after those of lower keys, if there is room.
 fn push_initial(start: &mut Table<u64>, key: u32, value: u64) -> Result<(), AllocError>
     requires { IsTable 0 (λ _. Unit {0}) start.old }
     ensures { OnOk result (IsTable 0 (λ _. Unit {0}) start.new) }
@@ -188,7 +188,7 @@ fn keys_of(alloc: Global, sessions: &[Vec<LongEntry>]) -> Result<Vec<u32>, Alloc
     Ok(keys)
 }
 
-/// Puts the keys of operations after others.
+/// Appends the keys of operations to others.
 fn push_keys(session: &[LongEntry], keys: &mut Vec<u32>) -> Result<(), AllocError> {
     for (call, _) in session {
         keys.push(call.key)?;

@@ -7,23 +7,23 @@ use std::alloc::{AllocError, Global};
 /// The time of an operation that was not placed.
 const NEVER: u32 = u32::MAX;
 
-/// What came of placing what is before an operation of a session and that itself, from the end: an operation is placed when its readers
-/// are, and when no read of the session that is placed keeps its variable for another write. Those of the session itself are placed when
+/// The result of placing an operation of a session and what is before it, from the end. An operation is placed when its readers are
+/// placed and no placed read of the session keeps its variable for another write. Operations of the session itself are placed when
 /// no other session can go on.
 #[derive(Drop)]
 pub(crate) struct Run {
     /// The session.
     pub(crate) own: u32,
-    /// Of each session the number after that of its last operation that is left.
+    /// For each session, the number after that of its last operation that is left.
     ends: Vec<u32>,
-    /// Of each operation how many reads of it are left.
+    /// For each operation, how many reads of it are left.
     readers: Vec<u32>,
-    /// Of each variable how many writes of it are left.
+    /// For each variable, how many writes of it are left.
     writes: Vec<u32>,
-    /// Of each variable the number after that of the write that it is kept for, or 0.
+    /// For each variable, the number after that of the write that it is kept for, or 0.
     locks: Vec<u32>,
-    /// Of each operation how many were placed when it was: those of a session fall. 0 where it is not before, and as late as can be where
-    /// it is left.
+    /// For each operation, how many were placed when it was: these numbers fall along a session. 0 if the operation is not before,
+    /// and as late as can be if it is left.
     times: Vec<u32>,
     /// How many are placed.
     now: u32,
@@ -31,11 +31,11 @@ pub(crate) struct Run {
     pub(crate) overwritten: Option<u32>,
 }
 
-/// In which order sessions are asked whether they can go on. Hints only save time.
+/// The order in which sessions are asked whether they can go on. Hints only save time.
 #[derive(Drop)]
 struct Turns {
     sessions: Vec<u32>,
-    /// The place among them of the one that went on last.
+    /// The place in `sessions` of the one that went on last.
     at: usize,
     /// Sessions that may be able to go on.
     hints: Vec<u32>,
@@ -70,7 +70,7 @@ impl Run {
         Ok(run)
     }
 
-    /// With nothing left.
+    /// A run with nothing left.
     fn nothing(alloc: Global, index: &LongIndex, own: u32) -> Result<Run, AllocError> {
         let operations = index.operations() as usize;
         let variables = index.variables() as usize;
@@ -90,7 +90,7 @@ impl Run {
         operation < number_at(&self.ends, session)
     }
 
-    /// Leaves the source of an operation, if that is left and has one, and what precedes the source.
+    /// If an operation is left and has a source, leaves the source and what precedes it.
     fn leave_source(&mut self, index: &LongIndex, operation: u32) {
         if operation >= index.operations()
             || !self.is_left(index.session_of(operation), operation)
@@ -159,7 +159,7 @@ impl Run {
         }
     }
 
-    /// The first place in a range of a list whose session is another one and can go on.
+    /// The first place in a range of a list whose session can go on and is not the run's own.
     fn free_among(
         &self,
         index: &LongIndex,
@@ -196,7 +196,7 @@ impl Run {
         }
     }
 
-    /// Whether no variable is kept from an operation of a session.
+    /// Whether no variable is kept from an operation of a session, so that the operation can be placed.
     fn is_admitted(&self, index: &LongIndex, session: u32, operation: u32) -> bool {
         if operation >= index.operations() {
             return false;
@@ -255,7 +255,7 @@ impl Run {
         (0..index.sessions()).find(|session| self.last_left(index, *session).is_some())
     }
 
-    /// When an operation was placed: 0 where it is not before.
+    /// When an operation was placed: 0 if it is not before.
     pub(crate) fn time(&self, operation: u32) -> u32 {
         number_at(&self.times, operation)
     }

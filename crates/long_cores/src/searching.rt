@@ -18,16 +18,17 @@ struct Raise {
     from: u32,
     /// The last of them.
     to: u32,
-    /// The operation that this leads to in one step, and the place of the raise that found that. None where the search began at it.
+    /// The operation that this raise leads to in one step, and the place of the raise that found that operation. None if the search
+    /// began here.
     next: Option<(u32, usize)>,
 }
 
-/// What is before some operations, in the order of how many steps from one session to another lead there.
+/// What is before some operations, ordered by how many steps from one session to another lead there.
 #[derive(Drop)]
 pub(crate) struct Search {
-    /// Of each session the number from which on its operations are not found.
+    /// For each session, the number from which on its operations are not found.
     ends: Vec<u32>,
-    /// Disjoint ones, but for those that the search began at.
+    /// Disjoint raises, except those that the search began at.
     raises: Vec<Raise>,
 }
 
@@ -89,7 +90,7 @@ impl Search {
         Ok(())
     }
 
-    /// Finds where the edges come from that lead to operations of a raise.
+    /// Finds the operations with edges to operations of a raise.
     fn follow_edges(
         &mut self,
         index: &LongIndex,
@@ -147,8 +148,8 @@ impl Search {
             .rposition(|raise| raise.from <= operation && operation <= raise.to)
     }
 
-    /// A way with the fewest steps from an operation to where the search began, by its legs: none where it was not found. Of one that the
-    /// search began at it is a cycle, where that is on one, and else a single leg.
+    /// The legs of a way with the fewest steps from an operation to where the search began: none if the operation was not found.
+    /// For one that the search began at, the way is a cycle if it is on one, or else a single leg.
     ///
     /// Fails for want of memory alone. O(m) for m raises.
     pub(crate) fn way_from(&self, alloc: Global, operation: u32) -> Result<Vec<Leg>, AllocError> {

@@ -28,10 +28,10 @@ pub(crate) fn cycle_with(
     Ok(least)
 }
 
-/// The operations that could be placed, of each session the first ones.
+/// The operations that could be placed: the first ones of each session.
 #[derive(Drop)]
 struct Placed {
-    /// Of each session the number from which on its operations are not placed.
+    /// For each session, the number from which on its operations are not placed.
     next: Vec<u32>,
     /// The sessions with operations that are not placed.
     unfinished: Vec<u32>,
@@ -62,7 +62,7 @@ impl Placed {
         Ok(Placed { next, unfinished })
     }
 
-    /// Places what can be in each session in turn. Gives the sessions that are still unfinished, or none where nothing could be placed.
+    /// Places what it can in each session in turn. Returns the sessions that are still unfinished, or none if it could place nothing.
     fn place_more(
         &mut self,
         alloc: Global,
@@ -86,7 +86,7 @@ impl Placed {
         Ok(if has_placed { Some(unfinished) } else { None })
     }
 
-    /// Places operations of a session from its next one on, while they can be.
+    /// Places operations of a session from its next one on, as long as it can.
     fn place_from(&mut self, index: &LongIndex, edges: &[(u32, u32)], session: u32, next: u32)
         requires { session < length index.now.history.1 }
     {
@@ -106,7 +106,7 @@ impl Placed {
         }
     }
 
-    /// Where an edge to an operation comes from that is not placed.
+    /// An operation that is not placed and from which an edge leads to the given operation.
     fn unplaced_edge(
         &self,
         index: &LongIndex,
@@ -132,7 +132,7 @@ impl Placed {
         }
     }
 
-    /// Of sessions that wait for one another in a cycle the next operations to place: none where all are placed.
+    /// The next operations to place of sessions that wait for one another in a cycle: none if all are placed.
     fn cycle(
         &self,
         alloc: Global,
@@ -155,8 +155,8 @@ impl Placed {
         Ok(cycle)
     }
 
-    /// The operation that is reached from another one by as many steps to a blocker as there are unfinished sessions: so one that comes
-    /// again.
+    /// The operation that is reached from another one after as many steps to a blocker as there are unfinished sessions. Further
+    /// steps reach it again.
     fn blocker_after(&self, index: &LongIndex, edges: &[(u32, u32)], operation: u32) -> u32 {
         let mut blocker = operation;
         for _step in &self.unfinished {
@@ -165,7 +165,7 @@ impl Placed {
         blocker
     }
 
-    /// The next operation to place of the session that another one waits for, or that one itself where it waits for none.
+    /// The next operation to place of the session that an operation waits for, or the operation itself if it waits for none.
     fn blocker(&self, index: &LongIndex, edges: &[(u32, u32)], operation: u32) -> u32 {
         let session = self
             .waits_for(index, edges, operation)

@@ -24,9 +24,9 @@ use std::alloc::{AllocError, Global};
 /// Whether a long history meets each of the three criteria.
 ///
 /// On distinct values it meets one exactly where no kind of bad pattern against it is present (Bouajjani, Enea, Guerraoui and Hamza, "On
-/// Verifying Causal Consistency", POPL 2017). Kinds against causal consistency are looked for first: in an order of all operations, and
-/// in a column for each session, which says of each operation which of that session's are before it. For causal convergence the
-/// conflicts that columns leave are ordered too, and for causal memory the past of each session's last operation. `Open` exactly where
+/// Verifying Causal Consistency", POPL 2017). It looks first for kinds against causal consistency: in an order of all operations, and in
+/// a column for each session, which says for each operation which operations of that session are before it. For causal convergence it
+/// also orders the conflicts that columns leave, and for causal memory the past of each session's last operation. `Open` exactly where
 /// values are not distinct.
 ///
 /// `work` goes over the sessions: [`CallingThread`](crate::CallingThread) alone, or [`WorkerThreads`](crate::WorkerThreads), which share
@@ -83,7 +83,7 @@ pub fn decide_indexed<W: SessionWork>(
     }
 }
 
-/// What is decided of a history whose causal order has no cycle: here it is.
+/// What is decided of a history whose causal order has no cycle. `order` is that order.
 fn decide_ordered<W: SessionWork>(
     work: &W,
     alloc: Global,
@@ -107,7 +107,7 @@ fn decide_ordered<W: SessionWork>(
     decide_consistent(work, alloc, index, order, swept.edges)
 }
 
-/// What is decided of a history in which no kind against causal consistency is present: it meets that.
+/// What is decided of a history in which no kind against causal consistency is present: it meets causal consistency.
 fn decide_consistent<W: SessionWork>(
     work: &W,
     alloc: Global,

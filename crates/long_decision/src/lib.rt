@@ -1,7 +1,7 @@
 //! Whether a memory history of any length meets the three criteria.
 //!
-//! It gives [`decide_long`], and stands on the orders, columns and session orders of long histories, and on the laws of bad patterns. The
-//! definitions are those of `decision`: only the way to the answer differs, so its clauses may change with theirs alone.
+//! It gives [`decide_long`], and depends on the orders, columns and session orders of long histories, and on the laws of bad patterns.
+//! The definitions are those of `decision`: only the way to the answer differs, so its clauses may change only together with theirs.
 #![tactic(auto)]
 
 mod deciding;

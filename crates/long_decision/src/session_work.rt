@@ -18,7 +18,7 @@ use std::thread::Threads;
 
 /// Goes over the sessions of a long history.
 pub trait SessionWork {
-    /// That it can: threads may share the runtime.
+    /// It can do this work: threads may share the runtime.
     ghost can_work: { Self → Type 0 };
 
     /// Sweeps the columns of the sessions, as [`sweep`] does.
@@ -73,7 +73,7 @@ pub struct WorkerThreads<'a, T> {
 }
 
 impl<'a, T: Threads + Wait + Sync> WorkerThreads<'a, T> {
-    /// So many, or one where the number is 0.
+    /// This many workers, or one if the number is 0.
     pub fn of(rt: &'a T, workers: usize) -> WorkerThreads<'a, T> {
         WorkerThreads { rt, workers }
     }

@@ -26,7 +26,7 @@ pub struct SessionFaults {
 }
 
 impl FaultCounts {
-    /// How many show this kind: none does any kind but these three.
+    /// How many show this kind; 0 for every kind except these three.
     pub fn of(self, kind: Kind) -> u32
         ensures { result ≡ count_of self kind }
     {
@@ -38,14 +38,14 @@ impl FaultCounts {
         }
     }
 
-    /// How many show one.
+    /// How many show a fault.
     pub fn total(self) -> u64
         ensures { result ≡ self.thin_air + self.start + self.read }
     {
         u64::from(self.thin_air) + u64::from(self.start) + u64::from(self.read)
     }
 
-    /// None does.
+    /// The counts if no read shows a fault.
     pub(crate) fn none() -> FaultCounts
         ensures { AreCounts [] result }
     {
@@ -56,7 +56,7 @@ impl FaultCounts {
         }
     }
 
-    /// Counts one fault more.
+    /// Counts one more fault.
     pub(crate) fn add(&mut self, fault: Fault)
         requires { IsBelow self.old 4_294_967_295 }
         ensures { (all : List AFault) → AreCounts all self.old → AreCounts (all ++ fault ∷ []) self.new }
@@ -80,7 +80,7 @@ impl SessionFaults {
         SessionFaults { session, counts }
     }
 
-    /// The row with one fault more.
+    /// The row with one more fault.
     pub(crate) fn with(self, fault: Fault) -> SessionFaults
         requires { IsBelow self.counts 4_294_967_295 }
         ensures session { result.session ≡ self.session }

@@ -18,7 +18,7 @@ pub enum Fault {
         read: OpId,
         missed: OpId,
     },
-    /// It returned the value of the source, which the missed write is after.
+    /// It returned the value of the source, and the missed write is after the source.
     WriteCORead {
         read: OpId,
         source: OpId,

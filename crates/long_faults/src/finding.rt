@@ -17,11 +17,11 @@ use long_index::{LongIndex, Part};
 use long_order::causal_order;
 use std::alloc::{AllocError, Global};
 
-/// The reads that show a fault: of the first ones, at most so many, what they show and which write they missed, and of all how many there
+/// The reads that show a fault: for the first ones, at most so many, what they show and which write they missed; for all, how many there
 /// are of each kind and in each session.
 ///
-/// Of the writes that a read missed, it names one that no other one is after in the causal order. Where that order has a cycle, only reads
-/// of values that nobody wrote are counted. Fails for want of memory alone. O(n k) for n operations and k sessions that write. It takes 16
+/// Among the writes that a read missed, it names one that no other is after in the causal order. If that order has a cycle, it counts
+/// only reads of values that nobody wrote. Fails for want of memory alone. O(n k) for n operations and k sessions that write. It takes 16
 /// bytes an operation and 4 a variable.
 pub fn find_faults(alloc: Global, index: &LongIndex, most: usize) -> Result<Faults, AllocError>
     ensures tally { IfOk result (λ f. IsTallyOf index.now.history most f.listed.items f.counts f.by_session.items) }

@@ -19,8 +19,8 @@ const SHOWN_SESSIONS: usize = 16;
 
 /// The line of a fault of the indexed history: what the read returned, which write it missed, and the kind.
 ///
-/// `2.117 reads 41 from variable 3 (written by 0.12), after 5.80 wrote 63 to it: WriteCORead`. Of operations that the history doesn't have
-/// it says less. Fails for want of memory alone. O(1).
+/// `2.117 reads 41 from variable 3 (written by 0.12), after 5.80 wrote 63 to it: WriteCORead`. It says less about operations that the
+/// history doesn't have. Fails for want of memory alone. O(1).
 pub fn fault_line<N: Names>(
     alloc: Global,
     index: &LongIndex,
@@ -51,7 +51,7 @@ pub fn fault_line<N: Names>(
     }
 }
 
-/// The operation of a history, where it has it.
+/// The operation of a history, if the history has it.
 fn entry_of(h: &LongHistory, op: OpId) -> Option<LongEntry> {
     let session = op.session_place();
     if session >= h.sessions() {
@@ -96,7 +96,7 @@ fn known_write(h: &LongHistory, op: OpId) -> Option<(u32, u64)> {
 }
 
 /// The lines of the counts: one for each kind that occurs, then one for each session that has a fault, those with the most first, at most
-/// sixteen of them and how many there are more.
+/// sixteen of them and how many more there are.
 ///
 /// `WriteCORead: 117 reads in 3 of 64 sessions`, `session 2: 90 reads`. Fails for want of memory alone. O(s log s) for s sessions that have
 /// a fault.

@@ -1,4 +1,4 @@
-//! The latest write that each read missed, by one column after the other.
+//! The latest write that each read missed, found one column after the other.
 
 ghost use Rattle.std.specs.Prelude.{◌≡◌, ◌+◌, ◌<◌, ◌≤◌, ℕ, [], Some, length, slice_get, slice_index_or, IfOk};
 ghost use Rattle.history.specs.declared.op_id.OpId.{OpId as Operation};
@@ -13,7 +13,7 @@ use long_columns::{Sight, advance, fill, find_firsts, find_past_ends, look, writ
 use long_index::LongIndex;
 use std::alloc::{AllocError, Global};
 
-/// The latest write that each read missed: by the number of the read the number after that of the write, or 0.
+/// The latest write that each read missed: at the number of the read, the number after that of the write, or 0.
 ///
 /// The order is one that [`long_order::causal_order`] gives. Fails for want of memory alone. O(n k) for n operations and k sessions that
 /// write. It takes 12 bytes an operation and 4 a variable.
@@ -34,7 +34,7 @@ pub(crate) fn missed_writes(
     Ok(missed)
 }
 
-/// No operation missed a write.
+/// The start, in which no operation missed a write.
 pub(crate) fn nothing_missed(alloc: Global, index: &LongIndex) -> Result<Vec<u32>, AllocError>
     ensures size { IfOk result (λ missed. length missed.items ≡ many index.now.history) }
     ensures none { IfOk result (λ missed. (n : ℕ) → slice_index_or missed.items n 0 ≡ 0) }
@@ -169,7 +169,7 @@ fn last_missed(
     }
 }
 
-/// The later of two numbers after those of missed writes, each of which may be 0. The second write is of the session of the firsts.
+/// The later of two missed writes, each as the number after its own, or 0 for none. The second write is of the session of `firsts`.
 fn later(firsts: &[u32], noted: u32, write: u32) -> u32
     requires { noted ≤ length firsts.now }
     ensures { IsLater (λ n. slice_index_or firsts.now n 0) noted write result }

@@ -1,4 +1,4 @@
-//! The faults of a history, some of them and how many.
+//! The faults of a history: some are listed, all are counted.
 
 ghost use Rattle.std.specs.Prelude.{◌≡◌, ◌∷◌, ◌++◌, ◌+◌, ◌<◌, ◌≤◌, ℕ, List, [], Some, slice_get, OnOk};
 ghost use Rattle.long_faults.specs.declared.counts.SessionFaults.{SessionFaults as ARow};
@@ -22,12 +22,12 @@ pub struct Faults {
     pub by_session: Vec<SessionFaults>,
     /// How many sessions the history has.
     pub sessions: u32,
-    /// The causal order has a cycle: then only reads of values that nobody wrote are looked for.
+    /// Whether the causal order has a cycle; then the search covers only reads of values that nobody wrote.
     pub has_cycle: bool,
 }
 
 impl Faults {
-    /// None yet.
+    /// No faults yet.
     pub(crate) fn none(alloc: Global, sessions: u32, has_cycle: bool) -> Faults
         ensures tally { (most : ℕ) → IsTally [] most result.listed.items result.counts result.by_session.items }
         ensures sessions { result.sessions ≡ sessions }
@@ -42,7 +42,7 @@ impl Faults {
         }
     }
 
-    /// Counts one fault more, of the last session or a later one, and lists it unless so many are listed.
+    /// Counts one more fault, of the last session or a later one, and lists it unless so many are listed already.
     ///
     /// Fails for want of memory alone.
     pub(crate) fn add(&mut self, fault: Fault, most: usize) -> Result<(), AllocError>
@@ -63,7 +63,7 @@ impl Faults {
     }
 }
 
-/// Pushes a fault to a list of the first ones, unless it has so many.
+/// Pushes a fault to a list of the first ones, unless it has so many already.
 fn push_within(listed: &mut Vec<Fault>, fault: Fault, most: usize) -> Result<(), AllocError>
     ensures { OnOk result (IsListedWith most fault listed.old.items listed.new.items) }
 {
@@ -73,7 +73,7 @@ fn push_within(listed: &mut Vec<Fault>, fault: Fault, most: usize) -> Result<(),
     Ok(())
 }
 
-/// Counts a fault in the row of its session, which is the last one or made new.
+/// Counts a fault in the row of its session: the last row, or a new one.
 fn add_to_session(rows: &mut Vec<SessionFaults>, fault: Fault) -> Result<(), AllocError>
     requires small { (j : ℕ) (row : ARow) → slice_get rows.old.items j ≡ Some row → IsBelow row.counts 4_294_967_295 }
     requires session { (read_of fault).session < 4_294_967_296 }

@@ -1,7 +1,7 @@
 //! Histories of a memory of any length: any number of sessions, each with any number of operations.
 //!
-//! It gives [`LongHistory`], with the numbers of operations and the steps of the causal order in `specs/`, and stands on the definitions
-//! of memory_order. What reads, indexes and judges long histories stands on it.
+//! It gives [`LongHistory`], with the numbers of operations and the steps of the causal order in `specs/`, and depends on the
+//! definitions of memory_order. What reads, indexes and judges long histories depends on it.
 #![tactic(auto)]
 
 mod limits;

@@ -23,15 +23,15 @@ use std::marker::Model;
 #[derive(Drop)]
 pub struct LongIndex<'a> {
     history: &'a LongHistory,
-    /// Of each session the number of its first operation, and at last the number of all operations.
+    /// The number of the first operation of each session, and at last the number of all operations.
     starts: Vec<u32>,
-    /// Of each operation its session.
+    /// The session of each operation.
     sessions: Vec<u32>,
-    /// Of each operation its variable.
+    /// The variable of each operation.
     variables: Vec<u32>,
-    /// Of each operation what is known of it.
+    /// What is known of each operation.
     parts: Vec<Part>,
-    /// Above the number of each variable.
+    /// Each variable's number is below this.
     bound: u32,
 }
 
@@ -176,7 +176,7 @@ impl<'a> LongIndex<'a> {
         }
     }
 
-    /// The number of an operation's variable: what is meant by it holds of writes and known reads alone. O(1).
+    /// The number of an operation's variable. Its meaning holds for writes and known reads alone. O(1).
     pub fn variable(&self, operation: u32) -> u32
         requires { operation < many self.now.history }
         ensures below { result < self.now.bound }

@@ -14,7 +14,7 @@ use std::alloc::{AllocError, Global};
 pub(crate) fn starts(alloc: Global, h: &LongHistory) -> Result<Vec<u32>, AllocError>
     ensures { IfOk result (λ starts. ListsStarts h.now (length h.now.1) starts.items) }
 {
-    // So few that their numbers fit 32 bits.
+    // There are so few operations that their numbers fit 32 bits.
     let _operations = h.operations();
     let mut starts = Vec::with_capacity(alloc, h.sessions() + 1)?;
     let mut next = 0;

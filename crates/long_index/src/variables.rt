@@ -15,7 +15,7 @@ use std::alloc::{AllocError, Global};
 #[derive(Drop)]
 pub(crate) struct Variables {
     pub(crate) by_number: Vec<u32>,
-    /// Above the number of each variable.
+    /// Each variable's number is below this.
     pub(crate) bound: u32,
 }
 

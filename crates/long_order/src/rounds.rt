@@ -20,14 +20,14 @@ use std::alloc::{AllocError, Global};
 #[derive(Clone, Copy, Debug)]
 struct Unfinished {
     session: u32,
-    /// Each edge before this place leads to an operation before the session's next one, or to that from a placed one.
+    /// Each edge before this place leads to an operation before the session's next one, or from a placed operation to that next one.
     passed: usize,
 }
 
-/// The operations placed so far: of each session the first ones.
+/// The operations placed so far: the first ones of each session.
 #[derive(Drop)]
 struct Placement {
-    /// Of each session the number from which on its operations are not placed.
+    /// For each session the number from which on its operations are not placed.
     next: Vec<u32>,
     /// The numbers of the placed operations, each after those that it has to follow.
     order: Vec<u32>,
@@ -143,7 +143,7 @@ impl Placement {
         Ok(())
     }
 
-    /// Places operations of a session while the next one can follow. Answers how far it has gone, unless it is finished.
+    /// Places operations of a session while the next one can follow. Returns how far it has gone, unless it is finished.
     fn run(
         &mut self,
         index: &LongIndex,
@@ -229,7 +229,7 @@ impl Placement {
     }
 }
 
-/// An order of all operations, by number: each stands after the one before it in its session, after the write that it read from, and
+/// An order of all operations, by number: each is after the one before it in its session, after the write that it read from, and
 /// after `from` for each edge `(from, to)` to it. `None` where these make a cycle.
 ///
 /// The edges are sorted by `to`. Fails for want of memory alone. O(n + k + e) for n operations in k sessions and e edges, and in each round
@@ -260,7 +260,7 @@ pub fn order(
     }
 }
 
-/// An order of all operations, by number: each stands after those that are causally before it. `None` where the causal order is cyclic.
+/// An order of all operations, by number: each is after those that are causally before it. `None` where the causal order is cyclic.
 ///
 /// Fails for want of memory alone. It costs what [`order`] does.
 pub fn causal_order(alloc: Global, index: &LongIndex) -> Result<Option<Vec<u32>>, AllocError>

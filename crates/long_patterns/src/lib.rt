@@ -1,7 +1,7 @@
 //! Tests of bad patterns in long histories.
 //!
-//! It gives [`check_long_pattern`] and [`is_shown_in_long`]. It stands on bad_patterns, whose tests it calls, and on long_index, by which
-//! it answers what these ask.
+//! It gives [`check_long_pattern`] and [`is_shown_in_long`]. It depends on bad_patterns, whose tests it calls, and on long_index, with
+//! which it answers what these ask.
 #![tactic(auto)]
 
 mod checking;

@@ -48,7 +48,7 @@ fn read_first(
     Ok(parts)
 }
 
-/// The parts of the history that begins the value that begins with a token, or their first refusal.
+/// The parts of the history that is the first element of the value that begins with a token, or their first refusal.
 fn read_list(
     alloc: Global,
     token: Token<'_>,
@@ -66,7 +66,7 @@ fn read_list(
     Ok(Err(ReadError::BadShape))
 }
 
-/// The parts of the history that begins the list that the text is, or their first refusal.
+/// The parts of the history that is the first element of the list that the text is, or their first refusal.
 fn read_list_text(alloc: Global, text: &str) -> Result<Result<Parts, ReadError>, TextError>
     ensures read { IfOk result (IsWholeList text.now) }
     ensures refused { IfErr result (IsWholeRefused text.now) }
@@ -81,7 +81,7 @@ fn read_list_text(alloc: Global, text: &str) -> Result<Result<Parts, ReadError>,
     Ok(parts)
 }
 
-/// The parts of the history that begins the list that the bytes are, or why there are none.
+/// The parts of the history that is the first element of the list that the bytes are, or why there are none.
 fn read_list_bytes(alloc: Global, text: &[u8]) -> Result<Parts, ReadError>
     ensures read { IfOk result (IsJsonList text.now) }
     ensures refused { IfErr result (IsRefusedFirst text.now) }
@@ -96,8 +96,8 @@ fn read_list_bytes(alloc: Global, text: &[u8]) -> Result<Parts, ReadError>
     }
 }
 
-/// The memory history whose form is the first element of the list that the text is, as JSON: of any number of sessions, each with any
-/// number of operations. What comes after it in the list is passed.
+/// The memory history whose form is the first element of a list, where the text is this list as JSON. It may have any number of
+/// sessions, each with any number of operations. The reader passes what comes after it in the list.
 ///
 /// `NotJson` where `serde_json` refuses the text, `BadShape` where it is no list or an empty one, else the first refusal of the element, as
 /// [`read_long`](crate::read_long) has it. `Memory` where an allocation was refused, or where there are more operations or sessions than

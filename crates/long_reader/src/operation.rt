@@ -58,7 +58,7 @@ fn entry_of(word: Scalar, key: Scalar, first: Scalar, second: Option<Scalar>) ->
     Some((KeyedCall { key, call }, ret))
 }
 
-/// The operation of which the rest of a list has the elements, where there is one. It passes the whole list in any case.
+/// The operation whose elements are the rest of a list, if there is one. It passes the whole list in any case.
 fn read_elements(
     alloc: Global,
     reader: &mut Reader<'_>,
@@ -87,7 +87,7 @@ fn read_elements(
     Ok(None)
 }
 
-/// The operation that comes next, where its value is one. It passes the value in any case.
+/// The operation that comes next, if the next value is one. It passes the value in any case.
 pub(crate) fn read_entry(
     alloc: Global,
     reader: &mut Reader<'_>,

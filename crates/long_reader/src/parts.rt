@@ -18,7 +18,7 @@ use operations::{HistoryPlace, ReadError};
 use serde_json::Value;
 use std::alloc::Global;
 
-/// What a part of a history was read as, or its refusal, or none where it has not the shape of that part.
+/// A part of a history as it was read, or its refusal, or none where the value doesn't have the shape of that part.
 type Part<T> = Option<Result<T, ReadError>>;
 
 /// The start and the sessions of a history.
@@ -46,7 +46,7 @@ fn read_name(alloc: Global, reader: &mut Reader<'_>, depth: usize) -> Result<Par
     Ok(name_of(&value))
 }
 
-/// The parts together, or the first refusal: of the shape of one, of the name, of the sessions, and of the start at last.
+/// The parts together, or the first refusal, in this order: the shape of a part, the name, the sessions, and last the start.
 fn joined(
     name: Part<()>,
     sessions: Part<Rows<LongEntry>>,

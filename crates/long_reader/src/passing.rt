@@ -1,4 +1,4 @@
-//! Steps that the readers share: the next token, the next value cut at its place, and values of which nothing is kept.
+//! Steps that the readers share: the next token, the next value cut at its place, and values that are not kept.
 
 ghost use Rattle.std.specs.Prelude.{◌≡◌, ◌≢◌, [], ◌∷◌, ◌<◌, ◌≤◌, ℕ, length, IfOk, IfErr, OnOk, OnErr, None};
 ghost use Rattle.json.specs.Reads.{token_of};
@@ -55,7 +55,7 @@ pub(crate) fn pass_value(
     Ok(())
 }
 
-/// Passes the value that begins with a token, which is no list.
+/// Passes the value that begins with a token; the value is no list.
 pub(crate) fn pass_no_list(
     alloc: Global,
     token: Token<'_>,

@@ -46,10 +46,10 @@ fn read_bytes(alloc: Global, text: &[u8]) -> Result<Parts, ReadError>
     }
 }
 
-/// The memory history whose form the text is, as JSON: any number of sessions, each with any number of operations.
+/// The memory history whose form is the text, as JSON: any number of sessions, each with any number of operations.
 ///
-/// `NotJson` where `serde_json` refuses the text, else the first refusal of its value: of its shape, of its name, which is `memory`, of
-/// each session in order, and of the start at last. `Memory` where an allocation was refused, or where there are more operations or
+/// `NotJson` where `serde_json` refuses the text, else the first refusal of its value, in this order: its shape, its name, which is
+/// `memory`, each session in order, and last the start. `Memory` where an allocation was refused, or where there are more operations or
 /// sessions than [`long_history::MAX_NUMBERS`]. O(n) for a text of n bytes, and beside the text it takes memory for the operations alone.
 pub fn read_long(alloc: Global, text: &[u8]) -> Result<LongHistory, ReadError>
     ensures is_history { IfOk result IsLongHistory }

@@ -56,7 +56,7 @@ fn scalar_of(value: &Value) -> Scalar
     }
 }
 
-/// What a token says that is a text or digits alone.
+/// What a token says, if it is a text or digits alone.
 #[inline(always)]
 #[tactic(auto, using(crate::proofs::ScalarTokens::number_alone))]
 fn scalar_of_token(token: &Token<'_>) -> Option<Scalar>
@@ -72,7 +72,7 @@ fn scalar_of_token(token: &Token<'_>) -> Option<Scalar>
     }
 }
 
-/// What the value says that begins with a token. It passes the value.
+/// What the value that begins with a token says. It passes the value.
 #[inline(always)]
 fn read_scalar(
     alloc: Global,
@@ -91,7 +91,7 @@ fn read_scalar(
     Ok(scalar_of(&value))
 }
 
-/// What the next element of a list says, or none at its end, which is passed.
+/// What the next element of a list says, or none at its end, which it passes.
 #[inline]
 pub(crate) fn next_scalar(
     alloc: Global,

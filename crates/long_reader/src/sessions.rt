@@ -60,7 +60,7 @@ fn read_sessions(
     Ok(Ok(sessions))
 }
 
-/// The sessions that the value that comes next lists, or their first refusal, or none where it is no list.
+/// The sessions in the list that comes next, or their first refusal, or none if the next value is no list.
 pub(crate) fn read_session_list(
     alloc: Global,
     reader: &mut Reader<'_>,

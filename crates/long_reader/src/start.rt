@@ -13,7 +13,7 @@ use objects::Table;
 use operations::{HistoryPlace, ReadError, SpelledStart};
 use std::alloc::Global;
 
-/// Whether the key is above the one before it, where there is one.
+/// Whether the key is above the one before it, if there is one.
 fn is_above(before: Option<u32>, key: u32) -> bool
     ensures { result ≡ is_above_before before key }
 {
@@ -23,7 +23,7 @@ fn is_above(before: Option<u32>, key: u32) -> bool
     }
 }
 
-/// The entry that comes next, where it is one whose key is above the one before it.
+/// The entry that comes next, if it is an entry whose key is above the one before it.
 fn read_entry(
     alloc: Global,
     reader: &mut Reader<'_>,
@@ -45,7 +45,7 @@ fn read_entry(
     }
 }
 
-/// The table of the rest of a list, where it has an entry and its keys rise. It passes the whole list in any case.
+/// The table of the rest of a list, if it has an entry and its keys rise. It passes the whole list in any case.
 fn read_table(
     alloc: Global,
     reader: &mut Reader<'_>,
@@ -76,7 +76,7 @@ fn read_table(
     }
 }
 
-/// The table that the value that comes next lists, or its refusal, or none where it is no list.
+/// The table in the list that comes next, or its refusal, or none if the next value is no list.
 fn read_table_list(
     alloc: Global,
     reader: &mut Reader<'_>,
@@ -97,8 +97,8 @@ fn read_table_list(
     Ok(None)
 }
 
-/// The start of the rest of a list: no values where nothing stands there, else the table that stands there alone. None where it has
-/// not this shape.
+/// The start in the rest of a list: no values if the rest is empty, else the table that is its only element. None where the rest has
+/// another shape.
 pub(crate) fn read_start(
     alloc: Global,
     reader: &mut Reader<'_>,

@@ -26,7 +26,7 @@ fn main(rt: HostRuntime) -> Result<()> {
     write_line(&rt, Criterion::Ccv, &decisions.ccv)
 }
 
-/// What is decided of the history of a memory whose form the text is.
+/// What is decided of the memory history whose form is the text.
 fn decisions_of(alloc: Global, text: &[u8]) -> Result<Decisions>
     ensures decided { IfOk result (AreDecidedOf text.now) }
 {

@@ -13,7 +13,7 @@ use history::{History, OpId};
 use objects::Memory;
 use std::alloc::{AllocError, Global};
 
-/// The source of each operation of a history, whose writes these are.
+/// The source of each operation of a history, from its writes.
 ///
 /// The source of a known read of a value that is not the initial one is the first write of that value to its variable.
 /// Other operations have none, nor has a read of a value that nobody writes. Fails for want of memory alone. O(n log n)

@@ -29,7 +29,7 @@ use std::alloc::{AllocError, Global};
 pub(crate) struct Raised {
     /// The first of the neighbours.
     pub(crate) op: OpId,
-    /// The index behind the last of them.
+    /// The index after the last of them.
     pub(crate) end: usize,
     /// The session that their vectors count more of.
     pub(crate) session: usize,
@@ -64,8 +64,7 @@ pub struct Raise {
 /// Within a session no count falls from one operation to the next. An operation comes before itself where its vector
 /// counts more of its own session than its index.
 ///
-/// What a raise demands of other vectors is done when the raise is followed. Where nothing waits to be followed, the order
-/// is transitive.
+/// Following a raise does what it demands of other vectors. If no raise waits to be followed, the order is transitive.
 #[derive(Drop)]
 pub(crate) struct GrowingOrder {
     /// The vectors.
@@ -76,7 +75,7 @@ pub(crate) struct GrowingOrder {
     pub(crate) pending: Vec<Raised>,
     /// What was raised, in turn.
     pub(crate) raises: Vec<Raise>,
-    /// How many pairs may be added until the order is given up, or none where it never is.
+    /// How many pairs may be added before the order is given up, or none if it never is.
     pub(crate) most: Option<u32>,
     /// How many pairs were added.
     pub(crate) added: u32,
@@ -144,8 +143,8 @@ impl GrowingOrder {
 
     /// Takes in an operation and what its vector counts, as far as they aren't in the order yet.
     ///
-    /// Each is taken in behind its source. So it is raised to what is before it once, and nothing has to be followed. O(k) where
-    /// nothing was added yet, for k sessions, and else O(k) for each operation that is taken in and for each raise.
+    /// Each is taken in after its source. So it is raised once to what is before it, and nothing has to be followed. O(k) for k
+    /// sessions if nothing was added yet, and otherwise O(k) for each operation that is taken in and for each raise.
     pub(crate) fn take_past(
         &mut self,
         h: &History<Memory>,
@@ -192,8 +191,7 @@ impl GrowingOrder {
         Ok(())
     }
 
-    /// The index of the next operation of a session, where it is counted by the vector of an operation and its source is in the
-    /// order. O(1).
+    /// The index of the next operation of a session, if the vector of an operation counts it and its source is in the order. O(1).
     fn ready_index(
         &self,
         h: &History<Memory>,
@@ -241,8 +239,8 @@ impl GrowingOrder {
         }
     }
 
-    /// A session whose next operation is counted by the vector of an operation, while its source is in the order. None where all
-    /// that the vector counts is in the order. O(k) for k sessions.
+    /// A session with a next operation that the vector of an operation counts and whose source is in the order. None if all that
+    /// the vector counts is in the order. O(k) for k sessions.
     fn next_ready(&self, h: &History<Memory>, sources: &Sources, op: OpId) -> Option<usize>
         requires ready { IsReady h.now self.now }
         requires sources { ListsSourcesIfAny h.now sources.now }
@@ -259,7 +257,7 @@ impl GrowingOrder {
         None
     }
 
-    /// Whether the next operation of a session is counted by the vector of an operation, and its source is in the order. O(1).
+    /// Whether the vector of an operation counts the next operation of a session, and the source of that one is in the order. O(1).
     fn is_ready(&self, h: &History<Memory>, sources: &Sources, op: OpId, session: usize) -> bool
         requires growing { IsGrowing h.now self.now }
         requires sources { ListsSourcesIfAny h.now sources.now }
@@ -319,8 +317,8 @@ impl GrowingOrder {
         self.past[op.session_place()] = op.number();
     }
 
-    /// Puts all that is before an operation, if there is one, before the last operation of a session that is in the order, which
-    /// no operation of the order is behind. O(k) for k sessions, besides what it raises.
+    /// Puts all that is before an operation, if there is one, before the last operation of a session that is in the order. No
+    /// operation of the order comes after that one. O(k) for k sessions, besides what it raises.
     fn join(
         &mut self,
         h: &History<Memory>,
@@ -396,8 +394,8 @@ impl GrowingOrder {
         let _dropped = self.pending.pop();
     }
 
-    /// Follows what was raised: the operation comes behind all that is before the last one counted, and what comes
-    /// behind the operation counts as much.
+    /// Follows what was raised: the operation comes after all that is before the last one counted, and what comes after the
+    /// operation counts as much.
     pub(crate) fn follow(&mut self, h: &History<Memory>, raised: Raised) -> Result<(), AllocError>
         requires growing { IsGrowing h.now self.old }
         requires is_op { IsOp h.now raised.op }
@@ -411,7 +409,7 @@ impl GrowingOrder {
         self.add_behind(h, raised)
     }
 
-    /// Lets what comes behind an operation that was raised count as much.
+    /// Lets what comes after an operation that was raised count as much.
     fn add_behind(&mut self, h: &History<Memory>, raised: Raised) -> Result<(), AllocError>
         requires growing { IsGrowing h.now self.old }
         requires is_op { IsOp h.now raised.op }
@@ -450,7 +448,8 @@ impl GrowingOrder {
         self.add_past(h, op, last)
     }
 
-    /// Puts a write that is before a read before the source of the read. What is before it follows.
+    /// Puts a write that is before a read before the source of the read. What is before the write comes when the raise is
+    /// followed.
     pub(crate) fn add_rival(
         &mut self,
         h: &History<Memory>,
@@ -474,8 +473,8 @@ impl GrowingOrder {
         self.raise_from(h, session, index, other, count, Cause::Read(read))
     }
 
-    /// Puts all that is before an operation before another one, which that one is before. O(k) for k sessions, besides what
-    /// it raises.
+    /// Puts all that is before an operation before another one, which comes after it. O(k) for k sessions, besides what it
+    /// raises.
     fn add_past(&mut self, h: &History<Memory>, op: OpId, before: OpId) -> Result<(), AllocError>
         requires growing { IsGrowing h.now self.old }
         requires is_op { IsOp h.now op }
@@ -512,8 +511,8 @@ impl GrowingOrder {
         next_above(self.counts.get(one), self.counts.get(other), from)
     }
 
-    /// The index of the first operation of a session that comes behind an operation, or of the first one that isn't in
-    /// the order. O(log p) for p operations of the session.
+    /// The index of the first operation of a session that comes after an operation, or of the first one that isn't in the order.
+    /// O(log p) for p operations of the session.
     fn first_behind(&self, h: &History<Memory>, session: usize, op: OpId) -> usize
         requires growing { IsGrowing h.now self.now }
         requires is_op { IsOp h.now op }
@@ -536,8 +535,8 @@ impl GrowingOrder {
         low
     }
 
-    /// Two indices between which, the second among them, that of the first operation of a session is that comes behind an
-    /// operation, or of the first one that isn't in the order. They are found from the end, which it mostly is near to.
+    /// Two bounds, both included, on the index of the first operation of a session that comes after an operation, or of the
+    /// first one that isn't in the order. The search starts at the end, which the index is mostly near.
     fn near_end(&self, h: &History<Memory>, session: usize, op: OpId) -> (usize, usize)
         requires growing { IsGrowing h.now self.now }
         requires is_op { IsOp h.now op }
@@ -557,7 +556,7 @@ impl GrowingOrder {
         (0, high)
     }
 
-    /// Whether an operation of a session comes behind an operation. O(1).
+    /// Whether an operation of a session comes after an operation. O(1).
     fn is_behind(&self, h: &History<Memory>, session: usize, index: usize, op: OpId) -> bool
         requires growing { IsGrowing h.now self.now }
         requires is_op { IsOp h.now op }
@@ -569,8 +568,8 @@ impl GrowingOrder {
         op.index < u64::from(self.count(h, other, op.session_place()))
     }
 
-    /// Raises what the vectors of an operation and of those behind it in its session count of a session, up to the first
-    /// that counts as much, and notes what is to be followed.
+    /// Raises what the vectors of an operation and of those after it in its session count of a session, up to the first that
+    /// counts as much, and notes what is to be followed.
     fn raise_from(
         &mut self,
         h: &History<Memory>,
@@ -609,8 +608,8 @@ impl GrowingOrder {
         Ok(())
     }
 
-    /// Raises what the vectors of an operation and of those behind it in its session count of a session, up to the first
-    /// that counts as much. The index of that one.
+    /// Raises what the vectors of an operation and of those after it in its session count of a session, up to the first that
+    /// counts as much. Returns the index of that one.
     fn raise_up_to(
         &mut self,
         h: &History<Memory>,
@@ -646,7 +645,7 @@ impl GrowingOrder {
         Ok(end)
     }
 
-    /// Raises what the vector of an operation counts of a session, where that is less. Whether it was raised.
+    /// Raises what the vector of an operation counts of a session, if that is less. Returns whether it was raised.
     fn raise(
         &mut self,
         h: &History<Memory>,

@@ -23,7 +23,7 @@ use history::{History, OpId};
 use objects::Memory;
 use std::alloc::{AllocError, Global};
 
-/// How many pairs a relation may have that the causal order doesn't have, where a certificate or a derivation is made of it.
+/// How many pairs beyond those of the causal order a relation may have, if a certificate or a derivation is made of it.
 pub const MAX_PAIRS: u32 = 100_000;
 
 /// What is known of the happened-before relation of an operation.
@@ -33,17 +33,17 @@ pub enum Saturation {
     Saturated,
     /// Some operation is before itself.
     Cyclic,
-    /// The relation has more pairs than it may have that the causal order doesn't have, and isn't made.
+    /// The relation has more pairs beyond those of the causal order than it may have, and isn't made.
     GivenUp,
 }
 
 /// The happened-before relation of one operation of a session after another.
 ///
-/// That of an operation o is on what the causal order puts before o, and o. It is the least transitive one that has the
-/// causal order there, and in which, for each known read that is o or before o in its session, what is before the read
-/// and writes its variable is before the source of the read, the source itself excepted. It is kept as vectors: for each
-/// operation how many operations of each session are before it, where an operation counts itself only if it is before
-/// itself. So the vector of an operation counts at least its own index of its own session.
+/// The relation of an operation o is on o and the operations that the causal order puts before o. It is the least transitive
+/// relation that contains the causal order there, and in which, for each known read that is o or before o in its session, each
+/// write of its variable that is before the read is before the source of the read, the source itself excepted. It is kept as
+/// vectors: for each operation how many operations of each session are before it, where an operation counts itself only if it is
+/// before itself. So the vector of an operation counts at least its own index of its own session.
 #[derive(Drop)]
 pub struct HappenedBefore {
     session: usize,
@@ -56,8 +56,8 @@ pub struct HappenedBefore {
 }
 
 impl HappenedBefore {
-    /// The relation for the operations of a session, of which none is taken in yet, and with at most so many pairs that the
-    /// causal order doesn't have, if a number is given.
+    /// The relation for the operations of a session, before any of them is taken in. It may have at most `most` pairs beyond
+    /// those of the causal order, if a number is given.
     ///
     /// Fails for want of memory alone. O(n k) for n operations of k sessions.
     pub fn of(
@@ -89,10 +89,11 @@ impl HappenedBefore {
 
     /// Goes on to the happened-before relation of the session's next operation.
     ///
-    /// Where values are distinct, its vectors then count exactly this relation, or it is given up: exactly where it has more
-    /// pairs than it may have that the causal order doesn't have. After a cyclic relation those of the later operations are cyclic or
-    /// given up, and after one that is given up all are. Fails for want of memory alone, and nothing is left then. O(q k +
-    /// m k log p) for q operations and m pairs that the relation has more than before, and k sessions of at most p operations.
+    /// If values are distinct, its vectors then count exactly this relation, or it is given up: exactly if it has more pairs
+    /// beyond those of the causal order than it may have. After a cyclic relation, those of the later operations are cyclic or
+    /// given up, and after one that is given up, all are given up. Fails for want of memory alone, and then nothing is left.
+    /// O(q k + m k log p) for q operations and m pairs that the relation has more than before, and k sessions of at most p
+    /// operations.
     pub fn take_next(self, order: &CausalOrder) -> Result<HappenedBefore, AllocError>
         requires made { IsMade order.now self }
         requires next { taken_of self < length (operations_of order.now (session_of self)) }
@@ -119,7 +120,7 @@ impl HappenedBefore {
         }
     }
 
-    /// The same, where the relation of the operation before is given up: so is that of the next one.
+    /// The same, if the relation of the operation before is given up: that of the next one is then given up too.
     fn pass_next(mut self, h: &History<Memory>) -> HappenedBefore
         requires made { IsMade h.now self }
         requires next { taken_of self < length (operations_of h.now (session_of self)) }
@@ -130,7 +131,7 @@ impl HappenedBefore {
         self
     }
 
-    /// The same, where it is not given up.
+    /// The same, if it is not given up.
     fn make_next(
         mut self,
         h: &History<Memory>,
@@ -149,7 +150,7 @@ impl HappenedBefore {
         Ok(self)
     }
 
-    /// What the relation of the last operation that was taken in came to. O(1).
+    /// The state of the relation of the last operation that was taken in. O(1).
     pub fn saturation(&self) -> Saturation
         ensures { Tells self.now result }
     {
@@ -174,9 +175,9 @@ impl HappenedBefore {
 
     /// What was raised in the vectors, in turn.
     ///
-    /// Each raise puts operations before an operation whose vector did not count them until then, and names the cause,
-    /// which rests on the causal order and on earlier raises. What the vectors count that the causal order doesn't have was
-    /// raised, and where values are distinct, the relation has at least as many such pairs as there are raises. O(1).
+    /// Each raise puts operations before an operation whose vector did not count them until then, and names the cause, which
+    /// rests on the causal order and on earlier raises. Whatever the vectors count beyond the causal order was raised. If values
+    /// are distinct, the relation has at least as many such pairs as there are raises. O(1).
     pub fn raises(&self) -> &[Raise]
         ensures { result.now ≡ raises_of self.now }
     {
@@ -230,7 +231,7 @@ impl HappenedBefore {
         self.follow_reads(h, raised)
     }
 
-    /// Puts the writes before the sources that what was raised demands.
+    /// Puts writes before sources, as what was raised demands.
     fn follow_reads(&mut self, h: &History<Memory>, raised: Raised) -> Result<(), AllocError>
         requires well_formed { IsWellFormed h.now self.old }
         requires sources { AreSourcesIn h.now self.old }

@@ -105,8 +105,8 @@ impl<'a> IndexedMemory<'a> {
         &self.sources
     }
 
-    /// The source of an operation: of a known read of a value that is not the initial one the first write of that value to
-    /// its variable, where there is one. O(1).
+    /// The source of an operation. Only a known read of a value that is not the initial one has a source: the first write of that
+    /// value to its variable, if there is one. O(1).
     pub fn source(&self, op: OpId) -> Option<OpId>
         ensures { IsSourceIfAny self.now op result }
     {
@@ -120,7 +120,7 @@ impl<'a> IndexedMemory<'a> {
         self.reads.as_slice()
     }
 
-    /// The last write of a variable in the session of `end` that stands before `end`. O(log n) for n writes.
+    /// The last write of a variable before `end` in the session of `end`. O(log n) for n writes.
     pub fn last_write_before(&self, key: u32, end: OpId) -> Option<OpId>
         ensures { MatchOption result (HasNoWriteBefore self.now key end) (IsLastWriteBefore self.now key end) }
     {

@@ -40,7 +40,7 @@ pub(crate) fn known_reads(
     Ok(reads)
 }
 
-/// Puts the known reads of a session behind those of the sessions before it.
+/// Adds the known reads of a session after those of the sessions before it.
 fn push_reads(
     h: &History<Memory>,
     sources: &Sources,
@@ -63,7 +63,7 @@ fn push_reads(
     Ok(())
 }
 
-/// Puts an operation behind the reads before it, where it is a known read.
+/// Adds an operation after the reads before it, if it is a known read.
 fn push_read(
     h: &History<Memory>,
     op: OpId,

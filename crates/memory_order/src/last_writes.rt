@@ -15,7 +15,7 @@ pub(crate) fn sort_by_variable(writes: &mut Vec<Write>)
     writes.sort_unstable_by_key(|write| (write.key, write.op));
 }
 
-/// The last write of a variable in the session of `end` that stands before `end`.
+/// The last write of a variable before `end` in the session of `end`.
 ///
 /// The writes are those of a history, by variable and operation. O(log n) for n writes.
 pub(crate) fn last_write_before(writes: &[Write], key: u32, end: OpId) -> Option<OpId>

@@ -18,7 +18,7 @@ use std::alloc::{AllocError, Global};
 /// first write of that value to its variable. Where values are distinct it is the causal order. `None` where the order has a
 /// cycle, or where a known read returned a value that is not the initial one and that nobody writes.
 ///
-/// Fails for want of memory alone. O(n (log n + k)) for n operations of k sessions. Who asks more of the history keeps
+/// Fails for want of memory alone. O(n (log n + k)) for n operations of k sessions. A caller that asks more of the history keeps
 /// [`IndexedMemory`], which has these vectors and all that they are made of.
 pub fn memory_order(alloc: Global, h: &History<Memory>) -> Result<Option<Vectors>, AllocError>
     ensures counted { IfOk result (λ order. IfSome order (CountsSourceOrder h.now)) }

@@ -12,9 +12,9 @@ use std::alloc::{AllocError, Global};
 /// Vectors of the causal order of a memory history: program order, and from the first write of a value that is not the
 /// initial one to each known read that returned it.
 ///
-/// `None` where that order is cyclic, or where a known read returned a value that is not the initial one and that nobody
-/// writes. What this means on distinct values a law says (`laws::source_order_is_causal_order`). Fails for want of memory
-/// alone. O(n k) for n operations of k sessions.
+/// `None` where that order is cyclic, or where a known read returned a value that is not the initial one and that nobody writes.
+/// The law `laws::source_order_is_causal_order` says what this means on distinct values. Fails for want of memory alone. O(n k)
+/// for n operations of k sessions.
 pub(crate) fn order_by_sources(
     alloc: Global,
     h: &History<Memory>,

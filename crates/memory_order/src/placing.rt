@@ -18,7 +18,7 @@ pub type Sources = Rows<Option<OpId>>;
 
 /// The vectors of the order that program order and the sources make, or `None` where it is cyclic.
 ///
-/// The sources are those of the operations of the history, and no operation is its own. Fails for want of memory alone.
+/// The sources are those of the operations of the history, and no operation is its own source. Fails for want of memory alone.
 /// O(n k) for n operations of k sessions.
 pub(crate) fn order_of(
     alloc: Global,
@@ -40,7 +40,7 @@ pub(crate) fn order_of(
     }
 }
 
-/// The vectors, made along a schedule that names each operation behind its source.
+/// The vectors, made along a schedule that names each operation after its source.
 fn vectors_along(alloc: Global, sources: &Sources, schedule: &[u8]) -> Result<Vectors, AllocError>
     requires listed { AreListed sources.now }
     requires short { AreShort sources.now }
@@ -67,7 +67,7 @@ fn no_vectors(alloc: Global, sessions: usize) -> Result<Vectors, AllocError>
     Ok(vectors)
 }
 
-/// Gives the next operation of a session that is ready its vector.
+/// Gives the next operation of a ready session its vector.
 fn place(
     alloc: Global,
     sources: &Sources,

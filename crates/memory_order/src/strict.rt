@@ -32,7 +32,7 @@ pub(crate) fn strict_vectors(
     Ok(strict)
 }
 
-/// Lets no vector of a session's operations count its own operation.
+/// Makes each vector of a session's operations leave out its own operation.
 fn leave_out_own(h: &History<Memory>, session: usize, strict: &mut Vectors)
     requires held { AreHeldVectors h.now strict.old }
     requires exists { session < length h.now.1 }

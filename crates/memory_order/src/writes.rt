@@ -31,7 +31,7 @@ pub fn sorted_writes(alloc: Global, h: &History<Memory>) -> Result<Vec<Write>, A
     Ok(writes)
 }
 
-/// Puts the writes of a session behind those of the sessions before it.
+/// Adds the writes of a session after those of the sessions before it.
 fn push_writes(
     h: &History<Memory>,
     session: usize,

@@ -3,7 +3,7 @@ ghost use Rattle.std.specs.Prelude.{IfOk};
 use crate::seq_object::SeqObject;
 use std::alloc::{AllocError, Global};
 
-/// The state that stands for these calls from this start.
+/// The state that represents these calls from this start.
 ///
 /// Fails for want of memory alone. One `apply` a call.
 pub fn replay<O: SeqObject>(

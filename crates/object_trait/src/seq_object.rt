@@ -5,7 +5,7 @@ use std::alloc::{AllocError, Global};
 /// An object with a sequential specification: each call has one answer, which the start and the calls before it
 /// determine.
 ///
-/// The laws below the methods hold for every implementation, so code over a `SeqObject` may rest on them.
+/// The laws below the methods hold for every implementation, so code over a `SeqObject` may rely on them.
 pub trait SeqObject: Drop + Sized {
     /// What a session asks of the object.
     type Call: Copy + Eq + Send + Sync;
@@ -17,7 +17,7 @@ pub trait SeqObject: Drop + Sized {
     /// The answer to a call after the earlier calls, from a start.
     ghost answer: { Self.Start → List Self.Call → Self.Call → Self.Ret };
 
-    /// A state stands for a start and the calls since.
+    /// A state represents a start and the calls since.
     ghost stands: { Self → Self.Start → List Self.Call → Type 0 };
 
     /// A query changes no later answer.
@@ -47,7 +47,7 @@ pub trait SeqObject: Drop + Sized {
         requires { is_start start.now }
         ensures { IfOk result (λ s. s ≡ start.now) };
 
-    /// A start from which a call is answered as it is from this one, whatever calls came before it. It may hold less.
+    /// A start that gives the call the same answer as this start, whatever calls came before it. It may hold less.
     fn start_for(
         alloc: Global,
         start: &Self::Start,
@@ -62,13 +62,13 @@ pub trait SeqObject: Drop + Sized {
         requires { is_start start.now }
         ensures { IfOk result (λ o. stands o start.now []) };
 
-    /// The same state once more.
+    /// An equal state.
     ///
     /// Fails for want of memory alone. It takes time and room for what the state holds.
     fn again(&self, alloc: Global) -> Result<Self, AllocError>
         ensures { IfOk result (λ o. o ≡ self.now) };
 
-    /// Answers a call and takes it in. A refusal leaves the state.
+    /// Answers a call and takes it in. A refusal leaves the state unchanged.
     fn apply(&mut self, call: Self::Call) -> Result<Self::Ret, AllocError>
         ensures answers { (s : Self.Start) (cs : List Self.Call) → stands self.old s cs → IfOk result (λ r. r ≡ answer s cs call) }
         ensures takes_in { (s : Self.Start) (cs : List Self.Call) → stands self.old s cs

@@ -29,7 +29,7 @@ pub enum QueueRet {
 /// Items in the order in which they were pushed. A pop takes the first one, so each pop changes later answers and no
 /// call is a query.
 ///
-/// A pop takes constant time. So does a push, but for one that finds no room, which moves the n items: O(1) on average.
+/// A pop takes constant time. So does a push, except one that finds no room, which moves the n items: O(1) on average.
 /// A copy takes O(n).
 #[derive(Drop)]
 pub struct Queue {

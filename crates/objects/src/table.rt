@@ -66,7 +66,7 @@ impl<S> Table<S> {
 }
 
 impl<S: Drop> Table<S> {
-    /// Puts an entry behind the others.
+    /// Appends an entry.
     ///
     /// Fails for want of memory alone, and the table is then as it was. O(1), on average.
     pub fn push(&mut self, key: u32, start: S) -> Result<(), AllocError>

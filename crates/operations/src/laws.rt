@@ -1,4 +1,4 @@
-//! Laws of forms: the contract of each function is the law, and the function does no more than the law speaks of.
+//! Laws of forms: the contract of each function is the law, and the function does no more than the law says.
 
 ghost use Rattle.std.specs.Prelude.{◌≡◌, MatchResult};
 ghost use Rattle.operations.specs.AnyForm.{form_of, IsAnyHistory};

@@ -16,7 +16,7 @@ pub fn is_done(value: &Value) -> bool
     }
 }
 
-/// Whether nothing stands there.
+/// Whether there are no values.
 pub fn is_nothing(values: &[Value]) -> bool
     ensures { result ≡ stands_nothing (map view values.now) }
 {

@@ -20,19 +20,19 @@ pub trait Named: SeqObject {
     /// The form of a call with its known return, or with none.
     ghost operation_form: { Self.Call → Option Self.Ret → Data };
 
-    /// The form of a call that stands without its return.
+    /// The form of a call without its return.
     ghost call_form: { Self.Call → Data };
 
-    /// The form of a return that stands without its call.
+    /// The form of a return without its call.
     ghost return_form: { Self.Ret → Data };
 
     /// The call and the return of a form.
     ghost operation_at: { Data → Option (Self.Call × Option Self.Ret) };
 
-    /// What stands behind the sessions: nothing, or a table of initial values.
+    /// The values after the sessions: none, or a table of initial values.
     ghost start_form: { Self.Start → List Data };
 
-    /// The start of what stands behind the sessions.
+    /// The start that the values after the sessions give.
     ghost start_at: { List Data → Option Self.Start };
 
     /// What the type of a call keeps of its numbers.
@@ -47,11 +47,11 @@ pub trait Named: SeqObject {
     fn read_operation(value: &Value) -> Option<(Self::Call, Option<Self::Ret>)>
         ensures { result ≡ operation_at (view value.now) };
 
-    /// The call whose form the value is, where it stands without its return.
+    /// The call whose form without its return the value is.
     fn read_lone_call(value: &Value) -> Option<Self::Call>
         ensures { IsReadWithin is_call call_form (view value.now) result };
 
-    /// The return whose form the value is, where it stands without its call.
+    /// The return whose form without its call the value is.
     fn read_lone_return(value: &Value) -> Option<Self::Ret>
         ensures { IsRead return_form (view value.now) result };
 

@@ -20,7 +20,7 @@ fn with_rest<'a>(
     Some((name, sessions, rest))
 }
 
-/// The name, the sessions, and what stands behind them, where the value is a list of two or three such elements.
+/// The name, the sessions, and the values after them, where the value is a list of two or three such elements.
 pub fn parts_of(value: &Value) -> Option<(&str, &[Value], &[Value])>
     ensures { option_map (λ p. (p.0.now, map view p.1.now, map view p.2.now)) result ≡ parts_at (view value.now) }
 {

@@ -7,7 +7,7 @@ use std::marker::Model;
 
 /// A history from the plain start.
 ///
-/// The form of a history of an object without keys has no start, so such a history starts plain.
+/// The form of a history of an object without keys has no start, so such a history has the plain start.
 #[derive(Drop)]
 pub struct PlainHistory<O: SeqObject> {
     history: History<O>,
@@ -32,7 +32,7 @@ impl<O: SeqObject> PlainHistory<O> {
         PlainHistory { history }
     }
 
-    /// The history, which it is made from.
+    /// The history from which it was made.
     pub fn into_history(self) -> History<O>
         ensures { result ≡ self }
     {

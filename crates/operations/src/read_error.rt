@@ -11,16 +11,16 @@ pub enum ReadError {
     /// The text is no JSON.
     #[error("no JSON")]
     NotJson,
-    /// The value, or a session, has not the shape of one.
+    /// The value does not have the shape of a history, or an element does not have that of a session.
     #[error("no history")]
     BadShape,
     /// No object has the name.
     #[error("an unknown object")]
     UnknownObject,
-    /// The operation has no form of the object's.
+    /// The element has none of the forms of the object's operations.
     #[error("no operation at {}.{}", .0.session, .0.index)]
     BadOp(OpId),
-    /// The operation has a known return, and an earlier one of its session has not.
+    /// The operation has a known return, and an earlier operation of its session does not.
     #[error("a known return after an unknown one at {}.{}", .0.session, .0.index)]
     ReturnAfterUnknown(OpId),
     /// There are more than 16 sessions.
@@ -32,7 +32,7 @@ pub enum ReadError {
     /// An allocation was refused.
     #[error("no memory")]
     Memory,
-    /// What stands behind the sessions is no table of initial values of the object's.
+    /// The value after the sessions is no table of initial values of the object's.
     #[error("no table of initial values")]
     BadInitial,
 }

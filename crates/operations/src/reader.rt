@@ -21,7 +21,7 @@ use bounded_json::{TextError, read_bounded};
 use serde_json::Value;
 use std::alloc::{AllocError, Global};
 
-/// The history of the object with this name, from the forms of its sessions and of what stands behind them.
+/// The history of the object with this name, from the forms of its sessions and the values after them.
 fn read_named(
     alloc: Global,
     name: ObjectName,
@@ -58,7 +58,7 @@ fn read_named(
 /// The history whose form the value is.
 ///
 /// A refusal is the first in the order of reading: the shape of the whole, the name, the number of sessions, each
-/// session in order, and the start at last. O(n) for n operations.
+/// session in order, and last the start. O(n) for n operations.
 pub fn history_of(alloc: Global, value: &Value) -> Result<AnyHistory, ReadError>
     ensures is_history { IfOk result IsAnyHistory }
     ensures form { IfOk result (λ h. view value.now ≡ form_of h) }

@@ -86,7 +86,7 @@ fn read_sessions<O: Named>(
     Ok(sessions)
 }
 
-/// The history of an object, from the forms of its sessions and of what stands behind them.
+/// The history of an object, from the forms of its sessions and the values after them.
 pub fn read_parts<O: Named>(
     alloc: Global,
     sessions: &[Value],

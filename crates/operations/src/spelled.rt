@@ -16,8 +16,8 @@ use std::alloc::{AllocError, Global};
 
 /// An object whose operations are spelled by a word, the arguments of the call, and the return.
 ///
-/// What is common to all objects is written once over this trait: the key of a keyed object stands behind the word, and
-/// `"?"` in the place of a return that is not known. The laws say that reading undoes writing, and that nothing else is
+/// The code over this trait holds once what all objects have in common: the key of a keyed object comes after the word, and
+/// `"?"` takes the place of a return that is not known. The laws say that reading undoes writing, and that nothing else is
 /// read.
 pub trait Spelled: SeqObject<Start: SpelledStart> {
     /// The name of the histories of this object.
@@ -32,10 +32,10 @@ pub trait Spelled: SeqObject<Start: SpelledStart> {
     /// What a call takes.
     ghost arguments: { Self.Call → List Data };
 
-    /// A return: nothing for one that says no more than that the call is done.
+    /// A return: nothing for a return that says only that the call is done.
     ghost ret_form: { Self.Ret → List Data };
 
-    /// The call of a word and the arguments behind it, and what stands behind these.
+    /// The call of a word and the arguments after it, and the values after these.
     ghost call_at: { List ℕ → List Data → Option (Self.Call × List Data) };
 
     /// The return of a call.
@@ -56,21 +56,21 @@ pub trait Spelled: SeqObject<Start: SpelledStart> {
     fn read_ret(call: &Self::Call, values: &[Value]) -> Option<Self::Ret>
         ensures { result ≡ ret_at call.now (map view values.now) };
 
-    /// The return that stands alone, without its call.
+    /// The return whose form the value is, without its call.
     fn read_ret_alone(value: &Value) -> Option<Self::Ret>
         ensures { IsRead (lone_return_form ret_form) (view value.now) result };
 
-    /// Puts what a call takes behind the others. Where memory runs out they stay as they were.
+    /// Appends what a call takes to the values. Where memory runs out they stay as they were.
     fn push_arguments(call: &Self::Call, values: &mut Vec<Value>) -> Result<(), AllocError>
         ensures ok { OnOk result (map view values.new.items ≡ map view values.old.items ++ arguments call.now) }
         ensures err { OnErr result (values.new.items ≡ values.old.items) };
 
-    /// Puts a return behind the others. Where memory runs out they stay as they were.
+    /// Appends a return to the values. Where memory runs out they stay as they were.
     fn push_ret(ret: &Self::Ret, values: &mut Vec<Value>) -> Result<(), AllocError>
         ensures ok { OnOk result (map view values.new.items ≡ map view values.old.items ++ ret_form ret.now) }
         ensures err { OnErr result (values.new.items ≡ values.old.items) };
 
-    /// The call that a word and the values behind it spell, and its return where that is known.
+    /// The call that a word and the values after it spell, and its return where that is known.
     fn read_spelled(word: &str, values: &[Value]) -> Option<(Self::Call, Option<Self::Ret>)>
         ensures { result ≡ spelled_at call_at ret_at word.now (map view values.now) }
     {
@@ -82,7 +82,7 @@ pub trait Spelled: SeqObject<Start: SpelledStart> {
         }
     }
 
-    /// The values, and behind them the arguments of a call and its return, or `"?"`.
+    /// The values, and after them the arguments of a call and its return, or `"?"`.
     fn with_rest(
         alloc: Global,
         call: &Self::Call,
@@ -99,7 +99,7 @@ pub trait Spelled: SeqObject<Start: SpelledStart> {
         Ok(values)
     }
 
-    /// The call that a word and the values behind it spell, where nothing stands behind what it takes.
+    /// The call that a word and the values after it spell, where no value follows what the call takes.
     fn read_whole_call(word: &str, values: &[Value]) -> Option<Self::Call>
         ensures { result ≡ whole_call_at call_at word.now (map view values.now) }
     {

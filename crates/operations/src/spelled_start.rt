@@ -1,4 +1,4 @@
-//! How a start stands in a table of initial values.
+//! The form of a start in a table of initial values.
 
 ghost use Rattle.std.specs.Prelude.{◌≡◌, Option, None, map, IfOk};
 ghost use Rattle.serde_json.specs.Data.{Data};
@@ -12,7 +12,7 @@ use objects::Table;
 use serde_json::Value;
 use std::alloc::{AllocError, Global};
 
-/// A start that has a form where it is not the plain one, and the table of such starts under their keys.
+/// A start that has a form unless it is the plain one, and the table of such starts under their keys.
 pub trait SpelledStart: Drop + Sized {
     /// A start that is not the plain one.
     ghost start_form: { Self → Data };
@@ -67,7 +67,7 @@ pub trait SpelledStart: Drop + Sized {
     }
 }
 
-/// Without a start that is not the plain one, no table has an entry.
+/// The only start is the plain one, so no table has an entry.
 impl SpelledStart for () {
     ghost start_form = { no_start_form };
 

@@ -9,7 +9,7 @@ use crate::json::is_question_mark;
 use serde_json::Value;
 use std::alloc::{AllocError, Global};
 
-/// Whether `"?"` stands there alone.
+/// Whether `"?"` is the only value.
 pub fn is_question_mark_alone(values: &[Value]) -> bool
     ensures { result ≡ is_unknown_alone (map view values.now) }
 {
@@ -19,7 +19,7 @@ pub fn is_question_mark_alone(values: &[Value]) -> bool
     }
 }
 
-/// Puts `"?"` behind the others. Where memory runs out they stay as they were.
+/// Appends `"?"` to the values. Where memory runs out they stay as they were.
 pub fn push_question_mark(alloc: Global, values: &mut Vec<Value>) -> Result<(), AllocError>
     ensures ok { OnOk result (map view values.new.items ≡ map view values.old.items ++ question_mark ∷ []) }
     ensures err { OnErr result (values.new.items ≡ values.old.items) }

@@ -1,4 +1,4 @@
-//! The word of an operation, and a number behind it.
+//! The word of an operation, and a number after it.
 
 ghost use Rattle.std.specs.Prelude.{◌≡◌, ◌≢◌, ℕ, List, [], ◌∷◌, map, option_map, option_and_then, IfOk, MatchOption};
 ghost use Rattle.serde_json.specs.Data.{Data, string};
@@ -11,7 +11,7 @@ use crate::json::elements_of;
 use serde_json::Value;
 use std::alloc::{AllocError, Global};
 
-/// The word that a list begins with, and what stands behind it.
+/// The word that a list begins with, and the values after it.
 pub fn word_and_rest(value: &Value) -> Option<(&str, &[Value])>
     ensures parts { option_map (λ p. (p.0.now, map view p.1.now)) result
         ≡ option_and_then word_rest (elements (view value.now)) }
@@ -31,7 +31,7 @@ pub fn word_alone(alloc: Global, word: &str) -> Result<Vec<Value>, AllocError>
     Ok(values)
 }
 
-/// The whole number that stands first, and what stands behind it.
+/// The whole number that comes first, and the values after it.
 pub fn first_number(values: &[Value]) -> Option<(u64, &[Value])>
     ensures { option_map (λ p. (p.0, map view p.1.now)) result ≡ number_at_first (map view values.now) }
 {

@@ -44,7 +44,7 @@ fn write_sessions<O: Named>(alloc: Global, history: &History<O>) -> Result<Value
 
 /// The form of a history.
 ///
-/// Each part of the history passes here, so the contract says what its type keeps of it. O(n) for n operations.
+/// The function visits each part of the history, so its contract says what the type of each part guarantees. O(n) for n operations.
 pub fn write_parts<O: Named>(alloc: Global, history: &History<O>) -> Result<Value, AllocError>
     ensures form { IfOk result (λ v. view v ≡ history_form O.name O.operation_form O.start_form history.now) }
     ensures is_history { OnOk result (IsHistory O.is_start O.matches history.now) }

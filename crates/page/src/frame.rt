@@ -13,7 +13,7 @@ pub const OPENING: &str = r#"<!DOCTYPE html>
 <head>
 <meta charset="utf-8">
 <meta http-equiv="Content-Security-Policy" content="default-src 'none'; base-uri 'none'; form-action 'none';
-script-src 'sha256-MHnzZ8tF9LTvV5JGbaEMPPsPHQqPk3Dc7AMrrQmCoZU=';
+script-src 'sha256-uCYvzCYVYBI1qYj6BgqD7hyLAm5pkcltsjr8dwXcIFE=';
 style-src 'sha256-x7LJrQxXm27nupvLkflIfF2kSdeFTCYr2DUefNxHIis='">
 <meta name="viewport" content="width=device-width, initial-scale=1">
 <meta name="referrer" content="no-referrer">

@@ -1,6 +1,6 @@
 //! The first part of the page's script: it reads the four texts and works out what they say, and touches no element.
 //!
-//! Numbers stay exact up to 2^64 - 1. An operation is a number, by session and then by index, and what is known of it stands in columns.
+//! Numbers stay exact up to 2^64 - 1. Operations are numbered session by session, and arrays hold what is known of each number.
 
 /// The first part of the script: ASCII, with nothing that ends a script element.
 pub const SCRIPT: &str = r#"(() => {
@@ -220,8 +220,8 @@ function operationPieces(run, names, op) {
     key: run.isKeyed ? names.key(run.key[from]) : '', value: isDelete || value < 0 ? '' : names.value(value)};
 }
 
-// ---- The causal order: session order and reads. A way goes from one operation to another by as few reads as can be, and is searched from
-// its end: `front` is, for each session, behind the last operation from which the end is known to be reached.
+// ---- The causal order: session order and reads. A way from one operation to another takes as few reads as possible. The search begins
+// at its end: for each session, `front` is one more than the last operation that is known to reach the end.
 function wayBetween(run, from, to) {
   const front = Int32Array.from(run.base), queue = [{top: to, read: NONE, next: null}];
   for (let at = 0; at < queue.length; at++) {

@@ -18,7 +18,7 @@ pub(crate) struct LogAnswer {
     pub torn: bool,
 }
 
-/// What is answered to a log in memory that is followed once.
+/// The answer to a log in memory that is followed once.
 ///
 /// Fails with the first line that is refused, and for want of memory. Its cost is that of [`follow_log`].
 #[tactic(auto, using(crate::proofs::Joined::followed_is_answer))]

@@ -18,8 +18,8 @@ use std::thread::Threads;
 /// Reads the whole input, lists its faults as JSON, and writes the page of the input and of that list, without names and lines.
 ///
 /// At most `most` faults are listed, of a history that may be of that length. Nothing is written before the page is made: after every
-/// error but a write fault the writer is as it was. How much was written before a write fault is not said, nor how much was read before
-/// an error. O(n log n) for an input of n bytes, and what [`run`](engine::run) takes for its list.
+/// error but a write fault the writer is as it was. No contract says how much was written before a write fault, or how much was read
+/// before an error. O(n log n) for an input of n bytes, and what [`run`](engine::run) takes for its list.
 pub fn page_of_input<P: Threads + Wait + Sync + AllocGlobal, R: Source, W: Write>(
     rt: &P,
     reader: &mut R,

@@ -1,7 +1,7 @@
 //! Pages: what is said of an input or of a log, as a page that shows it.
 //!
-//! It gives [`page_of_input`] and [`page_of_log`], which read, ask the engines and write, and [`PageError`], why a log has no page. What a
-//! page is made of, the crate `page` says.
+//! It gives [`page_of_input`] and [`page_of_log`], which read, ask the engines and write, and [`PageError`], why a log has no page. The
+//! crate `page` says what a page is made of.
 #![tactic(auto)]
 
 mod answers;

@@ -20,10 +20,10 @@ use std::thread::Threads;
 
 /// Reads a whole log, and writes the page of its history, of a list of its faults, of its names and of its lines.
 ///
-/// At most `most` faults are listed. Refused is a log of more bytes than an input may have, and one of which a line is refused; a last line
-/// that is not whole is passed over, as is said of it. Nothing is written before the page is made: after every error but a write fault the
-/// writer is as it was. The log is held in memory, and followed four times: O(n (k + log n)) for a history of n operations in k sessions,
-/// and the cost of reading. That the lines are those of the log is tested, not proved.
+/// At most `most` faults are listed. A log is refused if it has more bytes than an input may have, or if one of its lines is refused. A
+/// last line that is not whole is passed over, and the result says so. Nothing is written before the page is made: after every error but a
+/// write fault the writer is as it was. The log is held in memory, and followed four times: O(n (k + log n)) for a history of n operations
+/// in k sessions, and the cost of reading. It is tested, not proved, that the lines are those of the log.
 pub fn page_of_log<P: Threads + Wait + Sync + AllocGlobal, R: Source, W: Write>(
     rt: &P,
     reader: &mut R,

@@ -1,5 +1,5 @@
-//! What parts of histories meet. The functions do nothing: what they ensure is the law. So what a part does not meet, the
-//! whole does not meet.
+//! What parts of histories meet. The functions do nothing: what they ensure is the law. So the whole does not meet what a
+//! part does not meet.
 
 ghost use Rattle.std.specs.Prelude.{Bool, List, ℕ};
 ghost use Rattle.objects.specs.declared.keyed.KeyedCall.{KeyedCall};

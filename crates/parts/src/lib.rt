@@ -1,4 +1,4 @@
-//! Parts of histories: some operations of each session in their order. What a history meets, its parts at some keys meet too,
+//! Parts of histories: some operations of each session in their order. The parts of a history at some keys meet what it meets,
 //! and so do the parts of a memory history of distinct values that keep the sources of their reads.
 #![tactic(auto)]
 

@@ -8,8 +8,8 @@ use std::alloc::{AllocError, Global};
 
 /// The part of a history that is kept: in each session the operations that are kept, in their order, from the same start.
 ///
-/// Sessions keep their numbers: one of which nothing is kept stands empty. Fails for want of memory alone. It asks once for
-/// each operation, and takes O(n) for n operations beside that.
+/// Sessions keep their numbers: one of which nothing is kept is empty. Fails for want of memory alone. It asks once for
+/// each operation, and takes O(n) for n operations besides that.
 pub fn part_of<O: SeqObject, K: Keeps<O::Call>>(
     alloc: Global,
     history: &History<O>,

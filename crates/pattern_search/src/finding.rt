@@ -24,18 +24,18 @@ use std::alloc::{AllocError, Global};
 
 /// A pattern that shows that the history does not meet the criterion, where the search finds one.
 ///
-/// Against causal consistency and against causal convergence one is found exactly where a kind that is against the criterion
-/// is present in the history, and it is of the first such kind. So it is against causal memory, but where some happened-before
-/// relation has more than 19,999 pairs that the causal order doesn't have: there one of the two kinds of happened-before may be
-/// missed, and a cycle may be found where a read of the initial value after a write is present. In a history that
-/// does not have distinct values no kind is present.
+/// Against causal consistency and causal convergence the search finds one exactly where a kind that is against the criterion is
+/// present in the history, and it is of the first such kind. The same holds against causal memory, unless some happened-before
+/// relation has more than 19,999 pairs that the causal order doesn't have. Then the search may miss one of the two kinds of
+/// happened-before, and may find a cycle where a read of the initial value after a write is present. No kind is present in a
+/// history that does not have distinct values.
 ///
-/// Kinds are tried in turn, those alone that are against the criterion: a cycle of the causal order, a read of a value that
-/// nobody wrote, a read of the initial value after a write, a read from an overwritten write, a read of the initial value
-/// that a happened-before relation puts after a write, a happened-before relation with a cycle, and a cycle with
-/// conflicts. A thin-air read that is found is the first one. For the kinds of happened-before the relation of each
-/// session's last operation is searched: one with more than 100,000 pairs that the causal order doesn't have is left out.
-/// In a relation one pair is tried for each kind, and left out where its derivation might have more than 100,000 lines.
+/// The search tries only the kinds that are against the criterion, in this order: a cycle of the causal order, a read of a value
+/// that nobody wrote, a read of the initial value after a write, a read from an overwritten write, a read of the initial value that
+/// a happened-before relation puts after a write, a happened-before relation with a cycle, and a cycle with conflicts. The thin-air
+/// read that it finds is the first one. For the kinds of happened-before it searches the relation of each session's last operation,
+/// but leaves out one with more than 100,000 pairs that the causal order doesn't have. It tries one pair of a relation for each
+/// kind, and leaves the pair out if its derivation might have more than 100,000 lines.
 ///
 /// Fails for want of memory alone. O(n log n + n k) for n operations of k sessions, besides what `find_in` costs.
 pub fn find(
@@ -54,8 +54,8 @@ pub fn find(
     find_in(alloc, &memory, criterion)
 }
 
-/// What `find` answers, for a caller that knows of the history already what it asks: exact against causal consistency and
-/// causal convergence, and of the kinds against causal consistency also against causal memory.
+/// The answer of `find`, for a caller that already knows what it asks of the history. It is exact against causal consistency and
+/// causal convergence. Against causal memory it is exact for the kinds that are against causal consistency.
 ///
 /// Fails for want of memory alone. O(n k (k + log n)) for n operations of k sessions, and against causal memory for each
 /// session what its happened-before relations cost, and O(m log m + l n) for m pairs that they have more than the causal
@@ -81,9 +81,9 @@ pub fn find_in(
     }
 }
 
-/// A pattern of a history that has no causal order without a cycle, or a thin-air read. They are against every criterion.
+/// A pattern of a history that has a cycle of the causal order or a thin-air read. These are against every criterion.
 ///
-/// A cycle of the causal order is tried, and then a thin-air read, of which the first one is found.
+/// It looks for a cycle of the causal order, and then for the first thin-air read.
 ///
 /// Fails for want of memory alone. O(n (k + log n)) for n operations of k sessions.
 fn find_without_order(alloc: Global, memory: &IndexedMemory) -> Result<Pattern, AllocError>
@@ -104,7 +104,7 @@ fn find_without_order(alloc: Global, memory: &IndexedMemory) -> Result<Pattern, 
 
 /// A pattern of a history that has a causal order without a cycle, and no thin-air read.
 ///
-/// The other kinds are tried in the order that `find` names, those alone that are against the criterion.
+/// It tries the other kinds that are against the criterion, in the order that `find` names.
 fn find_in_order(
     alloc: Global,
     order: &CausalOrder,

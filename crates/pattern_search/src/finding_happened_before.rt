@@ -21,8 +21,9 @@ use std::alloc::{AllocError, Global};
 /// A pattern of one of the kinds that rest on happened-before relations, where those are against the criterion.
 ///
 /// It is what `search_happened_before` shows with relations of at most 100,000 pairs that the causal order doesn't have: a read of
-/// the initial value after a write, or else a cycle. Against causal memory there is none only where none of these kinds is present,
-/// or some relation has more than 19,999 such pairs, and only there is it a cycle where such a read is present.
+/// the initial value after a write, or else a cycle. Against causal memory there is no pattern only if none of these kinds is
+/// present or some relation has more than 19,999 such pairs. Only in the second case can it be a cycle although such a read is
+/// present.
 pub fn find_happened_before(
     alloc: Global,
     order: &CausalOrder,
@@ -48,9 +49,9 @@ pub fn find_happened_before(
 
 /// What the happened-before relations of a history show, for each of the two kinds that rest on them.
 ///
-/// For each session the relation of its last operation is searched: it has what those of the operations before it have. A
-/// session is left out where this relation has more pairs than it may have, if a number is given, that the causal order
-/// doesn't have: so never without a number. The search ends with the first read of the initial value after a write that is shown.
+/// For each session it searches the relation of the last operation, which has what the relations of the operations before it have.
+/// If `most` is a number, it leaves out a session whose relation has more than that number of pairs that the causal order doesn't
+/// have. Without a number it leaves out none. The search ends with the first read of the initial value after a write that it shows.
 /// `Nothing` means that the kind is not present, and `Open` that a session was left out. `Present` means that the kind is present
 /// and that each derivation begun might have more than 100,000 lines: then some relation has more than 19,999 pairs that the causal
 /// order doesn't have.
@@ -78,7 +79,7 @@ pub fn search_happened_before(
     Ok(searched)
 }
 
-/// What the sessions so far and this one come to.
+/// The result for the sessions so far and this one.
 fn search_session(
     alloc: Global,
     order: &CausalOrder,
@@ -102,7 +103,7 @@ fn search_session(
     }
 }
 
-/// What the sessions so far and the one of a relation come to. A cycle is looked for where no read is shown.
+/// The result for the sessions so far and the session of a relation. It looks for a cycle only if no read is shown.
 fn search_relation(
     alloc: Global,
     order: &CausalOrder,
@@ -127,7 +128,7 @@ fn search_relation(
     Ok(SearchedKinds { starts, cycles })
 }
 
-/// What the sessions so far and a relation come to for a cycle.
+/// The result for a cycle, of the sessions so far and a relation.
 fn search_cycle(
     alloc: Global,
     order: &CausalOrder,

@@ -1,7 +1,7 @@
 //! The search for operations that show a pattern.
 //!
-//! Cycles, overwritten reads and what happened-before relations show are found exactly where they are, with what shows them,
-//! but for derivations that might be too long.
+//! The search finds cycles, overwritten reads and what happened-before relations show exactly where they are, with what shows them,
+//! except for derivations that might be too long.
 
 mod conflicts;
 mod cycles;

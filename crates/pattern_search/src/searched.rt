@@ -17,8 +17,8 @@ pub enum Searched {
 }
 
 impl Searched {
-    /// What two searches for a kind come to: the first pattern, else that the kind is present where one says so, and nothing
-    /// where both come to nothing.
+    /// Combines two searches for a kind. The result is the first pattern, or else that the kind is present if one of them says so.
+    /// It is nothing if both are nothing.
     pub(crate) fn or(self, other: Searched) -> Searched
         ensures { result ≡ either self other }
     {
@@ -57,12 +57,12 @@ impl Searched {
     }
 }
 
-/// What a search of happened-before relations comes to, for each kind that rests on them.
+/// The result of a search of happened-before relations, for each kind that rests on them.
 #[derive(Debug, Drop)]
 pub struct SearchedKinds {
     /// For a read of the initial value after a write (`WriteHBInitRead`).
     pub starts: Searched,
-    /// For an operation before itself (`CyclicHB`). Where `starts` is a pattern it says nothing: the search ends there.
+    /// For an operation before itself (`CyclicHB`). If `starts` is a pattern, this says nothing: the search ends there.
     pub cycles: Searched,
 }
 

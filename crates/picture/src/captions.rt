@@ -59,7 +59,7 @@ fn sentence_about<N: Names>(
     format!(in alloc; "what {session} has read up to {name} puts {words}")
 }
 
-// What a kind says; for a happened-before relation, what it puts where.
+// What a kind says; for a happened-before relation, what it puts before what.
 fn words_of_kind(kind: Kind) -> &'static str {
     match kind {
         Kind::CyclicCO => "an operation comes before itself.",

@@ -17,7 +17,7 @@ use std::alloc::{AllocError, Global};
 /// All that a picture shows.
 #[derive(Drop)]
 pub(crate) struct Scene<'a> {
-    /// What is said at the head, the title first.
+    /// The lines at the head, the title first.
     pub lines: &'a [String],
     pub rows: &'a LaneRows<'a>,
     pub marks: &'a Marks,

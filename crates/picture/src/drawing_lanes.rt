@@ -7,7 +7,7 @@ use crate::rows::LaneRows;
 use std::alloc::{AllocError, Global};
 use std::num::Saturating;
 
-/// How a box stands out.
+/// The emphasis of a box.
 #[derive(Clone, Copy, Debug, PartialEq, Eq)]
 pub(crate) enum Emphasis {
     Plain,
@@ -17,7 +17,7 @@ pub(crate) enum Emphasis {
     Wrong,
 }
 
-/// How the box of an operation stands out.
+/// The emphasis of an operation's box.
 pub(crate) fn emphasis_of(shown: &Shown) -> Emphasis {
     if shown.fault.is_some() {
         Emphasis::Wrong

@@ -86,7 +86,7 @@ impl Edge {
         }
     }
 
-    /// From how far down it comes to the box at one end, from the place at its other end, in half rows.
+    /// How far down, in half rows, the point is from which it approaches the box at one end, given the place at its other end.
     pub fn depth(&self, other: Place) -> u64 {
         if self.is_across() {
             self.lower_row().saturating_mul(2)

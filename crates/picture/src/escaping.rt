@@ -1,4 +1,4 @@
-//! Text that stands in markup.
+//! Text within markup.
 
 ghost use Rattle.std.specs.Prelude.{◌≡◌, ◌++◌, ◌∷◌, [], IfOk, OnOk, chars, encode_utf8_all, string_bytes};
 ghost use Rattle.picture.specs.Markup.{escaped_text};
@@ -7,7 +7,7 @@ use std::alloc::{AllocError, Global};
 
 /// The text with the entity of each character that has a meaning in markup: `<`, `>`, `&` and both quotes.
 ///
-/// So it begins no element, and ends no attribute: `escaped_text_has_no_markup` in [`laws`](crate::laws). Fails for want of
+/// So the text begins no element and ends no attribute: `escaped_text_has_no_markup` in [`laws`](crate::laws). Fails for want of
 /// memory alone. O(n) for n characters.
 pub fn escaped(alloc: Global, text: &str) -> Result<String, AllocError>
     ensures { IfOk result (λ written. string_bytes written ≡ encode_utf8_all (escaped_text (chars text.now))) }
@@ -19,7 +19,7 @@ pub fn escaped(alloc: Global, text: &str) -> Result<String, AllocError>
     Ok(written)
 }
 
-// Puts a character, or its entity, behind the text.
+// Puts a character, or its entity, after the text.
 fn push_escaped(written: &mut String, character: char) -> Result<(), AllocError>
     ensures { OnOk result
         (string_bytes written.new ≡ string_bytes written.old ++ encode_utf8_all (escaped_text (character ∷ []))) }

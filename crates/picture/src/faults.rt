@@ -48,7 +48,7 @@ fn blame_read<N: Names>(
     }
 }
 
-// What is said of a read that does not show a write which comes before it.
+// The words about a read that does not show a write which comes before it.
 fn unseen_words<N: Names>(
     alloc: Global,
     names: &N,
@@ -107,7 +107,7 @@ fn pair_of(link: &Link) -> Option<Pair> {
     }
 }
 
-// Marks the operations of the cycle that the last line of a derivation goes round: where the lines begin and end that it joins.
+// Marks the operations of the cycle that the last line of a derivation closes: both ends of each line that it joins.
 fn blame_derivation(
     alloc: Global,
     marks: &mut Marks,

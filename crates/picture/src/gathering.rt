@@ -1,4 +1,4 @@
-//! What of a pattern a picture draws out.
+//! What a picture highlights of a pattern.
 
 use crate::marks::{Marks, Relation};
 use bad_patterns::{Derivation, Line, Link, Links, Pair, Path, Pattern};
@@ -61,7 +61,7 @@ fn mark_link(marks: &mut Marks, link: &Link) -> Result<(), AllocError> {
     }
 }
 
-// Marks that a write is before another, which a read behind the first reads from.
+// Marks that a write is before another, which a read after the first reads from.
 fn mark_conflict(
     marks: &mut Marks,
     write: OpId,
@@ -72,7 +72,7 @@ fn mark_conflict(
     marks.join(write, other, Relation::Conflict)
 }
 
-// Marks what the lines of a derivation rest on, each conflict that they find, and what the last of them gives.
+// Marks what the lines of a derivation depend on, each conflict that they find, and what the last line gives.
 fn mark_derivation(
     alloc: Global,
     marks: &mut Marks,
@@ -101,7 +101,7 @@ fn mark_line(
         (Line::Co(first, second), Some((_, end))) => {
             marks.follow(first)?;
             if end.session == op.session {
-                // It goes to the operation in its session, which everybody sees.
+                // It leads to the operation within its session; everybody sees that.
                 return Ok(());
             }
             marks.follow(second)

@@ -9,14 +9,14 @@ use std::alloc::{AllocError, Global};
 
 /// An object whose operations have a label in a picture.
 pub trait Labelled: SeqObject {
-    /// The call, with this text behind its word: a space and the key, or nothing. Fails for want of memory alone.
+    /// The call, with this text after its word: a space and the key, or nothing. Fails for want of memory alone.
     fn call_label(alloc: Global, key: &str, call: &Self::Call) -> Result<String, AllocError>;
 
-    /// The return, or none where it says no more than that the call is done. Fails for want of memory alone.
+    /// The return, or none if it says no more than that the call is done. Fails for want of memory alone.
     fn return_label(alloc: Global, ret: &Self::Ret) -> Result<Option<String>, AllocError>;
 }
 
-/// The label of an operation that has none of its own: its call, and behind an arrow its return, or `?` where that is not known.
+/// The label of an operation that has none of its own: its call and, after an arrow, its return, or `?` if that is not known.
 ///
 /// Fails for want of memory alone. O(1).
 pub(crate) fn label_of<O: Labelled>(

@@ -12,7 +12,7 @@ const MAX_WHOLE: u64 = 40;
 /// The most operations of a history without a pattern that is shown whole.
 const MAX_UNFOLDED: u64 = 60;
 
-/// How many operations before and behind a marked one are shown, where a history is not shown whole.
+/// How many operations before and after a marked one are shown if a history is not shown whole.
 const NEAR: u64 = 1;
 
 /// How many operations are shown at each end of a session that is folded.
@@ -33,15 +33,15 @@ pub(crate) enum Extent {
 #[derive(Debug, Drop)]
 pub(crate) struct Shown {
     pub op: OpId,
-    /// What it is called.
+    /// Its name.
     pub name: String,
     pub label: String,
     pub is_marked: bool,
-    /// What is wrong with it, where something is.
+    /// What is wrong with it, if anything is.
     pub fault: Option<String>,
 }
 
-/// What stands in a lane: an operation, or how many are left out.
+/// An entry of a lane: an operation, or how many are left out.
 #[derive(Debug, Drop)]
 pub(crate) enum Entry {
     Operation(Shown),
@@ -49,7 +49,7 @@ pub(crate) enum Entry {
 }
 
 impl Entry {
-    /// The operation, where it is one.
+    /// The operation, if it is one.
     pub fn op(&self) -> Option<OpId> {
         match self {
             Entry::Operation(shown) => Some(shown.op),
@@ -58,11 +58,11 @@ impl Entry {
     }
 }
 
-/// A session with what of it is shown, in order.
+/// A session, with its shown entries in order.
 #[derive(Debug, Drop)]
 pub(crate) struct Lane {
     pub session: u64,
-    /// What the session is called.
+    /// The name of the session.
     pub name: String,
     pub entries: Vec<Entry>,
 }
@@ -86,7 +86,7 @@ pub(crate) fn extent_around<O: Labelled>(history: &History<O>) -> Extent {
     }
 }
 
-/// How much of a history is shown where no pattern is: all of a small one.
+/// How much of a history is shown without a pattern: all of a small one.
 pub(crate) fn extent_without_pattern<O: Labelled>(history: &History<O>) -> Extent {
     if operations_of(history) <= MAX_UNFOLDED {
         Extent::Whole
@@ -104,8 +104,8 @@ fn operations_of<O: Labelled>(history: &History<O>) -> u64 {
     count
 }
 
-/// The lanes of a history: of all sessions, or near marks alone of those with marked operations. A gap in a lane counts the operations
-/// of the whole that it leaves out, whether the history has them or not.
+/// The lanes of a history: one for each session or, if only what is near marks is shown, for each session with marked operations. A
+/// gap in a lane counts the operations of the whole that it leaves out, whether the history has them or not.
 ///
 /// Fails for want of memory alone. O(n m) for n operations and m marks.
 pub(crate) fn lanes_of<O: Labelled, N: Names>(
@@ -185,7 +185,7 @@ fn shown_of<O: Labelled, N: Names>(
     })
 }
 
-// What is said of an operation that is wrong, as a text of its own.
+// The words about an operation that is wrong, as a text of their own.
 fn fault_of(alloc: Global, marks: &Marks, op: OpId) -> Result<Option<String>, AllocError> {
     match marks.fault(op) {
         Some(words) => Ok(Some(String::from_str(alloc, words)?)),
@@ -193,7 +193,7 @@ fn fault_of(alloc: Global, marks: &Marks, op: OpId) -> Result<Option<String>, Al
     }
 }
 
-// Puts a gap behind the entries, where operations are left out.
+// Puts a gap after the entries, if operations are left out.
 fn push_gap(entries: &mut Vec<Entry>, left_out: u64) -> Result<(), AllocError> {
     if left_out > 0 {
         entries.push(Entry::Gap(left_out))?;
@@ -221,7 +221,7 @@ fn is_at_end(op: OpId, count: u64) -> bool {
     op.index < ENDS || op.index.saturating_add(ENDS) >= count
 }
 
-// Whether an operation of the same session is marked that is near.
+// Whether a marked operation of the same session is near.
 fn is_near(marks: &Marks, op: OpId) -> bool {
     marks.ops().iter().any(|mark| {
         mark.session == op.session
@@ -238,7 +238,7 @@ fn is_kept_before(marks: &Marks, extent: Extent, op: OpId, count: u64) -> bool {
     }
 }
 
-// Whether the operation behind it is kept, or there is none.
+// Whether the operation after it is kept, or there is none.
 fn is_kept_behind(marks: &Marks, extent: Extent, op: OpId, count: u64) -> bool {
     let behind = OpId {
         session: op.session,

@@ -1,4 +1,4 @@
-//! Where things stand in a picture, in whole pixels.
+//! The places of things in a picture, in whole pixels.
 
 use crate::edges::Side;
 use crate::lanes::{Entry, Lane};
@@ -6,7 +6,7 @@ use crate::ports::{Part, Ports};
 use crate::rows::LaneRows;
 use std::num::Saturating;
 
-/// A length, which stops at the greatest whole number.
+/// A length. It stops at the greatest whole number.
 pub(crate) type Length = Saturating<u64>;
 
 /// The room left of the first lane and of each text.
@@ -20,15 +20,15 @@ const GUTTER: Length = Saturating(120);
 
 const NARROW_GUTTER: Length = Saturating(48);
 
-/// The height of a box, and that of one in which a fault is told.
+/// The height of a box, and that of one that states a fault.
 const BOX_HEIGHT: Length = Saturating(36);
 
 const TELLING_HEIGHT: Length = Saturating(44);
 
-/// The room that a box wants for each arrowhead at a side.
+/// The room that a box needs for each arrowhead at a side.
 const PORT_HEIGHT: Length = Saturating(10);
 
-/// The room between two boxes, and what of it the edges along it keep free at either end.
+/// The room between two boxes, and how much of it the edges along it keep free at either end.
 const ROW_GAP: Length = Saturating(34);
 
 const ROW_GAP_END: Length = Saturating(4);
@@ -60,13 +60,13 @@ pub(crate) struct Layout {
     right_margin: Length,
     /// The room for the name of an operation in its box.
     name: Length,
-    /// How many lines stand at the head.
+    /// How many lines are at the head.
     lines: Length,
     lanes: Length,
     rows: Length,
     /// How many entries the legend has.
     legend: Length,
-    /// The width that the lines at the head want.
+    /// The width that the lines at the head need.
     head: Length,
 }
 
@@ -102,7 +102,7 @@ impl Layout {
         self.legend_top() + LINE_HEIGHT * self.legend_rows() + MARGIN
     }
 
-    /// Where the names of the lanes stand.
+    /// Where the names of the lanes are.
     pub fn lanes_top(&self) -> Length {
         MARGIN + LINE_HEIGHT * self.lines + Saturating(28)
     }
@@ -137,7 +137,7 @@ impl Layout {
         self.middle(lane) + self.half
     }
 
-    /// Where a side of the boxes of a lane is, and for their upper and lower edges the middle.
+    /// Where a side of the boxes of a lane is; for their upper and lower edges, the middle.
     pub fn side(&self, lane: u64, side: Side) -> Length {
         match side {
             Side::Left => self.left(lane),
@@ -177,7 +177,7 @@ impl Layout {
         self.top(row) - ROW_GAP_END - middle_of(room, part)
     }
 
-    /// Where the label stands in a box of a lane, behind the name.
+    /// Where the label begins in a box of a lane, after the name.
     pub fn label_left(&self, lane: u64) -> Length {
         self.left(lane) + PADDING + self.name + PADDING
     }
@@ -187,7 +187,7 @@ impl Layout {
         self.top(self.rows.0) + Saturating(16)
     }
 
-    // How many entries of the legend stand in a row: at least one.
+    // How many entries of the legend are in a row: at least one.
     fn legend_columns(&self) -> u64 {
         let room = self.width() - MARGIN;
         if room < LEGEND_WIDTH + LEGEND_WIDTH {
@@ -221,7 +221,7 @@ impl Layout {
     }
 }
 
-// Where the middle of a part of a length is.
+// The middle of a part of a length.
 fn middle_of(length: Length, part: Part) -> Length {
     let halves = Saturating(part.number) + Saturating(part.number) + Saturating(1);
     let all = part.count.saturating_mul(2).max(1);
@@ -238,7 +238,7 @@ fn box_height(lanes: &[Lane], ports: &Ports) -> Length {
     greater(texts, PORT_HEIGHT * Saturating(ports.most()))
 }
 
-// Half the width that the texts in a box want.
+// Half the width that the texts in a box need.
 fn half_of_boxes(lanes: &[Lane]) -> Length {
     let names = Saturating(4) * longest(lanes, Text::Name);
     let labels = Saturating(5) * longest(lanes, Text::Label);
@@ -246,7 +246,7 @@ fn half_of_boxes(lanes: &[Lane]) -> Length {
     greater(names + labels + Saturating(18), faults)
 }
 
-// Which text of an operation is measured.
+// The text of an operation that is measured.
 #[derive(Clone, Copy, Debug, PartialEq, Eq)]
 enum Text {
     Name,
@@ -294,7 +294,7 @@ fn letters_of(entry: &Entry, text: Text) -> Length {
     }
 }
 
-// Half the width that the longest name of a lane wants, beside which there is the room between two lanes.
+// Half the width that a box needs so that the longest lane name fits, with the room between two lanes beside it.
 fn half_of_names(lanes: &[Lane], gutter: Length) -> Length {
     let mut most = Saturating(0);
     for lane in lanes {

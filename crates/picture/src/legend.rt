@@ -11,7 +11,7 @@ use crate::marks::Relation;
 use std::alloc::{AllocError, Global};
 use std::num::Saturating;
 
-/// What the legend says of the boxes that stand out.
+/// What the legend says of the boxes with an emphasis.
 #[derive(Clone, Copy, Debug, PartialEq, Eq)]
 pub(crate) struct LegendWords {
     pub wrong: &'static str,
@@ -49,14 +49,14 @@ pub(crate) fn legend_of(
     Ok(legend)
 }
 
-// Whether some box stands out so.
+// Whether some box has this emphasis.
 fn are_emphasized(lanes: &[Lane], emphasis: Emphasis) -> bool {
     lanes
         .iter()
         .any(|lane| has_emphasized(&lane.entries, emphasis))
 }
 
-// Whether the box of some entry stands out so.
+// Whether the box of some entry has this emphasis.
 fn has_emphasized(entries: &[Entry], emphasis: Emphasis) -> bool {
     entries.iter().any(|entry| match entry {
         Entry::Operation(shown) => emphasis_of(shown) == emphasis,
@@ -108,7 +108,7 @@ fn draw_entry(
     )
 }
 
-// Draws a box as those that stand out so.
+// Draws a box in the style of this emphasis.
 fn draw_small_box(
     alloc: Global,
     svg: &mut String,
@@ -122,7 +122,7 @@ fn draw_small_box(
     svg.push_str(&format!(in alloc; "<rect {place} {style}/>\n")?)
 }
 
-// Draws an edge as those of a relation.
+// Draws an edge in the style of a relation.
 fn draw_short_edge(
     alloc: Global,
     svg: &mut String,

@@ -1,8 +1,8 @@
-//! Pictures of histories as SVG texts: sessions as lanes side by side, in colour the operations of a pattern with what joins them,
-//! and in red those that are wrong.
+//! Pictures of histories as SVG texts: sessions are lanes side by side, the operations of a pattern and what joins them are in
+//! colour, and those that are wrong are in red.
 //!
-//! Nobody trusts a picture: what shows that a criterion is not met is the pattern. A picture has no scripts and no fonts of
-//! its own, and all its lengths are whole numbers.
+//! Nobody trusts a picture: the pattern shows that a criterion is not met. A picture has no scripts and no fonts of its own, and
+//! all its lengths are whole numbers.
 #![tactic(auto)]
 
 mod captions;

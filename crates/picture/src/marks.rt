@@ -1,10 +1,10 @@
-//! What a picture draws out: operations, and what joins them.
+//! What a picture highlights: operations, and what joins them.
 
 use bad_patterns::Path;
 use history::OpId;
 use std::alloc::{AllocError, Global};
 
-/// The most joints that a picture draws: more of them nobody reads.
+/// The most joints that a picture draws: nobody reads more.
 const MAX_JOINTS: usize = 256;
 
 /// How one operation is joined to another.
@@ -14,7 +14,7 @@ pub(crate) enum Relation {
     ProgramOrder,
     /// From a write to a read that reads from it.
     ReadsFrom,
-    /// From a write to the other write of its variable that an operation behind it reads from.
+    /// From a write to the other write of its variable that an operation after it reads from.
     Conflict,
     /// From an operation to one that it happened before, as a derivation shows.
     HappenedBefore,
@@ -40,14 +40,14 @@ pub(crate) struct Joint {
     pub relation: Relation,
 }
 
-/// An operation that is wrong, with what is said of it in its box.
+/// An operation that is wrong, with the words for its box.
 #[derive(Debug, Drop)]
 struct Fault {
     op: OpId,
     words: String,
 }
 
-/// The operations and the joints that a picture draws out, each once.
+/// The operations and the joints that a picture highlights, each once.
 #[derive(Debug, Drop)]
 pub(crate) struct Marks {
     ops: Vec<OpId>,
@@ -87,7 +87,7 @@ impl Marks {
         self.ops.contains(&op)
     }
 
-    /// What is said of an operation that is wrong.
+    /// The words about an operation that is wrong.
     pub fn fault(&self, op: OpId) -> Option<&str> {
         for fault in &self.faults {
             if fault.op == op {
@@ -105,7 +105,7 @@ impl Marks {
         Ok(())
     }
 
-    /// Marks an operation that is wrong, with what is said of it. What was said of it first stays.
+    /// Marks an operation that is wrong, with the words for its box. The first words for an operation stay.
     pub fn blame(&mut self, op: OpId, words: String) -> Result<(), AllocError> {
         if self.fault(op).is_some() {
             return Ok(());

@@ -22,12 +22,13 @@ use wording::Names;
 
 /// The picture of a history of a memory and of a pattern against a criterion, as an SVG text.
 ///
-/// A history of at most 40 operations is shown whole, and of a larger one what is near the operations of the pattern: one
-/// operation before and behind each, in their sessions alone. At most 256 edges are drawn. What of the pattern is no operation
-/// of the history is left out. The read that is wrong, or the operations of the cycle, are drawn in red, and say what is wrong.
+/// The picture shows a history of at most 40 operations whole. Of a larger one it shows the operations of the pattern, and one
+/// operation before and after each, in their sessions alone. It draws at most 256 edges. It leaves out operations of the pattern
+/// that the history does not have. It draws the read that is wrong, or the operations of the cycle, in red, and says what is wrong
+/// in them.
 ///
-/// Sessions and operations have these names. Where the history is a part of a longer one, each lane says how many operations of the
-/// whole are left out before each that is shown. What follows the part's last operation of a session is not known, and not shown.
+/// Sessions and operations have these names. If the history is a part of a longer one, each lane says how many operations of the
+/// whole are left out before each one shown. What follows the part's last operation of a session is not known, and not shown.
 ///
 /// Fails for want of memory alone. O(n (log n + k) + m) for n operations of k sessions and m operations, links and lines of the
 /// pattern, times what is marked, which is bounded.
@@ -54,11 +55,11 @@ pub fn picture_of_pattern<N: Names>(
     picture_of(alloc, &lines, &lanes, &marks, words)
 }
 
-/// The picture of a history, as an SVG text, with lines at its head, of which the first is its title, and these names.
+/// The picture of a history, as an SVG text, with these names. The lines are its head; the first is the title.
 ///
-/// A history of at most 60 operations is shown whole, and of a larger one the first two and the last two operations of each session. The
-/// operation is drawn out, where one is named and is in the history, and one before and behind it are shown. Fails for want of memory
-/// alone. O(n k) for n operations of k sessions.
+/// The picture shows a history of at most 60 operations whole. Of a larger one it shows the first two and the last two operations
+/// of each session. If an operation is named and is in the history, the picture highlights it, and shows one before and one after
+/// it. Fails for want of memory alone. O(n k) for n operations of k sessions.
 pub fn picture_of_history<O: Labelled, N: Names>(
     alloc: Global,
     history: &History<O>,
@@ -88,7 +89,7 @@ pub fn picture_of_history<O: Labelled, N: Names>(
     picture_of(alloc, lines, &lanes, &marks, words)
 }
 
-// The picture of lanes with what is drawn out in them.
+// The picture of lanes with what is highlighted in them.
 fn picture_of(
     alloc: Global,
     lines: &[String],

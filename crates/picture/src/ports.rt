@@ -1,4 +1,4 @@
-//! At which point of a side of a box each edge begins or ends: no two arrowheads at one point.
+//! The points of a box's sides where edges begin and end: no two arrowheads share one.
 
 use crate::edges::{Edge, Side};
 use crate::marks::Relation;
@@ -19,7 +19,7 @@ enum Touch {
     End(usize),
 }
 
-// A point of a side of a box. Those of a side are in order of their depth, and then of their number.
+// A point of a side of a box. The points of a side are in order of depth, and then of number.
 #[derive(Clone, Copy, Debug, PartialEq, Eq)]
 struct Point {
     place: Place,
@@ -74,7 +74,7 @@ impl Ports {
         most
     }
 
-    // Adds a point, where there is none for this.
+    // Adds a point, unless there is one for this already.
     fn touch(
         &mut self,
         place: Place,
@@ -107,7 +107,7 @@ impl Ports {
         None
     }
 
-    // Which part of its side a point stands in the middle of.
+    // The part of its side that a point is in the middle of.
     fn part(&self, place: Place, side: Side, touch: Touch) -> Part {
         match self.find(place, side, touch) {
             Some(point) => Part {
@@ -149,7 +149,7 @@ fn is_before(a: &Point, b: &Point) -> bool {
     a.depth < b.depth || (a.depth == b.depth && a.number < b.number)
 }
 
-/// The track of an edge that passes lanes, of all that run along the same room between two rows.
+/// The track of an edge that passes lanes, among the edges that run along the same room between two rows.
 pub(crate) fn track_of(edges: &[Edge], number: usize, edge: &Edge) -> Part {
     let mut track = Part {
         number: 0,

@@ -1,11 +1,11 @@
-//! Which row each entry of a lane stands in: below the entry before it, and below the writes that it reads from.
+//! The row of each entry of a lane: below the entry before it, and below the writes that it reads from.
 
 use crate::lanes::Lane;
 use crate::marks::{Joint, Relation};
 use history::OpId;
 use std::alloc::{AllocError, Global};
 
-/// Where an entry stands: its lane, its number in the lane, and its row.
+/// The place of an entry: its lane, its number in the lane, and its row.
 #[derive(Clone, Copy, Debug, PartialEq, Eq)]
 pub(crate) struct Place {
     pub lane: usize,
@@ -28,7 +28,7 @@ struct Next {
     is_ready: bool,
 }
 
-/// The rows of lanes. An entry stands below those that it reads from, but where that goes round in a circle.
+/// The rows of lanes. An entry is below those that it reads from, unless that goes round in a circle.
 ///
 /// Fails for want of memory alone. O(n k m) for n entries of k lanes and m joints.
 pub(crate) fn rows_of<'a>(
@@ -70,7 +70,7 @@ impl<'a> LaneRows<'a> {
         self.lanes
     }
 
-    /// The row of an entry of a lane, where it has one.
+    /// The row of an entry of a lane, if it has one.
     pub fn row(&self, lane: usize, entry: usize) -> Option<u64> {
         match self.rows.get(lane) {
             Some(rows) => rows.get(entry).copied(),
@@ -87,7 +87,7 @@ impl<'a> LaneRows<'a> {
         count
     }
 
-    /// Where an operation stands, where it is shown.
+    /// The place of an operation, if it is shown.
     pub fn place(&self, op: OpId) -> Option<Place> {
         for (number, lane) in self.lanes.iter().enumerate() {
             if lane.session == op.session {
@@ -97,7 +97,7 @@ impl<'a> LaneRows<'a> {
         None
     }
 
-    // Where an operation of a lane stands, where it has a row.
+    // The place of an operation of a lane, if it has a row.
     fn place_in(&self, number: usize, lane: &Lane, op: OpId) -> Option<Place> {
         let entry = entry_of(lane, op)?;
         let row = self.row(number, entry)?;
@@ -108,7 +108,7 @@ impl<'a> LaneRows<'a> {
         })
     }
 
-    // The next entry that gets a row: the first that is ready, or else the first at all.
+    // The next entry that gets a row: the first that is ready, or else the first of all.
     fn choice(&self, joints: &[Joint]) -> Option<Next> {
         let mut choice: Option<Next> = None;
         for number in 0..self.lanes.len() {
@@ -122,7 +122,7 @@ impl<'a> LaneRows<'a> {
         choice
     }
 
-    // The row for the next entry of a lane, where one is left.
+    // The row for the next entry of a lane, if one is left.
     fn next(&self, number: usize, joints: &[Joint]) -> Option<Next> {
         let rows = self.rows.get(number)?;
         let entry = self.lanes.get(number)?.entries.get(rows.len())?;
@@ -137,7 +137,7 @@ impl<'a> LaneRows<'a> {
         })
     }
 
-    // The row for an operation, lowered below what it reads from.
+    // The row for an operation, moved down below what it reads from.
     fn below_sources(&self, least: Next, op: OpId, joints: &[Joint]) -> Next {
         let mut next = least;
         for joint in joints {
@@ -148,7 +148,7 @@ impl<'a> LaneRows<'a> {
         next
     }
 
-    // The row for an operation, lowered below another, which may have no row yet.
+    // The row for an operation, moved down below another, which may have no row yet.
     fn below(&self, next: Next, source: OpId) -> Next {
         match self.place(source) {
             Some(place) => Next {

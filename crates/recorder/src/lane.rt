@@ -94,7 +94,7 @@ impl<O: Recorded> Lane<O> {
         self.returns[at].note()
     }
 
-    /// What a call cell holds, which the note then knows. `None` only where the note knows nothing. One load.
+    /// What a call cell holds. The note then knows it. `None` only if the note knows nothing. One load.
     pub fn call<'a>(&'a self, at: usize, note: &mut Note<O::Call>) -> Option<&'a O::Call>
         requires place { at < length self.now.calls }
         requires cell { slice_get self.now.calls at ≡ Some note.old.cell }
@@ -105,7 +105,7 @@ impl<O: Recorded> Lane<O> {
         self.calls[at].get_as(note)
     }
 
-    /// What a return cell holds, which the note then knows. `None` only where the note knows nothing. One load.
+    /// What a return cell holds. The note then knows it. `None` only if the note knows nothing. One load.
     pub fn return_record<'a>(
         &'a self,
         at: usize,

@@ -1,4 +1,4 @@
-//! A recorder: each session writes what it calls, and what is answered, into cells that are set once.
+//! A recorder: each session writes its calls and their returns into cells that are set once.
 #![tactic(auto)]
 
 mod lane;

@@ -47,7 +47,7 @@ impl<T> NoteList<T> {
         self.notes.reserve(1)
     }
 
-    /// Puts a note behind the others.
+    /// Adds a note after the others.
     pub fn push(&mut self, note: Note<T>)
         requires { 0 < self.old.room }
         ensures { self.new.list ≡ self.old.list ++ (note.cell, note.known) ∷ [] }

@@ -33,7 +33,7 @@ impl<O: Recorded> Model for Pending<O> {
 }
 
 impl<O: Recorded> Pending<O> {
-    /// A pending call after the operations that these notes tell of.
+    /// A pending call after the operations that these notes know.
     pub(crate) fn new(
         alloc: Global,
         call: O::Call,
@@ -61,7 +61,7 @@ impl<O: Recorded> Pending<O> {
         self.call
     }
 
-    /// Sets the return cell, and gives a note of it and the receipt. A cell that gives the record back leaves the call
+    /// Sets the return cell, and returns a note of it and the receipt. If the cell gives the record back, the call stays
     /// pending, and the advice is handed back.
     pub(crate) fn complete(
         self,

@@ -9,7 +9,7 @@ use history::OpId;
 use once_cell::race::Note;
 use std::marker::Model;
 
-/// Shows that an operation has returned, and every earlier one of its session.
+/// Shows that an operation and every earlier one of its session have returned.
 #[derive(Drop)]
 pub struct Receipt<O: Recorded> {
     session: u64,
@@ -72,7 +72,7 @@ impl<O: Recorded> Receipt<O> {
         self.ret
     }
 
-    /// How many operations it stands for.
+    /// How many operations it covers.
     pub fn len(&self) -> usize
         ensures operations { result ≡ length self.now.operations }
         ensures cells { result ≡ length self.now.cells }

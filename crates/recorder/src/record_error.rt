@@ -19,13 +19,13 @@ pub enum RecordError {
     /// The session's last operation has no return yet.
     #[error("an operation is still pending")]
     StillPending,
-    /// A cell that was to be set held a value. No run meets this.
+    /// A cell that was to be set already held a value. No run meets this.
     #[error("a cell gave the value back")]
     CellGaveBack,
     /// The session has no operation without a return.
     #[error("no operation is pending")]
     NothingPending,
-    /// The return is of no kind that the pending call may have.
+    /// The pending call cannot have a return of this kind.
     #[error("the return doesn't fit the call")]
     WrongReturn,
 }
@@ -53,7 +53,7 @@ impl<T: Drop> From<AllocFailed<T>> for RecordError {
 }
 
 impl RecordError {
-    /// The number by which the refusal is reported: 8, 10 to 14, or 17.
+    /// The number that reports the refusal: 8, 10 to 14, or 17.
     pub fn number(&self) -> u8
         ensures { result ≡ number_of self.now }
     {

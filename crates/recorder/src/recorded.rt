@@ -4,7 +4,7 @@ use object_trait::SeqObject;
 
 /// What a recorder knows of an object: its calls, its returns, its starts, and which return fits which call.
 ///
-/// Each `SeqObject` has it. It asks for nothing that threads need, so that code over it may stand in a method of a trait.
+/// Each `SeqObject` has it. It asks for nothing that threads need, so a method of a trait may contain code over it.
 pub trait Recorded {
     type Call: Copy;
 

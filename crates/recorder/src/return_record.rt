@@ -7,7 +7,7 @@ use std::marker::Model;
 
 /// What a return cell is set to: the call, and its return with the store's advice.
 ///
-/// It is made when the call begins, without a return, and a cell is set to it only once the return is known.
+/// It is made without a return when the call begins. A cell is set to it only once the return is known.
 #[derive(Drop)]
 pub struct ReturnRecord<O: Recorded> {
     call: O::Call,

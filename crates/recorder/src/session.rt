@@ -41,7 +41,7 @@ impl<O: Recorded> Model for Session<O> {
 }
 
 impl<O: Recorded> Session<O> {
-    /// The session that writes this lane, of whose cells none is set.
+    /// The session that writes this lane. None of the lane's cells is set.
     pub(crate) fn new(alloc: Global, index: u64, lane: Arc<Lane<O>>) -> Session<O>
         ensures { result ≡ fresh_session index (arc_value lane) }
     {
@@ -87,7 +87,7 @@ impl<O: Recorded> Session<O> {
         self.returns.len()
     }
 
-    /// How many operations were begun.
+    /// How many operations it has begun.
     pub fn called(&self) -> usize
         ensures { result ≡ length (begun self.now.done self.now.pending) }
     {
@@ -114,9 +114,9 @@ impl<O: Recorded> Session<O> {
 
     /// Begins an operation: sets its call cell. It is pending until `finish`.
     ///
-    /// Refused in this order: `StillPending` where the last operation has no return yet, `LaneFull` where the lane has no
+    /// Refuses in this order: `StillPending` where the last operation has no return yet, `LaneFull` where the lane has no
     /// place left, `Memory`, and `CellGaveBack`, which no run meets. Each refusal leaves the session as it was. O(1) for
-    /// what is set, and O(n) steps without bytes for the n operations that the receipt will stand for.
+    /// what is set, and O(n) steps without bytes for the n operations that the receipt will cover.
     pub fn begin(&mut self, call: O::Call) -> Result<OpId, RecordError>
         ensures op { IfOk result (λ o. o ≡ session_operation self.old.lane (length self.old.done)) }
         ensures placed { IfOk result (λ _. HasPlace self.old) }
@@ -154,7 +154,7 @@ impl<O: Recorded> Session<O> {
         })
     }
 
-    // Sets the return cell of the pending call, which the return fits.
+    // Sets the return cell of the pending call. The return fits the call.
     fn set_return(&mut self, ret: O::Ret, advice: Advice) -> Result<Receipt<O>, Advice>
         requires { CanReturn O.fitting self.old ret }
         ensures finished { IfOk result (λ _. HasFinished O.fitting self.old ret advice self.new) }
@@ -181,7 +181,7 @@ impl<O: Recorded> Session<O> {
 impl<O: SeqObject> Session<O> {
     /// Ends the pending operation with its return and the store's advice: sets its return cell. Takes no memory.
     ///
-    /// Refused in this order: `NothingPending`, `WrongReturn` where the return is of no kind that the call may have, and
+    /// Refuses in this order: `NothingPending`, `WrongReturn` where the call cannot have a return of this kind, and
     /// `CellGaveBack`, which no run meets. Each refusal leaves the session as it was and hands the advice back. O(1).
     pub fn finish(
         &mut self,

@@ -1,7 +1,7 @@
 //! Measures a recorder and its seals on one thread.
 //!
 //! Standard output says of each measure how many operations were recorded and sealed. Standard error says how long a pair of
-//! `begin` and `finish` took, and a seal, each in the quickest of some rounds.
+//! `begin` and `finish` took and how long a seal took, each in the quickest of some rounds.
 #![tactic(auto)]
 
 use anyhow::Result;
@@ -13,7 +13,7 @@ use snapshot::seal;
 use std::alloc::Global;
 use std::time::{Clock, Instant};
 
-/// Places of a lane: the greatest number.
+/// The greatest number of places of a lane.
 const PLACES: usize = 256;
 
 const ROUNDS: usize = 200;

@@ -14,7 +14,7 @@ pub(crate) enum Returned {
 }
 
 impl Returned {
-    /// What a wrong return is not.
+    /// The words for what a wrong return is not.
     pub(crate) fn words(self) -> &'static str {
         match self {
             Returned::Nothing => r#"is not "?""#,

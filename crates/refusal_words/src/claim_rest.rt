@@ -1,4 +1,4 @@
-//! What is said of what comes after a history, and of a history that is not driven.
+//! What the line says of what comes after a history, and of a history that is not driven.
 
 use crate::element::{object_in, shown_element, value_of};
 use crate::part::{Part, length_of, part_at, part_in};
@@ -11,7 +11,7 @@ use std::alloc::{AllocError, Global};
 const CERTIFICATES: &str =
     r#"["cc",VECTORS,SCHEDULES], ["cm",VECTORS,SCHEDULES] or ["ccv",VECTORS,LIST]"#;
 
-/// Where a certificate is, and what is wanted there: any certificate where it is none, or else one for each operation of the history.
+/// Where a certificate is, and what is wanted there: any certificate if it is none, or else one for each operation of the history.
 ///
 /// Fails for want of memory alone. O(n) for an input of n bytes.
 pub(crate) fn certificate_rest(
@@ -33,7 +33,8 @@ pub(crate) fn certificate_rest(
     }
 }
 
-/// Whether the criterion is none, or else the pattern does not show it. Fails for want of memory alone. O(n) for an input of n bytes.
+/// Says that the criterion is none, or else that the pattern does not show it. Fails for want of memory alone. O(n) for an input of
+/// n bytes.
 pub(crate) fn claim_rest(alloc: Global, input: &[u8]) -> Result<String, AllocError> {
     let (Some(claim), Some(criterion)) = (part_in(alloc, input, &[])?, part_in(alloc, input, &[1])?)
     else {
@@ -54,7 +55,7 @@ fn criterion_of(value: &Value) -> Option<Criterion> {
     Criterion::named(value.as_str()?)
 }
 
-// Where the pattern is that does not show it.
+// The place of the pattern that does not show it.
 fn pattern_rest(alloc: Global, claim: Part<'_>) -> Result<String, AllocError> {
     let (Some(history), Some(pattern)) = (
         part_at(alloc, claim, &[0])?,

@@ -35,7 +35,7 @@ fn object_of(value: &Value) -> Option<ObjectName> {
     object_named(value.as_str()?)
 }
 
-/// The text of an element of a part, as it is shown, or no text where there is none. Fails for want of memory alone.
+/// The text of an element of a part, as a line shows it, or an empty text if there is none. Fails for want of memory alone.
 pub(crate) fn shown_element(
     alloc: Global,
     part: Part<'_>,

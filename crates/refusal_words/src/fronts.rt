@@ -69,7 +69,7 @@ fn front_of_place(alloc: Global, op: OpId) -> Result<String, AllocError>
     front_of_numbers(alloc, session, index)
 }
 
-// The same of the numbers of its session and of itself.
+// The same, from the numbers of its session and of itself.
 fn front_of_numbers(alloc: Global, session: u64, index: u64) -> Result<String, AllocError>
     ensures front { IfOk result (λ front. string_bytes front
         ≡ codes "session " ++ (decimal session ++ (codes ", operation " ++ decimal index))) }

@@ -73,7 +73,7 @@ pub(crate) enum JsonFault {
     BadText,
     /// A number that is too large.
     Large,
-    /// One more list or object in the others than is read.
+    /// One more nested list or object than is read.
     Deep,
 }
 

@@ -54,7 +54,7 @@ impl<'a> Walk<'a> {
         }
     }
 
-    // Goes past a token that may come. Says whether it may.
+    // Goes past a token if it may come. Returns whether it may.
     fn pass(&mut self, token: &Token<'_>, expected: Expected) -> Result<bool, AllocError> {
         match token {
             Token::BeginArray => self.begin(Nest::List, expected),
@@ -158,7 +158,7 @@ fn is_too_large(
     }
 }
 
-// Goes past the next token. What is wrong with it, or at the end, and whether the walk ends.
+// Goes past the next token. Returns whether the walk ends, and then what is wrong with the token, or at the end.
 fn step(
     alloc: Global,
     walk: &mut Walk<'_>,

@@ -25,7 +25,7 @@ pub(crate) enum OperationFault {
     BadArgument(&'static str, usize),
     /// Its return is not there.
     LacksReturn,
-    /// Its return is none of its call.
+    /// Its return is no return of its call.
     BadReturn(Returned, usize),
     /// It has more elements than its call has with a return.
     TooMany(usize),
@@ -82,7 +82,7 @@ fn fault_behind(call: CallForm, elements: &[Value], index: usize) -> Option<Oper
     }
 }
 
-// What is wrong with the elements from an index on, where the return is to stand alone.
+// What is wrong with the elements from an index on, which should be the return alone.
 fn return_fault(returned: Returned, elements: &[Value], index: usize) -> Option<OperationFault> {
     if elements.len() > index.saturating_add(1) {
         return Some(OperationFault::TooMany(index.saturating_add(1)));

@@ -8,7 +8,7 @@ use crate::shown::shown;
 use operations::{HistoryPlace, ObjectName};
 use std::alloc::{AllocError, Global};
 
-// What a whole number that is a key is below, and one that is a value.
+// A key that is a whole number is below the first of these, and a value that is one is below the second.
 const KEYS: u64 = 4_294_967_296;
 
 const VALUES: &str = "18446744073709551616";
@@ -28,7 +28,7 @@ pub(crate) fn operation_words(
     }
 }
 
-// That an operation is none of its object's.
+// Says that an operation is none of its object's.
 fn no_form(alloc: Global, object: ObjectName, operation: Part<'_>) -> Result<String, AllocError> {
     let shown = shown(alloc, operation.text)?;
     let (name, forms) = (name_words(object), forms_words(object));
@@ -71,7 +71,7 @@ fn fault_words(
     }
 }
 
-// That an operation lacks something.
+// Says that an operation lacks something.
 fn lacks(alloc: Global, object: ObjectName, lacked: &str) -> Result<String, AllocError> {
     let forms = forms_words(object);
     format!(in alloc; "it lacks its {lacked}; wanted is {forms}")

@@ -54,7 +54,7 @@ pub(crate) fn part_in<'a>(
     }
 }
 
-/// Goes to the value at the end of a path of indices. Says whether there is one.
+/// Goes to the value at the end of a path of indices. Returns whether there is one.
 pub(crate) fn enter_path(reader: &mut Reader<'_>, path: &[usize]) -> bool {
     for index in path {
         if !enter(reader, *index) {
@@ -77,7 +77,7 @@ fn enter(reader: &mut Reader<'_>, index: usize) -> bool {
     true
 }
 
-/// The value that comes next in another value, which the reader passes.
+/// The next value in another value. The reader passes it.
 pub(crate) fn next_part<'a>(reader: &mut Reader<'_>, outer: Part<'a>) -> Option<Part<'a>> {
     let begin = reader.offset();
     if reader.skip_value(MAX_DEPTH).is_err() {
@@ -90,7 +90,7 @@ pub(crate) fn next_part<'a>(reader: &mut Reader<'_>, outer: Part<'a>) -> Option<
     })
 }
 
-// The text of a value without the comma and the blanks behind it.
+// The text of a value without the comma and the blanks after it.
 fn without_comma(found: &str) -> &str {
     let found = found.trim_end();
     match found.strip_suffix(',') {
@@ -111,7 +111,7 @@ pub(crate) fn length_of(alloc: Global, list: Part<'_>) -> Result<Option<usize>, 
     Ok(length_left(&mut reader, list.text.len()))
 }
 
-// How many elements come to the end of the list, which are not more than its bytes.
+// How many elements are left before the end of the list. There are no more than the list has bytes.
 fn length_left(reader: &mut Reader<'_>, most: usize) -> Option<usize> {
     for length in 0..most {
         if reader.take_end_array() {

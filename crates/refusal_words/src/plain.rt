@@ -5,7 +5,7 @@ ghost use Rattle.refusal_words.specs.Lines.{IsPlain, is_plain};
 
 use std::alloc::{AllocError, Global};
 
-// A byte as a character, or a question mark where it is none that is printed.
+// A byte as a character, or a question mark if it is not printable ASCII.
 #[tactic(auto, using(crate::proofs::PlainLines::printed))]
 fn plain_character(byte: u8) -> char
     ensures printed { is_plain result ≡ true }

@@ -14,8 +14,8 @@ use std::alloc::{AllocError, Global};
 
 /// What is wrong with an input of this form that is refused, where, and what is wanted: one line, with no line feed at its end.
 ///
-/// The line begins with what the refusal says by itself. The rest is found in the bytes of the input, which may be none where they were
-/// not kept. Bytes are counted from 0. Texts of the input stand in it as JSON texts, cut after some 60 characters.
+/// The line begins with what the refusal says by itself. The rest comes from the bytes of the input, which may be empty if they
+/// were not kept. Bytes are counted from 0. The line shows texts of the input as JSON texts, cut after some 60 characters.
 ///
 /// Fails for want of memory alone. O(n) for an input of n bytes, and for a text it takes as much memory as the text.
 pub fn reason_for(

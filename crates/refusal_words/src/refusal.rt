@@ -22,16 +22,15 @@ pub enum InputForm {
 /// Why an input was refused.
 #[derive(Clone, Copy, Debug, PartialEq, Eq)]
 pub enum Refusal {
-    /// The text is none of a history, or of a script: it is no JSON, has another shape or an unknown object, or something in it is
-    /// refused.
+    /// The text is no history, or no script: it is no JSON, has another shape or an unknown object, or something in it is refused.
     Read(ReadError),
     /// A script has no session, or more than 16.
     BadSessions,
     /// The step of a script at this place has no form.
     BadStep(usize),
-    /// The steps of a script stand for more than are run.
+    /// The steps of a script unfold to more steps than are run.
     TooManySteps,
-    /// The certificate has no form of one.
+    /// The certificate does not have the form of one.
     BadCertificate,
     /// The certificate does not have the shape of the history.
     ShapeMismatch,

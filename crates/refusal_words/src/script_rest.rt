@@ -1,4 +1,4 @@
-//! What is said of a script after the beginning of the line: the place in the input, and what is wanted.
+//! What the line says of a script after its beginning: the place in the input, and what is wanted.
 
 use crate::element::{shown_element, value_of};
 use crate::part::{Part, part_in};

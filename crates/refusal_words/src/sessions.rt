@@ -5,7 +5,7 @@ use history::MAX_OPERATIONS;
 use json::{Reader, Scratch};
 use std::alloc::{AllocError, Global};
 
-/// What a session is refused for.
+/// Why a session is refused.
 #[derive(Clone, Copy, Debug, PartialEq, Eq)]
 pub(crate) enum SessionFault {
     /// It is no list.

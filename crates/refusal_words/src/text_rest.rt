@@ -11,10 +11,10 @@ use crate::shape::shape_words;
 use operations::{ObjectName, OpId, ReadError};
 use std::alloc::{AllocError, Global};
 
-// How a memory that is over the limits is judged.
+// How to judge a memory that is over the limits.
 const LONGER: &str = "--long judges a memory of any length";
 
-/// What is said of a text that is no history, or no script, after the beginning of the line. No text where the input shows no place.
+/// What the line on a text that is no history, or no script, says after its beginning. It is empty if the input shows no place.
 ///
 /// Fails for want of memory alone. O(n) for an input of n bytes.
 pub(crate) fn text_rest(
@@ -63,7 +63,7 @@ pub(crate) fn history_in(
     }
 }
 
-// The same of a history that is there.
+// The same for a history that is there.
 fn rest_in(
     alloc: Global,
     history: Part<'_>,

@@ -2,16 +2,16 @@ use crate::update::UpdateOf;
 use history::Advice;
 use object_trait::SeqObject;
 
-/// What comes of an operation at a replica.
+/// The result of an operation at a replica.
 #[derive(Debug, Drop)]
 pub struct ActedOf<C: Drop, R: Drop> {
     /// What the call returned.
     pub ret: R,
     /// What the other replicas are to receive; none for a query.
     pub update: Option<UpdateOf<C>>,
-    /// What the replica tells of the operation.
+    /// What the replica reports of the operation.
     pub advice: Advice,
 }
 
-/// What comes of an operation of an object.
+/// The result of an operation of an object.
 pub type Acted<O> = ActedOf<<O as SeqObject>::Call, <O as SeqObject>::Ret>;

@@ -14,14 +14,14 @@ const SPACING: usize = 64;
 
 /// An object that has taken in the calls of the first of some updates, with queries between them.
 ///
-/// Where updates may come in before others it keeps checkpoints, so that it need not be made anew: for each place that has m
-/// updates behind it there is one from which at most m + max(3m, `SPACING`) updates are left, or that many are all.
+/// If updates may come in before others, it keeps checkpoints, so that it need not be made anew. For each place with m updates
+/// after it there is a checkpoint from which at most m + max(3m, `SPACING`) updates are left, or there are no more than that in all.
 #[derive(Drop)]
 pub(crate) struct Follower<O: SeqObject> {
     pub(crate) alloc: Global,
     pub(crate) start: O::Start,
     pub(crate) object: O,
-    /// How many updates it has taken in; none where it has to go on from a checkpoint, or from the start.
+    /// How many updates it has taken in; `None` if it has to go on from a checkpoint, or from the start.
     pub(crate) applied: Option<usize>,
     /// Earlier states of it, the latest last.
     pub(crate) checkpoints: Vec<Checkpoint<O>>,
@@ -53,7 +53,7 @@ impl<O: SeqObject> Follower<O> {
         })
     }
 
-    /// Where the object can't go on, goes on from the latest checkpoint, or from the start where there is none.
+    /// If the object can't go on, goes on from the latest checkpoint, or from the start if there is none.
     fn renew(&mut self, updates: &[UpdateOf<O::Call>]) -> Result<usize, AllocError>
         requires start { O.is_start self.old.start }
         requires following { IsFollowing O.query O.stands self.old.object self.old.start updates.now self.old.applied
@@ -88,8 +88,8 @@ impl<O: SeqObject> Follower<O> {
         }
     }
 
-    /// Makes a checkpoint of the object where one is due: `SPACING` updates after the latest one, and three times as many as are
-    /// left.
+    /// Makes a checkpoint of the object if one is due: at least `SPACING` updates after the latest one, and at least three times as
+    /// many as are left.
     fn keep(&mut self, updates: &[UpdateOf<O::Call>], applied: usize) -> Result<(), AllocError>
         requires applied { self.old.applied ≡ Some applied }
         requires following { IsFollowing O.query O.stands self.old.object self.old.start updates.now self.old.applied
@@ -108,7 +108,7 @@ impl<O: SeqObject> Follower<O> {
         Ok(())
     }
 
-    /// Has the object take in the updates that it has not taken in yet.
+    /// Applies to the object the updates that it has not taken in yet.
     fn catch_up(&mut self, updates: &[UpdateOf<O::Call>]) -> Result<(), AllocError>
         requires start { O.is_start self.old.start }
         requires following { IsFollowing O.query O.stands self.old.object self.old.start updates.now self.old.applied
@@ -170,7 +170,7 @@ impl<O: SeqObject> Follower<O> {
         Ok(ret)
     }
 
-    /// Takes note that an update comes in at a place.
+    /// Notes that an update comes in at a place.
     pub(crate) fn displace(&mut self, updates: &[UpdateOf<O::Call>], at: usize)
         requires within { at ≤ length updates.now }
         requires following { IsFollowing O.query O.stands self.old.object self.old.start updates.now self.old.applied

@@ -22,8 +22,8 @@ use std::marker::Model;
 
 /// The replica of a session, whose answers follow the order of updates that `P` gives.
 ///
-/// It keeps the updates that it has taken in and those that it holds, and an object that answers. Where the order of the store is
-/// not that in which updates are taken in, it keeps copies of what the object was too, one for each 64 updates at most.
+/// It keeps the updates that it has taken in and those that it holds, and an object that answers. If the order of the store is
+/// not that in which updates are taken in, it also keeps copies of earlier states of the object, at most one for each 64 updates.
 #[derive(Drop)]
 pub struct Replica<O: SeqObject, P: UpdateOrder> {
     alloc: Global,
@@ -59,7 +59,7 @@ impl<O: SeqObject, P: UpdateOrder> Model for Replica<O, P> {
 }
 
 impl<O: SeqObject, P: UpdateOrder> Replica<O, P> {
-    /// The replica of a session, of which there are `k`, that has done nothing. The start is what the object holds first.
+    /// The replica of one of `k` sessions, before any operation. The start is what the object holds first.
     ///
     /// Fails for want of memory alone. O(1) beside the object's start.
     pub fn new(
@@ -89,8 +89,8 @@ impl<O: SeqObject, P: UpdateOrder> Replica<O, P> {
 
     /// The updates that were taken in and the own ones, in the order that answers follow.
     ///
-    /// They are in the order that the store states. Where that is the order in which they were taken in, then with causal
-    /// delivery each stands behind the earlier ones of its session, and behind all that its writer had taken in of sessions
+    /// They are in the order that the store states. If that is the order in which they were taken in, then with causal
+    /// delivery each is after the earlier ones of its session, and after all that its writer had taken in of sessions
     /// other than its own and this one. O(1).
     pub fn taken_in(&self) -> &[UpdateOf<O::Call>]
         ensures updates { result.now ≡ self.now.taken }
@@ -110,7 +110,7 @@ impl<O: SeqObject, P: UpdateOrder> Replica<O, P> {
             || is_named(&self.held, update)
     }
 
-    /// Whether an update of this session and this number was taken in. With causal delivery the counts tell it.
+    /// Whether an update of this session and this number was taken in. With causal delivery the counts show it.
     fn has_taken(&self, update: &UpdateOf<O::Call>) -> bool
         requires { update.now.session < MAX_SESSIONS }
         ensures { result ≡ is_named self.now.taken update.now.session update.now.number }
@@ -210,7 +210,7 @@ impl<O: SeqObject, P: UpdateOrder> Replica<O, P> {
         Ok(())
     }
 
-    /// The order that advice on the next operation tells.
+    /// The order that the advice on the next operation reports.
     fn told_order(&self) -> Result<TakenIn, AllocError>
         ensures { IfOk result (λ o. o ≡ (if P.told then writers self.now.taken ++ self.now.session ∷ [] else [])) }
     {
@@ -222,7 +222,7 @@ impl<O: SeqObject, P: UpdateOrder> Replica<O, P> {
         }
     }
 
-    /// What is told of the next operation.
+    /// The advice on the next operation.
     fn next_advice(&self) -> Result<Advice, AllocError>
         requires { CanAct self.now }
         ensures { IfOk result (λ a. IsAdvice P.told self.now a) }
@@ -313,20 +313,20 @@ impl<O: SeqObject, P: UpdateOrder> Replica<O, P> {
         })
     }
 
-    /// The session's next operation: what its call returns, its update, and what is told of it.
+    /// The session's next operation: what its call returns, its update, and its advice.
     ///
     /// The return is the object's answer after the updates taken in and the own ones, in the replica's order, also with any
     /// queries put between them. A query has no update. The clock rises by one.
     ///
-    /// Refused in this order: `LaneFull` after 256 operations, `ClockFull` where the clock stands at the greatest `u64`,
+    /// Refused in this order: `LaneFull` after 256 operations, `ClockFull` if the clock is at the greatest `u64`,
     /// `Memory`. The replica is then as before.
     ///
-    /// O(k), and O(n) for n updates taken in where the store tells their order, beside what the object takes to apply updates and
-    /// to be copied. It applies each update that came since the last operation. Where one of these came in before others that it
-    /// has applied, it goes on from a copy of what it was before that place: with m updates behind the place, it applies 4m + 64
-    /// at most. A copy is made where 64 updates were applied since the last one, and three times as many as are left to apply:
-    /// one for each 64 updates that come in behind the others, O(log m) where m are applied anew. A store in whose order each
-    /// update goes behind the others makes none.
+    /// O(k), and O(n) for n updates taken in if the store reports their order, beside what the object takes to apply updates and
+    /// to be copied. The object applies each update that came since the last operation. If one of these came in before others that
+    /// it has applied, it goes on from a copy of its state before that place: with m updates after the place, it applies 4m + 64
+    /// at most. A copy is made if 64 updates were applied since the last one, and three times as many as are left to apply:
+    /// one for each 64 updates that come in after the others, O(log m) if m are applied anew. A store in whose order each
+    /// update goes after the others makes none.
     pub fn act(&mut self, call: O::Call) -> Result<ActedOf<O::Call, O::Ret>, ReplicaError>
         ensures reply { IfOk result (λ a. IsAnswer O.query O.answer self.old.start (calls self.old.taken) call a.ret) }
         ensures update { IfOk result (λ a. MatchOption a.update (O.query call ≡ true)
@@ -349,15 +349,15 @@ impl<O: SeqObject, P: UpdateOrder> Replica<O, P> {
     ///
     /// An update of the own session, of a session not below `k`, or one whose session and number are those of an update that
     /// was taken in or is held, changes nothing. Eager delivery takes any other in at once. Causal delivery holds it back until
-    /// it is the next of its session and all that its writer had taken in of third sessions was taken in here; where several
+    /// it is the next of its session and all that its writer had taken in of third sessions was taken in here; if several
     /// held updates may be taken in, the one that was received first goes first.
     ///
     /// Fails with `Memory` alone, and the replica is then as before.
     ///
-    /// With causal delivery O(h + k²) for h updates held, and as much again for each that is taken in: the counts tell what was
+    /// With causal delivery O(h + k²) for h updates held, and as much again for each that is taken in: the counts show what was
     /// taken in. With eager delivery O(n + h) for n updates taken in: any of a session's updates may be missing. An update that
-    /// is taken in takes its place in O(log n + m) where m updates stand behind it, and drops the copies of the object that were
-    /// made behind that place.
+    /// is taken in takes its place in O(log n + m) if m updates are after it, and drops the copies of the object that were
+    /// made after that place.
     pub fn receive(&mut self, update: UpdateOf<O::Call>) -> Result<(), ReplicaError>
         ensures ignored { OnOk result (ignores self.old update ≡ true → self.new ≡ self.old) }
         ensures eager { OnOk result (ignores self.old update ≡ false → self.old.delivery ≡ Delivery.Eager
@@ -391,7 +391,7 @@ fn is_named<C: Copy>(updates: &[UpdateOf<C>], update: &UpdateOf<C>) -> bool
     updates.iter().any(|other| update.session == other.session && update.number == other.number)
 }
 
-/// Whether all that an update's writer had taken in of a session was taken in, where that is neither its own nor this one.
+/// Whether all that an update's writer had taken in of a session was taken in. True for the writer's own session and for this one.
 fn is_seen<C: Copy>(
     update: &UpdateOf<C>,
     session: u8,

@@ -13,7 +13,7 @@ pub enum ReplicaError {
     /// The session has had as many operations as a session may have.
     #[error("the session has had 256 operations")]
     LaneFull,
-    /// The clock stands at the greatest stamp.
+    /// The clock is at the greatest stamp.
     #[error("the clock stands at the greatest stamp")]
     ClockFull,
 }

@@ -6,7 +6,7 @@ use history::MAX_SESSIONS;
 use std::alloc::{AllocError, Global};
 use std::marker::Model;
 
-/// Updates in an order, with what they count.
+/// Updates in an order, with counts and ends for each session.
 #[derive(Drop)]
 pub(crate) struct Taken<C: Copy> {
     updates: Vec<UpdateOf<C>>,

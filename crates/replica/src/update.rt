@@ -4,7 +4,7 @@ ghost use Rattle.history.specs.declared.limits.TheConstants.{MAX_OPERATIONS};
 use history::MAX_SESSIONS;
 use object_trait::SeqObject;
 
-/// What a replica tells the others of one of its operations that is no query.
+/// What a replica sends to the others about one of its operations that is not a query.
 ///
 /// Nobody trusts it: whatever it says, a replica that receives it goes on.
 #[derive(Clone, Copy, Debug, PartialEq, Eq)]

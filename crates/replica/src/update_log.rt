@@ -99,7 +99,7 @@ impl<O: SeqObject, P: UpdateOrder> UpdateLog<O, P> {
         self.follower.ask(self.taken.updates(), call)
     }
 
-    /// Answers the call of an update after all of the updates, and takes the update in behind them.
+    /// Answers the call of an update after all of the updates, and takes the update in after them.
     pub(crate) fn enter(&mut self, update: UpdateOf<O::Call>) -> Result<O::Ret, AllocError>
         requires { 0 < self.old.room }
         ensures start { self.new.start ≡ self.old.start }

@@ -8,16 +8,16 @@ use crate::update::UpdateOf;
 ///
 /// The laws below the functions say that updates are in order, however they come.
 pub trait UpdateOrder {
-    /// The place of an update among those taken in before it, of which each has its stamp, session and number.
+    /// The place of an update among those taken in before it. A key is the stamp, session and number of an update.
     ghost place: { List Key → Key → ℕ };
 
-    /// What is true of updates that stand in this order.
+    /// What is true of updates that are in this order.
     ghost in_order: { List Key → Type 0 };
 
-    /// Advice tells the sessions of the updates, in this order.
+    /// Whether advice reports the sessions of the updates, in this order.
     ghost told: { Bool };
 
-    /// Each update goes behind those taken in before it.
+    /// Whether each update goes after those taken in before it.
     ghost behind: { Bool };
 
     /// Where an update goes among those taken in before it, which are in order.
@@ -26,11 +26,11 @@ pub trait UpdateOrder {
         ensures place { result ≡ place (map key taken.now) (key update.now) }
         ensures within { result ≤ length taken.now };
 
-    /// Whether each update goes behind those taken in before it, so that no earlier state is wanted.
+    /// Whether each update goes after those taken in before it, so that no earlier state is needed.
     fn is_behind() -> bool
         ensures { result ≡ behind };
 
-    /// Whether advice tells the order.
+    /// Whether advice reports the order.
     fn is_told() -> bool
         ensures { result ≡ told };
 

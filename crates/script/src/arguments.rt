@@ -1,4 +1,4 @@
-//! What stands behind the word of a step.
+//! The values after the word of a step.
 
 ghost use Rattle.std.specs.Prelude.{◌≡◌, ◌∷◌, [], map, option_map};
 ghost use Rattle.serde_json.specs.Data.{Data};
@@ -26,7 +26,7 @@ pub fn one_number(values: &[Value]) -> Option<usize>
     }
 }
 
-/// The number there, and the value behind it.
+/// The number there, and the value after it.
 pub fn number_and(values: &[Value]) -> Option<(usize, &Value)>
     ensures { IsRead number_and_form (map view values.now) (option_map (λ p. (p.0, view p.1.now)) result) }
 {

@@ -16,8 +16,8 @@ use world::{Reply, ReplyOf};
 ///
 /// `ok s.i` for an operation that began or ended, `ok n` for a sealer or a case, `seen` and `none` for a look, the compact
 /// text of a history that is shown, `take c s.i` and `none` for a piece that is taken, `verdict n explained` and
-/// `verdict n unexplained`, `ok` for what is accepted, `yes`, `no Kind`, `unknown`, `unknown s.i` and `open n` for how a case
-/// stands, and `refused n`.
+/// `verdict n unexplained`, `ok` for what is accepted, `yes`, `no Kind`, `unknown`, `unknown s.i` and `open n` for the state of
+/// a case, and `refused n`.
 ///
 /// Fails for want of memory alone. O(n) for a history of n operations.
 pub fn reply_line<O: Named>(alloc: Global, reply: &Reply<O>) -> Result<String, AllocError>
@@ -79,7 +79,7 @@ fn verdict_line(alloc: Global, number: usize, outcome: Outcome) -> Result<String
     }
 }
 
-/// The line of how a case stands.
+/// The line of the state of a case.
 fn answer_line(alloc: Global, answer: Answer) -> Result<String, AllocError>
     ensures { IfOk result (λ text. string_bytes text ≡ answer_text answer) }
 {

@@ -39,7 +39,7 @@ pub fn read_script(alloc: Global, text: &[u8]) -> Result<AnyScript, ScriptError>
 /// A refusal is the first in the order of reading. `BadShape` where the value is no list of a text, a whole number and a list,
 /// and perhaps one more list; `UnknownObject` where no object has the name; `BadLimits` where there are no sessions or more than
 /// 16; then step by step `BadStep` with the place of a step that has no form, and `TooManySteps` where the steps up to here
-/// stand for more than 65,536; and `BadInitial` where what stands behind the steps is no start. `Memory` only where an
+/// expand to more than 65,536; and `BadInitial` where the value after the steps is no start. `Memory` only where an
 /// allocation was refused. O(n) for n values.
 pub fn script_of(alloc: Global, value: &Value) -> Result<AnyScript, ScriptError>
     ensures is_script { IfOk result IsAnyScript }
@@ -58,7 +58,7 @@ pub fn script_of(alloc: Global, value: &Value) -> Result<AnyScript, ScriptError>
     read_named(alloc, name, sessions, steps, rest)
 }
 
-/// The script of the object with this name, for so many sessions, from the forms of its steps and of what stands behind them.
+/// The script of the object with this name, for so many sessions, from the forms of its steps and the values after them.
 fn read_named(
     alloc: Global,
     name: ObjectName,

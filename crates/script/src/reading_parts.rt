@@ -1,4 +1,4 @@
-//! Reading what a sealer is told, and what a case is filed with.
+//! Reading the counts that a sealer is given, and what a case is filed with.
 
 ghost use Rattle.std.specs.Prelude.{◌≡◌, ◌≤◌, None, IfOk};
 ghost use Rattle.serde_json.specs.Find.{as_str};
@@ -26,7 +26,7 @@ fn read_count(value: &Value) -> Option<u16>
     }
 }
 
-/// The counts that a value is the list of, one for each of `k` sessions. O(k).
+/// The counts in a list, one for each of `k` sessions, where the value is such a list. O(k).
 pub fn read_told(alloc: Global, k: usize, value: &Value) -> Result<Option<Told>, AllocError>
     ensures { IfOk result (IsReadWithin (IsTold k) (list_form number_form) (view value.now)) }
 {
@@ -62,7 +62,7 @@ pub fn read_case(
     }
 }
 
-/// A certificate, with its criterion, of a value that is no text.
+/// A certificate, with its criterion, from a value that is no text.
 fn read_certified(
     alloc: Global,
     value: &Value,

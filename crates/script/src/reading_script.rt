@@ -14,7 +14,7 @@ use operations::Named;
 use serde_json::Value;
 use std::alloc::Global;
 
-/// The script of an object for so many sessions, from the forms of its steps and of what stands behind them.
+/// The script of an object for so many sessions, from the forms of its steps and the values after them.
 pub fn read_script_of<O: Named>(
     alloc: Global,
     sessions: u64,

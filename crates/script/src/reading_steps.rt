@@ -22,8 +22,8 @@ use world::StepOf;
 ///
 /// The form is a list of a word and what the step names: `["begin",s,call]`, `["end",s,ret]`, `["start"]`, `["start",told]`,
 /// `["look",z]`, `["look",z,n]`, `["show",z]`, `["file",z,certificate]`, `["file",z,criterion]`, `["take"]`,
-/// `["work",c,s,i]`, `["put",c,v]`, `["refute",c,pattern]` or `["ask",c]`. What it names may not be there; but told is a
-/// list of `k` numbers from 0 to 256, and n a number from 1 to 9,999.
+/// `["work",c,s,i]`, `["put",c,v]`, `["refute",c,pattern]` or `["ask",c]`. The step may name what is not there. But `told` is
+/// a list of `k` numbers from 0 to 256, and `n` is a number from 1 to 9,999.
 ///
 /// Fails for want of memory alone. O(n) for n values.
 pub fn read_step<O: Named>(
@@ -42,7 +42,7 @@ pub fn read_step<O: Named>(
     }
 }
 
-/// The step of this word, of what stands behind it.
+/// The step with this word, from the values after it.
 fn read_behind<O: Named>(
     alloc: Global,
     k: usize,
@@ -66,7 +66,7 @@ fn read_behind<O: Named>(
     }
 }
 
-/// The begin of an operation, of a session and a call.
+/// The begin of an operation, from a session and a call.
 fn read_begin<O: Named>(rest: &[Value]) -> Option<WrittenStep<O::Call, O::Ret>>
     ensures { (k : ℕ) → IsReadBehind O.call_form O.return_form O.is_call k words.Begin (map view rest.now) result }
 {
@@ -79,7 +79,7 @@ fn read_begin<O: Named>(rest: &[Value]) -> Option<WrittenStep<O::Call, O::Ret>>
     Some(WrittenStep::Once(StepOf::Begin(session, call)))
 }
 
-/// The end of an operation, of a session and a return.
+/// The end of an operation, from a session and a return.
 fn read_end<O: Named>(rest: &[Value]) -> Option<WrittenStep<O::Call, O::Ret>>
     ensures { (k : ℕ) → IsReadBehind O.call_form O.return_form O.is_call k words.End (map view rest.now) result }
 {
@@ -92,7 +92,7 @@ fn read_end<O: Named>(rest: &[Value]) -> Option<WrittenStep<O::Call, O::Ret>>
     Some(WrittenStep::Once(StepOf::End(session, ret)))
 }
 
-/// The start of a sealer, of what it is told, where it is told of operations.
+/// The start of a sealer, from the counts that it is given, or from nothing.
 fn read_start<O: Named>(
     alloc: Global,
     k: usize,
@@ -127,7 +127,7 @@ fn read_look<O: Named>(rest: &[Value]) -> Option<WrittenStep<O::Call, O::Ret>>
     }
 }
 
-/// The show of a sealer.
+/// The showing of the history of a sealer, from the sealer.
 fn read_show<O: Named>(rest: &[Value]) -> Option<WrittenStep<O::Call, O::Ret>>
     ensures { (k : ℕ) → IsReadBehind O.call_form O.return_form O.is_call k words.Show (map view rest.now) result }
 {
@@ -137,7 +137,7 @@ fn read_show<O: Named>(rest: &[Value]) -> Option<WrittenStep<O::Call, O::Ret>>
     Some(WrittenStep::Once(StepOf::Show(sealer)))
 }
 
-/// The filing of a case, of a sealer and a certificate or the name of a criterion.
+/// The filing of a case, from a sealer and a certificate or the name of a criterion.
 fn read_file<O: Named>(
     alloc: Global,
     rest: &[Value],
@@ -156,7 +156,7 @@ fn read_file<O: Named>(
     }
 }
 
-/// The taking of a piece, of nothing.
+/// The taking of a piece, from nothing.
 fn read_take<O: Named>(rest: &[Value]) -> Option<WrittenStep<O::Call, O::Ret>>
     ensures { (k : ℕ) → IsReadBehind O.call_form O.return_form O.is_call k words.Take (map view rest.now) result }
 {
@@ -166,7 +166,7 @@ fn read_take<O: Named>(rest: &[Value]) -> Option<WrittenStep<O::Call, O::Ret>>
     }
 }
 
-/// The check of a piece, of a case and an operation.
+/// The check of a piece, from a case and an operation.
 fn read_work<O: Named>(rest: &[Value]) -> Option<WrittenStep<O::Call, O::Ret>>
     ensures { (k : ℕ) → IsReadBehind O.call_form O.return_form O.is_call k words.Work (map view rest.now) result }
 {
@@ -177,7 +177,7 @@ fn read_work<O: Named>(rest: &[Value]) -> Option<WrittenStep<O::Call, O::Ret>>
     Some(WrittenStep::Once(StepOf::Work(case, op)))
 }
 
-/// The putting of a verdict, of a case and a verdict.
+/// The putting of a verdict, from a case and a verdict.
 fn read_put<O: Named>(rest: &[Value]) -> Option<WrittenStep<O::Call, O::Ret>>
     ensures { (k : ℕ) → IsReadBehind O.call_form O.return_form O.is_call k words.Put (map view rest.now) result }
 {
@@ -187,7 +187,7 @@ fn read_put<O: Named>(rest: &[Value]) -> Option<WrittenStep<O::Call, O::Ret>>
     Some(WrittenStep::Once(StepOf::Put(case, verdict)))
 }
 
-/// The putting of a pattern, of a case and the pattern.
+/// The putting of a pattern, from a case and the pattern.
 fn read_refute<O: Named>(
     alloc: Global,
     rest: &[Value],
@@ -203,7 +203,7 @@ fn read_refute<O: Named>(
     }
 }
 
-/// The asking of a case.
+/// The question for the state of a case, from the case.
 fn read_ask<O: Named>(rest: &[Value]) -> Option<WrittenStep<O::Call, O::Ret>>
     ensures { (k : ℕ) → IsReadBehind O.call_form O.return_form O.is_call k words.Ask (map view rest.now) result }
 {

@@ -13,8 +13,8 @@ use refutable::Refutable;
 use std::alloc::{AllocError, Global};
 use world::Reply;
 
-/// The lines of the replies to the steps of a script, one after the other: each reply is the one that the steps and replies
-/// before it determine.
+/// The lines of the replies to the steps of a script, one after the other. The steps and replies before each reply determine
+/// it.
 ///
 /// Fails for want of memory alone. It costs what [`World::run`](world::World::run) does, and what
 /// [`reply_line`] does for each reply.

@@ -12,7 +12,7 @@ use std::alloc::{AllocError, Global};
 use std::marker::Model;
 use world::{Reply, World};
 
-/// A script has at most so many steps, where those that stand for several count as what they stand for.
+/// A script has at most so many steps. A written step that expands to several counts as several.
 pub const MAX_STEPS: usize = 65_536;
 
 /// A script of a run of the world: the number of sessions, from 1 to 16, the start of their object, and the steps as they are
@@ -55,8 +55,8 @@ impl<O: SeqObject> Script<O> {
 }
 
 impl<O: Refutable> Script<O> {
-    /// The replies of the world to the steps of the script, one for each step that a written step stands for: each is the one
-    /// that the steps and replies before it determine.
+    /// The replies of the world to the steps of the script, one for each step that a written step expands to. The steps and
+    /// replies before each reply determine it.
     ///
     /// Fails for want of memory alone. It costs what [`World::run`] does.
     pub fn run(self, alloc: Global) -> Result<Vec<Reply<O>>, AllocError>

@@ -10,7 +10,7 @@ pub enum ScriptError {
     /// The text is no JSON.
     #[error("no JSON")]
     NotJson,
-    /// The value has not the shape of a script.
+    /// The value does not have the shape of a script.
     #[error("no script")]
     BadShape,
     /// No object has the name.
@@ -22,10 +22,10 @@ pub enum ScriptError {
     /// The step at this place has no form.
     #[error("no step at {0}")]
     BadStep(usize),
-    /// There are more steps than are taken.
+    /// There are more steps than a script may have.
     #[error("more than {most} steps", most = crate::script::MAX_STEPS)]
     TooManySteps,
-    /// What stands behind the steps is no table of initial values of the object's.
+    /// The value after the steps is no table of initial values of the object's.
     #[error("no table of initial values")]
     BadInitial,
     /// An allocation was refused.

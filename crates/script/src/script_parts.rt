@@ -7,7 +7,7 @@ ghost use Rattle.script.specs.Steps.ScriptParts.{named_parts, parts_at};
 use operations::elements_of;
 use serde_json::Value;
 
-/// The name of the object, the number of sessions, the forms of the steps, and what stands behind these: nothing, or one more
+/// The name of the object, the number of sessions, the forms of the steps, and the values after these: none, or one more
 /// list.
 pub type ScriptParts<'a> = (&'a str, u64, &'a [Value], &'a [Value]);
 

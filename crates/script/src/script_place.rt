@@ -23,11 +23,11 @@ pub(crate) enum ScriptPlace {
     Steps,
     /// A step.
     Step,
-    /// What a step names first: a number, or what a sealer is told.
+    /// What a step names first: a number, or the counts that a sealer is given.
     Told,
-    /// What a step names next, and what stands in it: a call, a return, a number, or a part of a certificate or of a pattern.
+    /// What a step names next, and the values in it: a call, a return, a number, or a part of a certificate or of a pattern.
     Argument(CertificatePlace, PatternPlace),
-    /// Its start, and what stands in it.
+    /// Its start, and the values in it.
     Start(HistoryPlace),
     /// A text or a number.
     Scalar,
@@ -78,7 +78,7 @@ impl Place for ScriptPlace {
     }
 }
 
-/// The larger of two limits: none where one of them is none.
+/// The larger of two limits, or none where one of them is none.
 fn larger(first: Option<usize>, second: Option<usize>) -> Option<usize>
     ensures { result ≡ larger_limit first second }
 {

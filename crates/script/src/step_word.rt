@@ -24,12 +24,12 @@ pub enum StepWord {
     Put,
     /// A pattern is put against a case.
     Refute,
-    /// It is asked how a case stands.
+    /// A user of the desk asks for the state of a case.
     Ask,
 }
 
 impl StepWord {
-    /// The step word that a text is, or none where it is none.
+    /// The step word that a text is, or none where the text is no step word.
     pub fn named(word: &str) -> Option<StepWord>
         ensures { IsRead name_of word.now result }
     {

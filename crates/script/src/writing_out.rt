@@ -1,4 +1,4 @@
-//! Writing out the steps of a script that stand for several steps of the world.
+//! Expanding the steps of a script that mean several steps of the world.
 
 ghost use Rattle.std.specs.Prelude.{◌≡◌, ◌++◌, IfOk, OnOk, replicate};
 ghost use Rattle.script.specs.StepForm.{steps_of, written_out as steps_written_out};
@@ -9,9 +9,9 @@ use crate::written_step::WrittenStep;
 use std::alloc::{AllocError, Global};
 use world::{StepOf, Told};
 
-/// The steps of a world of `k` sessions that these stand for, in order.
+/// The steps of a world of `k` sessions that these expand to, in order.
 ///
-/// Fails for want of memory alone. O(n + m) for n steps that stand for m.
+/// Fails for want of memory alone. O(n + m) for n steps that expand to m.
 pub fn written_out<C: Drop, R: Drop>(
     alloc: Global,
     k: usize,
@@ -26,7 +26,7 @@ pub fn written_out<C: Drop, R: Drop>(
     Ok(steps)
 }
 
-/// Puts the steps that a written step stands for behind the others.
+/// Appends the steps that a written step expands to.
 fn push_steps<C: Drop, R: Drop>(
     alloc: Global,
     k: usize,
@@ -45,7 +45,7 @@ fn push_steps<C: Drop, R: Drop>(
     }
 }
 
-/// Puts so many looks of a sealer behind the others.
+/// Appends so many looks of a sealer.
 fn push_looks<C: Drop, R: Drop>(
     sealer: usize,
     times: usize,

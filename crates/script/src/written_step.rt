@@ -8,7 +8,7 @@ use world::StepOf;
 pub enum WrittenStep<C, R> {
     /// One step of the world.
     Once(StepOf<C, R>),
-    /// The next sealer starts, and is told of no operation.
+    /// The next sealer starts, and knows no operation.
     StartUntold,
     /// A sealer looks so many times.
     Looks(usize, usize),
@@ -18,7 +18,7 @@ pub enum WrittenStep<C, R> {
 pub const MAX_LOOKS: usize = 9_999;
 
 impl<C, R> WrittenStep<C, R> {
-    /// How many steps of the world it stands for.
+    /// How many steps of the world it expands to.
     pub fn count(&self) -> usize
         ensures { (k : ℕ) → result ≡ length (steps_of k self.now) }
     {

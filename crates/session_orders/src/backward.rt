@@ -1,4 +1,4 @@
-//! What is left of the past of a session's last operation, while an order of it is made from its end.
+//! What is left of the past of a session's last operation, while an order of this past is made from its end.
 
 ghost use Rattle.std.specs.Prelude.{◌≡◌, ◌<◌, ◌≤◌, ◌+◌, ℕ, [], length, None, slice_index_or};
 ghost use Rattle.std.specs.Prelude.{IfOk};
@@ -19,13 +19,13 @@ use std::alloc::{AllocError, Global};
 pub(crate) struct Backward {
     /// The session.
     pub(crate) own: u32,
-    /// Of each session the number after that of its last operation that is left.
+    /// For each session, the number after that of its last operation that is left.
     pub(crate) ends: Vec<u32>,
-    /// Of each operation how many reads of it are left.
+    /// For each operation, how many reads of it are left.
     pub(crate) readers: Vec<u32>,
-    /// Of each variable how many writes of it are left.
+    /// For each variable, how many writes of it are left.
     pub(crate) writes: Vec<u32>,
-    /// Of each variable the write that is locked: it is left, and a read of the session that is placed read from it, so that no other
+    /// For each variable, the locked write, if any. That write is left, and a placed read of the session read from it, so no other
     /// write of the variable may come between.
     pub(crate) locks: Vec<Option<u32>>,
     /// Whether a write of a variable was left when a read of its initial value by the session was placed.
@@ -33,7 +33,7 @@ pub(crate) struct Backward {
 }
 
 impl Backward {
-    /// With nothing left. O(n + k) for n operations of k sessions.
+    /// The state with nothing left. O(n + k) for n operations of k sessions.
     pub(crate) fn clear(alloc: Global, index: &LongIndex) -> Result<Backward, AllocError>
         ensures { IfOk result (IsClear index.now) }
     {
@@ -47,7 +47,7 @@ impl Backward {
         })
     }
 
-    /// Where nothing is left, leaves the past of the last operation of a session. O(n) for n operations.
+    /// Starts from a state with nothing left: leaves the past of the last operation of a session. O(n) for n operations.
     pub(crate) fn begin(&mut self, index: &LongIndex, order: &[u32], own: u32)
         requires known { IsKnown index.now own }
         requires order { IsOrderBy index.now.history [] order.now }
@@ -61,7 +61,7 @@ impl Backward {
         self.start = false;
     }
 
-    /// Counts the reads and writes that are left, where none is counted yet.
+    /// Counts the reads and writes that are left; none may be counted yet.
     fn count(&mut self, index: &LongIndex)
         requires distinct { IsDifferentiated index.now.history }
         requires few { many index.now.history ≤ MAX_NUMBERS }
@@ -80,7 +80,7 @@ impl Backward {
         }
     }
 
-    /// Counts an operation, if it is left, after those with lower numbers.
+    /// Counts an operation if it is left; those with lower numbers are counted already.
     fn count_operation(&mut self, index: &LongIndex, operation: u32)
         requires distinct { IsDifferentiated index.now.history }
         requires few { many index.now.history ≤ MAX_NUMBERS }
@@ -107,7 +107,7 @@ impl Backward {
     }
 }
 
-/// As many variables, none of which is locked.
+/// Locks for so many variables, none of which is locked.
 fn no_locks(alloc: Global, variables: u32) -> Result<Vec<Option<u32>>, AllocError>
     ensures size { IfOk result (λ locks. length locks.items ≡ variables) }
     ensures none { IfOk result (λ locks. (x : ℕ) → slice_index_or locks.items x None ≡ None) }

@@ -11,7 +11,7 @@ use crate::backward::Backward;
 use long_index::{LongIndex, Part};
 
 impl Backward {
-    /// Whether the last operation of a session that is left can be placed: no read of it is left, and no lock stands in its way.
+    /// Whether the last operation of a session that is left can be placed: no read of it is left, and no lock prevents it.
     ///
     /// O(1).
     pub(crate) fn is_free(&self, index: &LongIndex, session: u32) -> bool
@@ -32,7 +32,7 @@ impl Backward {
         self.is_admitted(index, session, last)
     }
 
-    /// Whether no lock stands in the way of an operation of a session.
+    /// Whether no lock prevents an operation of a session.
     fn is_admitted(&self, index: &LongIndex, session: u32, operation: u32) -> bool
         requires on_its_way { IsOnItsWay index.now self.now }
         requires below { operation < many index.now.history }

@@ -23,7 +23,7 @@ pub(crate) fn count_writes(alloc: Global, index: &LongIndex) -> Result<Vec<u32>,
     Ok(counts)
 }
 
-/// Counts an operation, if it writes, after those with lower numbers.
+/// Counts an operation if it writes; those with lower numbers are counted already.
 fn count_write(index: &LongIndex, operation: u32, counts: &mut Vec<u32>)
     requires operation { operation < many index.now.history }
     requires few { many index.now.history ≤ MAX_NUMBERS }

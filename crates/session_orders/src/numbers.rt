@@ -4,7 +4,7 @@ ghost use Rattle.std.specs.Prelude.{◌≡◌, ◌≢◌, ◌<◌, ◌≤◌, �
 
 use long_history::MAX_NUMBERS;
 
-/// Raises the number at a place to another one, where it is lower.
+/// Raises the number at a place to another one, if it is lower than that.
 pub(crate) fn raise(numbers: &mut Vec<u32>, at: u32, number: u32)
     requires { at < length numbers.old.items }
     ensures size { length numbers.new.items ≡ length numbers.old.items }
@@ -28,7 +28,7 @@ pub(crate) fn add_one(numbers: &mut Vec<u32>, at: u32)
     numbers[at as usize] += 1;
 }
 
-/// Takes one from the number at a place.
+/// Subtracts one from the number at a place.
 pub(crate) fn take_one(numbers: &mut Vec<u32>, at: u32)
     requires inside { at < length numbers.old.items }
     requires some { slice_index_or numbers.old.items at 0 ≢ 0 }

@@ -21,8 +21,8 @@ use std::alloc::{AllocError, Global};
 pub enum SessionOrder {
     /// Each has one in which its known reads read what was last written.
     Explained,
-    /// In the happened-before relation of some operation a write comes before a read of the initial value of its variable, which is that
-    /// operation or before it in program order.
+    /// In the happened-before relation of some operation a write comes before a read of the initial value of its variable. The read is
+    /// that operation or comes before it in program order.
     StartOverwritten,
     /// In the happened-before relation of some operation an operation comes before itself.
     Cyclic,
@@ -37,7 +37,7 @@ pub(crate) struct Unexplained {
     pub(crate) order: SessionOrder,
 }
 
-/// The first session of a part that is not explained, if there is one. The part has the places `part`, `part + parts` and so on of the
+/// The first session of a part that has no order, if there is one. The part has the places `part`, `part + parts` and so on of the
 /// list.
 ///
 /// Fails for want of memory alone. O(n k / p) for n operations, k sessions with operations and p parts, and O(n + k) numbers of memory for
@@ -138,7 +138,7 @@ fn order_session(
 }
 
 impl Backward {
-    /// What it says of the session that no session can go on.
+    /// The result for the own session, once no session can go on.
     fn outcome(&self, index: &LongIndex, sessions: &[u32]) -> SessionOrder
         requires on_its_way { IsOnItsWay index.now self.now }
         requires sources { ¬ LacksSource index.now.history }

@@ -1,4 +1,4 @@
-//! Orders of all sessions: in parts that threads go over side by side, or as one part.
+//! Orders of all sessions: in parts that threads work on in parallel, or as one part.
 
 ghost use Rattle.std.specs.Prelude.{◌≡◌, ◌<◌, ℕ, [], length, vec_len, IfOk};
 ghost use Rattle.long_history.specs.Steps.{IsOrderBy};
@@ -18,8 +18,8 @@ use std::thread::Threads;
 /// Whether each session has an order of what is before its last operation, in which each of its known reads reads what was last
 /// written to its variable; otherwise, which kind shows that the first session without such an order has none.
 ///
-/// `order` is an order of all operations that program order and the sources make, and no known read lacks its source. No thread is
-/// started. Fails for want of memory alone. O(n k) for n operations in k sessions with operations, and O(n + k) numbers of memory for k
+/// `order` is an order of all operations that program order and the sources make, and no known read lacks its source. It starts no
+/// thread. Fails for want of memory alone. O(n k) for n operations in k sessions with operations, and O(n + k) numbers of memory for k
 /// sessions in all.
 pub fn order_sessions(
     alloc: Global,
@@ -36,9 +36,9 @@ pub fn order_sessions(
     join_parts(index, &turns.sessions, found)
 }
 
-/// The same, by threads of a runtime: the sessions are shared by so many workers, of which the calling thread is one.
+/// The same, by threads of a runtime: so many workers share the sessions, and the calling thread is one of them.
 ///
-/// With one worker no thread is started. Each worker takes O(n + k) numbers of memory.
+/// With one worker it starts no thread. Each worker takes O(n + k) numbers of memory.
 pub fn order_sessions_in_threads<T: Threads + Wait + Sync>(
     rt: &T,
     alloc: Global,
@@ -104,7 +104,7 @@ fn join_parts(
     }
 }
 
-/// The one of two that stands at the lesser place, if there is one.
+/// The one of two that is at the lesser place, if there is one.
 fn earlier(a: Option<Unexplained>, b: Option<Unexplained>) -> Option<Unexplained>
     ensures { IsEarlier a b result }
 {

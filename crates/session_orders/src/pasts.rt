@@ -15,9 +15,9 @@ use crate::numbers::raise;
 use long_history::MAX_NUMBERS;
 use long_index::LongIndex;
 
-/// Where nothing is left, leaves the past of the last operation of a session.
+/// Starts from a state with nothing left: leaves the past of the last operation of a session.
 ///
-/// Of each session `ends` has the number after that of the last operation that is left. O(n) for n operations.
+/// For each session, `ends` has the number after that of the last operation that is left. O(n) for n operations.
 pub(crate) fn leave_past(index: &LongIndex, order: &[u32], own: u32, ends: &mut Vec<u32>)
     requires distinct { IsDifferentiated index.now.history }
     requires few { many index.now.history ≤ MAX_NUMBERS }
@@ -36,7 +36,7 @@ pub(crate) fn leave_past(index: &LongIndex, order: &[u32], own: u32, ends: &mut 
     }
 }
 
-/// Leaves the source of an operation, if that is left and has one, and what precedes the source.
+/// Leaves the source of an operation and what precedes the source, if the operation is left and has one.
 fn leave_source(index: &LongIndex, operation: u32, ends: &mut Vec<u32>)
     requires distinct { IsDifferentiated index.now.history }
     requires few { many index.now.history ≤ MAX_NUMBERS }

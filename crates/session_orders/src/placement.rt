@@ -1,4 +1,4 @@
-//! One operation more is placed.
+//! Placing one more operation.
 
 ghost use Rattle.std.specs.Prelude.{◌≡◌, ◌≢◌, ◌⊎◌, ◌<◌, ℕ, length, None, Some, slice_index_or, IfSome};
 ghost use Rattle.history.specs.declared.op_id.OpId.{OpId as Operation};
@@ -14,7 +14,7 @@ use crate::numbers::take_one;
 use long_index::{LongIndex, Part};
 
 impl Backward {
-    /// Places the last operation of a session that is left, and names a session that may be able to go on since then, if there is one.
+    /// Places the last operation of a session that is left, and returns a session that this may have freed to go on, if there is one.
     ///
     /// O(1).
     pub(crate) fn place(&mut self, index: &LongIndex, session: u32) -> Option<u32>
@@ -29,7 +29,7 @@ impl Backward {
         self.freed_by(index, part)
     }
 
-    /// The session of the source of a read that is placed, where that was the last read of it that was left, and nothing after it is.
+    /// The session of the source of a placed read, if no other read of the source is left and nothing after the source is.
     fn freed_by(&self, index: &LongIndex, part: Part) -> Option<u32>
         requires on_its_way { IsOnItsWay index.now self.now }
         requires below { (n : ℕ) → part ≡ SourcedRead n → n < many index.now.history }
@@ -42,7 +42,7 @@ impl Backward {
         None
     }
 
-    /// The session of a write, where no read of it is left and nothing after it.
+    /// The session of a write, if the write is left, and no read of it and nothing after it is.
     fn freed(&self, index: &LongIndex, write: u32) -> Option<u32>
         requires on_its_way { IsOnItsWay index.now self.now }
         requires below { write < many index.now.history }
@@ -64,7 +64,7 @@ impl Backward {
         Some(session)
     }
 
-    /// Places it by what is known of it.
+    /// Places an operation, depending on its part.
     fn place_part(&mut self, index: &LongIndex, session: u32, last: u32, part: Part)
         requires next { CanBePlaced index.now self.old session }
         requires below { last < many index.now.history }
@@ -93,7 +93,7 @@ impl Backward {
         set_lock(&mut self.locks, variable, None);
     }
 
-    /// Places a read of a written value, which locks its variable for its source, if it is of the session itself.
+    /// Places a read of a written value; if the read is of the own session, it locks its variable for its source.
     fn place_read(&mut self, index: &LongIndex, session: u32, read: u32, source: u32)
         requires next { CanBePlaced index.now self.old session }
         requires below { read < many index.now.history }
@@ -108,7 +108,7 @@ impl Backward {
         }
     }
 
-    /// Places a read of an initial value, and notes if it is of the session itself and a write of its variable is left.
+    /// Places a read of an initial value, and notes whether it is of the own session and a write of its variable is left.
     fn place_initial_read(&mut self, index: &LongIndex, session: u32, read: u32)
         requires next { CanBePlaced index.now self.old session }
         requires below { read < many index.now.history }

@@ -11,23 +11,23 @@ use crate::backward::Backward;
 use long_index::LongIndex;
 use std::alloc::{AllocError, Global};
 
-/// In which order sessions are asked whether they can go on.
+/// The order in which sessions are asked whether they can go on.
 ///
-/// What is hinted only saves time: a session is tested before it is taken.
+/// Hints only save time: a session is tested before it is taken.
 #[derive(Drop)]
 pub(crate) struct Turns {
     /// The sessions that have operations.
     pub(crate) sessions: Vec<u32>,
-    /// The sessions that are asked in turn. What is not among them can't go on: nothing of it is left, or a read of its last operation is.
+    /// The sessions that are asked in turn. Others can't go on: nothing of them is left, or a read of their last operation is.
     pub(crate) awake: Vec<u32>,
-    /// The place among them of the one that was found last.
+    /// The place in `awake` of the session that was found last.
     pub(crate) at: usize,
     /// Sessions that may be able to go on, the newest hint last.
     pub(crate) hints: Vec<u32>,
 }
 
 impl Turns {
-    /// Of the sessions of a history. O(k) for k sessions.
+    /// The turns of the sessions of a history. O(k) for k sessions.
     pub(crate) fn of(alloc: Global, index: &LongIndex) -> Result<Turns, AllocError>
         ensures { IfOk result (λ turns. ListsSessions index.now.history (length index.now.history.1) turns.sessions.items) }
     {
@@ -64,8 +64,8 @@ impl Turns {
         Ok(())
     }
 
-    /// Asks each session once, where some are listed so often that more are asked than there are. O(k) for k sessions, and that only
-    /// once for k hints.
+    /// Asks each session once, if hints have made `awake` longer than about twice `sessions`. O(k) for k sessions, and that only once
+    /// for k hints.
     pub(crate) fn limit(&mut self) -> Result<(), AllocError>
         ensures sessions { IfOk result (λ _. self.new.sessions.items ≡ self.old.sessions.items) }
         ensures awake { IfOk result (λ _. (self.new.awake.items ≡ self.old.awake.items)
@@ -78,7 +78,7 @@ impl Turns {
     }
 }
 
-/// Lists a session after those before it, if it has operations.
+/// Appends a session to the list of those before it, if it has operations.
 fn list_session(index: &LongIndex, session: u32, sessions: &mut Vec<u32>) -> Result<(), AllocError>
     requires exists { session < length index.now.history.1 }
     requires before { ListsSessions index.now.history session sessions.old.items }
@@ -91,8 +91,8 @@ fn list_session(index: &LongIndex, session: u32, sessions: &mut Vec<u32>) -> Res
 }
 
 impl Backward {
-    /// The session whose last operation that is left is placed next: another one where one can go on, else the session itself, and
-    /// none where that can't either.
+    /// The session whose last operation that is left is placed next: another session if one can go on, else the own session, and none
+    /// if that can't either.
     ///
     /// O(1) where a hint is good, else O(k) for k sessions that are asked.
     pub(crate) fn next_session(&self, index: &LongIndex, turns: &mut Turns) -> Option<u32>
@@ -118,7 +118,7 @@ impl Backward {
         }
     }
 
-    /// The session of the newest hint that is good, after those that aren't are dropped.
+    /// The session of the newest hint that is good. Drops the newer hints, which are not.
     fn hinted(&self, index: &LongIndex, hints: &mut Vec<u32>) -> Option<u32>
         requires { IsOnItsWay index.now self.now }
         ensures { IfSome result (CanBePlaced index.now self.now) }
@@ -132,7 +132,7 @@ impl Backward {
         None
     }
 
-    /// The place of the first session from a place on, and then round, that is another one and can go on.
+    /// The place of the first other session that can go on, from a place on and then from the start.
     fn free_other(&self, index: &LongIndex, sessions: &[u32], at: usize) -> Option<usize>
         requires on_its_way { IsOnItsWay index.now self.now }
         requires awake { IsAwake index.now self.now sessions.now }
@@ -148,7 +148,7 @@ impl Backward {
         }
     }
 
-    /// The first place in a range whose session is another one and can go on.
+    /// The first place in a range of another session that can go on.
     fn free_among(
         &self,
         index: &LongIndex,
@@ -171,7 +171,7 @@ impl Backward {
         None
     }
 
-    /// Whether a session is another one and can go on.
+    /// Whether a session is not the own one and can go on.
     fn is_free_other(&self, index: &LongIndex, session: u32) -> bool
         requires on_its_way { IsOnItsWay index.now self.now }
         requires exists { session < length index.now.history.1 }
@@ -185,7 +185,7 @@ impl Backward {
         self.is_free(index, session)
     }
 
-    /// Asks no longer the sessions of which nothing is left, or whose last operation that is left has a read left.
+    /// Stops asking the sessions of which nothing is left, or whose last operation that is left has a read left.
     fn let_sleep(&self, index: &LongIndex, awake: &mut Vec<u32>)
         requires on_its_way { IsOnItsWay index.now self.now }
         requires awake { IsAwake index.now self.now awake.old.items }
@@ -198,7 +198,7 @@ impl Backward {
         }
     }
 
-    /// Whether a session is such a one. O(1).
+    /// Whether nothing of a session is left, or its last operation that is left has a read left. O(1).
     fn is_asleep(&self, index: &LongIndex, session: u32) -> bool
         requires on_its_way { IsOnItsWay index.now self.now }
         requires exists { session < length index.now.history.1 }
@@ -214,7 +214,7 @@ impl Backward {
     }
 }
 
-/// Takes a number out of a list. The last one comes into its place.
+/// Takes a number out of a list, and moves the last one to its place.
 fn take_out(list: &mut Vec<u32>, place: usize)
     requires { place < length list.old.items }
     ensures { IsTakenOut list.old.items place list.new.items }

@@ -13,7 +13,7 @@ fn blank<T: Drop>(alloc: Global) -> Note<T> {
     OnceBox::new(alloc).note()
 }
 
-// The operation of a receipt is the one that a sealed lane has at its place: both know one cell.
+// An operation of a receipt equals the one at its place in a sealed lane: both know the same cell.
 fn compare_told<O: Recorded>(alloc: Global, receipt: &Receipt<O>, lane: &SealedLane<O>, i: usize)
     requires told { i < length receipt.now.operations }
     requires held { i < length lane.now.returns }
@@ -81,7 +81,7 @@ fn compare_call<O: Recorded>(
     note.compare(session.told_call(i, blank(alloc)));
 }
 
-/// The calls of a session behind the returns of a sealed lane are those of the lane, if their cells are.
+/// The calls of a session after the returns of a sealed lane are those of the lane, if their cells are.
 pub(crate) fn compare_calls<O: Recorded>(
     alloc: Global,
     lane: &SealedLane<O>,

@@ -11,8 +11,8 @@ use std::marker::Model;
 
 /// Which cell a sealer looks at next.
 ///
-/// First the return cells, lane by lane: those that were told of from the last down to the first, and behind them
-/// upwards until the first empty one. Then the call cells, lane by lane, from the first whose return was not found
+/// First the return cells, lane by lane: those given at the start from the last down to the first, and then those after
+/// them upwards until the first empty one. Then the call cells, lane by lane, from the first whose return was not found
 /// upwards until the first empty one. The end of a lane counts as empty, and is not looked at.
 #[derive(Drop)]
 pub struct CutPlan {
@@ -32,7 +32,7 @@ impl Model for CutPlan {
 }
 
 impl CutPlan {
-    /// The plan for `k` lanes of `cap` places, of which so many operations were told.
+    /// The plan for `k` lanes of `cap` places, for a sealer that is given so many operations of each lane.
     ///
     /// Fails for want of memory alone. O(k).
     pub fn new(alloc: Global, k: usize, cap: usize, told: &[u16]) -> Result<CutPlan, AllocError>
@@ -57,7 +57,7 @@ impl CutPlan {
 
     /// The cell that is next: the same until `give` is called, and none when the plan is done. O(k).
     ///
-    /// Whoever is handed a plan learns from `looked` that it stands for looks, so that the rules hold of these.
+    /// The clause `looked` says that the plan comes from looks that a new plan asked for, so the rules hold of these looks.
     pub fn next(&self) -> Option<Cell>
         ensures looked { StandsForLooks self.now }
         ensures next { result ≡ state_next self.now }
@@ -71,7 +71,7 @@ impl CutPlan {
         }
     }
 
-    /// How many returns of a lane were found, those that were told of among them; 0 where there is no such lane.
+    /// How many returns of a lane were found, including those given at the start; 0 if there is no such lane.
     pub fn returns_found(&self, s: usize) -> usize
         ensures { (p : Plan) → Stands self.now p → s < p.lanes → result ≡ returns_found p s }
     {
@@ -82,7 +82,7 @@ impl CutPlan {
         }
     }
 
-    /// How many calls of a lane were found, those whose returns were found among them; 0 where there is no such lane.
+    /// How many calls of a lane were found, including those whose returns were found; 0 if there is no such lane.
     pub fn calls_found(&self, s: usize) -> usize
         ensures { (p : Plan) → Stands self.now p → s < p.lanes → result ≡ calls_found p s }
     {
@@ -115,7 +115,7 @@ impl CutPlan {
         None
     }
 
-    /// Takes in whether the next cell was full. When the plan is done it changes nothing. O(k).
+    /// Receives whether the next cell was full. When the plan is done it changes nothing. O(k).
     pub fn give(&mut self, full: bool)
         ensures rule { (p : Plan) → Stands self.old p → Stands self.new (looked_at p (next_cell p) full) }
         ensures done { state_next self.old ≡ None → self.new ≡ self.old }

@@ -47,7 +47,7 @@ impl<'a, O: Recorded> Model for LaneLooker<'a, O> {
 }
 
 impl<'a, O: Recorded> LaneLooker<'a, O> {
-    /// A looker at these lanes, which was told these receipts of them.
+    /// A looker at these lanes, which is given these receipts of them.
     ///
     /// Fails for want of memory alone. O(n + k r) for n cells of k lanes and r receipts.
     pub fn new(
@@ -74,7 +74,7 @@ impl<'a, O: Recorded> LaneLooker<'a, O> {
         })
     }
 
-    /// How many operations of each lane the receipts stand for.
+    /// How many operations of each lane the receipts cover.
     pub fn told(&self) -> &[u16]
         ensures told { result.now ≡ self.now.told }
         ensures counts { AreToldBy self.now.lanes self.now.receipts result.now }
@@ -165,7 +165,7 @@ impl<'a, O: Recorded> Looker for LaneLooker<'a, O> {
     }
 }
 
-// For each lane how many operations these receipts of it stand for.
+// For each lane how many operations these receipts of it cover.
 fn told_counts<O: Recorded>(
     alloc: Global,
     lanes: &Lanes<O>,

@@ -4,20 +4,20 @@ ghost use Rattle.snapshot.specs.Steps.PlanStates.{fresh_lane, after_return, afte
 /// What the looks at one lane found so far.
 #[derive(Clone, Copy)]
 pub struct LanePlan {
-    /// How many of the return cells that were told of are still to be looked at: the first of the lane.
+    /// How many of the return cells given at the start are still to be looked at: the first of the lane.
     pub(crate) unread: usize,
-    /// How many returns were found, those that were told of among them.
+    /// How many returns were found, including those given at the start.
     pub(crate) returns: usize,
-    /// Whether the return cell behind them was found empty.
+    /// Whether the return cell after them was found empty.
     pub(crate) returns_over: bool,
-    /// How many calls were found behind these returns.
+    /// How many calls were found after these returns.
     pub(crate) calls: usize,
-    /// Whether the call cell behind them was found empty.
+    /// Whether the call cell after them was found empty.
     pub(crate) calls_over: bool,
 }
 
 impl LanePlan {
-    /// No look yet, in a lane of which so many operations were told.
+    /// No look yet, in a lane of which the sealer is given so many operations.
     pub(crate) fn new(told: usize) -> LanePlan
         ensures { result ≡ fresh_lane told }
     {
@@ -30,7 +30,7 @@ impl LanePlan {
         }
     }
 
-    /// How many calls were found, those whose returns were found among them, of so many places.
+    /// How many calls were found, including those whose returns were found, of so many places.
     pub(crate) fn found(&self, cap: usize) -> usize
         ensures { self.now.returns + self.now.calls ≤ cap → result ≡ self.now.returns + self.now.calls }
     {
@@ -41,7 +41,7 @@ impl LanePlan {
         }
     }
 
-    /// The place of the return cell that is next, if one is.
+    /// The place of the next return cell, if there is one.
     pub(crate) fn next_return(&self, cap: usize) -> Option<usize>
         ensures { result ≡ return_place cap self.now }
     {
@@ -54,7 +54,7 @@ impl LanePlan {
         }
     }
 
-    /// The place of the call cell that is next once no return cell is, if one is.
+    /// The place of the next call cell once no return cell is next, if there is one.
     pub(crate) fn next_call(&self, cap: usize) -> Option<usize>
         ensures { result ≡ call_place cap self.now }
     {
@@ -65,7 +65,7 @@ impl LanePlan {
         }
     }
 
-    /// Takes in whether the next return cell was full.
+    /// Receives whether the next return cell was full.
     pub(crate) fn give_return(&mut self, full: bool, cap: usize)
         requires { self.old.unread ≡ 0 → self.old.returns < cap }
         ensures { self.new ≡ after_return full self.old }
@@ -80,7 +80,7 @@ impl LanePlan {
         }
     }
 
-    /// Takes in whether the next call cell was full.
+    /// Receives whether the next call cell was full.
     pub(crate) fn give_call(&mut self, full: bool, cap: usize)
         requires { self.old.calls < cap }
         ensures { self.new ≡ after_call full self.old }

@@ -16,15 +16,15 @@ use crate::cell::Cell;
 use history::OpId;
 use object_trait::SeqObject;
 
-/// Runs are made event by event: a run is nothing yet, or a run with one event more, which may come behind it.
+/// Runs are made event by event: a run is empty, or it is a run and one more event that may come after it.
 pub fn runs_are_made_event_by_event<O: SeqObject>()
     ensures none { (k cap : ℕ) → IsRun {C = O.Call} {R = O.Ret} k cap [] }
     ensures more { (k cap : ℕ) (es : List (Event O.Call O.Ret)) (e : Event O.Call O.Ret)
         → IsRun k cap (es ++ e ∷ []) ↔ (IsRun k cap es × CanFollow k cap es e) }
 {}
 
-/// In every run, an operation has begun exactly where its session has begun more calls than its index says, and has ended
-/// exactly where its session has been given more returns.
+/// In every run, an operation has begun exactly if its session has begun more calls than its index says, and has ended
+/// exactly if its session has been given more returns.
 pub fn operations_are_counted<O: SeqObject>()
     ensures begun { (k cap : ℕ) (es : List (Event O.Call O.Ret)) (o : OpId) → IsRun k cap es
         → HasBegun es o ↔ (o.index < length (begun o.session es)) }
@@ -42,13 +42,13 @@ pub fn sessions_are_sequential<O: SeqObject>()
     ensures places { (k cap : ℕ) (es : List (Event O.Call O.Ret)) (s : ℕ) → IsRun k cap es → length (begun s es) ≤ cap }
 {}
 
-/// In every run, what stands at a sealer's number in the list of what was told is what the sealer was told at its start.
+/// In every run, the entry at a sealer's number in the list `sealers` is what that sealer was given at its start.
 pub fn sealers_are_counted<O: SeqObject>()
     ensures { (k cap : ℕ) (es : List (Event O.Call O.Ret)) (z : ℕ) (told : List ℕ) → IsRun k cap es
         → (slice_get (sealers es) z ≡ Some told) ↔ ((j : ℕ) × IsAt es j (Started z told)) }
 {}
 
-/// The looks of a sealer follow a plan exactly where each is at the cell that is next in the plan behind those before it.
+/// The looks of a sealer follow a plan exactly if each look is at the cell that the plan names after the looks before it.
 pub fn plans_are_followed_look_by_look<O: SeqObject>()
     ensures { (es : List (Event O.Call O.Ret)) (z : ℕ) (plan : Plan) → Follows plan (looks z es)
         ↔ ((i : ℕ) (c : Cell) (full : Bool) → IsAt es i (Looked z c full)
@@ -70,14 +70,14 @@ pub fn seals_hold_what_was_found<O: SeqObject>()
         → HasSealed k cap es z plan → (s : ℕ) → s < k → length (session (sealed start es plan) s) ≡ calls_found plan s }
 {}
 
-/// Such a seal holds, with its return, each operation that the sealer was told of at its start.
+/// Such a seal holds, with its return, each operation that the sealer was given at its start.
 pub fn seals_hold_what_was_told<O: SeqObject>()
     ensures { (k cap : ℕ) (es : List (Event O.Call O.Ret)) (z : ℕ) (plan : Plan) (start : O.Start) → IsRun k cap es
         → HasSealed k cap es z plan → (j : ℕ) (told : List ℕ) → IsAt es j (Started z told)
         → (s i : ℕ) → i < slice_index told s → HasReturn (sealed start es plan) (session_operation s i) }
 {}
 
-/// Such a seal stays as it is, whatever happens behind it: so it holds nothing that had not happened by then.
+/// Such a seal stays as it is, whatever happens after it: so it holds nothing that had not happened by then.
 pub fn seals_stay<O: SeqObject>()
     ensures { (k cap : ℕ) (es : List (Event O.Call O.Ret)) (z j : ℕ) (plan : Plan) (start : O.Start) → IsRun k cap es
         → HasSealed k cap (take j es) z plan → sealed start es plan ≡ sealed start (take j es) plan }
@@ -92,8 +92,9 @@ pub fn walks_give_consistent_cuts<O: SeqObject>()
         → IsConsistentCut es z (sealed start es (after_looks (fresh_plan k cap told) (looks z es))) }
 {}
 
-/// A new plan asks for all return cells before all call cells, of whatever number of operations it was told and whatever is
-/// answered: whoever looks at each cell that `next` names and gives the answer, or calls `walk`, to the end or not.
+/// A new plan asks for all return cells before all call cells, whatever number of operations it is given and whatever the answers.
+/// This holds for a caller that looks at each cell that `next` names and gives the answer, and for a caller of `walk`, to the end
+/// or not.
 pub fn returns_come_before_calls()
     ensures asked { (k cap : ℕ) (told : List ℕ) (looks : List Look) → Follows (fresh_plan k cap told) looks
         → ReturnsComeFirst looks }

@@ -1,4 +1,4 @@
-//! Seals of what a recorder holds: which cells are looked at in which order, and what was found.
+//! Seals of what a recorder holds: which cells a sealer looks at, in which order, and what it finds.
 #![tactic(auto)]
 
 mod cell;

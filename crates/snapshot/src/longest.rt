@@ -3,14 +3,14 @@ ghost use Rattle.snapshot.specs.Steps.Tables.{IsLongest};
 
 use recorder::{Receipt, Recorded};
 
-/// The receipt of a lane that stands for most operations: for how many, and where it stands.
+/// The receipt of a lane that covers most operations: how many it covers, and its place in the list.
 #[derive(Clone, Copy)]
 pub struct LongestReceipt {
     pub(crate) count: usize,
     pub(crate) at: usize,
 }
 
-/// The longest receipt of a lane; of none its count is 0.
+/// The longest receipt of a lane; its count is 0 if there is none.
 pub(crate) fn longest<O: Recorded>(receipts: &[Receipt<O>], lane: usize) -> LongestReceipt
     ensures { IsLongest receipts.now lane (length receipts.now) result }
 {

@@ -4,15 +4,15 @@ ghost use Rattle.snapshot.specs.Plans.{Look};
 use crate::cell::Cell;
 use std::alloc::AllocError;
 
-/// What looks at cells, and keeps the list of its looks with what each saw.
+/// Looks at cells, and keeps the list of its looks with what each saw.
 pub trait Looker {
     /// The looks so far, oldest first.
     ghost looks: { Self → List Look };
 
-    /// What a look leaves as it was.
+    /// What a look keeps unchanged.
     ghost keeps: { Self → Self → Type 0 };
 
-    /// Looks at a cell: whether it was full. A refused look adds none.
+    /// Looks at a cell, and returns whether it was full. A refused look adds nothing to the list.
     fn look(&mut self, cell: Cell) -> Result<bool, AllocError>
         ensures looked { IfOk result (λ full. looks self.new ≡ looks self.old ++ (cell, full) ∷ []) }
         ensures refused { OnErr result (looks self.new ≡ looks self.old) }

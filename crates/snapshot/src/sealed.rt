@@ -11,7 +11,7 @@ use object_trait::SeqObject;
 use std::alloc::Global;
 use std::marker::Model;
 
-/// What was found in the cells of a recorder: a history, with what the stores advised, and notes of the cells.
+/// What was found in the cells of a recorder: a history, what the stores reported, and notes of the cells.
 #[derive(Drop)]
 pub struct Sealed<O: SeqObject> {
     alloc: Global,
@@ -53,7 +53,7 @@ impl<O: SeqObject> Sealed<O> {
         }
     }
 
-    /// The history: of each session the operations whose returns were found, and behind them the calls that were found,
+    /// The history: for each session the operations whose returns were found, and after them the calls that were found,
     /// without returns.
     pub fn history(&self) -> &History<O>
         ensures { result.now ≡ self.now.history }
@@ -61,9 +61,9 @@ impl<O: SeqObject> Sealed<O> {
         &self.history
     }
 
-    /// What the stores advised: one entry for each operation, in order, and none for an operation without a return.
+    /// What the stores reported: one entry for each operation, in order, which is `None` for an operation without a return.
     ///
-    /// The advice of an operation is that which its session's `finish` was given.
+    /// The advice of an operation is what its session's `finish` received.
     pub fn advice(&self) -> &[Option<Advice>]
         ensures order { result.now ≡ flat_map (λ a. a) self.now.advice }
         ensures each { IsAdvised self.now }

@@ -33,7 +33,7 @@ impl<O: Recorded> SealedLane<O> {
         self.returns.len()
     }
 
-    /// How many calls it holds behind them.
+    /// How many calls it holds after the returns.
     pub(crate) fn called(&self) -> usize
         ensures { result ≡ length self.now.calls }
     {

@@ -62,8 +62,8 @@ fn compare_receipts<O: Recorded>(alloc: Global, receipts: &[Receipt<O>], lanes: 
 }
 
 impl<'a, O: SeqObject> LaneLooker<'a, O> {
-    /// What was found: of each session the returns up to the first cell that was not found full, with those that
-    /// receipts stand for, and behind them the calls up to the first cell that was not found full.
+    /// What was found: for each session the returns up to the first cell that was not found full, with those that
+    /// receipts cover, and after them the calls up to the first cell that was not found full.
     ///
     /// Fails for want of memory alone. O(n + k r + m) for n cells of k lanes and r receipts of m operations.
     pub fn sealed(self) -> Result<Sealed<O>, AllocError>
@@ -82,9 +82,9 @@ impl<'a, O: SeqObject> LaneLooker<'a, O> {
     }
 }
 
-/// Seals what these lanes hold: looks at each cell of the plan, with what these receipts of the lanes stand for.
+/// Seals what these lanes hold: looks at each cell of the plan, and includes what these receipts of the lanes cover.
 ///
-/// `Memory` alone. It waits for nobody. O(n k) for n cells of k lanes, and O(m + k r) for r receipts of m operations.
+/// Fails with `Memory` alone. It waits for nobody. O(n k) for n cells of k lanes, and O(m + k r) for r receipts of m operations.
 pub fn seal<O: SeqObject>(
     alloc: Global,
     lanes: &Lanes<O>,

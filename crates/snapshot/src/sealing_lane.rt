@@ -13,7 +13,7 @@ use once_cell::race::Note;
 use recorder::{Lane, NoteList, Receipt, Recorded, ReturnRecord};
 use std::alloc::{AllocError, Global};
 
-// A note of a return cell: of a receipt, where one was told of the cell, and else of the look at it, if it was full.
+// A note of a return cell: from a receipt if one covers the cell, else from the look at the cell if it was full.
 fn return_note<O: Recorded>(
     lane: &Lane<O>,
     receipts: &[Receipt<O>],
@@ -39,7 +39,7 @@ fn return_note<O: Recorded>(
     }
 }
 
-// Reads a return cell that is full, and puts its note, its operation and its advice behind the others.
+// Reads a return cell that is full, and puts its note, its operation and its advice after the others.
 fn push_return<O: Recorded>(
     alloc: Global,
     lane: &Lane<O>,
@@ -97,7 +97,7 @@ fn seal_returns<O: Recorded>(
     Ok(notes)
 }
 
-// Reads a call cell that is full, and puts its note and its operation behind the others.
+// Reads a call cell that is full, and puts its note and its operation after the others.
 fn push_call<O: Recorded>(
     lane: &Lane<O>,
     i: usize,
@@ -148,7 +148,7 @@ fn seal_calls<O: Recorded>(
     Ok(notes)
 }
 
-/// The operations of a session as they were found, with notes of their cells. Their advice goes behind the other.
+/// The operations of a session as they were found, with notes of their cells. Puts their advice after the other advice.
 pub(crate) fn seal_lane<O: Recorded>(
     alloc: Global,
     lane: &Lane<O>,

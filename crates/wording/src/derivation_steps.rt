@@ -11,8 +11,8 @@ use std::alloc::{AllocError, Global};
 
 /// The steps of the first and the last lines of a derivation. It gives what the last line gives.
 ///
-/// Fails for want of memory alone. O(n (log n + k) + l) for l lines and a history of n operations of k sessions, and what the paths
-/// of the lines that are told take.
+/// Fails for want of memory alone. O(n (log n + k) + l) for l lines and a history of n operations of k sessions, plus the cost of
+/// the paths of the lines shown.
 pub(crate) fn push_derivation(
     alloc: Global,
     steps: &mut Steps,
@@ -33,12 +33,12 @@ pub(crate) fn push_derivation(
     Ok(pairs.last())
 }
 
-// Whether the line of a number is among the first or the last of so many.
+// Whether a line is among the first or the last of this many lines.
 fn is_told(number: usize, lines: usize) -> bool {
     number < MAX_AT_AN_END || lines.saturating_sub(MAX_AT_AN_END) <= number
 }
 
-// The steps of a line, which gives this.
+// The steps of a line that gives this pair.
 fn push_line(
     steps: &mut Steps,
     op: OpId,
@@ -62,8 +62,8 @@ fn push_line(
     }
 }
 
-// The steps of a path, and of the one from its end to the operation, unless that stands in the operation's session: what is there
-// everybody sees.
+// The steps of a path, and those of the second path, from its end to the operation, unless the second begins in the operation's
+// session: everybody sees the order there.
 fn push_paths(steps: &mut Steps, op: OpId, first: &Path, second: &Path) -> Result<(), AllocError> {
     steps.lead(first)?;
     match ends_of(second) {

@@ -1,4 +1,4 @@
-//! The pairs of operations that patterns speak of.
+//! The pairs of operations that patterns name.
 
 ghost use Rattle.std.specs.Prelude.{◌≡◌, ◌-◌, [], length, IfOk, MatchOption, slice_get, unwrap_or};
 
@@ -7,10 +7,10 @@ use memory_order::IndexedMemory;
 use std::alloc::{AllocError, Global};
 use std::marker::Model;
 
-/// What the lines of a derivation say, line by line: two operations, the one that happened before first, or nothing where the
-/// line names no such operations.
+/// What the lines of a derivation say, line by line: two operations, the one that happened before first, or nothing if the line
+/// names no such operations.
 ///
-/// Whether they did happen so is not asked: that is for `check_pattern` to say.
+/// This does not check whether they did happen in that order: `check_pattern` does.
 #[derive(Debug, Drop)]
 pub struct DerivedPairs {
     pairs: Vec<Option<Pair>>,
@@ -26,7 +26,7 @@ impl Model for DerivedPairs {
 }
 
 impl DerivedPairs {
-    /// What each line of a derivation says, as the lines before it say theirs, in a memory history.
+    /// What each line of a derivation in a memory history says, from what the lines before it say.
     ///
     /// Fails for want of memory alone. O(l) for l lines.
     pub fn of(
@@ -44,14 +44,14 @@ impl DerivedPairs {
         Ok(DerivedPairs { pairs })
     }
 
-    /// What the line of a number says: nothing where there is no such line.
+    /// What the line of a number says: nothing if there is no such line.
     pub fn get(&self, number: u64) -> Option<Pair>
         ensures { result ≡ unwrap_or (slice_get self.now number) None }
     {
         pair_at(&self.pairs, number)
     }
 
-    /// What the last line says: nothing where there is no line.
+    /// What the last line says: nothing if there is no line.
     pub fn last(&self) -> Option<Pair>
         ensures { result ≡ unwrap_or (slice_get self.now (length self.now - 1)) None }
     {
@@ -62,7 +62,7 @@ impl DerivedPairs {
     }
 }
 
-// What a line says, as the lines before it say this.
+// What a line says, given what the lines before it say.
 fn pair_of(memory: &IndexedMemory, pairs: &[Option<Pair>], line: &Line) -> Option<Pair> {
     match line {
         Line::Co(first, _) => ends_of(first),
@@ -89,7 +89,7 @@ fn pair_at(pairs: &[Option<Pair>], number: u64) -> Option<Pair>
     }
 }
 
-/// The first and the last operation of a path: none where it has no operations.
+/// The first and the last operation of a path: none if it has no operations.
 pub fn ends_of(path: &Path) -> Option<Pair>
     ensures { MatchOption result (path.now ≡ []) (λ ends.
         (slice_get path.now 0 ≡ Some ends.0) × (slice_get path.now (length path.now - 1) ≡ Some ends.1)) }

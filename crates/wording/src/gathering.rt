@@ -9,18 +9,18 @@ use history::{History, OpId};
 use objects::Memory;
 use std::alloc::{AllocError, Global};
 
-/// What a text tells of a pattern.
+/// What a text says of a pattern.
 #[derive(Debug, Drop)]
 pub(crate) struct Told {
     pub steps: Steps,
-    /// Where the steps begin and where they end, where that can be said.
+    /// Where the steps begin and where they end, if that can be said.
     pub ends: Option<Pair>,
 }
 
 /// The steps that show a pattern, and where they begin and end.
 ///
-/// Fails for want of memory alone. O(m + l) for a pattern of m operations and l lines, and for a derivation what
-/// [`push_derivation`] takes.
+/// Fails for want of memory alone. O(m + l) for a pattern of m operations and l lines, and for a derivation the cost of
+/// [`push_derivation`].
 pub(crate) fn told_of(
     alloc: Global,
     h: &History<Memory>,

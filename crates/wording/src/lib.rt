@@ -1,8 +1,8 @@
-//! What is said of histories in words: why a pattern excludes a criterion, and why nothing is known. The pairs of operations that a
-//! pattern speaks of are there for who draws it, too, and so is how the operations of a part are named in the whole.
+//! Texts about histories: why a pattern excludes a criterion, and why nothing is known. The crate also gives the pairs of
+//! operations that a pattern names, and the names of a part's operations in the whole, to callers that draw a pattern.
 //!
-//! Nobody trusts these texts: what shows that a criterion is not met is the pattern, and what shows that it is met is the
-//! certificate. They say something of any pattern, certificate and history, also where these don't belong together.
+//! Nobody trusts these texts: the pattern shows that a criterion is not met, and the certificate shows that it is met. The texts
+//! say something of any pattern, certificate and history, even if these don't belong together.
 #![tactic(auto)]
 
 mod derivation_steps;

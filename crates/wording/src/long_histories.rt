@@ -7,10 +7,10 @@ use history::{History, OpId};
 use objects::Memory;
 use std::alloc::{AllocError, Global};
 
-/// How many of the operations that show something are named.
+/// How many of the operations that show something a text names.
 const MAX_NAMED: usize = 1000;
 
-/// What is said of a criterion that a history meets which has so many operations and sessions, in a line with no line feed.
+/// A line, with no line feed, that says that a history with this many operations and sessions meets a criterion.
 ///
 /// Fails for want of memory alone. O(1).
 pub fn words_of_long_yes<N: Names>(
@@ -47,7 +47,7 @@ pub fn words_of_places<N: Names>(
     format!(in alloc; "{whole}, {places}.")
 }
 
-// Which operations of the whole the operations of a session of a part are, which are so many.
+// Which operations of the whole those of a session of a part are; the session has this many operations.
 fn push_places<N: Names>(
     alloc: Global,
     places: &mut Vec<String>,
@@ -64,8 +64,8 @@ fn push_places<N: Names>(
     Ok(())
 }
 
-/// Which operations of a history these are that it keeps in a part, whose sessions have their numbers in the history and its operations
-/// their order: in order, in a line with no line feed.
+/// Which operation of a history each operation of a part is, in order, in a line with no line feed. The part keeps these operations
+/// of the history, with their session numbers and their order.
 ///
 /// Fails for want of memory alone. O(n) for n operations.
 pub fn words_of_kept<N: Names>(

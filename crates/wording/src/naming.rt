@@ -4,30 +4,30 @@ use crate::listing::listed;
 use history::OpId;
 use std::alloc::{AllocError, Global};
 
-/// Of how many variables it is told.
+/// How many variables a text names.
 pub(crate) const MAX_VARIABLES: usize = 8;
 
-/// How the operations of a history are named, and what else its texts say. Those of a part of a longer history have their names in the
-/// whole. What is left as it is here gives numbers.
+/// The names of a history's operations, and what else its texts say. Operations of a part of a longer history have their names in
+/// the whole. The methods given here name things by numbers.
 ///
-/// Nothing is asked of an answer: other names only make other texts. A name with a line feed is in no line that is shown. Each call fails
-/// for want of memory alone.
+/// Any answer is allowed: other names only make other texts. No line that is shown has a name with a line feed. Each call fails for
+/// want of memory alone.
 pub trait Names {
     /// The operation of the whole that an operation of the part is.
     fn in_whole(&self, op: OpId) -> OpId;
 
-    /// How many sessions the whole has: as many as the part, where nothing else is said.
+    /// How many sessions the whole has: as many as the part, unless the implementation says otherwise.
     fn sessions(&self, part: usize) -> usize {
         part
     }
 
-    /// Whether more is told than of numbered histories: where the operations of a small history's core are, and which writes of a long
-    /// history are of one value.
+    /// Whether the texts say more than those of numbered histories: where the operations of a small history's core are, and which
+    /// writes of a long history are of one value.
     fn tells_more(&self) -> bool {
         false
     }
 
-    /// Puts after the lines of all reasons what is to be said of the whole beside them.
+    /// Puts remarks on the whole after the lines of all reasons.
     fn push_remarks(&self, _alloc: Global, _lines: &mut Vec<String>) -> Result<(), AllocError> {
         Ok(())
     }
@@ -37,51 +37,51 @@ pub trait Names {
         "In the whole history"
     }
 
-    /// What a session that reads is.
+    /// The word for a session that reads.
     fn session_word(&self) -> &'static str {
         "session"
     }
 
-    /// So many sessions of the whole.
+    /// A number of sessions of the whole, in words.
     fn sessions_words(&self, alloc: Global, count: usize) -> Result<String, AllocError> {
         counted(alloc, count, self.session_word())
     }
 
-    /// What an operation of the part is called.
+    /// The name of an operation of the part.
     fn operation(&self, alloc: Global, op: OpId) -> Result<String, AllocError> {
         name_of(alloc, self.in_whole(op))
     }
 
-    /// What the session of an operation of the part is called.
+    /// The name of the session of an operation of the part.
     fn session(&self, alloc: Global, op: OpId) -> Result<String, AllocError> {
         let session = self.in_whole(op).session;
         format!(in alloc; "session {session}")
     }
 
-    /// Who does what by an operation of the part, and what is known of its return, after the operation's name and a colon. None where its
-    /// call and its return say it.
+    /// Who does what by an operation of the part, and what is known of its return, after the operation's name and a colon. None if
+    /// its call and its return say it.
     fn told(&self, _alloc: Global, _op: OpId) -> Result<Option<String>, AllocError> {
         Ok(None)
     }
 
-    /// The label of an operation of the part in a picture. None where its call and its return make it.
+    /// The label of an operation of the part in a picture. None if its call and its return make it.
     fn label(&self, _alloc: Global, _op: OpId) -> Result<Option<String>, AllocError> {
         Ok(None)
     }
 
-    /// What a variable is called.
+    /// The name of a variable.
     fn variable(&self, alloc: Global, key: u32) -> Result<String, AllocError> {
         format!(in alloc; "variable {key}")
     }
 
-    /// What variables are called: the first 8, and how many more there are.
+    /// The names of variables: the first 8, and how many more there are.
     fn variables(&self, alloc: Global, keys: &[u32]) -> Result<String, AllocError> {
         let plural = if keys.len() == 1 { "" } else { "s" };
         let named = listed_numbers(alloc, keys)?;
         format!(in alloc; "variable{plural} {named}")
     }
 
-    /// How a value of a variable is written.
+    /// The text of a value of a variable.
     fn value(&self, alloc: Global, _key: u32, value: u64) -> Result<String, AllocError> {
         format!(in alloc; "{value}")
     }
@@ -144,7 +144,7 @@ pub fn name_of(alloc: Global, op: OpId) -> Result<String, AllocError> {
     format!(in alloc; "{session}.{index}")
 }
 
-/// A number, and what there are so many of. Fails for want of memory alone.
+/// A number, and the noun that it counts. Fails for want of memory alone.
 pub fn counted(alloc: Global, number: usize, one: &'static str) -> Result<String, AllocError> {
     let plural = if number == 1 { "" } else { "s" };
     format!(in alloc; "{number} {one}{plural}")

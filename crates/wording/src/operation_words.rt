@@ -9,10 +9,10 @@ use objects::{
 };
 use std::alloc::{AllocError, Global};
 
-/// An object whose operations can be told in words.
+/// An object whose operations can be put in words.
 pub trait Worded: SeqObject {
-    /// What a session does by a call, at a key where one is given, and what it is answered where that is known, with these names of
-    /// variables and values. It goes on from the name of the operation, as `reads 5 from variable 3`. Fails for want of memory alone.
+    /// What a session does by a call, at a key if one is given, and its answer if that is known, with these names of variables and
+    /// values. The text follows the name of the operation, as in `reads 5 from variable 3`. Fails for want of memory alone.
     fn told<N: Names>(
         alloc: Global,
         names: &N,
@@ -65,7 +65,7 @@ pub fn read_of<N: Names>(
     format!(in alloc; "{name} reads {value} from {variable}")
 }
 
-// A number behind its words, where there is one, and else nothing.
+// A number after its words, if there is one, and else nothing.
 fn with_key(
     alloc: Global,
     told: &str,

@@ -13,8 +13,8 @@ use std::alloc::{AllocError, Global};
 /// Why a pattern shows that a history of a memory does not meet a criterion, in lines with no line feed: the operations, each
 /// with its call and its return, then the steps from one to the other, and at the end what is wrong. The operations have these names.
 ///
-/// The first 20 steps and the last 20 are told, and how many are left out between them. Of a pattern that is not one of the
-/// history it says something too.
+/// The text has the first 20 steps and the last 20, and says how many are left out between them. It says something even if the
+/// pattern is not one of the history.
 ///
 /// Fails for want of memory alone. O(m + l + n (log n + k)) for a pattern of m operations and l lines and a history of n operations
 /// of k sessions.
@@ -34,7 +34,7 @@ pub fn words_of_pattern<N: Names>(
     Ok(lines)
 }
 
-// The operations that are told, by session and index.
+// The operations that the text names, by session and index.
 fn push_operations<N: Names>(
     alloc: Global,
     lines: &mut Vec<String>,
@@ -57,7 +57,7 @@ fn push_operations<N: Names>(
     Ok(())
 }
 
-// Puts the operations of steps behind others.
+// Puts the operations of steps after others.
 fn push_ops(ops: &mut Vec<OpId>, steps: &[Step]) -> Result<(), AllocError> {
     for step in steps {
         ops.extend_from_slice(&step.ops())?;
@@ -78,7 +78,7 @@ fn push_steps<N: Names>(
     Ok(())
 }
 
-// How many steps are left out, where some are.
+// How many steps are left out, if any are.
 fn push_left_out(alloc: Global, lines: &mut Vec<String>, left_out: u64) -> Result<(), AllocError> {
     if left_out > 0 {
         lines.push(format!(in alloc; "({left_out} more steps are left out here)")?)?;

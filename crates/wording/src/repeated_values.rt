@@ -6,7 +6,7 @@ use memory_order::{IndexedMemory, Write, initial_value};
 use std::alloc::{AllocError, Global};
 
 /// Which variables of a history are written twice with one value, or with their initial value, and by which operations, in lines
-/// with no line feed: one for each of the first 8 such variables, and how many more there are. None where values are distinct.
+/// with no line feed: one for each of the first 8 such variables, and how many more there are. None if values are distinct.
 ///
 /// Fails for want of memory alone. O(n log m) for n operations and m initial values.
 pub fn words_of_repeated_values<N: Names>(
@@ -27,8 +27,8 @@ pub fn words_of_repeated_values<N: Names>(
     Ok(lines)
 }
 
-/// The variables of a history that are written twice with one value, or with their initial value, in order. None where values
-/// are distinct.
+/// The variables of a history that are written twice with one value, or with their initial value, in order. None if values are
+/// distinct.
 ///
 /// Fails for want of memory alone. O(n log m) for n operations and m initial values.
 pub fn repeated_variables(alloc: Global, memory: &IndexedMemory) -> Result<Vec<u32>, AllocError> {
@@ -39,7 +39,7 @@ pub fn repeated_variables(alloc: Global, memory: &IndexedMemory) -> Result<Vec<u
     Ok(variables)
 }
 
-/// In words, what is not met without some variables: a kind of pattern is there.
+/// Says in words that a criterion is not met without some variables, by a pattern of this kind.
 ///
 /// The first 8 variables are named, and how many more there are. Fails for want of memory alone. O(1).
 pub fn words_without_variables<N: Names>(
@@ -53,7 +53,7 @@ pub fn words_without_variables<N: Names>(
     format!(in alloc; "Without {named}: no {kind}")
 }
 
-// Of each variable whose values are not distinct the first write that shows it, with its place among the writes.
+// The first write that shows that a variable's values are not distinct, with its place among the writes, for each such variable.
 fn repeated_writes(
     alloc: Global,
     memory: &IndexedMemory,
@@ -79,7 +79,7 @@ fn is_of_initial_value(memory: &IndexedMemory, write: &Write) -> bool {
     write.value == initial_value(memory.history(), write.key)
 }
 
-// The next write, where it is of the same value to the same variable.
+// The next write, if it writes the same value to the same variable.
 fn next_alike(memory: &IndexedMemory, place: usize, write: &Write) -> Option<Write> {
     match memory.writes().get(place.saturating_add(1)) {
         Some(next) if next.key == write.key && next.value == write.value => Some(*next),
@@ -87,7 +87,7 @@ fn next_alike(memory: &IndexedMemory, place: usize, write: &Write) -> Option<Wri
     }
 }
 
-// What is said of a write of a value that is not distinct.
+// The words about a write of a value that is not distinct.
 fn words_of<N: Names>(
     alloc: Global,
     memory: &IndexedMemory,
@@ -111,7 +111,7 @@ fn words_of<N: Names>(
     }
 }
 
-// How many variables are not told of, where some are.
+// How many variables are left out, if any are.
 fn push_left_out(alloc: Global, lines: &mut Vec<String>, more: usize) -> Result<(), AllocError> {
     if more > 0 {
         lines.push(format!(in alloc; "(so it is with {more} more variables)")?)?;

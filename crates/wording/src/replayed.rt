@@ -1,4 +1,4 @@
-//! What an operation would have been answered in the order of a certificate.
+//! The answer that an operation would have got in the order of a certificate.
 
 ghost use Rattle.std.specs.Prelude.{IfSome};
 ghost use Rattle.history.specs.History.{IsOp};
@@ -14,9 +14,9 @@ use std::alloc::{AllocError, Global};
 struct Piece<'a> {
     // The numbers of the sessions whose next operations come one after the other.
     list: &'a [u8],
-    // The operations whose known returns are to be explained.
+    // The operations whose known returns the piece must explain.
     kept: Kept,
-    // The operation, and the vectors by which the list is cut to its past, where it is.
+    // The operation, and the vectors that cut the list to its past, if it is cut.
     cut: Option<(&'a Vectors, OpId)>,
 }
 
@@ -42,7 +42,7 @@ impl<'a> Piece<'a> {
         }
     }
 
-    // Whether the list is not cut off an operation.
+    // Whether the list still has an operation after the cut.
     fn takes(&self, next: OpId) -> bool {
         match self.cut {
             Some((vectors, op)) => has_counted(vectors, op, next),
@@ -60,8 +60,8 @@ fn schedule_of(schedules: &Schedules, op: OpId) -> Option<&[u8]> {
     }
 }
 
-/// The first operation whose known return is another than the answer in the order of a certificate's piece, and that answer:
-/// where the piece keeps its return, and none where there is no such operation or no piece.
+/// The first operation whose known return is kept by a certificate's piece and differs from the answer in the piece's order, and
+/// that answer. None if there is no such operation or no piece.
 ///
 /// Fails for want of memory alone. O(n) for n operations of the piece, and one call of the object for each.
 pub(crate) fn unlike_answer<O: SeqObject>(
@@ -89,7 +89,7 @@ pub(crate) fn unlike_answer<O: SeqObject>(
     Ok(None)
 }
 
-// The next operation of a session, where there is one, which is then counted.
+// The next operation of a session, if there is one; it is then counted.
 fn next_of<O: SeqObject>(h: &History<O>, counts: &mut Vec<u64>, session: u8) -> Option<OpId>
     ensures { IfSome result (IsOp h.now) }
 {
@@ -108,7 +108,7 @@ fn next_of<O: SeqObject>(h: &History<O>, counts: &mut Vec<u64>, session: u8) -> 
     Some(op)
 }
 
-// Whether the return of an operation is known, and is not this one.
+// Whether the return of an operation is known and differs from this one.
 fn is_unlike<O: SeqObject>(h: &History<O>, op: OpId, answer: O::Ret) -> bool
     requires { IsOp h.now op }
 {

@@ -7,7 +7,7 @@ use memory_order::{initial_value, known_read};
 use objects::Memory;
 use std::alloc::{AllocError, Global};
 
-/// The sentence that says what is wrong, from where the steps of a pattern begin and where they end. There is none where the
+/// The sentence that says what is wrong, from where the steps of a pattern begin and where they end. There is none if the
 /// operations are not as the kind says.
 ///
 /// Fails for want of memory alone. O(log n) for a table of n entries.
@@ -46,7 +46,7 @@ fn sentence_on_cycle<N: Names>(
     Ok(Some(format!(in alloc; "So {name} comes before itself {words}.")?))
 }
 
-// The sentence on a read that should have read something else. The first operation is the one that stands against it.
+// The sentence on a read that should have read something else. The first operation is the one that contradicts the read.
 fn sentence_on_read<N: Names>(
     alloc: Global,
     h: &History<Memory>,

@@ -15,7 +15,7 @@ pub(crate) enum Step {
     Leads(OpId, OpId),
     /// The first comes before the second, and that before the third.
     Joins(OpId, OpId, OpId),
-    /// The first, a write, comes before the second, which the third, a read behind the first, reads from.
+    /// The first, a write, comes before the second: the third, a read after the first, reads from the second.
     Precedes(OpId, OpId, OpId),
     /// The same in arbitration.
     Yields(OpId, OpId, OpId),

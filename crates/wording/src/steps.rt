@@ -1,4 +1,4 @@
-//! The steps that are told.
+//! The steps that a text shows.
 
 use crate::derived_pairs::ends_of;
 use crate::step::Step;
@@ -6,7 +6,7 @@ use bad_patterns::Path;
 use history::OpId;
 use std::alloc::{AllocError, Global};
 
-/// How many steps are told at the beginning, and how many at the end: between them the others are left out.
+/// How many steps a text shows at the beginning, and how many at the end: it leaves out the others between them.
 pub(crate) const MAX_AT_AN_END: usize = 20;
 
 /// The first and the last steps of what shows a pattern, each once.
@@ -32,7 +32,7 @@ impl Steps {
         self.first.as_slice()
     }
 
-    /// The last ones, which stand behind those that are left out.
+    /// The last ones, after those that are left out.
     pub fn last(&self) -> &[Step] {
         self.last.as_slice()
     }
@@ -42,7 +42,7 @@ impl Steps {
         self.left_out
     }
 
-    /// One step more, unless it is told already.
+    /// Adds one step, unless it is among the shown ones already.
     pub fn push(&mut self, step: Step) -> Result<(), AllocError> {
         if self.first.contains(&step) || self.last.contains(&step) {
             return Ok(());
@@ -59,14 +59,14 @@ impl Steps {
         Ok(())
     }
 
-    /// Steps that are left out, and with them those before them that are not among the first.
+    /// Leaves out a number of steps, and with them those before them that are not among the first.
     pub fn leave_out(&mut self, count: u64) {
         let before = self.last.len() as u64;
         self.left_out = self.left_out.saturating_add(before).saturating_add(count);
         self.last.clear();
     }
 
-    /// The steps of a path.
+    /// Adds the steps of a path.
     pub fn follow(&mut self, path: &Path) -> Result<(), AllocError> {
         let mut before: Option<OpId> = None;
         for op in path.ops() {
@@ -78,7 +78,7 @@ impl Steps {
         Ok(())
     }
 
-    /// The steps of a path, and where they lead from and to, where they are more than one.
+    /// Adds the steps of a path and, if there is more than one, where they lead from and to.
     pub fn lead(&mut self, path: &Path) -> Result<(), AllocError> {
         self.follow(path)?;
         match ends_of(path) {

@@ -7,8 +7,8 @@ use cert_check::Certificate;
 use history::{History, OpId};
 use std::alloc::{AllocError, Global};
 
-/// Puts behind other lines those that say what a certificate of a history does not explain, with no line feed: what the operation
-/// was answered, and what it would have been answered in the order of the certificate, where that is something else.
+/// Adds lines, with no line feed, on what a certificate of a history does not explain: the answer that the operation got and, if
+/// that differs, the answer that it would have got in the order of the certificate.
 ///
 /// Fails for want of memory alone. O(n) for n operations, and one call of the object for each.
 pub fn push_unexplained<O: Worded, N: Names>(
@@ -28,7 +28,7 @@ pub fn push_unexplained<O: Worded, N: Names>(
     }
 }
 
-// What would have been answered in the order of a certificate, where that is something else.
+// The answer in the order of a certificate, if it differs.
 fn push_answer<O: Worded, N: Names>(
     alloc: Global,
     lines: &mut Vec<String>,

@@ -19,7 +19,7 @@ use refutable::Refutable;
 use std::alloc::{AllocError, Global};
 use std::marker::Model;
 
-/// The cases of a desk and the verdicts that were given on their pieces, as they stand between two steps.
+/// The cases of a desk and the verdicts that were given on their pieces, as they are between two steps.
 #[derive(Drop)]
 pub struct Cases<O: Refutable> {
     files: Vec<CaseFile<O>>,
@@ -51,11 +51,11 @@ impl<O: Refutable> Cases<O> {
         })
     }
 
-    /// The history of a sealer is filed as the next case.
+    /// Files the history of a sealer as the next case.
     ///
-    /// Refused in this order: `ShapeMismatch` where there is a certificate and it is for another criterion or has not the shape
-    /// of the history, `Full` where 64 cases are filed. Fails for want of memory alone; the cases are then not to be used any
-    /// more. O(n) for n operations, and O(n k) for a certificate of one list and k sessions.
+    /// Refused in this order: `ShapeMismatch` where there is a certificate and it is for another criterion or does not have the
+    /// shape of the history, `Full` where 64 cases are filed. Fails for want of memory alone; do not use the cases after that.
+    /// O(n) for n operations, and O(n k) for a certificate of one list and k sessions.
     pub fn file(
         &mut self,
         alloc: Global,
@@ -121,7 +121,7 @@ impl<O: Refutable> Cases<O> {
         self.board.file(place, rows)
     }
 
-    /// A verdict is put to a case.
+    /// Puts a verdict to a case.
     ///
     /// Refused in this order: `NoSuch` where there is no such verdict or no such case, `Stranger` where the verdict is of
     /// another case, `Doubled` where a verdict on its operation was put to the case before. O(1).
@@ -167,7 +167,7 @@ impl<O: Refutable> Cases<O> {
         self.verdicts.len()
     }
 
-    /// A piece of a case is checked, which gives the next verdict.
+    /// Checks a piece of a case, which gives the next verdict.
     ///
     /// `NoSuch` where there is no such case, or it has no certificate or no such operation. Fails for want of memory alone. The
     /// cost is that of the check.
@@ -220,7 +220,7 @@ impl<O: Refutable> Cases<O> {
         Ok(())
     }
 
-    /// A pattern is put against a case.
+    /// Puts a pattern against a case.
     ///
     /// Refused in this order: `NoSuch` where there is no such case, `NotThatPattern` where the pattern does not pass for it.
     /// Fails for want of memory alone. The cost is that of the test of the pattern, and of a copy of one that passes.
@@ -304,7 +304,7 @@ impl<O: Refutable> Cases<O> {
         self.board.take()
     }
 
-    /// How a case stands.
+    /// The state of a case.
     ///
     /// `NoSuch` where there is no such case. O(n) for n operations.
     pub fn ask(&self, c: usize) -> Reply<O>
@@ -316,7 +316,7 @@ impl<O: Refutable> Cases<O> {
         }
     }
 
-    /// What the board answers of a case.
+    /// The board's answer for a case.
     fn standing(&self, c: usize) -> Result<Answer, BoardError>
         ensures accepted { IfOk result (λ _.
             ask_refusal place_of (slice_get self.now.board c) (record { number = c }) ≡ None) }

@@ -44,7 +44,7 @@ impl<C: Copy, R: Copy> Lane<C, R> {
         self.returns.len()
     }
 
-    /// The call that it did not end.
+    /// The call that it began and did not end.
     pub(crate) fn pending(&self) -> Option<C>
         ensures { result ≡ slice_get self.now.0 (length self.now.1) }
     {
@@ -74,7 +74,7 @@ impl<C: Copy, R: Copy> Lane<C, R> {
         Ok(())
     }
 
-    /// One of the first returns, of so many.
+    /// The return at a place among the first `returns`.
     fn return_at(&self, i: usize, returns: usize) -> Option<R>
         ensures { result ≡ slice_get (take returns self.now.1) i }
     {

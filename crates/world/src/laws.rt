@@ -1,4 +1,4 @@
-//! What holds of every run of the world. The functions do nothing: what they ensure is the law.
+//! Laws of every run of the world. The functions do nothing: what they ensure is the law.
 
 ghost use Rattle.std.specs.Prelude.{◌↔◌, ◌∷◌, ◌++◌, [], ℕ, List};
 ghost use Rattle.history.specs.History.{HistoryValue};
@@ -10,8 +10,8 @@ ghost use Rattle.world.specs.Headline.{EachNoIsTrue, EachYesIsTrue, SealsAreCuts
 use cert_check::laws::explained_certificates_show_their_criterion;
 use refutable::Refutable;
 
-/// Runs are made step by step: a run is nothing yet, or a run with one step more, whose reply is the one that the steps before
-/// determine.
+/// Runs are made step by step: a run is empty, or a run with one more step, and the steps before it determine the reply to
+/// it.
 pub fn runs_are_made_step_by_step<O: Refutable>()
     ensures none { (start : O.Start) (k : ℕ) → IsRun O.matches O.answer O.passes start k [] }
     ensures more { (start : O.Start) (k : ℕ) (es : List (Replied O.Start O.Call O.Ret)) (step : AnyStep O.Call O.Ret)

@@ -1,5 +1,5 @@
-//! The world: sessions, sealers, cases and verdicts of one recorder and one desk, step by step, with no thread. What each
-//! step answers is determined by the steps and replies before it.
+//! The world: sessions, sealers, cases and verdicts of one recorder and one desk, step by step, with no thread. The steps and
+//! replies before a step determine the reply to it.
 #![tactic(auto)]
 
 mod cases;

@@ -20,7 +20,7 @@ use std::marker::Model;
 
 /// How many operations a session may have.
 
-/// The sessions and the sealers of a recorder, as they stand between two steps.
+/// The sessions and the sealers of a recorder, as they are between two steps.
 #[derive(Drop)]
 pub struct Recording<O: SeqObject> {
     start: O::Start,
@@ -165,7 +165,7 @@ impl<O: SeqObject> Recording<O> {
 
     /// The next sealer starts.
     ///
-    /// `NoSuch` where it is not told one count for each session, or is told of more operations than a session ended. O(k).
+    /// `NoSuch` where there is not one count for each session, or a count is above the operations that its session ended. O(k).
     pub fn start(&mut self, alloc: Global, told: &Told) -> Result<Reply<O>, AllocError>
         ensures { IfOk result (λ reply. Takes O.matches (StepOf.Start told.now) self.old reply self.new) }
     {
@@ -200,7 +200,7 @@ impl<O: SeqObject> Recording<O> {
         true
     }
 
-    /// Adds the plan of a sealer that was told these counts.
+    /// Adds the plan of a sealer that was given these counts.
     fn push_plan(&mut self, alloc: Global, told: &[u16]) -> Result<(), AllocError>
         requires { IsTellableIn self.old told.now }
         ensures { OnOk result ((st : PlanState) × (self.new ≡ with_plan self.old st)

@@ -16,10 +16,10 @@ pub enum Refusal {
     /// The session has no operation that has not ended.
     #[error("no operation is pending")]
     NothingPending,
-    /// The return is of no kind that the call may have.
+    /// The call cannot have a return of this kind.
     #[error("the return does not fit the call")]
     WrongReturn,
-    /// The certificate is for another criterion, or has not the shape of the history.
+    /// The certificate is for another criterion, or does not have the shape of the history.
     #[error("the certificate does not fit the history")]
     ShapeMismatch,
     /// 64 cases are filed.
@@ -34,7 +34,7 @@ pub enum Refusal {
     /// The verdict is of another case.
     #[error("a verdict of another case")]
     Stranger,
-    /// What the step names is not there.
+    /// The step names something that is not there.
     #[error("there is no such session, sealer, case, verdict or piece")]
     NoSuch,
 }

@@ -4,14 +4,14 @@ use cert_check::Outcome;
 use history::{History, OpId};
 use snapshot::Cell;
 
-/// What a step is answered, with histories `H`.
+/// The reply to a step, with histories `H`.
 #[derive(Drop)]
 pub enum ReplyOf<H> {
     /// The operation began, or ended.
     Done(OpId),
     /// The sealer of this number started.
     Sealer(usize),
-    /// The sealer looked at this cell, and this is whether it was full.
+    /// The cell that the sealer looked at, and whether it was full.
     Found(Cell, bool),
     /// The history of the sealer.
     Sealed(H),
@@ -23,11 +23,11 @@ pub enum ReplyOf<H> {
     Verdict(usize, Outcome),
     /// The verdict or the pattern was accepted.
     Accepted,
-    /// How the case stands.
+    /// The state of the case.
     Answer(Answer),
     /// The step was refused, and changed nothing.
     Refused(Refusal),
 }
 
-/// What a step is answered, with the histories of an object.
+/// The reply to a step, with the histories of an object.
 pub type Reply<O> = ReplyOf<History<O>>;

@@ -11,7 +11,7 @@ pub enum StepOf<C, R> {
     Begin(usize, C),
     /// A session ends its operation with this return.
     End(usize, R),
-    /// The next sealer starts, and is told of so many operations of each session.
+    /// The next sealer starts, and knows so many operations of each session.
     Start(Told),
     /// A sealer looks at the cell that is next in its plan.
     Look(usize),
@@ -27,7 +27,7 @@ pub enum StepOf<C, R> {
     Put(usize, usize),
     /// A pattern is put against a case.
     Refute(usize, Pattern),
-    /// How a case stands is asked.
+    /// A user of the desk asks for the state of a case.
     Ask(usize),
 }
 

@@ -2,7 +2,7 @@ ghost use Rattle.std.specs.Prelude.{◌≡◌, List, ℕ};
 
 use std::marker::Model;
 
-/// How many operations of each session a sealer is told of at its start.
+/// How many operations of each session a sealer knows at its start.
 #[derive(Debug, Drop)]
 pub struct Told {
     counts: Vec<u16>,

@@ -14,7 +14,7 @@ use history::MAX_SESSIONS;
 use refutable::Refutable;
 use std::alloc::{AllocError, Global};
 
-/// A recorder and a desk without threads: sessions, sealers, cases and verdicts, as they stand between two steps.
+/// A recorder and a desk without threads: sessions, sealers, cases and verdicts, as they are between two steps.
 #[derive(Drop)]
 pub struct World<O: Refutable> {
     recording: Recording<O>,
@@ -22,8 +22,8 @@ pub struct World<O: Refutable> {
 }
 
 impl<O: Refutable> World<O> {
-    /// The replies of `k` sessions, and of all that goes with them, to these steps: each is the one that the steps and replies
-    /// before it determine.
+    /// The replies of `k` sessions, and of all that goes with them, to these steps. The steps and replies before each reply
+    /// determine it.
     ///
     /// `k` is from 1 to 16. Fails for want of memory alone. Each step costs what its own call does; none walks the steps before
     /// it.
@@ -82,7 +82,7 @@ impl<O: Refutable> World<O> {
         }
     }
 
-    /// The history of a sealer is filed as the next case.
+    /// Files the history of a sealer as the next case.
     ///
     /// `NoSuch` where the sealer has no history, else as `Cases::file`.
     fn file(

@@ -67,8 +67,8 @@ fn link_of(alloc: Global, order: &CausalOrder, from: OpId, to: OpId) -> Result<L
     }
 }
 
-/// The first read of a rival that has a write in its past with which the rival is in conflict by the read, the last such
-/// write of its session. O(n) for n reads, and O(log n) for each read of the rival.
+/// The first read of a rival that has a write in its past, and no later write of the write's variable and session. The rival is in
+/// conflict with the write by this read. O(n) for n reads, and O(log n) for each read of the rival.
 fn conflicting_read(order: &CausalOrder, write: OpId, rival: OpId) -> Option<OpId>
     ensures { MatchOption result ((k : Read) → IsKnownRead order.now k → ¬ IsLastConflict order.now write rival k)
         (IsConflictBy order.now write rival) }

@@ -16,8 +16,8 @@ use history::OpId;
 use memory_order::CausalOrder;
 use std::alloc::{AllocError, Global};
 
-/// The most raises of a relation of which each pair is sure to have a derivation within [`MAX_LINES`]: five lines a raise, and
-/// a few for the pair itself.
+/// The most raises that a relation may have so that each of its pairs is sure to have a derivation within [`MAX_LINES`]: five lines
+/// a raise, and a few for the pair itself.
 pub const MAX_RAISES: usize = 19_999;
 
 /// A derivation of a pair of a happened-before relation, with no line that the pair doesn't rest on.
@@ -44,7 +44,7 @@ pub fn derivation_of(
     }
 }
 
-/// Writes the first lines of a draft, of which the last gives a pair. Its number, or none where there is no room.
+/// Writes the first lines of a draft, the last of which gives a pair. Returns the number of that line, or none if there is no room.
 fn write_pair(
     alloc: Global,
     order: &CausalOrder,
@@ -70,8 +70,8 @@ fn write_pair(
     Ok(Some(draft.reach_back(order, op, pair, last, line)?))
 }
 
-/// Writes the first lines of a draft: those of the raises that the raise with a number rests on, in turn, and at last that of
-/// the raise. Its number, or none where there is no room.
+/// Writes the first lines of a draft: those of the raises that the raise with a number rests on, in turn, and then that of the
+/// raise itself. Returns the number of the last line, or none if there is no room.
 fn write_raise(
     alloc: Global,
     order: &CausalOrder,
@@ -103,8 +103,8 @@ fn write_raise(
     Ok(Some(draft.push_raise(order, op, reasons, &written, &raise)?))
 }
 
-/// Writes the line of the raise with a number behind those of the raises before it, where it is marked. Its number, or 0 where
-/// it is not marked, or none where there is no room.
+/// Writes the line of the raise with a number after those of the raises before it, if it is marked. Returns the number of the line,
+/// or 0 if the raise is not marked, or none if there is no room.
 fn write_rest(
     order: &CausalOrder,
     op: OpId,

@@ -55,14 +55,14 @@ impl Draft {
         Derivation::of(self.lines)
     }
 
-    /// Whether there is room for the lines of a raise and of a pair behind it.
+    /// Whether there is room for the lines of a raise and of a pair after it.
     pub fn has_room(&self) -> bool
         ensures { IsTrue result ↔ (length self.now.0 + 7 ≤ MAX_LINES) }
     {
         self.lines.len() <= MAX_LINES - 7
     }
 
-    /// Puts a line that gives a pair behind the others. Its number.
+    /// Appends a line that gives a pair. Returns its number.
     fn push(&mut self, pair: Pair, line: Line) -> Result<u64, AllocError>
         ensures { (h : MemoryHistory) (o : Operation) → IsDraft h o self.old → Gives h o self.old.1 line pair.0 pair.1
             → IfOk result (EndsWithin h o 1 pair self.old self.new) }
@@ -73,7 +73,7 @@ impl Draft {
         Ok(number)
     }
 
-    /// Puts a line behind the others that gives a pair of the causal order, in a derivation for an operation. Its number.
+    /// Appends a line that gives a pair of the causal order, in a derivation for an operation. Returns its number.
     pub fn push_causal(
         &mut self,
         order: &CausalOrder,
@@ -91,8 +91,8 @@ impl Draft {
         self.push(pair, Line::Co(above, below))
     }
 
-    /// A line that gives a pair, from a line that gives an operation, which is the first of the pair or behind it in its
-    /// session, and the second. Its number.
+    /// The number of a line that gives a pair. It is made from a line that gives `last` and the second of the pair. `last` is the
+    /// first of the pair or is after it in its session.
     pub fn reach_back(
         &mut self,
         order: &CausalOrder,
@@ -117,8 +117,7 @@ impl Draft {
         self.push(pair, Line::Tr(first, line))
     }
 
-    /// A line that gives a pair which a raise rests on, where the line of each raise that the pair rests on is written. Its
-    /// number.
+    /// The number of a line that gives a pair which a raise rests on. The line of each raise that the pair rests on is already written.
     fn line_of(
         &mut self,
         order: &CausalOrder,
@@ -142,8 +141,9 @@ impl Draft {
         }
     }
 
-    /// Writes what a raise rests on, and a line that gives the pair of the last operation that it counts and its operation,
-    /// where the line of each raise that it rests on is written. The number of that line, which is the last one.
+    /// Writes what a raise rests on, and then a line that gives a pair: the last operation that the raise counts, and the operation
+    /// of the raise. The line of each raise that it rests on is already written. Returns the number of the line with the pair,
+    /// which is the last one.
     pub fn push_raise(
         &mut self,
         order: &CausalOrder,

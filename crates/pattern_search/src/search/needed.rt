@@ -9,7 +9,7 @@ use bad_patterns::Pair;
 use memory_order::{CausalOrder, Cause, Raise};
 use std::alloc::{AllocError, Global};
 
-/// For each raise, whether it is the one with a number, or that one rests on it.
+/// For each raise, whether it is the raise with a number or that raise rests on it.
 ///
 /// Fails for want of memory alone. O(m + l n) for m raises, l of which it rests on, and n operations.
 pub fn needed_raises(

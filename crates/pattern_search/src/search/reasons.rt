@@ -23,7 +23,7 @@ pub struct Reasons<'a> {
     raises: &'a [Raise],
     /// The last raise of each operation.
     latest: BTreeMap<OpId, usize>,
-    /// For each raise the one of the same operation before it.
+    /// For each raise, the raise of the same operation before it.
     earlier: Vec<Option<usize>>,
 }
 
@@ -58,8 +58,8 @@ impl<'a> Reasons<'a> {
         })
     }
 
-    /// The number of the first raise that puts the first operation of a pair, or a later one of its session, before the
-    /// second. O(n) for the n operations that the second has more before it than in the causal order.
+    /// The number of the first raise that puts the first operation of a pair, or a later one of its session, before the second.
+    /// O(n) if the second has n operations more before it than in the causal order.
     pub fn first(&self, pair: Pair) -> Option<usize>
         ensures { MatchOption result ((i : ℕ) → ¬ IsRaisedBy self.now pair i) (IsFirstRaise self.now pair) }
     {

@@ -11,8 +11,8 @@ use std::marker::Model;
 
 /// The happened-before relation of the last operation of a session, and how it was made.
 ///
-/// Its vectors count exactly the relation. It was made from the causal order by raises, each of which names a right cause, and
-/// which reach all that the vectors count.
+/// Its vectors count exactly the relation. Raises made it from the causal order. Each raise names a right cause, and together they
+/// reach all that the vectors count.
 #[derive(Drop)]
 pub struct Relation {
     op: OpId,
@@ -34,9 +34,9 @@ impl Model for Relation {
 impl Relation {
     /// The relation of the last operation of a session.
     ///
-    /// `None` exactly where the session has no operation, or the relation has more pairs than it may have, if a number is
-    /// given, that the causal order doesn't have. Fails for want of memory alone. O(n (log n + k^2) + m k log n)
-    /// for n operations of k sessions and m pairs more than the causal order has.
+    /// `None` exactly where the session has no operation, or where `most` is a number and the relation has more pairs than that
+    /// which the causal order doesn't have. Fails for want of memory alone. O(n (log n + k^2) + m k log n) for n operations of k
+    /// sessions and m pairs more than the causal order has.
     pub fn of_last(
         alloc: Global,
         order: &CausalOrder,
@@ -77,7 +77,7 @@ impl Relation {
         count_at(self.happened.vectors(), op, session)
     }
 
-    /// What was raised above the vectors of the causal order, in turn.
+    /// The raises above the vectors of the causal order, in turn.
     pub fn raises(&self) -> &[Raise]
         ensures { result.now ≡ self.now.2 }
     {

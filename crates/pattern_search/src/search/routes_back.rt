@@ -12,7 +12,8 @@ use history::OpId;
 use memory_order::CausalOrder;
 use std::alloc::{AllocError, Global};
 
-/// A path from an operation to another that has it in its past: of the other operation alone, where that has it not.
+/// A path from an operation to another that has it in its past. If the other does not have it in its past, the path has the
+/// other operation alone.
 ///
 /// It has at most two operations of each session. Fails for want of memory alone. O(n) for n operations of the history.
 pub fn path_between(
@@ -51,7 +52,7 @@ fn route_back(
     Ok(ops)
 }
 
-/// Goes from an operation back to the source by which its session has `from` in its past. That source.
+/// Goes from an operation back to the source by which its session has `from` in its past. Returns that source.
 fn push_source(
     order: &CausalOrder,
     vectors: &Vectors,
@@ -93,7 +94,7 @@ fn first_counting(vectors: &Vectors, earlier: OpId, op: OpId) -> OpId
     op
 }
 
-/// Puts an operation behind others of which this is the last, where it is another one.
+/// Appends an operation to others whose last one is `last`, if it is not that one.
 fn push_apart(last: OpId, op: OpId, ops: &mut Vec<OpId>) -> Result<(), AllocError>
     ensures { OnOk result (IsPushedApart last op ops.old.items ops.new.items) }
 {
