@@ -18,7 +18,7 @@ const SEALS: u64 = 50;
 
 const PLACES: u64 = 24;
 
-/// How many turns a thread waits before it goes on alone.
+/// How many turns a thread waits at most before it goes on alone.
 const TURNS: u64 = 10_000_000;
 
 /// What a thread of a round does.

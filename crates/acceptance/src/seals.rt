@@ -28,7 +28,7 @@ fn one_session(
     }
 }
 
-/// Writes a value. Begins it again where memory was refused.
+/// Writes a value. Begins the write again where its begin was refused memory.
 fn write(
     alloc: Global,
     session: &mut Session<Register>,

@@ -19,7 +19,7 @@ use std::test::Fail;
 use std::thread;
 use std::thread::Threads;
 
-/// How many turns a thread waits before it goes on alone.
+/// How many turns a thread waits at most before it goes on alone.
 const TURNS: u64 = 1_000_000;
 
 /// The first operation of the first session.

@@ -47,7 +47,7 @@ pub fn schedule_of(
     cutting.run_behind(vectors, write.session_place(), vectors.get(op))
 }
 
-/// For each session, how many of its operations are in the past of an operation and come before a write and all after it.
+/// For each session, how many of its operations are in the past of an operation and are neither a write nor after it.
 fn limits_apart_from(
     alloc: Global,
     vectors: &Vectors,

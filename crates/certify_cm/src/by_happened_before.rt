@@ -29,9 +29,9 @@ use std::alloc::{AllocError, Global};
 /// On distinct values the certificate explains all known returns where no relation puts a write before a read of the
 /// initial value. So where no bad pattern against causal memory is present, it shows the criterion, and there is one unless
 /// a relation has so many pairs.
-/// Where values are not distinct, the checker of certificates decides whether it explains them. Fails for want of memory
-/// alone. O(n p k + n k (k^2 + log n) + m k^2 log p) for n operations of k sessions, pasts of at most p operations and m
-/// pairs more in each relation.
+/// Where values are not distinct, the checker of certificates decides whether the certificate explains the known returns.
+/// Fails for want of memory alone. O(n p k + n k (k^2 + log n) + m k^2 log p) for n operations of k sessions, pasts of at
+/// most p operations and m pairs more in each relation.
 pub(crate) fn make_by_sources(
     alloc: Global,
     memory: &IndexedMemory,

@@ -13,7 +13,8 @@ use cert_check::Certificate;
 ///
 /// Its vectors count the order of program order and sources, and the schedule of each operation goes by turns of vectors that
 /// count exactly its happened-before relation. The law assumes the absence of only two of these patterns, those of
-/// happened-before: a cycle of the causal order and a read from thin air leave no such certificate, and the others are not needed.
+/// happened-before. A cycle of the causal order and a read from thin air leave no such certificate, and the absence of the others
+/// is not needed.
 pub fn certificates_by_turns_explain()
     ensures { (h : MemoryHistory) (c : Certificate) → IsMemoryHistory h → IsDifferentiated h → ¬ HasHBCycle h → ¬ HasStartOverwrittenInHB h
         → IsByTurns h c → IsExplainedThroughout memory_answer h c }

@@ -347,7 +347,7 @@ impl Said {
         self.json || self.certificates || self.svg
     }
 
-    // What a page is of; none for a log that was not said to have any length.
+    // What a page is of; none for a log without `--long`.
     fn page_of(&self) -> Option<PageOf>
         ensures { result ≡ page_of_what self.now.events self.now.long }
     {

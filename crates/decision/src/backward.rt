@@ -37,9 +37,9 @@ struct Backward<'a> {
 /// The sessions of what is before an operation and of the operation, as the vector of the operation counts it, in an order in
 /// which each known read of its session reads what was last written, if there is such an order.
 ///
-/// It is made from its end. An operation is placed once those that program order and the sources put after it are placed;
-/// operations of other sessions are placed as soon as they can be, and no write of its variable comes between a read of the
-/// session and its source. Where values are distinct, some operation can always be placed unless a happened-before relation
+/// It is made from its end. An operation is placed only after those that program order and the sources put after it, and
+/// operations of other sessions are placed as soon as they can be. Between a read of the session and its source no write of the
+/// read's variable is placed. Where values are distinct, some operation can always be placed unless a happened-before relation
 /// shows a bad pattern. A checker decides whether the order is right. Fails for want of memory alone. O(n k) for n
 /// operations of k sessions.
 pub(crate) fn order_of_past(

@@ -4,7 +4,7 @@ use history::{MAX_OPERATIONS, MAX_SESSIONS, OpId};
 use memory_order::{CausalOrder, KnownRead, Write};
 use std::alloc::{AllocError, Global};
 
-/// What an operation demands of the operations around it. The place of its first write names a variable.
+/// What an operation demands of the operations around it. A variable is named by the place of its first write.
 #[derive(Clone, Copy, Debug, PartialEq, Eq)]
 pub(crate) enum Demand {
     /// Nothing: it neither writes nor is a known read of a variable that is written.
@@ -25,7 +25,7 @@ pub(crate) fn place_at(session: u8, index: u16) -> usize {
     usize::from(session) * MAX_OPERATIONS + usize::from(index)
 }
 
-/// The place of an operation, if it is within the limits of this table.
+/// The place of an operation in the table, if its session and its index fit a `u8` and a `u16`. An operation of a history has one.
 pub(crate) fn place_of(op: OpId) -> Option<usize> {
     match (u8::try_from(op.session), u16::try_from(op.index)) {
         (Ok(session), Ok(index)) => Some(place_at(session, index)),

@@ -15,8 +15,8 @@ use history::OpId;
 use memory_order::CausalOrder;
 use std::alloc::{AllocError, Global};
 
-/// Whether an order of what is before its last operation was found for each session, in which the session's known reads
-/// read what was last written. Then the history meets causal memory: the order, cut to the past of an earlier operation of
+/// Whether for each session an order was found of what is before the session's last operation, in which the session's known
+/// reads read what was last written. Then the history meets causal memory: the order, cut to the past of an earlier operation of
 /// the session, is one for that operation.
 ///
 /// Fails for want of memory alone. O(n k^2) for n operations of k sessions, and at most n k calls of a memory.

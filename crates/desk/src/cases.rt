@@ -161,7 +161,7 @@ impl<O: Refutable, K: ShelfName> Cases<O, K> {
         )
     }
 
-    /// Takes a pattern that passes its test against a case, as the board does.
+    /// Takes a pattern against a case, as the board does. The pattern has to pass its test.
     #[tactic(auto, using(crate::proofs::TrueCases::refusals_agree))]
     pub fn refute(
         &mut self,

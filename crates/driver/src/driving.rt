@@ -26,7 +26,7 @@ use std::marker::{Brand, PhantomData};
 use std::sync::Wait;
 use std::thread::Threads;
 
-/// Calls a store with the calls of the sessions of a history, ignoring its returns, and seals what is recorded.
+/// Calls a store with the calls of the sessions of a history, ignoring the returns of the history, and seals what is recorded.
 ///
 /// A client thread for each session makes its calls at a replica of its own, whose order of updates `P` gives, and sends the
 /// updates to the others through mailboxes. Each call is between `enter` and `leave` of the gate. While clients run, the seals of

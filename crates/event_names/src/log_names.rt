@@ -9,7 +9,7 @@ use history::OpId;
 use std::alloc::{AllocError, Global};
 use wording::{Names, counted, listed, name_of};
 
-/// How many keys are listed by name.
+/// The most keys that are listed by name.
 const MAX_KEYS: usize = 8;
 
 /// The names that a log has, for the history that it represents.

@@ -138,7 +138,7 @@ fn reads_from(alloc: Global, index: &LongIndex, write: u32) -> Result<Vec<u32>, 
     Ok(reads)
 }
 
-/// The sources of the operations that read from a write.
+/// The sources of those of the operations that have one.
 fn sources_of(
     alloc: Global,
     index: &LongIndex,

@@ -196,7 +196,7 @@ impl Run {
         }
     }
 
-    /// Whether no variable is kept from an operation of a session, so that the operation can be placed.
+    /// Whether no variable is kept from an operation of a session.
     fn is_admitted(&self, index: &LongIndex, session: u32, operation: u32) -> bool {
         if operation >= index.operations() {
             return false;

@@ -149,7 +149,7 @@ impl Search {
     }
 
     /// The legs of a way with the fewest steps from an operation to where the search began: none if the operation was not found.
-    /// For one that the search began at, the way is a cycle if it is on one, or else a single leg.
+    /// For an operation that the search began at, the way is a cycle if the operation is on one, or else a single leg.
     ///
     /// Fails for want of memory alone. O(m) for m raises.
     pub(crate) fn way_from(&self, alloc: Global, operation: u32) -> Result<Vec<Leg>, AllocError> {

@@ -83,7 +83,7 @@ pub fn decide_indexed<W: SessionWork>(
     }
 }
 
-/// What is decided of a history whose causal order has no cycle. `order` is that order.
+/// What is decided of a history whose causal order has no cycle. `order` is an order of all operations that keeps to it.
 fn decide_ordered<W: SessionWork>(
     work: &W,
     alloc: Global,

@@ -24,8 +24,8 @@ use wording::Names;
 ///
 /// The picture shows a history of at most 40 operations whole. Of a larger one it shows the operations of the pattern, and one
 /// operation before and after each, in their sessions alone. It draws at most 256 edges. It leaves out operations of the pattern
-/// that the history does not have. It draws the read that is wrong, or the operations of the cycle, in red, and says what is wrong
-/// in them.
+/// that the history does not have. It draws the read that is wrong, or the operations of the cycle, in red, and says in their
+/// boxes what is wrong.
 ///
 /// Sessions and operations have these names. If the history is a part of a longer one, each lane says how many operations of the
 /// whole are left out before each one shown. What follows the part's last operation of a session is not known, and not shown.

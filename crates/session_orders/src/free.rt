@@ -32,7 +32,7 @@ impl Backward {
         self.is_admitted(index, session, last)
     }
 
-    /// Whether no lock prevents an operation of a session.
+    /// Whether no lock prevents placing an operation of a session.
     fn is_admitted(&self, index: &LongIndex, session: u32, operation: u32) -> bool
         requires on_its_way { IsOnItsWay index.now self.now }
         requires below { operation < many index.now.history }

@@ -37,7 +37,7 @@ pub(crate) struct Unexplained {
     pub(crate) order: SessionOrder,
 }
 
-/// The first session of a part that has no order, if there is one. The part has the places `part`, `part + parts` and so on of the
+/// In a part, the first session that has no such order, if there is one. The part has the places `part`, `part + parts` and so on of the
 /// list.
 ///
 /// Fails for want of memory alone. O(n k / p) for n operations, k sessions with operations and p parts, and O(n + k) numbers of memory for

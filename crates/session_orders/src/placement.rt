@@ -108,7 +108,7 @@ impl Backward {
         }
     }
 
-    /// Places a read of an initial value, and notes whether it is of the own session and a write of its variable is left.
+    /// Places a read of an initial value, and notes it if it is of the own session and a write of its variable is left.
     fn place_initial_read(&mut self, index: &LongIndex, session: u32, read: u32)
         requires next { CanBePlaced index.now self.old session }
         requires below { read < many index.now.history }

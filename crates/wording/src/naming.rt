@@ -8,7 +8,7 @@ use std::alloc::{AllocError, Global};
 pub(crate) const MAX_VARIABLES: usize = 8;
 
 /// The names of a history's operations, and what else its texts say. Operations of a part of a longer history have their names in
-/// the whole. The methods given here name things by numbers.
+/// the whole. The default methods name things by numbers.
 ///
 /// Any answer is allowed: other names only make other texts. No line that is shown has a name with a line feed. Each call fails for
 /// want of memory alone.

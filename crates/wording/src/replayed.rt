@@ -42,7 +42,7 @@ impl<'a> Piece<'a> {
         }
     }
 
-    // Whether the list still has an operation after the cut.
+    // Whether an operation stays in the list when the list is cut to the past.
     fn takes(&self, next: OpId) -> bool {
         match self.cut {
             Some((vectors, op)) => has_counted(vectors, op, next),

@@ -10,8 +10,8 @@ ghost use Rattle.world.specs.Headline.{EachNoIsTrue, EachYesIsTrue, SealsAreCuts
 use cert_check::laws::explained_certificates_show_their_criterion;
 use refutable::Refutable;
 
-/// Runs are made step by step: a run is empty, or a run with one more step, and the steps before it determine the reply to
-/// it.
+/// Runs are made step by step: a run is empty, or a run with one more step, whose reply that step and the steps and replies
+/// before it determine.
 pub fn runs_are_made_step_by_step<O: Refutable>()
     ensures none { (start : O.Start) (k : ℕ) → IsRun O.matches O.answer O.passes start k [] }
     ensures more { (start : O.Start) (k : ℕ) (es : List (Replied O.Start O.Call O.Ret)) (step : AnyStep O.Call O.Ret)

@@ -1,5 +1,5 @@
 //! The world: sessions, sealers, cases and verdicts of one recorder and one desk, step by step, with no thread. The steps and
-//! replies before a step determine the reply to it.
+//! replies before each reply determine it.
 #![tactic(auto)]
 
 mod cases;

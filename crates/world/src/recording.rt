@@ -165,7 +165,7 @@ impl<O: SeqObject> Recording<O> {
 
     /// The next sealer starts.
     ///
-    /// `NoSuch` where there is not one count for each session, or a count is above the operations that its session ended. O(k).
+    /// `NoSuch` where there is not one count for each session, or a count is above the number of operations that its session ended. O(k).
     pub fn start(&mut self, alloc: Global, told: &Told) -> Result<Reply<O>, AllocError>
         ensures { IfOk result (λ reply. Takes O.matches (StepOf.Start told.now) self.old reply self.new) }
     {

@@ -34,8 +34,8 @@ impl Model for Relation {
 impl Relation {
     /// The relation of the last operation of a session.
     ///
-    /// `None` exactly where the session has no operation, or where `most` is a number and the relation has more pairs than that
-    /// which the causal order doesn't have. Fails for want of memory alone. O(n (log n + k^2) + m k log n) for n operations of k
+    /// `None` exactly where the session has no operation, or where `most` is a number and the relation has more than `most`
+    /// pairs that the causal order doesn't have. Fails for want of memory alone. O(n (log n + k^2) + m k log n) for n operations of k
     /// sessions and m pairs more than the causal order has.
     pub fn of_last(
         alloc: Global,
