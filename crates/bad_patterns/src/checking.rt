@@ -1,3 +1,5 @@
+//! The test of a pattern against a history.
+
 ghost use Rattle.std.specs.Prelude.{◌↔◌, IfOk, IsTrue};
 ghost use Rattle.memory_order.specs.Memory.{IsDifferentiated};
 ghost use Rattle.bad_patterns.specs.Kinds.{IsTrueNo};

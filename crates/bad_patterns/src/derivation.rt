@@ -1,3 +1,5 @@
+//! Derivations that one operation happened before another, line by line.
+
 ghost use Rattle.std.specs.Prelude.{◌≡◌};
 
 use crate::path::Path;

@@ -1,3 +1,5 @@
+//! The kinds of bad patterns, their names, and the criteria that each excludes.
+
 ghost use Rattle.std.specs.Prelude.{◌≡◌};
 ghost use Rattle.operations.specs.Reads.{IsRead};
 ghost use Rattle.bad_patterns.specs.KindNames.{kind_name};

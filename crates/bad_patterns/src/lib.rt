@@ -1,4 +1,8 @@
 //! Bad patterns: what in a memory history shows that it does not meet a criterion.
+//!
+//! It gives [`Pattern`] and [`Kind`], the test [`check_pattern`], and [`read_pattern`], which reads a pattern from JSON. [`laws`]
+//! says that a pattern excludes its criteria. It uses history, causal_order, memory_order and serde_json.
+//! How a pattern is tested may change: the contract says exactly which patterns pass. Names and JSON forms are in the contracts.
 #![tactic(auto)]
 
 mod checking;

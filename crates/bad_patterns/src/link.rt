@@ -1,3 +1,5 @@
+//! Links of a cycle: edges of the causal order and conflicts of writes.
+
 ghost use Rattle.std.specs.Prelude.{◌≡◌};
 ghost use Rattle.bad_patterns.specs.Paths.{begin_of, end_of};
 

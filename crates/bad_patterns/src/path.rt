@@ -1,3 +1,5 @@
+//! Paths of the causal order, from one operation to another.
+
 ghost use Rattle.std.specs.Prelude.{◌≡◌};
 
 use history::OpId;

@@ -1,3 +1,5 @@
+//! Bad patterns, each of a kind and with the operations that show it.
+
 ghost use Rattle.std.specs.Prelude.{◌≡◌};
 ghost use Rattle.bad_patterns.specs.Patterns.{kind_of};
 

@@ -1,3 +1,5 @@
+//! Reads out of thin air, found in a sorted list of writes.
+
 ghost use Rattle.std.specs.Prelude.{◌↔◌, IsTrue};
 ghost use Rattle.bad_patterns.specs.Kinds.{IsThinAirRead};
 ghost use Rattle.memory_order.specs.Steps.Written.{IsSorted, ListsWrites};

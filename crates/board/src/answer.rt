@@ -1,3 +1,5 @@
+//! The answers of a board about a case.
+
 use bad_patterns::Kind;
 use history::OpId;
 

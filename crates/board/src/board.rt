@@ -1,3 +1,5 @@
+//! The board itself, with the events that change or read its cases.
+
 ghost use Rattle.std.specs.Prelude.{◌≡◌, ◌<◌, ◌≤◌, ◌∷◌, ◌++◌, ℕ, [], length, IfOk, IfErr, IfSome, IsNone, OnOk, OnErr};
 ghost use Rattle.std.specs.Prelude.{MatchOption, None, Some, option_copied, option_map, slice_get};
 ghost use Rattle.board.specs.Boards.{CaseState, fresh_case, row_of, handed_out, with_verdict, refuted};

@@ -1,3 +1,5 @@
+//! Refusals of a board, with the numbers by which they are reported.
+
 ghost use Rattle.std.specs.Prelude.{◌≡◌};
 ghost use Rattle.board.specs.BoardErrors.{number_of};
 

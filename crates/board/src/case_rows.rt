@@ -1,3 +1,5 @@
+//! The rows with which a case is filed.
+
 ghost use Rattle.std.specs.Prelude.{◌≡◌, ◌≤◌, [], true, false, length, IfOk};
 ghost use Rattle.board.specs.Boards.{AreRowsOf};
 ghost use Rattle.board.specs.CaseFiles.{AreRowsFor};

@@ -1,3 +1,5 @@
+//! The rows of one session of a case, and which of them is handed out next.
+
 ghost use Rattle.std.specs.Prelude.{◌≡◌, ◌<◌, ◌≤◌, ◌↔◌, ℕ, length, IfOk, IsTrue, MatchOption, Some, slice_get};
 ghost use Rattle.board.specs.Boards.{fresh_rows, after_row, filled, open_of};
 ghost use Rattle.board.specs.Events.{IsFreeIn};

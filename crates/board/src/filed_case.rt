@@ -1,3 +1,5 @@
+//! Filed cases: the mark, the rows and the pattern of each.
+
 ghost use Rattle.std.specs.Prelude.{◌≡◌, ◌==◌, ◌<◌, ◌↔◌, ℕ, length, option_copied, IsTrue, MatchOption, Some};
 ghost use Rattle.board.specs.Boards.{fresh_case, row_of, open_rows, with_verdict, handed_out, refuted};
 ghost use Rattle.board.specs.Steps.InSessions.{IsFirstLeft};

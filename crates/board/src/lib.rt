@@ -1,5 +1,8 @@
-//! The board of a desk: for each case what is known of its pieces, and the five events that change or read it. It keeps
-//! marks of case files and rows of outcomes, no file, and waits for nobody.
+//! The board of a desk: for each case what is known of its pieces, and the five events that change or read it.
+//!
+//! It gives [`Board`], with [`CaseRows`] to file, and [`Piece`], [`Answer`] and [`BoardError`]. It keeps a [`Mark`] for each case
+//! file, no file, and waits for nobody. It uses history, cert_check and bad_patterns.
+//! How cases and rows are kept may change: callers rest on the contracts, which also say which piece is handed out next.
 #![tactic(auto)]
 
 mod answer;

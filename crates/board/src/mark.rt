@@ -1,3 +1,5 @@
+//! Marks, by which a board knows case files without keeping them.
+
 ghost use Rattle.std.specs.Prelude.{◌≡◌, ℕ};
 
 /// Says which case file a case has: a place of the file, in a list or on a shelf.

@@ -1,3 +1,5 @@
+//! Pieces of cases, as a board hands them out.
+
 use history::OpId;
 
 /// One piece of a case: the number of the case, and the operation.

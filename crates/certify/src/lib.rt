@@ -1,4 +1,8 @@
 //! What the makers of certificates share. Nobody trusts them: only the pieces of a certificate make it credible.
+//!
+//! [`make_by_advice`] makes one from a store's advice, [`make_by_program_order`] one without, [`make_as_advised`] chooses, and
+//! [`is_advised`] and [`advice_decides`] say when advice counts. It uses causal_order, memory_order and cert_check.
+//! How a certificate is made may change; its contract says which past, schedules or list it has.
 #![tactic(auto)]
 
 mod advice;

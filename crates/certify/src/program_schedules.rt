@@ -1,3 +1,5 @@
+//! Schedules by program order alone, one for each operation.
+
 ghost use Rattle.std.specs.Prelude.{◌<◌, ◌≤◌, length, IfOk};
 ghost use Rattle.causal_order.specs.Steps.Gathered.{AreListsOf};
 ghost use Rattle.causal_order.specs.Vectors.{HasOneEach};

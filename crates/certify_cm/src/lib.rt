@@ -1,4 +1,8 @@
 //! Certificates of causal memory.
+//!
+//! [`make`] makes one for any object, from what a store reported; [`make_memory`] and [`make_indexed`] for a memory history, by
+//! its happened-before relations unless advice decides. [`laws`] says when these explain. It uses certify and memory_order.
+//! How a certificate is made may change: callers rest on the contracts alone, and nobody trusts advice.
 #![tactic(auto)]
 
 mod as_advised;

@@ -1,3 +1,5 @@
+//! The judging of objects other than a memory, by certificates from what a store reported.
+
 ghost use Rattle.std.specs.Prelude.{◌≡◌, IfOk, IfSome};
 ghost use Rattle.cert_check.specs.Certificates.{HasShapeOf, criterion_of};
 

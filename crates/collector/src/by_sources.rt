@@ -1,3 +1,5 @@
+//! The judging of memory histories, by a search for patterns and by the sources of the reads.
+
 ghost use Rattle.std.specs.Prelude.{◌≡◌, IfNone, IfOk, IfSome, IsSomeAnd};
 ghost use Rattle.bad_patterns.specs.Patterns.{IsBadPattern, kind_of};
 ghost use Rattle.cert_check.specs.Certificates.{HasShapeOf, IsExplainedThroughout, criterion_of};

@@ -1,3 +1,5 @@
+//! What judging asks of an object: a search for patterns, and a maker of certificates.
+
 ghost use Rattle.std.specs.Prelude.{◌≡◌, List, Option, IfNone, IfOk, IfSome, IsSomeAnd};
 ghost use Rattle.bad_patterns.specs.declared.kind.Kind.{Kind as AnyKind};
 ghost use Rattle.bad_patterns.specs.Patterns.{kind_of};

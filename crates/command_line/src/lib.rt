@@ -1,4 +1,8 @@
 //! What the words of a command line order, and what the program says of other words.
+//!
+//! [`command_of`] gives the [`Task`] of the words, or the [`Usage`] that says why they give none. [`Order`], [`Page`] and
+//! [`LogOrder`] are what a task may ask for. It uses clap for faults and help, and replica and cert_check for what options name.
+//! How words are read may change: the contract says which give which task. No contract fixes the texts of faults and of help.
 #![tactic(auto)]
 
 mod arguments;

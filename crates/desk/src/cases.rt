@@ -1,3 +1,5 @@
+//! The cases of a desk, on a board whose marks are tokens of the files.
+
 ghost use Rattle.std.specs.Prelude.{◌≡◌, ◌≢◌, ◌<◌, ◌≤◌, ◌↔◌, ℕ, ◌∷◌, ◌++◌, [], false, length, option_copied, slice_get};
 ghost use Rattle.std.specs.Prelude.{IfOk, IfErr, IfSome, IsNone, IsSome, IsTrue, MatchOption, None, OnOk, OnErr, Some};
 ghost use Rattle.board.specs.Boards.{CaseState, fresh_case, row_of, handed_out, refuted};

@@ -1,3 +1,5 @@
+//! The desk: its shelf of case files, its lock, and the calls that file cases, take pieces and ask for answers.
+
 ghost use Rattle.std.specs.Prelude.{◌≡◌, ◌↔◌, IfOk, IfErr, IfSome, IsTrue, OnOk, Err};
 ghost use Rattle.bad_patterns.specs.declared.kind.Kind.{Kind as Kinds};
 ghost use Rattle.cert_check.specs.Criteria.{Meets};

@@ -1,3 +1,5 @@
+//! The shelf of a desk, to which case files are added and from which none is taken.
+
 ghost use Rattle.std.specs.Prelude.{◌≡◌, IfOk};
 
 use crate::shelf_name::ShelfName;

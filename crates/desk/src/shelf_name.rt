@@ -1,3 +1,5 @@
+//! The name of a shelf, a parameter of the types of whatever belongs to its desk.
+
 ghost use Rattle.boxcar.specs.Table.{Shelves};
 
 use std::marker::Brand;

@@ -1,3 +1,5 @@
+//! Tickets, by which callers name the cases that they filed.
+
 ghost use Rattle.std.specs.Prelude.{◌≡◌, ◌↔◌, IsTrue};
 ghost use Rattle.desk.specs.Files.{file_at, IsSameCase};
 

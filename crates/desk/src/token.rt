@@ -1,3 +1,5 @@
+//! Tokens, each of which ties a place of a shelf to the case file there.
+
 ghost use Rattle.std.specs.Prelude.{◌≡◌};
 ghost use Rattle.boxcar.specs.Table.{Shows};
 

@@ -1,3 +1,5 @@
+//! Verdicts on the pieces of cases, true by their type.
+
 ghost use Rattle.std.specs.Prelude.{◌≡◌};
 ghost use Rattle.board.specs.CaseFiles.{HasPiece, IsOutcome};
 

@@ -1,3 +1,5 @@
+//! A client, which records the calls of a session and answers them from its replica.
+
 ghost use Rattle.std.specs.Prelude.{◌≡◌, ◌<◌, ◌+◌, [], length, IfErr, IfOk, None, OnOk};
 ghost use Rattle.history.specs.declared.limits.TheConstants.{MAX_OPERATIONS};
 ghost use Rattle.recorder.specs.Refusals.{HasPlace};

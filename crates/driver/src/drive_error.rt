@@ -1,3 +1,5 @@
+//! The refusals of a drive, with their numbers.
+
 ghost use Rattle.std.specs.Prelude.{◌≡◌};
 ghost use Rattle.driver.specs.DriveErrors.{number_of};
 

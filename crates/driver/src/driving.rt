@@ -1,3 +1,5 @@
+//! The drive of a store by the sessions of a history, from the check of the input to the seals.
+
 ghost use Rattle.std.specs.Prelude.{◌≡◌, ◌+◌, ℕ, length, IfErr, IfOk, MatchResult, Result};
 ghost use Rattle.recorder.specs.Sessions.{SessionState};
 ghost use Rattle.driver.specs.Clients.{AreAllPlayed, AreFresh, IsFresh, IsGivenUp, IsPlayed, PlayedState};

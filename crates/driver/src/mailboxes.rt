@@ -1,3 +1,5 @@
+//! Mailboxes by which the clients of a run send each other updates.
+
 ghost use Rattle.std.specs.Prelude.{◌≡◌, IfErr};
 
 use crate::drive_error::DriveError;

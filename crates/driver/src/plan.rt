@@ -1,3 +1,5 @@
+//! The plan of a drive: when updates are taken in, how many seals are taken, and which client stops.
+
 use replica::Delivery;
 
 /// How the clients of a store are driven.

@@ -1,3 +1,5 @@
+//! What a client leaves at its end, and seals with their numbers.
+
 use object_trait::SeqObject;
 use recorder::Receipt;
 use snapshot::Sealed;

@@ -1,3 +1,5 @@
+//! The recorder of a run, with room for the calls of its input.
+
 ghost use Rattle.std.specs.Prelude.{◌≡◌, ◌<◌, length, IfErr, IfOk};
 ghost use Rattle.std.specs.Arc.{arc_value};
 ghost use Rattle.driver.specs.Clients.{AreFresh, IsGivenUp};

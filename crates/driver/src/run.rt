@@ -1,3 +1,5 @@
+//! A run: the input, the plan, and all else that its clients share.
+
 use crate::mailboxes::Mailboxes;
 use crate::plan::DrivePlan;
 use crate::sealing_progress::SealingProgress;

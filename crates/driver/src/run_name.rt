@@ -1,3 +1,5 @@
+//! The name of a run, which ties sessions and what clients leave to that run.
+
 ghost use Rattle.std.specs.Prelude.{ℕ, Result};
 ghost use Rattle.recorder.specs.Sessions.{SessionState};
 ghost use Rattle.driver.specs.Clients.{PlayedState};

@@ -1,3 +1,5 @@
+//! The count of recorded calls, which says when a seal is due.
+
 use std::sync::atomic::{AtomicU64, Ordering};
 
 /// How many calls the clients have recorded, and at which counts the seals are due.

@@ -1,3 +1,5 @@
+//! A seat, which holds the session of a client and then what it has played.
+
 use crate::drive_error::DriveError;
 use crate::played::Played;
 use crate::run_name::RunName;

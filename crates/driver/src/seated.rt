@@ -1,3 +1,5 @@
+//! Clients at their seats, each in its own thread where one can be made.
+
 ghost use Rattle.std.specs.Prelude.{IfSome, MatchResult, Result, ℕ};
 ghost use Rattle.recorder.specs.Sessions.{SessionState};
 ghost use Rattle.driver.specs.Clients.{IsFresh, IsGivenUp, IsPlayed, PlayedState};

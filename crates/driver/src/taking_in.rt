@@ -1,3 +1,5 @@
+//! The way of updates from a mailbox into the replica of its client.
+
 ghost use Rattle.std.specs.Prelude.{◌≡◌, IfErr, OnOk};
 ghost use Rattle.driver.specs.Clients.{IsGivenUp};
 

@@ -1,5 +1,8 @@
-//! Parts of a memory history that are judged by themselves: the core of a bad pattern, a few operations that do not meet the
-//! criterion alone, and none of which its kind can do without, and the history without the variables whose values are not distinct.
+//! Parts of a memory history that are judged by themselves, with what they show of the whole.
+//!
+//! [`core_of`] gives operations that do not meet a criterion alone, [`with_fewest_operations`] a bad pattern of the same kind, of
+//! few operations, and [`excluded_without`] the history without some variables, where it does not meet the criterion. It uses
+//! parts, bad_patterns and decision. How it chooses what to leave out may change: each result is judged or checked anew.
 #![tactic(auto)]
 
 mod cores;

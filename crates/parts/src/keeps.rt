@@ -1,3 +1,5 @@
+//! The choice of the operations that a part has.
+
 ghost use Rattle.std.specs.Prelude.{◌≡◌, Bool};
 ghost use Rattle.history.specs.declared.op_id.OpId.{OpId as Operation};
 

@@ -1,3 +1,5 @@
+//! The making of a part from a history and a choice of its operations.
+
 ghost use Rattle.std.specs.Prelude.{◌≡◌, IfOk};
 ghost use Rattle.parts.specs.Parts.{kept_of_session, part_by};
 

@@ -1,3 +1,5 @@
+//! Places in the form of a pattern, each with its limit and the places inside it.
+
 ghost use Rattle.pattern_place.specs.Places.{inside_of, limit_of};
 
 use bounded_json::Place;

@@ -1,3 +1,5 @@
+//! The search for a pattern against a criterion, kind by kind.
+
 ghost use Rattle.std.specs.Prelude.{◌≡◌, ◌↔◌, ◌≢◌, ℕ, IfNone, IfOk, IfSome, IsTrue, MatchOption};
 ghost use Rattle.bad_patterns.specs.Kinds.{IsFreeOf, IsThinAirRead, Shows, is_against};
 ghost use Rattle.bad_patterns.specs.Patterns.{IsBadPattern, kind_of};

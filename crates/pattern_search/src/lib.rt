@@ -1,4 +1,8 @@
 //! The search for bad patterns. What it gives passes the test of `bad_patterns::check_pattern`.
+//!
+//! [`find`] and [`find_in`] search for a pattern against a criterion, [`find_conflicts`] for a cycle with conflicts alone, and
+//! [`search_happened_before`] says what happened-before relations show ([`SearchedKinds`]). It uses bad_patterns, memory_order.
+//! How the search goes may change: callers rest on the contracts alone.
 #![tactic(auto)]
 
 mod finding;

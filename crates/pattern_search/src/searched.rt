@@ -1,3 +1,5 @@
+//! Results of searches of happened-before relations.
+
 ghost use Rattle.std.specs.Prelude.{◌≡◌, ◌↔◌, IsTrue};
 ghost use Rattle.pattern_search.specs.Searches.{HasPattern, either};
 

@@ -1,3 +1,5 @@
+//! Memories, whose histories the bad patterns refute.
+
 ghost use Rattle.bad_patterns.specs.Kinds.{IsTrueNo};
 ghost use Rattle.bad_patterns.specs.Patterns.{IsBadPattern};
 

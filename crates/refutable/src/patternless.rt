@@ -1,3 +1,5 @@
+//! Objects for which no kind of pattern is known.
+
 ghost use Rattle.std.specs.Prelude.{IsTrue};
 
 use crate::refutable::Refutable;

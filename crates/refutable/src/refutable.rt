@@ -1,3 +1,5 @@
+//! The trait of objects whose histories can be refuted by patterns, and its law.
+
 ghost use Rattle.std.specs.Prelude.{◌↔◌, List, Option, IfOk, IsTrue};
 ghost use Rattle.history.specs.History.{HistoryValue};
 ghost use Rattle.cert_check.specs.declared.criterion.Criterion.{Criterion as AnyCriterion};

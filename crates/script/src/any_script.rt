@@ -1,3 +1,5 @@
+//! Scripts of any object that has a name.
+
 use crate::script::Script;
 use objects::{AddRemoveSet, Counter, Counters, Memory, Queue, Queues, Register, Sets};
 

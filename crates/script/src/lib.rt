@@ -1,4 +1,8 @@
 //! Scripts of runs of the world: reading them from JSON, running them, and writing the lines of the replies.
+//!
+//! [`read_script`] and [`script_of`] give an [`AnyScript`] or a [`ScriptError`], [`replay`] runs it; [`reply_line`] makes lines.
+//! It uses world, operations, bounded_json and serde_json. How it reads and writes may change: the contracts fix the form of a
+//! script, which texts are refused, and the lines.
 #![tactic(auto)]
 
 mod any_script;

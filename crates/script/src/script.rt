@@ -1,3 +1,5 @@
+//! Scripts of one object, and their runs in the world.
+
 ghost use Rattle.std.specs.Prelude.{◌≡◌, length, IfOk};
 ghost use Rattle.std.specs.List.{zip};
 ghost use Rattle.world.specs.Runs.{IsRun};

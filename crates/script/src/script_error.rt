@@ -1,3 +1,5 @@
+//! The reasons for which a text is refused as a script, and their numbers.
+
 ghost use Rattle.std.specs.Prelude.{◌≡◌};
 ghost use Rattle.script.specs.Refusals.{number_of};
 

@@ -1,3 +1,5 @@
+//! The places in the form of a script, and how many values each may have, so that reading is bounded.
+
 ghost use Rattle.std.specs.Prelude.{◌≡◌};
 ghost use Rattle.script.specs.Places.{inside_of, larger_limit, limit_of};
 

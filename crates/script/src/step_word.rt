@@ -1,3 +1,5 @@
+//! The words of the steps of scripts, one for each kind of step.
+
 ghost use Rattle.operations.specs.Reads.{IsRead};
 ghost use Rattle.script.specs.StepWords.{name_of};
 

@@ -1,3 +1,5 @@
+//! Steps in the form in which scripts write them, where one may mean several steps of the world.
+
 ghost use Rattle.std.specs.Prelude.{◌≡◌, ℕ, length};
 ghost use Rattle.script.specs.StepForm.{steps_of};
 

@@ -1,3 +1,5 @@
+//! The cases of a desk, with their files, their board and the verdicts on their pieces, and the steps that change them.
+
 ghost use Rattle.std.specs.Prelude.{◌≡◌, ◌↔◌, ◌<◌, ◌≤◌, ◌∷◌, ◌++◌, ℕ, [], length, option_copied, slice_get, true};
 ghost use Rattle.std.specs.Prelude.{IfErr, IfOk, IfSome, IsNone, IsTrue, MatchOption, None, OnErr, OnOk, Some};
 ghost use Rattle.board.specs.Boards.{CaseState, fresh_case, handed_out, refuted, with_verdict};

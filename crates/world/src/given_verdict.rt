@@ -1,3 +1,5 @@
+//! Verdicts that workers gave on pieces.
+
 use board::Piece;
 use cert_check::Outcome;
 

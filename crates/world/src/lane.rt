@@ -1,3 +1,5 @@
+//! The record of one session, its calls and their returns.
+
 ghost use Rattle.std.specs.Prelude.{◌≡◌, ◌∷◌, ◌++◌, [], length, take, slice_get, IfOk, OnErr, OnOk};
 ghost use Rattle.snapshot.specs.Runs.{operations};
 

@@ -1,3 +1,5 @@
+//! The marks of cases on the board of the world: their numbers.
+
 use board::Mark;
 
 /// The mark of a case: the place of its file in the list of files, which is the number of the case.

@@ -1,3 +1,5 @@
+//! The recorder of the world, its sessions and its sealers, and the steps that change them.
+
 ghost use Rattle.std.specs.Prelude.{◌≡◌, ◌↔◌, ◌<◌, ◌≤◌, ℕ, [], length, option_copied, slice_get, IfOk, IsTrue, OnOk, None};
 ghost use Rattle.snapshot.specs.Plans.{Plan, fresh_plan};
 ghost use Rattle.snapshot.specs.Walks.{Stands};

@@ -1,3 +1,5 @@
+//! The refusals of steps, their texts and their numbers.
+
 ghost use Rattle.std.specs.Prelude.{◌≡◌};
 ghost use Rattle.world.specs.Refusals.{number_of};
 

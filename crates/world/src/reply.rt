@@ -1,3 +1,5 @@
+//! What the world replies to a step.
+
 use crate::refusal::Refusal;
 use board::{Answer, Piece};
 use cert_check::Outcome;

@@ -1,3 +1,5 @@
+//! The steps of a run of the world.
+
 use crate::told::Told;
 use bad_patterns::Pattern;
 use cert_check::{Certificate, Criterion};

@@ -1,3 +1,5 @@
+//! The counts of operations, one for each session, with which a sealer starts.
+
 ghost use Rattle.std.specs.Prelude.{◌≡◌, List, ℕ};
 
 use std::marker::Model;

@@ -1,3 +1,5 @@
+//! The world as a whole, a recording and its cases, and its runs from the first step to the last.
+
 ghost use Rattle.std.specs.Prelude.{◌≡◌, ◌≤◌, [], length, IfOk};
 ghost use Rattle.std.specs.List.{zip};
 ghost use Rattle.world.specs.Runs.{IsRun};

@@ -1,3 +1,5 @@
+//! Cycles that the causal order and conflicts of writes make together.
+
 ghost use Rattle.std.specs.Prelude.{◌≡◌, ◌↔◌, IfOk, IsTrue, MatchOption};
 ghost use Rattle.bad_patterns.specs.Kinds.{Shows};
 ghost use Rattle.bad_patterns.specs.Paths.{IsCycle};

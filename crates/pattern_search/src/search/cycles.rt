@@ -1,3 +1,5 @@
+//! Cycles of the causal order, which are found by a topological sort.
+
 ghost use Rattle.std.specs.Prelude.{IfOk, MatchOption};
 ghost use Rattle.bad_patterns.specs.Patterns.{IsCyclicPath};
 ghost use Rattle.memory_order.specs.Memory.{IsDifferentiated};

@@ -1,3 +1,5 @@
+//! Derivations of pairs of a happened-before relation, without lines that are not needed.
+
 ghost use Rattle.std.specs.Prelude.{◌≡◌, ◌-◌, ◌+◌, ◌<◌, [], ◌∷◌, ◌++◌, length, slice_get, IfOk, MatchOption, Some};
 ghost use Rattle.memory_order.specs.declared.growing_order.Raise.{Raise as CountRaise};
 ghost use Rattle.memory_order.specs.Memory.{IsDifferentiated};

@@ -1,3 +1,5 @@
+//! Pairs of a happened-before relation that show a pattern.
+
 ghost use Rattle.std.specs.Prelude.{◌≡◌, ◌<◌, ◌↔◌, ℕ, length, IfSome, IsTrue, MatchOption};
 ghost use Rattle.history.specs.declared.op_id.OpId.{OpId as Operation};
 ghost use Rattle.pattern_search.specs.Steps.Relations.{IsRelation, IsStartOverwritten, IsWriteHappened};

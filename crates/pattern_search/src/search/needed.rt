@@ -1,3 +1,5 @@
+//! The raises that a raise rests on, directly or through others.
+
 ghost use Rattle.std.specs.Prelude.{◌≡◌, ℕ, ◌+◌, ◌<◌, true, length, slice_get, IfOk, Some};
 ghost use Rattle.history.specs.declared.op_id.OpId.{OpId as Operation};
 ghost use Rattle.memory_order.specs.declared.growing_order.Raise.{Raise as CountRaise};

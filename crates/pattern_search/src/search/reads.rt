@@ -1,3 +1,5 @@
+//! Reads from writes that were overwritten in their causal past, and reads of initial values after a write.
+
 ghost use Rattle.std.specs.Prelude.{◌↔◌, IfNone, IfOk, IfSome, IsTrue, MatchOption};
 ghost use Rattle.bad_patterns.specs.Patterns.{ArePathsToOverwrittenRead, IsPathToInitialRead};
 ghost use Rattle.pattern_search.specs.Steps.Routes.{AreWritesBefore, IsCountedBefore, IsWriteBefore};

@@ -1,3 +1,5 @@
+//! The raises that made a relation, as an index from pairs to reasons.
+
 ghost use Rattle.std.specs.Prelude.{◌≡◌, ◌≢◌, ◌⊎◌, ◌↔◌, ℕ, ◌<◌, length, slice_get, IfOk, IsTrue, MatchOption, Some};
 ghost use Rattle.memory_order.specs.declared.growing_order.Raise.{Raise as CountRaise};
 ghost use Rattle.memory_order.specs.SourceOrder.{SourceOrder};

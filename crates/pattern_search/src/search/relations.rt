@@ -1,3 +1,5 @@
+//! Happened-before relations of the last operations of sessions, with the raises that made them.
+
 ghost use Rattle.std.specs.Prelude.{◌≡◌, ◌<◌, length, IfOk, MatchOption};
 ghost use Rattle.pattern_search.specs.Steps.Relations.{HasNoRelation, IsMadeForLast};
 ghost use Rattle.memory_order.specs.Memory.{IsDifferentiated};

@@ -1,3 +1,5 @@
+//! Paths of the causal order, from one operation to another.
+
 ghost use Rattle.std.specs.Prelude.{◌≢◌, IfOk, OnOk, reverse};
 ghost use Rattle.bad_patterns.specs.Paths.{GoesFrom};
 ghost use Rattle.pattern_search.specs.Steps.Routes.{IsFirstCounting, IsPushedApart};
