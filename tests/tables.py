@@ -3,7 +3,7 @@
 
     python3 tests/tables.py [--data DIR] [--threads N] [--only WORD] -- PROGRAM
 
-The file `tables` in the folder lists the tables. Each line of a table is one of these:
+The file `tables` in the folder lists the tables, which are all its files that end in .cases. Each line of a table is one of these:
 
     # a comment; empty lines separate
     $ judge --workers 1         the words of a command line; before the first case: those of each case that has none of its own
@@ -133,9 +133,14 @@ def read_table(data, table):
     return [case_of(data, f"{table}:{number}", name, parts, words_in(head)) for name, number, parts in blocks[1:]]
 
 
+def listed_tables(data):
+    """The names of the tables that are listed."""
+    return [name for name in (data / "tables").read_text().split("\n") if name]
+
+
 def read_tables(data):
     """The cases of each table that is listed."""
-    names = [name for name in (data / "tables").read_text().split("\n") if name]
+    names = listed_tables(data)
     if not names:
         raise Fault("no table is listed")
     for table in names:
@@ -143,6 +148,12 @@ def read_tables(data):
             yield from read_table(data, table)
         except (Fault, OSError, UnicodeDecodeError) as fault:
             raise Fault(f"{table}: {fault}") from fault
+
+
+def unlisted_tables(data):
+    """The tables of the folder that are not listed."""
+    for name in sorted({path.name for path in data.glob("*.cases")} - set(listed_tables(data))):
+        yield f"{name} is not listed in the file tables"
 
 
 def long_lines(data):
@@ -192,7 +203,7 @@ def main():
     given = with_program(parser)
     try:
         cases = list(read_tables(given.data))
-        faults = list(long_lines(given.data))
+        faults = [*unlisted_tables(given.data), *long_lines(given.data)]
     except (Fault, OSError) as fault:
         cases, faults = [], [str(fault)]
     for fault in faults:
