@@ -19,7 +19,7 @@ that of each command too, are run in the same way.
 
 The files of examples/ are judged, explained, checked, refuted, replayed and driven; those that end in .jsonl are logs of events. What is
 said of them is below, or in the file of the same name that ends in .txt, or in the picture of that name in docs/. A file of which nothing is
-said is a failure.
+said is a failure, and so is one in a folder of examples/ that no command of the README.md beside it names, of those that are run.
 """
 
 import argparse
@@ -47,6 +47,8 @@ LINK = re.compile(r"\]\((?!https?:)([^)#\s]+)")
 MOST_WORDS = 1_500
 COMMAND = re.compile(r"( {4,})\$ (.*)")
 LEFT_OUT = ("not run", "installs")
+PATH = re.compile(r"[\w./-]+")
+MADE = ("out", "__pycache__")
 KIND = re.compile(r"(?<= no )[A-Z]\w+")
 SECONDS = 300
 HELPED = ("judge", "check", "explain", "refute", "replay", "drive", "events")
@@ -179,7 +181,7 @@ def told_by(page, given):
 def try_pages(given):
     """The faults of each command that is run, page by page."""
     for page in sorted({page for pattern in given.page or PAGES for page in given.root.glob(pattern)}):
-        if not any(part in ("out", "__pycache__") for part in page.parts):
+        if not any(part in MADE for part in page.parts):
             yield from told_by(page, given)
             with tempfile.TemporaryDirectory() as room:
                 yield from try_page(page, given, pathlib.Path(room))
@@ -251,6 +253,22 @@ def runs_of(given):
             yield [f"examples/{path.name}: nothing is said of it"]
 
 
+def named_by(page, name):
+    """The paths in the commands of a page that are run; none where the page is not there."""
+    commands = commands_of(page, name) if page.is_file() else ()
+    return {path for command in commands if command.mark not in LEFT_OUT for path in PATH.findall(command.text)}
+
+
+def folders_of(given):
+    """The faults of each file of data in a folder of examples/: one that no command beside it names."""
+    for path in sorted((given.root / "examples").glob("*/**/*.json*")):
+        name = path.relative_to(given.root)
+        if path.suffix in (".json", ".jsonl") and not any(part in MADE for part in name.parts):
+            page = path.with_name("README.md")
+            is_named = str(name) in named_by(page, str(page.relative_to(given.root)))
+            yield [] if is_named else [f"{name}: no command of a README.md beside it names it"]
+
+
 def show_installing(package):
     """Prints the commands of README.md that install a package."""
     commands = commands_of(ROOT / "README.md", "README.md")
@@ -270,7 +288,7 @@ def main():
         return
     given = with_program(parser)
     passed = failed = 0
-    for faults in (*try_pages(given), *(() if given.page else (*try_helps(given), *runs_of(given)))):
+    for faults in (*try_pages(given), *(() if given.page else (*try_helps(given), *runs_of(given), *folders_of(given)))):
         passed, failed = passed + (not faults), failed + bool(faults)
         if faults:
             print(*faults, sep="\n", flush=True)
