@@ -15,7 +15,7 @@ unless given) are writes, of KEYS keys at random. Few keys are hot; of many, eac
 | stamps | what has the greatest stamp of a Lamport clock, of equal ones that of the greatest session | cc and ccv: stamps order all |
 | copy | what was written last under the key, by whomever | all three |
 
-With `--fault`, operations of new keys are added, as planted.py has them: at the beginning of some sessions, before all else, and at the
+With `--fault`, operations of new keys are added, as tests/planted.py has them: at the beginning of some sessions, before all else, and at the
 end. They show a kind, or two, and of a wide fault through many sessions: N is its width.
 
 `--lost N` takes the answer away from N writes whose values are read. Each of them gets a session of its own. A write of a new key stands in
@@ -25,10 +25,12 @@ its old place; the new session reads that key and then has the write, with an un
 import argparse
 import bisect
 import gc
+import pathlib
 import random
 import sys
 
-import planted
+sys.path.insert(0, str(pathlib.Path(__file__).resolve().parent.parent / "tests"))
+import planted  # noqa: E402
 
 MET = {"arrival": {"cc": "yes", "cm": "yes"}, "stamps": {"cc": "yes", "ccv": "yes"}, "copy": {"cc": "yes", "cm": "yes", "ccv": "yes"}}
 

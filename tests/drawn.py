@@ -13,13 +13,14 @@ import json
 import pathlib
 
 import pictures
+import planted
 import random_memories
 from explained import said
 from patterns import AGAINST
 from random_histories import run_random
 from random_memories import Shape
 
-FAULTS = tuple(random_memories.planted.FAULTS)
+FAULTS = tuple(planted.FAULTS)
 EXAMPLES = pathlib.Path(__file__).resolve().parent.parent / "examples"
 USAGE = 2
 
@@ -40,19 +41,19 @@ def run_of(rng, fault):
     shape = Shape(rng.randint(3, 12), rng.choice((2, 5, 30)), rng.choice((1, 4, 20)))
     sessions = random_memories.of_store(rng, shape)
     if fault:
-        random_memories.planted.plant(sessions, fault, rng.choice((1, 1, 2, 3)), shape.keys, rng)
+        planted.plant(sessions, fault, rng.choice((1, 1, 2, 3)), shape.keys, rng)
     return ["memory", [list(map(list, session)) for session in sessions]]
 
 
 def histories():
     """Makes histories, one a call: the examples, and then random ones."""
     forms = examples()
-    planted = itertools.cycle((*FAULTS, None))
+    faults = itertools.cycle((*FAULTS, None))
 
     def make(rng):
         form = next(forms, None)
         if form is None:
-            fault = next(planted)
+            fault = next(faults)
             form = run_of(rng, fault) if fault or rng.random() < 0.5 else random_memories.small(rng)
         return form
 

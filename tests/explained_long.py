@@ -4,7 +4,7 @@
     python3 tests/explained_long.py SEED COUNT -- PROGRAM
 
 Each history is a memory: a small one, one of many sessions, or a run of a store of up to 20 sessions of up to 400 operations. Most have
-faults of bench/planted.py, and many are beyond the limits of `judge`.
+faults of planted.py, and many are beyond the limits of `judge`.
 
 - The words: the lines that are not indented are those of `judge --long`. What the lines below say of single operations is true of the
   history, and they name no operation that it does not have. Behind a `no` come either the operations that show it, or a core with the

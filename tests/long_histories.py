@@ -8,7 +8,7 @@
   crates/cases/data, and of all that stand in a line together by `--lines`.
 - As many small memories, to which sessions of one write of a key of its own are added until there are 17: the lines are those that
   `judge` says without these, but for the kind of a `cm no`, and those of the plain judge.
-- A history for each fault of bench/planted.py and each of some stores, of more sessions and of more operations than `judge` takes, and one
+- A history for each fault of planted.py and each of some stores, of more sessions and of more operations than `judge` takes, and one
   that writes an initial value, get the lines that are sure of them.
 - HISTORIES random histories of up to 40 sessions and one more for each of up to 100 lost writes, or with sessions of 257 to some 400
   operations, get the lines of the plain judge. Each of the seven kinds is named among all these by each line that it is against, and each
@@ -32,6 +32,7 @@ from typing import NamedTuple
 
 import mangled
 import plain_long_judge
+import planted
 import random_memories
 import reading
 import tables
@@ -40,7 +41,7 @@ from counting import end
 from lines import remarks_due
 from objects import MOST_ENTRIES, MOST_KEY, OBJECTS
 from patterns import AGAINST, CRITERIA
-from random_memories import Shape, long_runs, planted
+from random_memories import Shape, long_runs
 from refusal_reasons import without_reason
 from streams import is_unproved
 

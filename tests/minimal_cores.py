@@ -3,7 +3,7 @@
 
     python3 tests/minimal_cores.py SEED ROUNDS -- PROGRAM
 
-In a round each command explains memories in which each kind was planted (bench/planted.py), and some of random_memories.py; those of
+In a round each command explains memories in which each kind was planted (planted.py), and some of random_memories.py; those of
 `explain --long` have more sessions than `judge` takes. Of each core that stands below a `no`, each operation in turn is left out, of a write
 with the reads from it. `judge` says something of what is left, and not that it is a `no` of the same kind for the same criterion. The words
 before the core have to name its operations and no others. A core of more than 512 operations is only counted.
@@ -21,6 +21,7 @@ import random
 import subprocess
 from collections import Counter
 
+import planted
 import random_memories
 from command_words import with_program
 from counting import end
@@ -28,8 +29,6 @@ from explained import core_in, said, sections
 from explained_long import OPERATION
 from patterns import AGAINST
 from random_memories import Shape
-
-import planted  # random_memories names its folder
 
 MOST = 512
 ORGANIC = 4

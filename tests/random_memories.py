@@ -1,18 +1,18 @@
 """Makes random memory histories for the tests of `judge --long`: of stores and of none, healthy, planted and spoilt.
 
 Sessions are lists of operations in their form. What these histories show is known to the plain judges alone, but for the kinds that are
-planted (bench/planted.py).
+planted (planted.py).
 """
 
 import pathlib
 import sys
 from typing import NamedTuple
 
+import planted
 from objects import MOST_KEY, MOST_NUMBER, UNKNOWN
 
 sys.path.insert(0, str(pathlib.Path(__file__).resolve().parent.parent / "bench"))
 import long_runs  # noqa: E402
-import planted  # noqa: E402
 
 THIN = 10**6
 RECENT = 12
