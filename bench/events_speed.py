@@ -3,9 +3,9 @@
 
     python3 bench/events_speed.py [--folder DIR] [--rounds N] [--percent N] [--only WORD] -- PROGRAM
 
-The logs are those of RUNS below, or N percent of them: runs of the stores of long_runs.py, in which a client's call ends at its next turn. A
-log with lost writes is the one before it, in which so many writes, each of them read, end as `lost`. The logs and their histories are kept
-in the folder that is named, and made where they are not there.
+The logs are those of RUNS below, or N percent of them: runs of the stores of tests/store_runs.py, in which a client's call ends at its
+next turn. A log with lost writes is the one before it, in which so many writes, each of them read, end as `lost`. The logs and their
+histories are kept in the folder that is named, and made where they are not there.
 
 Of each log the table has its lines and megabytes; the processor time of the whole process, user and system, by one worker, the least of N
 rounds (2 unless given), for the log and for its history, and by how many times the log takes longer; and the most memory that was resident,
@@ -22,7 +22,7 @@ import tempfile
 from typing import NamedTuple
 
 sys.path.insert(0, str(pathlib.Path(__file__).resolve().parent.parent / "tests"))
-import long_runs  # noqa: E402
+import store_runs  # noqa: E402
 from command_words import with_program  # noqa: E402
 from compare import lines_of  # noqa: E402
 from long_speed import run  # noqa: E402
@@ -67,8 +67,8 @@ RUNS = (
 
 def calls(log, rng):
     """The calls of a run in the order of time, each a client, a word, a key and a value."""
-    run, keys = long_runs.STORES[log.store](log.clients), log.keys
-    for client in long_runs.turns(log.clients, log.operations, rng):
+    run, keys = store_runs.STORES[log.store](log.clients), log.keys
+    for client in store_runs.turns(log.clients, log.operations, rng):
         if rng.random() < 1 / 8:
             other = rng.randrange(log.clients - 1)
             run.take_in(client, other + (other >= client))
@@ -124,7 +124,7 @@ def measured(program, log, folder, rounds):
 
 def faults_of(log, taken):
     """What is wrong with what a log takes."""
-    if any(taken.report.get(criterion) != line for criterion, line in long_runs.sure_lines(log.store).items()):
+    if any(taken.report.get(criterion) != line for criterion, line in store_runs.sure_lines(log.store).items()):
         yield f"{log.name()}: {taken.report}"
     if taken.seconds > MOST_TIMES * taken.history_seconds:
         yield f"{log.name()}: {taken.seconds:.2f} seconds, and {taken.history_seconds:.2f} for its history"

@@ -25,7 +25,6 @@ import itertools
 import json
 import random
 import subprocess
-import sys
 import tempfile
 from collections import Counter
 from typing import NamedTuple
@@ -35,13 +34,14 @@ import plain_long_judge
 import planted
 import random_memories
 import reading
+import store_runs
 import tables
 from command_words import order_of, with_program
 from counting import end
 from lines import remarks_due
 from objects import MOST_ENTRIES, MOST_KEY, OBJECTS
 from patterns import AGAINST, CRITERIA
-from random_memories import Shape, long_runs
+from random_memories import Shape
 from refusal_reasons import without_reason
 from streams import is_unproved
 
@@ -233,10 +233,10 @@ def sure_histories():
     """Histories of stores and of faults, and one that writes a value twice, with what is sure of their lines."""
     for sessions, operations, width in ((20, 300, 3), (40, 400, 8), (4, 1_200, 1), (8, 3_200, 3)):
         faults = [("copy", fault) for fault in planted.FAULTS if max(map(len, planted.FAULTS[fault](width))) <= sessions]
-        for store, fault in [(store, None) for store in long_runs.STORES] + faults:
-            run = long_runs.history(store, sessions, operations, 8, 1, fault, width)
+        for store, fault in [(store, None) for store in store_runs.STORES] + faults:
+            run = store_runs.history(store, sessions, operations, 8, 1, fault, width)
             form = ["memory", [list(map(list, session)) for session in run]]
-            yield form, long_runs.sure_lines(store, fault)
+            yield form, store_runs.sure_lines(store, fault)
         form[1][-1] += [["w", 0, 0]]
         yield form, dict.fromkeys(CRITERIA, "unknown")
 
@@ -399,10 +399,8 @@ def of_full_size(program):
     data = b'["memory",[' + b"[]," * (EMPTY_SESSIONS - 1) + b"[]]]"
     yield Case(words, data, outcome(program, words, data, times * READING_SECONDS), (0, MET, ""))
     for store, sessions, keys, fault, width, lost in MILLIONS:
-        options = ["--lost", str(lost), *(["--fault", fault, "--width", str(width)] if fault else [])]
-        made = [sys.executable, long_runs.__file__, *options, store, *map(str, (sessions, MILLION, keys, 1))]
-        data = subprocess.run(made, stdout=subprocess.PIPE, check=True).stdout
-        found, lines = outcome(program, words, data, times * MILLION_SECONDS), long_runs.sure_lines(store, fault)
+        data = "".join(store_runs.pieces(store_runs.history(store, sessions, MILLION, keys, 1, fault, width, lost=lost))).encode()
+        found, lines = outcome(program, words, data, times * MILLION_SECONDS), store_runs.sure_lines(store, fault)
         yield Case(words, data, sure_of(found, lines), (lines, True))
 
 

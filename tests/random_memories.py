@@ -4,15 +4,11 @@ Sessions are lists of operations in their form. What these histories show is kno
 planted (planted.py).
 """
 
-import pathlib
-import sys
 from typing import NamedTuple
 
 import planted
+import store_runs
 from objects import MOST_KEY, MOST_NUMBER, UNKNOWN
-
-sys.path.insert(0, str(pathlib.Path(__file__).resolve().parent.parent / "bench"))
-import long_runs  # noqa: E402
 
 THIN = 10**6
 RECENT = 12
@@ -110,9 +106,9 @@ def wild(rng, shape):
 
 
 def of_store(rng, shape):
-    """A run of a store of bench/long_runs.py."""
-    store, writes, gap = rng.choice(list(long_runs.STORES)), rng.choice((20, 50, 70)), rng.choice((1, 2, 8, 30))
-    run = long_runs.run_of(store, shape.sessions, shape.sessions * shape.operations, shape.keys, rng, writes, gap)
+    """A run of a store of store_runs.py."""
+    store, writes, gap = rng.choice(list(store_runs.STORES)), rng.choice((20, 50, 70)), rng.choice((1, 2, 8, 30))
+    run = store_runs.run_of(store, shape.sessions, shape.sessions * shape.operations, shape.keys, rng, writes, gap)
     return [list(map(list, session)) for session in run]
 
 
@@ -158,7 +154,7 @@ def plant(rng, sessions, key, widest):
 
 def fork(rng, sessions, most):
     """Lets up to so many writes that were read get no answer: each forks off into a session of its own."""
-    long_runs.lose(sessions, min(most, len(long_runs.read_writes(sessions))), rng)
+    store_runs.lose(sessions, min(most, len(store_runs.read_writes(sessions))), rng)
     for session in sessions:
         session[:] = map(list, session)
 
