@@ -14,9 +14,9 @@ import sys
 from typing import Callable, NamedTuple
 
 import full_script
-import histories
 
 sys.path.insert(0, str(pathlib.Path(__file__).resolve().parent.parent / "tests"))
+import short_runs  # noqa: E402
 from objects import MOST_KEY, MOST_NUMBER, UNKNOWN, State, operation  # noqa: E402
 
 SESSIONS = 16
@@ -67,7 +67,7 @@ def with_a_value_twice(sessions):
 
 def store_run(shape):
     """A healthy run of a replicated store."""
-    run = histories.make_run(shape, OPERATIONS, random.Random(shape))
+    run = short_runs.make_run(shape, OPERATIONS, random.Random(shape))
     return [[operation.form() for operation in session] for session in run.operations]
 
 

@@ -11,7 +11,7 @@ blank line has to answer each blank one, and nothing else changes. Standard erro
 the first that ends in the midst of a JSON text, and no other. A client that writes one line and waits for its answer has to get it. It
 ends with status 1 where something is wrong.
 
-With `--operations N` runs of a store by bench/histories.py, healthy ones and such with a fault, of N operations in all, are judged so by
+With `--operations N` runs of a store by short_runs.py, healthy ones and such with a fault, of N operations in all, are judged so by
 1, 2, 4 and 16 workers: the healthy ones are causally consistent and a causal memory, the others are not, nothing is left unknown, and
 each line is that of a run of its own.
 
@@ -27,16 +27,13 @@ import pathlib
 import random
 import re
 import subprocess
-import sys
 import tempfile
 import time
 
 import mangled
+import short_runs
 from command_words import with_program
 from counting import end
-
-sys.path.insert(0, str(pathlib.Path(__file__).resolve().parent.parent / "bench"))
-import histories  # noqa: E402
 
 WORKERS = (1, 2, 4)
 MET = "cc yes; cm yes; "
@@ -172,11 +169,11 @@ def talked(program):
 def runs_of_store(most):
     """Runs of a store of so many operations in all, with what is wrong in each."""
     runs = [
-        (state, histories.SESSIONS * size, histories.text_of(sessions).encode())
-        for size in histories.SIZES
-        for shape in histories.SHAPES
-        if histories.SESSIONS * size <= most
-        for state, sessions in histories.histories_of(shape, size)
+        (state, short_runs.SESSIONS * size, short_runs.text_of(sessions).encode())
+        for size in short_runs.SIZES
+        for shape in short_runs.SHAPES
+        if short_runs.SESSIONS * size <= most
+        for state, sessions in short_runs.histories_of(shape, size)
     ]
     for state, operations, text in itertools.cycle(runs):
         if most < operations:
