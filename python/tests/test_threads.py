@@ -1,23 +1,30 @@
 """Tests recorders that threads share: what is recorded is what each thread noted by itself, and a correct store is blamed for nothing."""
 
 import collections
+import contextlib
+import functools
+import pathlib
 import random
+import sys
+import tempfile
 import threading
 import time
 import unittest
+from concurrent.futures import ThreadPoolExecutor
 
 from causal_judge import Recorder
 from support import FolderCase, Refused, Unreachable, events_of, many, needs_program, run_threads, verdicts_of
 
 CLIENTS, KEYS, CALLS, SEEDS = 16, 6, 40, 3
+SMALL_RUNS, SMALL_CLIENTS, WRITES = 1000, 4, 4
 OWN = "wwr"  # the first calls of each client are of a key of its own, so that a stale read is no matter of how threads take turns
 
 
 class SharedMemory:
     """One copy of some keys, which threads share. A call without an answer has no effect, or one at once or later. Some reads are stale."""
 
-    def __init__(self, rng, stale):
-        self.rng, self.stale, self.lock = rng, stale, threading.Lock()
+    def __init__(self, rng, stale, pause=0.001):
+        self.rng, self.stale, self.pause, self.lock = rng, stale, pause, threading.Lock()
         self.values = collections.defaultdict(lambda: [None])
         self.late = []
 
@@ -57,7 +64,7 @@ class SharedMemory:
 
     def answer(self, loss):
         """An answer is on its way, or is lost."""
-        time.sleep(self.rng.random() * 0.001)
+        time.sleep(self.rng.random() * self.pause)
         if self.rng.random() < loss:
             raise Unreachable
 
@@ -154,6 +161,49 @@ def end(action, barrier, raised):
         action()
     except RuntimeError as error:
         raised.append(type(error))
+
+
+class NewValues(unittest.TestCase):
+    """Many small runs: in each, threads take new values of one client at the same time. Clients and keys are those of one run."""
+
+    @classmethod
+    def setUpClass(cls):
+        room = tempfile.TemporaryDirectory(prefix="causal-judge-")
+        cls.addClassCleanup(room.cleanup)
+        cls.folder = pathlib.Path(room.name)
+        cls.logs = [cls.folder / f"{run}.jsonl" for run in range(SMALL_RUNS)]
+        cls.addClassCleanup(sys.setswitchinterval, sys.getswitchinterval())
+        sys.setswitchinterval(1e-6)  # threads take turns as often as they can
+        with ThreadPoolExecutor(SMALL_CLIENTS) as pool:
+            for log in cls.logs:
+                with Recorder(log, fails=Refused) as recorder:
+                    memory, source = SharedMemory(random.Random(log.stem), 0, pause=0), recorder.client(log.stem)
+                    clients = [recorder.client(f"{log.stem} {number}") for number in range(SMALL_CLIENTS)]
+                    list(pool.map(functools.partial(write_and_read, memory, source), clients))
+
+    def test_values(self):
+        """No two writes of a run have the same value."""
+        for log in self.logs:
+            values = [event[2][-1] for event in events_of(log) if event[0] == "begin" and event[2][0] == "w"]
+            self.assertEqual((len(values), len(set(values))), (SMALL_CLIENTS * WRITES,) * 2, log)
+
+    @needs_program
+    def test_correct_store(self):
+        """All runs are judged as one log. If it meets a criterion, each run meets it."""
+        joined = self.folder / "joined.jsonl"
+        joined.write_bytes(b"".join(log.read_bytes() for log in self.logs))
+        verdict = verdicts_of([joined])[0]
+        self.assertTrue(verdict.meets(), str(verdict))
+
+
+def write_and_read(memory, source, client):
+    """A client writes new values of the source to two keys in turn, and reads after each write."""
+    for number in range(WRITES):
+        key, value = f"{source.name} {number % 2}", source.new_value()
+        with contextlib.suppress(Refused, Unreachable):
+            client.write(key, value, functools.partial(memory.write, key, value))
+        with contextlib.suppress(Refused, Unreachable):
+            client.read(key, functools.partial(memory.read, key))
 
 
 class ManyClients(FolderCase):
