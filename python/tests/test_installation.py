@@ -20,8 +20,10 @@ IGNORED = shutil.ignore_patterns("build", "*.egg-info", "__pycache__")
 class Version(unittest.TestCase):
     @unittest.skipUnless((REPOSITORY / "VERSION").is_file(), "skipped: the file VERSION is not beside the package")
     def test_version(self):
-        """The folder python/ has to stand alone too, so the version is written twice, and both are the same."""
-        self.assertEqual(causal_judge.__version__, (REPOSITORY / "VERSION").read_text().strip())
+        """The folder python/ stands alone, so it has the version too. The file VERSION, the package and CITATION.cff agree."""
+        version = (REPOSITORY / "VERSION").read_text().strip()
+        self.assertEqual(causal_judge.__version__, version)
+        self.assertIn(f"version: {version}", (REPOSITORY / "CITATION.cff").read_text().splitlines())
 
     def test_names(self):
         for name in causal_judge.__all__:
