@@ -31,8 +31,8 @@ use std::thread::Threads;
 
 /// The JSON text of the reasons on the history in the input, with a certificate of each criterion that is met.
 ///
-/// Refuses what is no history, and fails for want of memory. The certificates and the cost are those of
-/// [`explanation_with_certificates`], and O(n) for n bytes that are read and written.
+/// Refuses what is no history, and fails for want of memory. The certificates are those of
+/// [`explanation_with_certificates`]. It costs what that takes, and O(n) for n bytes that are read and written.
 pub fn explain_with_certificates<T: Threads + Wait + Sync>(
     rt: &T,
     alloc: Global,

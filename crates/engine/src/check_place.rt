@@ -1,3 +1,5 @@
+//! The places in the text of a history with a certificate.
+
 ghost use Rattle.engine.specs.CheckPlaces.{inside_of, limit_of};
 
 use bounded_json::Place;

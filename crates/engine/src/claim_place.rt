@@ -1,3 +1,5 @@
+//! The places in the text of a claim: a history, a criterion and a pattern.
+
 ghost use Rattle.engine.specs.ClaimPlaces.{inside_of, limit_of};
 
 use bounded_json::Place;

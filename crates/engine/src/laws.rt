@@ -67,7 +67,8 @@ pub fn input_is_refused_in_one_way()
         → IsOutputError order input second → failure_status first ≡ 1 → failure_status second ≡ 1 → first ≡ second }
 {}
 
-/// An input that is too long gets no answer, and can be refused for its length alone.
+/// An input that is too long gets no answer, and no refusal but that for its length. Only want of memory or a read fault can come
+/// in its place.
 pub fn too_long_input_is_refused_as_such()
     ensures output { (order : Order) (bytes : List ℕ) (before after : Option (List ℕ)) → MAX_INPUT_BYTES < length bytes
         → ¬ Completes order (Some bytes) before after }

@@ -1,5 +1,8 @@
-//! The engine of the program `causal_judge`: from the words of a command line and the bytes of an input to the bytes of
-//! an answer.
+//! The engine of the program `causal_judge`: from an order and the bytes of an input to the bytes of an answer.
+//!
+//! It gives [`run`], which carries out an order over any source and writer, the answers to single histories, as [`report_on`] and
+//! [`explanation_of`], the same by the calling thread alone, as [`judge_alone`], and [`laws`] of runs. It uses the crates that read,
+//! decide, certify, check, drive and draw. Their order, and the words of an explanation, may change: callers rest on the contracts.
 #![tactic(auto)]
 
 mod alone;

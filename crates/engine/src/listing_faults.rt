@@ -34,8 +34,8 @@ use std::sync::Wait;
 use std::thread::Threads;
 use wording::{Names, OwnNames};
 
-/// Why a history meets each criterion or does not, and its reads that show a fault. There are no such reads where values are not
-/// distinct, nor for objects that have no keys to read.
+/// Why a history meets each criterion or does not, and its reads that show a fault. There is no list of such reads where values
+/// are not distinct, nor for objects that have no keys to read.
 #[derive(Drop)]
 pub struct FaultReport {
     pub explanation: Explanation,
