@@ -139,23 +139,25 @@ END
 chmod 755 "$ROOM/bin/causal_judge"
 python3 "$HERE/completions.py" "$PROGRAM" "$ROOM/completions"
 COMMANDS=$("$PROGRAM" --help | sed -n '/^Commands:/,/^$/ s/^  \([a-z]*\) .*/\1/p' | grep -v '^help$')
-page() {
-    local about
-    about=$(PATH=$ROOM/bin:$PATH; $1 --help | sed -n '1 s/^./\L&/p')
-    PATH=$ROOM/bin:$PATH help2man --no-info --section 1 --manual "User Commands" --source "causal_judge $NAMED" \
-        --version-string "$VERSION" --name "$about" --opt-include "$ROOM/after" "$1" |
-        sed "s/^$1 \\\\- /${1// /-} \\\\- /" > "$ROOM/man/${1// /-}.1"
-}
-{
+# The part of a help after its options, as a section of a man page: after [COMMAND]. Quotes and dashes stay those that a shell takes.
+after() {
     printf '[INPUT AND ANSWERS]\n.nf\n'
-    "$PROGRAM" --help | awk 'over { print } /^Options:/ { last = 1 } last && /^$/ { over = 1 }' |
-        sed -e 's/\\/\\e/g' -e "s/^[.']/\\\\\\&&/" -e 's/-/\\-/g'
+    "$PROGRAM" "$@" --help | awk 'over { print } /^Options:/ { last = 1 } last && /^$/ { over = 1 }' |
+        sed -e 's/\\/\\e/g' -e 's/^\./\\\&&/' -e 's/-/\\-/g' -e "s/'/\\\\(aq/g" -e 's/`/\\(ga/g' -e 's/\^/\\(ha/g' -e 's/~/\\(ti/g'
     printf '.fi\n'
-} > "$ROOM/after"
-page causal_judge
-rm "$ROOM/after"
+}
+# The man page of the program, or of a command: page [COMMAND].
+page() {
+    local words="causal_judge${1:+ $1}" name=causal_judge${1:+-$1} about
+    after "$@" > "$ROOM/after"
+    about=$("$PROGRAM" "$@" --help | sed -n '1 s/^./\L&/p')
+    PATH=$ROOM/bin:$PATH help2man --no-info --section 1 --manual "User Commands" --source "causal_judge $NAMED" \
+        --version-string "$VERSION" --name "$about" --include "$ROOM/after" "$words" |
+        sed "s/^$words \\\\- /$name \\\\- /" > "$ROOM/man/$name.1"
+}
+page
 for command in $COMMANDS; do
-    page "causal_judge $command"
+    page "$command"
 done
 
 # Puts a file in its place: MODE FROM TO.

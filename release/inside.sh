@@ -41,7 +41,7 @@ found() { [ "$(realpath "$(command -v causal_judge)")" = "$(realpath "$BASE/bin/
 says_version() { [ "$(causal_judge --version | cut -d ' ' -f 2)" = "$VERSION" ]; }
 says_build() { grep "^version $VERSION$" "$DOC/BUILD" && grep '^gate ' "$DOC/BUILD"; }
 # A page of the manual, as a reader gets it.
-has_page() { man "$1" | col -b | tr -s ' \n' ' ' | grep -F -- "$2"; }
+has_page() { man "$1" | col -bx | tr -s ' \n' ' ' | grep -F -- "$2"; }
 
 completes() {
     bash --norc -c '
@@ -115,6 +115,7 @@ try "its BUILD" says_build
 try "the Python package" python_package
 try "man causal_judge" has_page causal_judge "Judges a recorded history"
 try "man causal_judge-judge" has_page causal_judge-judge "Judges a history in each line"
+try "its statuses" has_page causal_judge-judge "Status: 0 answered, whatever the verdict"
 if [ "$NAME" = wheel ]; then
     SKIPPED=$((SKIPPED + 5))
 else
