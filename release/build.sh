@@ -219,6 +219,10 @@ depends() {
     if objdump -p "$@" 2> /dev/null | grep 'NEEDED *libgcc_s' > /dev/null; then printf ', libgcc-s1'; fi
 }
 
+# The size of the files below a folder, as Debian's policy has it: their bytes, divided by 1024 and rounded up. The size of a folder itself
+# depends on the file system, so no folder counts.
+kibibytes() { find "$1" -type f -printf '%s\n' | awk '{ bytes += $1 } END { print int((bytes + 1023) / 1024) }'; }
+
 debian() {
     local below=$ROOM/debian doc=usr/share/doc/causal-judge file linked=("$PROGRAM")
     [ -n "$NO_LIBRARY" ] || linked+=("$ROOM/libcausal_judge.so")
@@ -242,7 +246,7 @@ Package: causal-judge
 Version: $DEBIAN
 Architecture: amd64
 Maintainer: $(git -C "$ROOT" log -1 --format='%an <%ae>')
-Installed-Size: $(du -sk --apparent-size "$below/usr" | cut -f 1)
+Installed-Size: $(kibibytes "$below/usr")
 Depends: $(depends "${linked[@]}")
 Section: science
 Priority: optional
