@@ -61,9 +61,6 @@ KIT=$(sed -n 's/^kit //p' "$MARK" 2> /dev/null || true)
 if [ -n "$UNPROVED" ] && command -v rt > /dev/null; then
     KIT=$(cat "$(dirname "$(rt doc | awk 'END { print $NF }')")/KIT-ID")
 fi
-if [ "$SAID" != "causal_judge $VERSION ($KIT)" ] && { [ -n "$KIT" ] || [ -z "$UNPROVED" ]; }; then
-    fail "VERSION says $VERSION and the kit is ${KIT:-unknown}, and the program says $SAID"
-fi
 
 # A line of the mark, without its first word.
 marked() { sed -n "s/^$1 //p" "$MARK" 2> /dev/null || true; }
@@ -83,6 +80,9 @@ doubt() {
 DOUBT=$(doubt)
 if [ -n "$DOUBT" ] && [ -z "$UNPROVED" ]; then
     fail "$DOUBT. --unproved makes packages that say so"
+fi
+if [ "$SAID" != "causal_judge $VERSION ($KIT)" ] && { [ -n "$KIT" ] || [ -z "$UNPROVED" ]; }; then
+    fail "VERSION says $VERSION and the kit is ${KIT:-unknown}, and the program says $SAID"
 fi
 if [ -n "$UNPROVED" ]; then
     NAMED=$VERSION-unproved DEBIAN=$VERSION~unproved WHEEL=$VERSION.dev0+unproved
