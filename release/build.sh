@@ -110,6 +110,21 @@ join_library() {
 
 [ -n "$NO_LIBRARY" ] || join_library
 
+# The shared objects that files want of the system, beside those of the C library.
+needed() {
+    { objdump -p "$@" 2> /dev/null || true; } |
+        awk '$1 == "NEEDED" && $2 !~ /^(libc|libm|libdl|librt|libpthread|ld-linux-x86-64)\.so\./ { print $2 }' | sort -u
+}
+# The least version of the C library that files want, which is 2.17 where they want an older one or none.
+least() {
+    { objdump -T "$@" 2> /dev/null || true; } | sed -n 's/.*GLIBC_\([0-9][0-9.]*\).*/\1/p' | { cat; echo 2.17; } | sort -uV | tail -1
+}
+LINKED=("$PROGRAM")
+[ -n "$NO_LIBRARY" ] || LINKED+=("$ROOM/libcausal_judge.so")
+NEEDED=$(needed "${LINKED[@]}" | xargs)
+[ -z "$NEEDED" ] || fail "the packages depend on libc6 alone, and the program or the library needs $NEEDED"
+LEAST=$(least "${LINKED[@]}")
+
 {
     echo "version $VERSION"
     echo "commit $COMMIT${CHANGED:+, with files that differ from it}"
@@ -211,21 +226,12 @@ tarball() {
         gzip -9n > "$OUT/$name.tar.gz"
 }
 
-# The libraries that a program wants of the system, as Debian's packages with the least version of the C library.
-depends() {
-    local least
-    least=$(objdump -T "$@" 2> /dev/null | grep -o 'GLIBC_[0-9.]*' | sed 's/GLIBC_//' | sort -uV | tail -1)
-    printf 'libc6 (>= %s)' "$least"
-    if objdump -p "$@" 2> /dev/null | grep 'NEEDED *libgcc_s' > /dev/null; then printf ', libgcc-s1'; fi
-}
-
 # The size of the files below a folder, as Debian's policy has it: their bytes, divided by 1024 and rounded up. The size of a folder itself
 # depends on the file system, so no folder counts.
 kibibytes() { find "$1" -type f -printf '%s\n' | awk '{ bytes += $1 } END { print int((bytes + 1023) / 1024) }'; }
 
 debian() {
-    local below=$ROOM/debian doc=usr/share/doc/causal-judge file linked=("$PROGRAM")
-    [ -n "$NO_LIBRARY" ] || linked+=("$ROOM/libcausal_judge.so")
+    local below=$ROOM/debian doc=usr/share/doc/causal-judge file
     put_files "$below/usr" lib/x86_64-linux-gnu vendor-completions /usr
     for file in "$below"/usr/share/man/man1/*.1; do gzip -9n "$file"; done
     { echo "causal_judge"; echo; cat "$ROOM/pages/LICENSE"; } > "$below/$doc/copyright"
@@ -247,7 +253,7 @@ Version: $DEBIAN
 Architecture: amd64
 Maintainer: $(git -C "$ROOT" log -1 --format='%an <%ae>')
 Installed-Size: $(kibibytes "$below/usr")
-Depends: $(depends "${linked[@]}")
+Depends: libc6 (>= $LEAST)
 Section: science
 Priority: optional
 Description: judge of causal consistency
@@ -267,7 +273,7 @@ wheel() {
     put_pages "$below/share/doc/causal-judge"
     mkdir -p "$below/share"
     for file in "$ROOM"/man/*.1; do put 644 "$file" "$below/share/man/man1/${file##*/}"; done
-    python3 "$HERE/wheel.py" "$PROGRAM" "$ROOM/pages/python/causal_judge" "$below" "$WHEEL" "$(depends "$PROGRAM" | sed -n 's/.*>= 2\.\([0-9]*\).*/\1/p')" "$OUT"
+    python3 "$HERE/wheel.py" "$PROGRAM" "$ROOM/pages/python/causal_judge" "$below" "$WHEEL" "$(least "$PROGRAM" | cut -d . -f 2)" "$OUT"
 }
 
 tarball
