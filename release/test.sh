@@ -6,8 +6,8 @@
 # It takes the packages of DIR, release/out unless given. For each it unpacks a clean Debian, installs the package by README.md's lines,
 # and runs there each command that README.md shows, the man pages, a completion, and the C and the Python sample against the installed
 # library. The Go and the Rust sample are tried where the root has a compiler for them, and else named as skipped: --languages makes a root
-# with those of Debian, of which rustc may be too old for the sample. Where lintian is installed, the Debian package may have no fault but
-# that no licence is granted.
+# with those of Debian, of which rustc may be too old for the sample. Where lintian is installed, it runs without a message, and finds no
+# fault in the Debian package but that no licence is granted.
 #
 # It runs as root, and needs mmdebstrap and a mirror of Debian: about 150 megabytes, and two to eight minutes to make the root, which
 # --root TAR keeps for the next time. It takes a gigabyte of /tmp while it runs, and a minute a package.
@@ -83,14 +83,19 @@ for name in ${NAMES:-tarball deb wheel}; do
     rm -rf --one-file-system "$below"
 done
 
+# Whether lintian runs to its end without a message, and finds no tag in the Debian package but the one that is allowed. README.md says why
+# it is, and why the overrides in the package name two more, which lintian leaves out by itself.
+ALLOWED=copyright-without-copyright-notice
+is_clean() {
+    local status=0
+    lintian --profile debian --fail-on none --allow-root "$OUT"/*.deb > "$ROOM/tags" 2> "$ROOM/messages" || status=$?
+    sed -i "/^W: causal-judge: $ALLOWED\( .*\)\?\$/d" "$ROOM/tags"
+    cat "$ROOM/tags" "$ROOM/messages"
+    [ $status = 0 ] || echo "lintian: status $status"
+    [ $status = 0 ] && [ ! -s "$ROOM/tags" ] && [ ! -s "$ROOM/messages" ]
+}
 if command -v lintian > /dev/null; then
-    # Only that no licence is granted may be found.
-    if found=$(lintian --profile debian --fail-on none "$OUT"/*.deb 2> /dev/null | grep -v 'copyright-without-copyright-notice'); then
-        echo "$found"
-        add "0 passed, 1 failed"
-    else
-        add "1 passed, 0 failed"
-    fi
+    if is_clean; then add "1 passed, 0 failed"; else add "0 passed, 1 failed"; fi
 else
     echo "lintian: skipped: apt-get install lintian"
     add "0 passed, 0 failed, 1 skipped"
