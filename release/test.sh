@@ -1,16 +1,18 @@
 #!/usr/bin/env bash
 # Installs each package of a release in a clean Debian without the Rattle kit, and tries it there.
 #
-#     release/test.sh [--out DIR] [--root TAR] [--languages] [tarball] [deb] [wheel]
+#     release/test.sh [--out DIR] [--root TAR] [--suite NAME] [--languages] [tarball] [deb] [wheel]
 #
 # It takes the packages of DIR, release/out unless given. For each it unpacks a clean Debian, installs the package by README.md's lines,
 # and runs there each command that README.md shows, the man pages, a completion, and the C and the Python sample against the installed
 # library. The Go and the Rust sample are tried where the root has a compiler for them, and else named as skipped: --languages makes a root
-# with those of Debian, of which rustc may be too old for the sample. Where lintian is installed, it runs without a message, and finds no
-# fault in the Debian package but that no licence is granted.
+# with those of Debian. The root is of the suite bookworm unless --suite names another one: the Rust sample needs the rustc 1.85 of
+# --suite trixie. Where lintian is installed, it runs without a message, and finds no fault in the Debian package but that no licence is
+# granted.
 #
-# It runs as root, and needs mmdebstrap and a mirror of Debian: about 150 megabytes, and two to eight minutes to make the root, which
-# --root TAR keeps for the next time. It takes a gigabyte of /tmp while it runs, and a minute a package.
+# It runs as root, and needs mmdebstrap and a mirror of Debian: about 150 megabytes, and two to eight minutes to make the root. --root TAR
+# keeps the root for the next time, and takes a TAR that is there as it is. The script takes a gigabyte of /tmp while it runs, two with
+# --languages, and a minute a package.
 #
 # The last line is 'N passed, M failed', with ', K skipped' after it where a package has no library or the root no compiler.
 set -euo pipefail
@@ -25,6 +27,7 @@ while [ $# -gt 0 ]; do
     case $1 in
         --out) OUT=$2; shift ;;
         --root) TAR=$2; shift ;;
+        --suite) SUITE=$2; shift ;;
         --languages) HOLDS=$HOLDS,golang-go,rustc ;;
         tarball | deb | wheel) NAMES="$NAMES $1" ;;
         *) sed -n '2,4p' "$0" >&2; exit 2 ;;
@@ -50,7 +53,7 @@ clean() {
 trap clean EXIT
 [ -n "$TAR" ] || TAR=$ROOM/root.tar
 if [ ! -f "$TAR" ]; then
-    echo "a clean Debian with $HOLDS .."
+    echo "a clean Debian $SUITE with $HOLDS .."
     mmdebstrap --quiet --format=tar --variant=minbase --include="$HOLDS" "$SUITE" "$TAR.part" && mv "$TAR.part" "$TAR"
 fi
 
@@ -68,6 +71,7 @@ for name in ${NAMES:-tarball deb wheel}; do
     below=$ROOM/$name
     mkdir "$below"
     tar -C "$below" --numeric-owner -xf "$TAR"
+    echo "$name: in $(sed -n 's/^PRETTY_NAME="\(.*\)"/\1/p' "$below/usr/lib/os-release")"
     mkdir -p "$below/given/packages" "$below/proc"
     cp "$OUT"/*.tar.gz "$OUT"/*.deb "$OUT"/*.whl "$below/given/packages"
     cp -r "$ROOT/tests" "$HERE/inside.sh" "$below/given"
