@@ -6,6 +6,8 @@
 #![tactic(auto)]
 
 #[cfg(test)]
+mod advised;
+#[cfg(test)]
 mod case_files;
 #[cfg(test)]
 mod cores;
