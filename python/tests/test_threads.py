@@ -17,6 +17,7 @@ from support import FolderCase, Refused, Unreachable, events_of, many, needs_pro
 
 CLIENTS, KEYS, CALLS, SEEDS = 16, 6, 40, 3
 SMALL_RUNS, SMALL_CLIENTS, WRITES = 1000, 4, 4
+JOINED_RUNS = 40
 OWN = "wwr"  # the first calls of each client are of a key of its own, so that a stale read is no matter of how threads take turns
 
 
@@ -189,11 +190,16 @@ class NewValues(unittest.TestCase):
 
     @needs_program
     def test_correct_store(self):
-        """All runs are judged as one log. If it meets a criterion, each run meets it."""
-        joined = self.folder / "joined.jsonl"
-        joined.write_bytes(b"".join(log.read_bytes() for log in self.logs))
-        verdict = verdicts_of([joined])[0]
-        self.assertTrue(verdict.meets(), str(verdict))
+        """Some runs at a time are judged as one log. If that meets a criterion, each of these runs meets it."""
+        joined = [self.joined(first) for first in range(0, SMALL_RUNS, JOINED_RUNS)]
+        for verdict in verdicts_of(joined):
+            self.assertTrue(verdict.meets(), str(verdict))
+
+    def joined(self, first):
+        """The log of some runs, from the first of them on."""
+        log = self.folder / f"from_{first}.jsonl"
+        log.write_bytes(b"".join(log.read_bytes() for log in self.logs[first : first + JOINED_RUNS]))
+        return log
 
 
 def write_and_read(memory, source, client):
