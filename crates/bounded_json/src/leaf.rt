@@ -1,3 +1,5 @@
+//! A JSON value that is no list, as it is kept.
+
 use serde_json::Number;
 
 /// What is kept of a JSON value that is no list; of an object, only that it is one.

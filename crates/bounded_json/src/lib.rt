@@ -3,8 +3,11 @@
 //! The [`Place`]s of a form say how many elements a list may have, and the place of each element. [`read_bounded`] reads
 //! a text once, by `serde_json`'s own rule of what a text is. It keeps no more of each list than its place asks for, and
 //! nothing of an object. So the form and the length of the text bound the memory, whatever the text nests.
-//! [`read_compact`] reads the same into a [`Compact`] value, for texts with long lists of small numbers. [`read_value`] and [`walk_items`] are
-//! steps for a reader elsewhere, which takes a long text value by value.
+//! [`read_compact`] reads the same into a [`Compact`] value, for texts with long lists of small numbers. [`read_value`] and
+//! [`walk_items`] are steps for a reader elsewhere, which takes a long text value by value.
+//!
+//! It uses json, serde_json, simdutf8, fast_float and thiserror. How a text is read and a value kept may change: callers rest on
+//! the contracts alone.
 #![tactic(auto)]
 
 mod compact;

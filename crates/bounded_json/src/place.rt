@@ -1,3 +1,5 @@
+//! The trait of a place in a form: how many elements of a list are kept there, and where each one is.
+
 ghost use Rattle.std.specs.Prelude.{◌≡◌, ℕ, Option};
 
 /// A place in a form: how many elements of a list are kept there, and the place of each.

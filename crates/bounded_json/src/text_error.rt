@@ -1,3 +1,5 @@
+//! The reasons why a JSON text is not read.
+
 ghost use Rattle.std.specs.Prelude.{◌≡◌};
 
 use json::Invalid;

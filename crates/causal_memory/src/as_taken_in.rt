@@ -1,3 +1,5 @@
+//! The order in which updates are taken in.
+
 ghost use Rattle.std.specs.Prelude.{length, refl, true};
 ghost use Rattle.causal_memory.specs.Laws.Order.{length_within};
 

@@ -1,3 +1,5 @@
+//! The updates of a replica of the causal store, in the order in which it took them in.
+
 ghost use Rattle.std.specs.Prelude.{◌≡◌};
 ghost use Rattle.replica.specs.Causality.{IsCausal};
 

@@ -1,3 +1,5 @@
+//! One list for each operation of some sessions, and the vectors, which are lists of counts.
+
 ghost use Rattle.std.specs.Prelude.{◌≡◌, ◌∷◌, ◌++◌, ◌<◌, ◌↔◌, ℕ, List, [], length, slice_set, IfOk, IsTrue, OnOk, OnErr, slice_index_or};
 ghost use Rattle.causal_order.specs.BySession.{AreMadeBy};
 ghost use Rattle.causal_order.specs.Vectors.{IsListed, list_of, with_item};

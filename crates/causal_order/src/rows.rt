@@ -1,3 +1,5 @@
+//! Lists in one vector, one after the other.
+
 ghost use Rattle.std.specs.Prelude.{◌≡◌, ◌∷◌, ◌++◌, ◌<◌, ◌≤◌, List, [], length, IfOk, OnOk, OnErr, slice_index, slice_index_or, slice_set};
 ghost use Rattle.causal_order.specs.Steps.FlatRows.{cut, start_of, RisesTo};
 

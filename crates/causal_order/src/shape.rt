@@ -1,3 +1,5 @@
+//! The shape of lists by operation: one for each operation of a history, and whether all of them are vectors.
+
 ghost use Rattle.std.specs.Prelude.{◌≡◌, ◌<◌, ◌↔◌, ℕ, IsTrue, length, slice_index_or, []};
 ghost use Rattle.causal_order.specs.Orders.{op};
 ghost use Rattle.causal_order.specs.Vectors.{list_of, AreVectorsOf, HasOneEach};

@@ -1,3 +1,5 @@
+//! A walk that places operations by the topological rule: each one after those that happen before it.
+
 ghost use Rattle.std.specs.Prelude.{◌≡◌, ◌≢◌, ◌∷◌, ◌++◌, ◌-◌, ◌<◌, ◌≤◌, ◌↔◌, ℕ, [], length, max, take, slice_index_or};
 ghost use Rattle.std.specs.Prelude.{MatchOption, OnErr, OnOk, IsTrue};
 ghost use Rattle.causal_order.specs.Schedules.{placed};

@@ -1,3 +1,5 @@
+//! The vector of an operation, which counts what happens before it, and the check of one vector.
+
 ghost use Rattle.std.specs.Prelude.{◌≡◌, ◌≢◌, ℕ, ◌+◌, ◌≤◌, ◌↔◌, IsTrue, slice_index_or, length};
 ghost use Rattle.history.specs.History.{IsOp, session};
 ghost use Rattle.causal_order.specs.Vectors.{count, AreVectorsOf, IsCounted, IsVectorOk};

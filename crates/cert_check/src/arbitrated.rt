@@ -1,3 +1,5 @@
+//! The check of one piece of a certificate for causal convergence, against the one list of all operations.
+
 ghost use Rattle.std.specs.Prelude.{◌≡◌, ◌↔◌, ℕ, length, IfOk, IsTrue};
 ghost use Rattle.history.specs.History.{session, IsOp};
 ghost use Rattle.causal_order.specs.Vectors.{AreVectorsOf};

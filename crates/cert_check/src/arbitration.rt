@@ -1,3 +1,5 @@
+//! The one list of a certificate for causal convergence, which puts all operations in one order.
+
 ghost use Rattle.std.specs.Prelude.{◌≡◌, List, ℕ, IfOk};
 
 use std::alloc::{AllocError, Global};

@@ -1,3 +1,5 @@
+//! Case files: a history, the criterion by which it is judged, and optionally a certificate of its shape.
+
 ghost use Rattle.std.specs.Prelude.{◌≡◌, ◌↔◌, Option, IfErr, IfOk, IsTrue, option_copied};
 ghost use Rattle.cert_check.specs.Certificates.{criterion_of, HasShapeOf, IsCaseFile};
 

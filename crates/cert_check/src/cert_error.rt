@@ -1,3 +1,5 @@
+//! Why a value is not read as a certificate, with the number of each reason.
+
 ghost use Rattle.std.specs.Prelude.{◌≡◌};
 ghost use Rattle.cert_check.specs.CertErrors.{number_of};
 

@@ -1,3 +1,5 @@
+//! Certificates for each criterion: the past of each operation as a vector, with schedules or one list.
+
 ghost use Rattle.std.specs.Prelude.{◌≡◌, IfOk};
 ghost use Rattle.cert_check.specs.Certificates.{criterion_of, vectors_of};
 

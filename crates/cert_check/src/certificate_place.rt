@@ -1,3 +1,5 @@
+//! The places in the JSON form of a certificate, with what each may hold.
+
 ghost use Rattle.cert_check.specs.Places.{inside_of, limit_of};
 
 use bounded_json::Place;

@@ -1,3 +1,5 @@
+//! The check of one piece of a case file's certificate, and the first operation whose piece explains nothing.
+
 ghost use Rattle.std.specs.Prelude.{◌≡◌, ◌↔◌, IfOk, IsNone, IsSome, MatchOption, Some};
 ghost use Rattle.history.specs.History.{IsOp};
 ghost use Rattle.cert_check.specs.Criteria.{Meets};

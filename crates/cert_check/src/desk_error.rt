@@ -1,3 +1,5 @@
+//! Why a case file is refused, or what is asked of a case, with the number of each reason.
+
 ghost use Rattle.std.specs.Prelude.{◌≡◌};
 ghost use Rattle.cert_check.specs.DeskErrors.{number_of};
 

@@ -1,3 +1,5 @@
+//! Which known returns a replay compares: that of one operation, or also those before it in its session.
+
 ghost use Rattle.std.specs.Prelude.{◌≡◌};
 ghost use Rattle.cert_check.specs.Steps.Replays.{kept_of};
 

@@ -1,5 +1,9 @@
 //! Certificates that a history meets a criterion, and their checker: the three criteria of causal consistency, what the pieces of a
 //! certificate show of them, and how the criteria relate to one another.
+//!
+//! It gives [`Criterion`], [`Certificate`], [`CaseFile`], [`PieceChecker`], [`check_piece`] and [`read_certificate`]. It uses
+//! object_trait, history, operations, causal_order, bounded_json, serde_json and thiserror. How a piece is checked may change, and
+//! how lists are walked: callers rest on the contracts alone, with the form of a certificate and the numbers of errors in them.
 #![tactic(auto)]
 
 mod arbitrated;

@@ -1,3 +1,5 @@
+//! Counts of the operations that a list of session numbers names, and the steps along such a list.
+
 ghost use Rattle.std.specs.Prelude.{◌≡◌, ◌+◌, ◌-◌, ◌<◌, ◌≤◌, ◌↔◌, ℕ, List, length, slice_get, slice_index_or, slice_set, take};
 ghost use Rattle.std.specs.Prelude.{IfOk, IsTrue, MatchOption, Some};
 ghost use Rattle.history.specs.History.{IsOp};

@@ -1,3 +1,5 @@
+//! What a list must name before each operation, so that it keeps to the causal order of the vectors.
+
 ghost use Rattle.std.specs.Prelude.{◌≡◌, ◌<◌, ◌↔◌, ℕ, [], length, slice_index_or, IfOk, IfSome, IsTrue};
 ghost use Rattle.causal_order.specs.Orders.{op};
 ghost use Rattle.causal_order.specs.Vectors.{AreVectorsOf, HasListOf};

@@ -1,3 +1,5 @@
+//! Numbers in the lists of a certificate, and how they are read: counts of vectors, and session numbers.
+
 ghost use Rattle.std.specs.Prelude.{ℕ, ◌<◌, ◌^◌};
 ghost use Rattle.operations.specs.Reads.{number_form, IsReadWithin};
 

@@ -1,3 +1,5 @@
+//! The check of an operation's own known return against the operations in its schedule.
+
 ghost use Rattle.std.specs.Prelude.{◌↔◌, IfOk, IsTrue};
 ghost use Rattle.history.specs.History.{IsOp};
 ghost use Rattle.causal_order.specs.Orders.{only};

@@ -1,3 +1,5 @@
+//! A replay of the calls that a list names, which compares the known returns with the object's answers.
+
 ghost use Rattle.std.specs.Prelude.{◌≡◌, ◌+◌, ◌≤◌, ◌↔◌, ℕ, List, [], ◌∷◌, ◌++◌, length, IfOk, IsTrue};
 ghost use Rattle.std.specs.Prelude.{MatchOption, slice_index_or, slice_set, take};
 ghost use Rattle.history.specs.declared.op_id.OpId.{OpId};

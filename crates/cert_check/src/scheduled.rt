@@ -1,3 +1,5 @@
+//! The check of one piece of a certificate with schedules: the order of a schedule, and the returns it explains.
+
 ghost use Rattle.std.specs.Prelude.{◌≡◌, ◌↔◌, ℕ, [], length, IfOk, IsTrue};
 ghost use Rattle.history.specs.History.{IsOp};
 ghost use Rattle.causal_order.specs.Vectors.{AreVectorsOf, IsVectorOk};

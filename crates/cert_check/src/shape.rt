@@ -1,3 +1,5 @@
+//! The shape of a certificate: whether its vectors, and its schedules or its list, fit the operations of a history.
+
 ghost use Rattle.std.specs.Prelude.{◌≡◌, ◌<◌, ℕ, ◌↔◌, All, IsTrue, length};
 ghost use Rattle.history.specs.History.{session};
 ghost use Rattle.cert_check.specs.Certificates.{HasShapeOf};

@@ -1,3 +1,5 @@
+//! The advice that a store gives with a return: counts by session, a stamp, and the order in which it took operations in.
+
 ghost use Rattle.std.specs.Prelude.{◌≡◌, IfOk};
 
 use crate::limits::MAX_SESSIONS;

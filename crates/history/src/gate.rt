@@ -1,3 +1,5 @@
+//! A gate that each thread passes before and after its work on an operation.
+
 use crate::op_id::OpId;
 
 /// Each thread calls it for each operation that it reaches: before its work there, and after. Whoever passes the gate decides

@@ -1,3 +1,5 @@
+//! A history: the calls of each session on one object, in order, with the returns that are known.
+
 ghost use Rattle.std.specs.Prelude.{◌≡◌, ◌<◌, ◌≤◌, ◌↔◌, ℕ, length, option_map, IfOk, IsTrue, Some, map, slice_index_or};
 ghost use Rattle.history.specs.History.{IsHistory, IsSession, IsOp, entry, session};
 

@@ -1,4 +1,8 @@
 //! Operations, and what each session called on an object.
+//!
+//! It gives [`History`], [`OpId`], the limits [`MAX_SESSIONS`], [`MAX_OPERATIONS`] and [`MAX_WORKERS`], the [`Advice`] of a store
+//! with [`TakenIn`], and [`Gate`] with [`OpenGate`]. It uses object_trait. How a history keeps its sessions may change: callers
+//! rest on the contracts alone. The crates above rest on the limits too.
 #![tactic(auto)]
 
 mod advice;

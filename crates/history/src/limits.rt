@@ -1,3 +1,5 @@
+//! The greatest numbers of sessions, of operations in a session, and of workers.
+
 /// The most sessions that a history has.
 pub const MAX_SESSIONS: usize = 16;
 

@@ -1,3 +1,5 @@
+//! The name of an operation in a history: its session, and its place there.
+
 ghost use Rattle.std.specs.Prelude.{◌≡◌, ◌==◌, ◌&&◌, ◌+◌, ◌<◌, MatchOption, nat_le};
 
 use crate::limits::MAX_OPERATIONS;

@@ -1,3 +1,5 @@
+//! The order of updates by stamp, then by session, then by number.
+
 ghost use Rattle.std.specs.Prelude.{◌≡◌, false, map};
 ghost use Rattle.lamport_store.specs.Stamps.{IsRising, goes_before, place_by_stamp};
 ghost use Rattle.lamport_store.specs.Laws.Stamp.{not_behind, place_within, rising_latest, rising_none, rising_taken};

@@ -1,3 +1,5 @@
+//! The updates of a replica of the store of Lamport's clocks, in the order of their stamps.
+
 ghost use Rattle.std.specs.Prelude.{◌≡◌, map};
 ghost use Rattle.lamport_store.specs.Stamps.{IsRising};
 ghost use Rattle.replica.specs.Updates.{key};

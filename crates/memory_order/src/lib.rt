@@ -1,4 +1,8 @@
 //! What is known of a memory history: its writes, the sources of its reads, its causal order and happened-before.
+//!
+//! It gives [`CausalOrder`], [`HappenedBefore`], [`IndexedMemory`], [`Sources`] and [`Write`], the functions that find them, and
+//! the laws of these orders. It uses object_trait, objects, history and causal_order.
+//! How writes are searched and orders are kept may change: callers rest on the contracts and laws alone.
 #![tactic(auto)]
 
 mod causal;

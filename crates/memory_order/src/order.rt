@@ -1,3 +1,5 @@
+//! The vectors of the causal order of a memory history, found from the sources of its reads.
+
 ghost use Rattle.std.specs.Prelude.{IfOk, MatchOption};
 ghost use Rattle.memory_order.specs.SourceOrder.{CountsSourceOrder};
 ghost use Rattle.memory_order.specs.Steps.Indexed.{IsUnordered, ListsReads, ListsSourcesIfAny};

@@ -1,3 +1,5 @@
+//! The vectors of the order that program order and the sources of operations make.
+
 ghost use Rattle.std.specs.Prelude.{◌≡◌, ◌<◌, ◌≢◌, ◌+◌, ℕ, List, [], length, max, slice_index, slice_index_or};
 ghost use Rattle.std.specs.Prelude.{IfOk, IfNone, IfSome, OnOk, Some};
 ghost use Rattle.history.specs.declared.op_id.OpId.{OpId as Operation};

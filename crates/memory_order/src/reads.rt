@@ -1,3 +1,5 @@
+//! The initial value of a variable, and the reads whose return is recorded.
+
 ghost use Rattle.std.specs.Prelude.{◌≡◌, ℕ, MatchOption};
 ghost use Rattle.memory_order.specs.Memory.{initial, Reads};
 

@@ -1,3 +1,5 @@
+//! The writes of a memory history, sorted by variable and value, and the search among them.
+
 ghost use Rattle.std.specs.Prelude.{◌≡◌, ◌+◌, ◌<◌, ◌↔◌, length, Contains, IfOk, IsTrue, MatchOption, OnOk};
 ghost use Rattle.causal_order.specs.Orders.{op};
 ghost use Rattle.memory_order.specs.Steps.Written.{AreInOrder, IsLeastWrite, IsSorted, LacksWrite};

@@ -1,3 +1,5 @@
+//! The state of an object after a list of calls.
+
 ghost use Rattle.std.specs.Prelude.{IfOk};
 
 use crate::seq_object::SeqObject;

@@ -1,3 +1,5 @@
+//! The trait of an object with a sequential specification, and the laws of its answers.
+
 ghost use Rattle.std.specs.Prelude.{◌≡◌, ◌↔◌, List, [], ◌∷◌, ◌++◌, Bool, true, false, IsTrue, IfOk, OnErr};
 
 use std::alloc::{AllocError, Global};

@@ -1,3 +1,5 @@
+//! A set with add, remove and has, as an object with a sequential specification.
+
 ghost use Rattle.std.specs.Prelude.{◌≡◌, ℕ, List, Bool, refl};
 ghost use Rattle.objects.specs.AddRemoveSet.{HoldsAfter, answer as set_answer, is_has, matches as set_matches};
 ghost use Rattle.objects.specs.AddRemoveSet.{depends as set_depends, settles as set_settles};

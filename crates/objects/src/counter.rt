@@ -1,3 +1,5 @@
+//! A counter with increment and get, as an object with a sequential specification.
+
 ghost use Rattle.std.specs.Prelude.{◌≡◌, ◌≤◌, ℕ, List, Bool, refl};
 ghost use Rattle.objects.specs.Counter.{GREATEST, increments, count_of, answer as counter_answer, is_get};
 ghost use Rattle.objects.specs.Counter.{depends as counter_depends, matches as counter_matches, settles as counter_settles};

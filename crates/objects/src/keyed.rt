@@ -1,3 +1,5 @@
+//! An object for each key, which together are one object with a sequential specification.
+
 ghost use Rattle.std.specs.Prelude.{◌≡◌, ℕ, List, [], IfOk};
 ghost use Rattle.objects.specs.Table.{IsTable, start_at};
 ghost use Rattle.objects.specs.Keyed.{answer as keyed_answer, calls_at, depends as keyed_depends, settles as keyed_settles, Stands};

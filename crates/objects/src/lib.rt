@@ -5,6 +5,9 @@
 //! - [`AddRemoveSet`]: a has answers whether the last add or remove of the element is an add.
 //! - [`Queue`]: a pop answers the first of the items that the earlier calls left, or `None`.
 //! - [`Keyed`]: one such object for each key.
+//!
+//! It gives these with their calls and returns, [`Table`] for starts, and [`laws`]. It uses object_trait. How an object keeps its
+//! state may change: callers rest on the contracts alone.
 #![tactic(auto)]
 
 mod add_remove_set;

@@ -1,3 +1,5 @@
+//! A queue with push and pop, as an object with a sequential specification.
+
 ghost use Rattle.std.specs.Prelude.{◌≡◌, ℕ, List, Bool, refl};
 ghost use Rattle.objects.specs.Queue.{left, answer as queue_answer, is_query, matches as queue_matches};
 ghost use Rattle.objects.specs.Queue.{depends as queue_depends, settles as queue_settles};

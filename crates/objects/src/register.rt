@@ -1,3 +1,5 @@
+//! A register with write and read, as an object with a sequential specification.
+
 ghost use Rattle.std.specs.Prelude.{◌≡◌, ◌⊎◌, ℕ, List, Bool};
 ghost use Rattle.std.proofs.Common.{rules};
 ghost use Rattle.objects.specs.Register.{answer as register_answer, depends as register_depends, is_read, settles as register_settles};

@@ -1,3 +1,5 @@
+//! A table of initial values by key, for the start of a keyed object.
+
 ghost use Rattle.std.specs.Prelude.{◌≡◌, ◌↔◌, ◌++◌, ◌∷◌, [], ℕ, List, length, IsTrue, OnOk, OnErr};
 ghost use Rattle.std.specs.Cmp.{on_per};
 ghost use Rattle.std.specs.Option.{option_copied};

@@ -1,3 +1,5 @@
+//! A history of any of the objects that have a name.
+
 use crate::plain_history::PlainHistory;
 use history::History;
 use objects::{AddRemoveSet, Counter, Counters, Memory, Queue, Queues, Register, Sets};

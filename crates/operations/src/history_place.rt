@@ -1,3 +1,5 @@
+//! The places in the JSON form of a history, and how many parts each may have.
+
 ghost use Rattle.operations.specs.Places.{inside_of, limit_of};
 
 use bounded_json::Place;

@@ -1,4 +1,8 @@
 //! Operations and histories of replicated objects, and their JSON form.
+//!
+//! It gives [`read_history`] and [`write_history`] with [`AnyHistory`] and [`ReadError`], the traits [`Named`] and [`Spelled`], and
+//! the laws of the form. It uses object_trait, objects, history, bounded_json, serde_json and thiserror.
+//! How a text is read and written may change: callers rest on the contracts and laws, which also fix the form and the errors.
 #![tactic(auto)]
 
 mod any_history;

@@ -1,3 +1,5 @@
+//! The trait of objects whose histories have a JSON form: their name, and how operations and starts are read and written.
+
 ghost use Rattle.std.specs.Prelude.{◌≡◌, ℕ, List, Option, Some, false, map, option_to_list, IfOk};
 ghost use Rattle.serde_json.specs.Data.{Data};
 ghost use Rattle.serde_json.specs.View.{view};

@@ -1,3 +1,5 @@
+//! A history that begins from the plain start of its object.
+
 ghost use Rattle.std.specs.Prelude.{◌≡◌};
 ghost use Rattle.history.specs.History.{IsHistory};
 

@@ -1,3 +1,5 @@
+//! The reasons why a text is not read as a history.
+
 ghost use Rattle.std.specs.Prelude.{◌≡◌};
 ghost use Rattle.operations.specs.Refusals.{number_of};
 

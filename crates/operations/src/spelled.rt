@@ -1,3 +1,5 @@
+//! The trait of objects whose operations are spelled by a word, the arguments of the call, and the return.
+
 ghost use Rattle.std.specs.Prelude.{◌≡◌, ℕ, List, ◌++◌, Option, map, option_map, IfOk, OnOk, OnErr};
 ghost use Rattle.serde_json.specs.Data.{Data};
 ghost use Rattle.serde_json.specs.View.{view};

@@ -1,3 +1,5 @@
+//! The lane of one session: the cells in which its calls and returns are recorded.
+
 ghost use Rattle.std.specs.Prelude.{◌≡◌, ◌<◌, ◌≤◌, ℕ, length, map, IfOk, IfErr, MatchOption, None, Some, slice_get};
 ghost use Rattle.once_cell.specs.Once.{cell_name};
 ghost use Rattle.recorder.specs.Lanes.{IsKnownAs, IsLane, IsStillUnknown};

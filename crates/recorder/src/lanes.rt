@@ -1,3 +1,5 @@
+//! The lanes of a recorder, and how a recorder is made with one session for each lane.
+
 ghost use Rattle.std.specs.Prelude.{◌≡◌, ◌<◌, ◌≤◌, ℕ, length, slice_get, Some, IfOk, IfErr};
 ghost use Rattle.std.specs.Arc.{arc_value};
 ghost use Rattle.recorder.specs.Recorders.{AreLanes, IsRecorder, cells_of};

@@ -1,4 +1,8 @@
 //! A recorder: each session writes its calls and their returns into cells that are set once.
+//!
+//! It gives [`new_recorder`], which makes [`Lanes`] and a [`Session`] for each [`Lane`], and the notes and each [`Receipt`] that
+//! show what is recorded. It uses object_trait, history, once_cell and thiserror. How a lane keeps its cells and a session its
+//! notes may change: callers rest on the contracts alone.
 #![tactic(auto)]
 
 mod lane;

@@ -1,3 +1,5 @@
+//! The copy of a note that is known only through a shared reference.
+
 ghost use Rattle.std.specs.Prelude.{◌≡◌};
 
 use once_cell::race::Note;

@@ -1,3 +1,5 @@
+//! The notes of the cells of one lane, in order.
+
 ghost use Rattle.std.specs.Prelude.{◌≡◌, ◌∷◌, ◌++◌, ◌<◌, ◌≤◌, ℕ, List, [], Option, length, map, slice_get};
 ghost use Rattle.std.specs.Prelude.{IfOk, Some, vec_len, vec_capacity};
 

@@ -1,3 +1,5 @@
+//! A call that is recorded and has not returned yet.
+
 ghost use Rattle.std.specs.Prelude.{◌≡◌, ◌∷◌, ◌++◌, ◌+◌, ◌<◌, ◌≤◌, ℕ, true, [], length, take, map, option_map};
 ghost use Rattle.std.specs.Prelude.{Some, None, IfOk, IfErr, slice_get};
 ghost use Rattle.recorder.specs.Lanes.{Tells, IsFitting, operation, operations};

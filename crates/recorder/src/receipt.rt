@@ -1,3 +1,5 @@
+//! A receipt, which shows that an operation and those before it in its session have returned.
+
 ghost use Rattle.std.specs.Prelude.{◌≡◌, ◌-◌, ◌<◌, ℕ, length, map, option_map, slice_get, Some};
 ghost use Rattle.recorder.specs.Lanes.{operations, shown};
 ghost use Rattle.recorder.specs.Sessions.{IsReceipt, last_of, session_operation};

@@ -1,3 +1,5 @@
+//! The reasons why a recorder is not made, or a step is not recorded.
+
 ghost use Rattle.std.specs.Prelude.{◌≡◌};
 ghost use Rattle.recorder.specs.RecordErrors.{number_of};
 

@@ -1,3 +1,5 @@
+//! The trait of what a recorder knows of an object.
+
 ghost use Rattle.std.specs.Prelude.{Bool};
 
 use object_trait::SeqObject;

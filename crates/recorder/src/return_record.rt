@@ -1,3 +1,5 @@
+//! A recorded return, with its call and the advice of the store.
+
 ghost use Rattle.std.specs.Prelude.{◌≡◌, true, None, Some};
 ghost use Rattle.recorder.specs.Lanes.{IsFitting};
 

@@ -1,3 +1,5 @@
+//! The one writer of a session's lane, which records each call and then its return.
+
 ghost use Rattle.std.specs.Prelude.{◌≡◌, ◌<◌, ◌≤◌, ◌↔◌, ◌⊎◌, ℕ, [], length, IfOk, IfErr, OnErr, IsTrue, Some, None, slice_get};
 ghost use Rattle.recorder.specs.Lanes.{shown};
 ghost use Rattle.std.specs.Arc.{arc_value};

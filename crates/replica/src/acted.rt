@@ -1,3 +1,5 @@
+//! The result of an operation at a replica: the return, the update for the other replicas, and the advice.
+
 use crate::update::UpdateOf;
 use history::Advice;
 use object_trait::SeqObject;

@@ -1,3 +1,5 @@
+//! A state that an object had, with the number of updates it had taken in.
+
 /// A state that an object had, and how many updates it had taken in.
 #[derive(Drop)]
 pub(crate) struct Checkpoint<Z> {

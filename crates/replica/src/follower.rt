@@ -1,3 +1,5 @@
+//! An object that follows a list of updates, with checkpoints of earlier states where updates may come in before others.
+
 ghost use Rattle.std.specs.Prelude.{◌≡◌, ◌∷◌, ◌++◌, ◌≤◌, [], true, length, insert, IfOk, OnErr, OnOk, Some};
 ghost use Rattle.replica.specs.Updates.{calls};
 ghost use Rattle.replica.specs.Replaying.{IsAnswer};

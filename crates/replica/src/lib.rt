@@ -1,4 +1,8 @@
 //! What the replicas of the stores share: updates, the order of those that were taken in, and the object that answers.
+//!
+//! It gives [`Replica`], with [`Acted`], [`Update`], [`Delivery`] and [`ReplicaError`], and [`UpdateOrder`], which a store
+//! implements. It uses object_trait, history and thiserror.
+//! How updates are held and when states are copied may change: callers rest on the contracts alone.
 #![tactic(auto)]
 
 mod acted;

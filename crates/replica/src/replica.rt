@@ -1,3 +1,5 @@
+//! The replica of a session: it does operations, takes updates in, and holds those that are not ready.
+
 ghost use Rattle.std.specs.Prelude.{◌≡◌, ◌≢◌, ◌∷◌, ◌++◌, ◌<◌, ◌≤◌, ◌↔◌, ℕ, [], true, false, length};
 ghost use Rattle.std.specs.Prelude.{IfErr, IfOk, IsTrue, MatchOption, None, OnErr, OnOk, Some, if◌then◌else◌, map, slice_index};
 ghost use Rattle.replica.specs.Causality.{IsCausal};

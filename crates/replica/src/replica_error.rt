@@ -1,3 +1,5 @@
+//! The reasons why a replica refuses an operation or an update.
+
 ghost use Rattle.std.specs.Prelude.{◌≡◌};
 ghost use Rattle.replica.specs.ReplicaErrors.{number_of};
 

@@ -1,3 +1,5 @@
+//! A list of updates, with counts and ends for each session.
+
 ghost use Rattle.std.specs.Prelude.{◌≡◌, ◌+◌, ◌^◌, ◌<◌, ◌≤◌, ℕ, [], length, insert, max, OnOk, slice_index};
 ghost use Rattle.replica.specs.Updates.{end_of, many, one_of, reach};
 

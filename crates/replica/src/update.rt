@@ -1,3 +1,5 @@
+//! The update that a replica sends to the others of an operation that is not a query.
+
 ghost use Rattle.std.specs.Prelude.{◌≡◌, ◌<◌};
 ghost use Rattle.history.specs.declared.limits.TheConstants.{MAX_OPERATIONS};
 

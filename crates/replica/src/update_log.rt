@@ -1,3 +1,5 @@
+//! The log of a replica: its updates in the order that answers follow, and the object that answers.
+
 ghost use Rattle.std.specs.Prelude.{◌≡◌, ◌∷◌, ◌++◌, ◌+◌, ◌<◌, ◌≤◌, ℕ, [], true, insert, map, IfOk, OnErr, OnOk, slice_index};
 ghost use Rattle.replica.specs.Updates.{calls, key, many, reach};
 ghost use Rattle.replica.specs.Replaying.{IsAnswer};

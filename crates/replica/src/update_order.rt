@@ -1,3 +1,5 @@
+//! The trait of an order of updates that the answers of a store follow.
+
 ghost use Rattle.std.specs.Prelude.{◌≡◌, ◌∷◌, ◌++◌, ◌≤◌, ℕ, [], List, Bool, true, insert, length, map};
 ghost use Rattle.replica.specs.Orders.{IsBehind, IsLatest, IsNew, Key};
 ghost use Rattle.replica.specs.Updates.{key};

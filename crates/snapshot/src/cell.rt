@@ -1,3 +1,5 @@
+//! Cells of a recorder, each for the call or the return of one operation.
+
 use history::OpId;
 
 /// A cell of a recorder: the one for the return of an operation, or the one for its call.

@@ -1,3 +1,5 @@
+//! Comparisons of receipts and sessions with a sealed lane: where they share cells, they hold the same operations.
+
 ghost use Rattle.std.specs.Prelude.{◌≡◌, ℕ, ◌+◌, ◌<◌, ◌≤◌, length, slice_get, Some};
 ghost use Rattle.recorder.specs.Lanes.{shown};
 ghost use Rattle.recorder.specs.Sessions.{begun};

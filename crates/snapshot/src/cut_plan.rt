@@ -1,3 +1,5 @@
+//! The order in which a sealer looks at cells: return cells before call cells, lane by lane.
+
 ghost use Rattle.std.specs.Prelude.{◌≡◌, ℕ, ◌<◌, ◌≤◌, length, IfOk, IfSome, IsSome, None, slice_index};
 ghost use Rattle.snapshot.specs.Plans.{Plan, calls_found, fresh_plan, looked_at, next_cell, returns_found};
 ghost use Rattle.snapshot.specs.Walks.{Stands, StandsForLooks};

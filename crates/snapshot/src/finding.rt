@@ -1,3 +1,5 @@
+//! A look at one cell of a lane, which gives a note of the cell if it is full.
+
 ghost use Rattle.std.specs.Prelude.{◌≡◌, ◌<◌, Some, IfSome, slice_get};
 ghost use Rattle.snapshot.specs.Steps.Tables.{IsCallFound, IsReturnFound};
 

@@ -1,3 +1,5 @@
+//! Notes of cells that are found full.
+
 ghost use Rattle.std.specs.Prelude.{◌≡◌};
 
 use once_cell::race::Note;

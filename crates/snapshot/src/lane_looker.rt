@@ -1,3 +1,5 @@
+//! A looker at the lanes of a recorder, which keeps a note of each cell that it finds full.
+
 ghost use Rattle.std.specs.Prelude.{◌≡◌, ℕ, ◌<◌, ◌≤◌, ◌++◌, ◌∷◌, [], length, IfOk, IfSome, OnErr, Some, slice_get, slice_index};
 ghost use Rattle.recorder.specs.Lanes.{Cells};
 ghost use Rattle.snapshot.specs.Plans.{return_cell};

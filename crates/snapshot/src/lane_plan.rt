@@ -1,3 +1,5 @@
+//! The part of a plan for one lane: what its looks found so far, and which cell is next.
+
 ghost use Rattle.std.specs.Prelude.{◌≡◌, ◌<◌, ◌≤◌, ◌+◌, ◌∷◌, Some, None};
 ghost use Rattle.snapshot.specs.Steps.PlanStates.{fresh_lane, after_return, after_call, return_place, call_place, lane_left};
 

@@ -1,3 +1,5 @@
+//! Tables of the cells of one lane that are found full, each with its note.
+
 ghost use Rattle.std.specs.Prelude.{◌≡◌, ◌<◌, ℕ, Option, length, slice_get, slice_set, IfOk, Some, None};
 
 use crate::found::Found;

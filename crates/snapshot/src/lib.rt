@@ -1,4 +1,8 @@
 //! Seals of what a recorder holds: which cells a sealer looks at, in which order, and what it finds.
+//!
+//! [`seal`] gives a [`Sealed`], [`meet`] says how far it and a session hold the same, and [`laws`] has what holds of every run.
+//! [`walk`] follows a [`CutPlan`] with any [`Looker`]. It uses object_trait, history, recorder, once_cell and thiserror.
+//! How finds are kept in tables and how receipts are compared may change: callers rest on the contracts alone.
 #![tactic(auto)]
 
 mod cell;

@@ -1,3 +1,5 @@
+//! The longest receipt of a lane: the one that covers most operations.
+
 ghost use Rattle.std.specs.Prelude.{◌≡◌, ◌≤◌, ◌<◌, ◌+◌, length};
 ghost use Rattle.snapshot.specs.Steps.Tables.{IsLongest};
 

@@ -1,3 +1,5 @@
+//! What a looker does: it looks at cells, and keeps the list of its looks with what each saw.
+
 ghost use Rattle.std.specs.Prelude.{◌≡◌, ◌++◌, ◌∷◌, [], List, IfOk, OnErr};
 ghost use Rattle.snapshot.specs.Plans.{Look};
 

@@ -1,3 +1,5 @@
+//! How many calls and returns a seal and a session both hold.
+
 ghost use Rattle.std.specs.Prelude.{◌≡◌, ◌<◌, ◌≤◌, ℕ, length, min, option_map, slice_get, Some};
 ghost use Rattle.history.specs.History.{entry};
 ghost use Rattle.recorder.specs.Sessions.{begun, session_operation};

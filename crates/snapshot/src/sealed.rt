@@ -1,3 +1,5 @@
+//! Seals: the history that is found in the cells of a recorder, with the advice of the stores and notes of the cells.
+
 ghost use Rattle.std.specs.Prelude.{◌≡◌, ◌<◌, length, slice_get, map, Some};
 ghost use Rattle.std.specs.List.{flat_map};
 ghost use Rattle.snapshot.specs.Seals.{IsAdvised};

@@ -1,3 +1,5 @@
+//! Notes of the cells of one session in a seal.
+
 ghost use Rattle.std.specs.Prelude.{◌≡◌, ◌<◌, length, slice_get, Some};
 
 use once_cell::race::Note;

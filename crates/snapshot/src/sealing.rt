@@ -1,3 +1,5 @@
+//! Sealing what all lanes hold, as far as receipts and the looks at their cells show it.
+
 ghost use Rattle.std.specs.Prelude.{◌≡◌, ◌<◌, ℕ, IfOk, IfErr, length, map, slice_get, Some};
 ghost use Rattle.std.specs.List.{flat_map};
 ghost use Rattle.snapshot.specs.Steps.Tables.{advised};

@@ -1,3 +1,5 @@
+//! Sealing one lane: the operations of one session as they are found, with their advice and notes.
+
 ghost use Rattle.std.specs.Prelude.{◌≡◌, ◌<◌, ◌≤◌, ◌++◌, [], length, map, IfOk, IfSome, IsSome, Some, None};
 ghost use Rattle.recorder.specs.Lanes.{IsLane, shown};
 ghost use Rattle.snapshot.specs.Steps.Tables.{AreNotesOf, IsCallFound, IsReturnFound, IsSealedSession, IsTable, RunsTo};

@@ -1,3 +1,5 @@
+//! A walk over the cells that a plan names, which looks at each of them once.
+
 ghost use Rattle.std.specs.Prelude.{IfOk, OnErr};
 ghost use Rattle.snapshot.specs.LookOrder.{GrewByReturnsFirst};
 ghost use Rattle.snapshot.specs.Walks.{Walks, WalksToTheEnd};
