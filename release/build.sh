@@ -168,7 +168,7 @@ page() {
     about=$("$PROGRAM" "$@" --help | sed -n '1 s/^./\L&/p')
     PATH=$ROOM/bin:$PATH help2man --no-info --section 1 --manual "User Commands" --source "causal_judge $NAMED" \
         --version-string "$VERSION" --name "$about" --include "$ROOM/after" "$words" |
-        sed "s/^$words \\\\- /$name \\\\- /" > "$ROOM/man/$name.1"
+        sed -e "s/^$words \\\\- /$name \\\\- /" -e "s/^\.TH [^ ]*/.TH ${name^^}/" > "$ROOM/man/$name.1"
 }
 page
 for command in $COMMANDS; do

@@ -203,7 +203,9 @@ def man_pages(program, files):
     """The man pages of the program and of its commands."""
     for words in [[], *([name] for name in commands_of(program))]:
         name, text = "-".join(["causal_judge", *words]), after_options(said_by(program, *words, "--help"))
-        yield f"the page {name} says what the help says after the options", text and text in shown(ending_in(files, f"man1/{name}.1"))
+        page = shown(ending_in(files, f"man1/{name}.1"))
+        yield f"the page {name} begins with its name", f"\n.TH {name.upper()} " in page
+        yield f"the page {name} says what the help says after the options", text and text in page
 
 
 def completions(clone, files):
