@@ -86,6 +86,7 @@ def by_rattle(given):
 PARTS = (
     Part("tables", lambda given: given.of("tables")),
     Part("tables_by_rattle", lambda given: ["tests/tables.py", "--", str(by_rattle(given))], file=by_rattle, install="rt ci builds it"),
+    Part("error_numbers", lambda given: ["tests/error_numbers.py"]),
     Part("documents", lambda given: given.of("documents", *given.longer()), ("bash",)),
     Part("python_package", lambda given: given.of("python_package", *given.longer())),
     Part("live_stores", lambda given: given.of("live_stores", *given.longer())),
