@@ -143,6 +143,7 @@ INPUTS = (
     ("explain --json --certificates", AGAINST_CCV, '["ccv","no",["CyclicCF",'),
     ("explain --svg", STALE, "<title>cc no WriteCORead"),
     ("explain --svg", POPS, "<title>cc unknown 1.0"),
+    ("explain --html", STALE, '["WriteCORead",[2,1],[0,0],[1,1]]'),
     ("explain --long", long(PLAIN), "cm yes\n"),
     ("explain --long", long(STALE), "  These operations alone are a no: "),
     ("explain --long --json", long(CYCLIC), '["cm","no",["CyclicHB",'),
