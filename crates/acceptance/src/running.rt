@@ -13,10 +13,7 @@ pub fn said_over<P: Threads + Wait + Sync + AllocGlobal>(
     device: &mut Device<'_>,
     sink: &mut Sink,
 ) -> Result<String, AllocError> {
-    let ended = match run(rt, device, sink, &order) {
-        Ok(()) => Ok(Outcome::Met),
-        Err(error) => Err(error),
-    };
+    let ended = run(rt, device, sink, &order);
     told(rt.alloc(), ended, sink)
 }
 

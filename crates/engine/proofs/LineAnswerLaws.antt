@@ -1,5 +1,5 @@
 -- What answers a line, and what answers all lines of an input.
-use Rattle.std.proofs.Common.{◌≡◌, ◌++◌, ◌<◌, ◌≤◌, ℕ, List, length, Result, Ok, Err, IfOk, ◌∙◌, ap, sym, subst, inr, arith}
+use Rattle.std.proofs.Common.{◌≡◌, ◌<◌, ◌≤◌, ℕ, List, length, Result, Ok, Err, IfOk, ◌∙◌, ap, sym, subst, inr, arith}
 use Rattle.std.specs.Prelude.{◌≢◌}
 use Rattle.command_line.specs.declared.expected.Expected.{Expected}
 use Rattle.command_line.specs.declared.length.Length.{Length}
@@ -45,12 +45,10 @@ longer_answers judging before after (Err fault) told = tt
 -- what is made of all lines without a fault answers them
 pub lines_answered : (judging : LineJudging) (input text said : List ℕ) (outcome : Result Outcome Fault) (one : Outcome) → outcome ≡ Ok one → said ≡ text
     → AnswersAs (IsLineAnswer judging) (lines_of input) outcome text
-    → (all : Outcome) × AreAnswered (IsLineAnswer judging) (lines_of input) said all
-lines_answered judging input text said outcome one is same answers = (
-  one,
-  subst (λ (t : List ℕ). AreAnswered (IsLineAnswer judging) (lines_of input) t one) (sym same)
-      (subst (λ (r : Result Outcome Fault). AnswersAs (IsLineAnswer judging) (lines_of input) r text) is answers),
-)
+    → AreAnswered (IsLineAnswer judging) (lines_of input) said one
+lines_answered judging input text said outcome one is same answers =
+    subst (λ (t : List ℕ). AreAnswered (IsLineAnswer judging) (lines_of input) t one) (sym same)
+    (subst (λ (r : Result Outcome Fault). AnswersAs (IsLineAnswer judging) (lines_of input) r text) is answers)
 
 -- a run that did not fail for its writer failed for no fault of it
 pub not_written : (fault : Fault) (error : RunError) → error ≡ stream_failure fault → error ≢ WriteFault → fault ≢ faults.Write

@@ -20,6 +20,7 @@ use Rattle.cert_check.specs.CertificateForm.{IsCertificate, form_of as certifica
 use Rattle.cert_check.proofs.CertificateForms.{one_certificate}
 use Rattle.cert_check.specs.CriterionNames.{name_of}
 use Rattle.bad_patterns.specs.PatternForm.{form_of as pattern_form}
+use Rattle.lines.specs.declared.outcome.Outcome.{Outcome}
 use Rattle.command_line.specs.declared.order.Order.{Order}
 use Rattle.command_line.specs.declared.order.Order.TheVariants.{Judge, JudgeLines, Check, Explain, ExplainLong, ListFaults, Refute, Replay, Drive}
 use Rattle.command_line.specs.declared.drive.Drive.{Drive as Drives}
@@ -588,8 +589,8 @@ pub reported_long : (text answer : List ℕ) (h : MemoryHistory) → IsLongHisto
 reported_long text answer h is json report = one_long text report.history h report.is_history is report.read json
 
 -- what is too long is not answered, and refused for that alone
-pub too_long-not_answered : (order : Order) (bytes : List ℕ) (before after : Option (List ℕ)) → MAX_INPUT_BYTES < length bytes → Completes order (Some bytes) before after → ⊥
-too_long-not_answered order bytes before after long answers = let same : length answers.input ≡ length bytes = ap length answers.whole in let within = answers.within in omega arith
+pub too_long-not_answered : (order : Order) (bytes : List ℕ) (before after : Option (List ℕ)) (outcome : Outcome) → MAX_INPUT_BYTES < length bytes → Completes order (Some bytes) before after outcome → ⊥
+too_long-not_answered order bytes before after outcome long answers = let same : length answers.input ≡ length bytes = ap length answers.whole in let within = answers.within in omega arith
 
 pub too_long-fails : (order : Order) (bytes : List ℕ) (e : RunError) → MAX_INPUT_BYTES < length bytes → Fails order (Some bytes) e → (e ≡ TooLong) ⊎ ((e ≡ Memory) ⊎ (e ≡ ReadFault))
 too_long-fails order bytes (History p) long fails = let same : length fails.0 ≡ length bytes = ap length fails.1 in let within = fails.2 in absurd (omega arith)

@@ -1,5 +1,5 @@
 -- A report on the history in an input.
-use Rattle.std.proofs.Common.{◌≡◌, ◌≤◌, List, ℕ, refl, length, Option, Result, Ok, Err, IfOk, IfSome}
+use Rattle.std.proofs.Common.{◌≤◌, List, ℕ, refl, length, Result, Ok, Err, IfOk}
 use Rattle.operations.specs.declared.any_history.AnyHistory.{AnyHistory}
 use Rattle.operations.specs.AnyForm.{form_of, IsAnyHistory, IsJson}
 use Rattle.operations.specs.declared.any_history.AnyHistory.TheVariants as histories
@@ -14,7 +14,7 @@ use Rattle.engine.specs.declared.failure.RunError.TheVariants.{History, Script, 
 use Rattle.engine.specs.declared.input.TheConstants.{MAX_INPUT_BYTES}
 use Rattle.engine.specs.declared.report.Report.{Report}
 use Rattle.engine.specs.LineAnswers.{IsLineError}
-use Rattle.engine.specs.Running.{Fails, IsOutputError}
+use Rattle.engine.specs.Running.{IsOutputError}
 use Rattle.engine.specs.Steps.ReportErrors.{IsReportError}
 use Rattle.engine.specs.Report.{EachIsTrueOf, EachIsTrueAt, EachNamesUnexplained, EachIsKnownOnDistinctValues, IsReportOnAt}
 
@@ -81,18 +81,3 @@ error_of_line long line NoSuch within is = absurd is
 error_of_line long line TooLong within is = absurd is
 error_of_line long line ReadFault within is = absurd is
 error_of_line long line WriteFault within is = absurd is
-
--- an error in the place of a report is that of a run of `judge`
-pub judge_fails : (judging : Judging) (reader : Option (List ℕ)) (input : List ℕ) (e : RunError) → IfSome reader (λ bytes. input ≡ bytes)
-    → length input ≤ MAX_INPUT_BYTES → IsOutputError (Judge judging) input e → Fails (Judge judging) reader e
-judge_fails judging reader input Memory whole within is = tt
-judge_fails judging reader input (History refusal) whole within is = (input, whole, within, is)
-judge_fails judging reader input (Script refusal) whole within is = absurd is
-judge_fails judging reader input BadCertificate whole within is = absurd is
-judge_fails judging reader input ShapeMismatch whole within is = absurd is
-judge_fails judging reader input NotThatPattern whole within is = absurd is
-judge_fails judging reader input BadLimits whole within is = absurd is
-judge_fails judging reader input NoSuch whole within is = absurd is
-judge_fails judging reader input TooLong whole within is = absurd is
-judge_fails judging reader input ReadFault whole within is = absurd is
-judge_fails judging reader input WriteFault whole within is = absurd is

@@ -1,13 +1,11 @@
 -- What comes of a report where criteria are expected to be met.
-use Rattle.std.specs.Prelude.{◌≡◌, ◌≤◌, ℕ, Bool, true, false, List, Option, IfSome, length}
-use Rattle.std.specs.Io.KnownBytes.{Appends}
+use Rattle.std.specs.Prelude.{◌≡◌, ℕ, Bool, true, false, List}
 use Rattle.board.specs.declared.answer.Answer.{Answer}
 use Rattle.board.specs.declared.answer.Answer.TheVariants.{Yes, No, Unknown, Open}
 use Rattle.command_line.specs.declared.expected.Expected.{Expected}
 use Rattle.lines.specs.declared.outcome.Outcome.{Outcome}
 use Rattle.lines.specs.declared.outcome.Outcome.TheVariants as outcomes
 use Rattle.lines.specs.Outcomes.{worse}
-use Rattle.engine.specs.declared.input.TheConstants.{MAX_INPUT_BYTES}
 use Rattle.engine.specs.declared.report.Report.{Report}
 use Rattle.command_line.specs.declared.length.Length.{Length}
 use Rattle.engine.specs.Report.{IsReportOnAt, text_for}
@@ -25,13 +23,9 @@ abbrev pub outcome_for : Expected → Report → Outcome
 outcome_for expected report =
     worse (outcome_in expected.cc report.cc) (worse (outcome_in expected.cm report.cm) (outcome_in expected.ccv report.ccv))
 
--- an input was read whole, a report on the history in it was written whole, and this comes of that report: where the reader and
--- the writer tell their bytes
-pub record Judges (long : Length) (expected : Expected) (reader writer_before writer_after : Option (List ℕ)) (outcome : Outcome) : Type 0 where
-  pub input : List ℕ
+-- the text has the lines of a report on the history in the input, and this comes of that report
+pub record IsOutcomeOfReport (long : Length) (expected : Expected) (input text : List ℕ) (outcome : Outcome) : Type 0 where
   pub report : Report
-  pub whole : IfSome reader (λ bytes. input ≡ bytes)
-  pub within : length input ≤ MAX_INPUT_BYTES
   pub reported : IsReportOnAt long input report
-  pub written : Appends writer_before writer_after (text_for report)
+  pub lines : text ≡ text_for report
   pub comes : outcome ≡ outcome_for expected report

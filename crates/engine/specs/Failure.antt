@@ -67,7 +67,7 @@ failure_status Memory = 4
 failure_status ReadFault = 3
 failure_status WriteFault = 3
 
--- the exit status of a run: 0 where it was answered
+-- the exit status of a run of which nothing was expected: 0 where it was answered
 abbrev pub status_for : Result Unit RunError → ℕ
 status_for (Ok _) = 0
 status_for (Err e) = failure_status e

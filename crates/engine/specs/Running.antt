@@ -5,13 +5,17 @@ use Rattle.command_line.specs.declared.order.Order.{Order}
 use Rattle.engine.specs.declared.failure.RunError.{RunError}
 use Rattle.engine.specs.declared.failure.RunError.TheVariants.{History, Script, BadCertificate, ShapeMismatch, NotThatPattern, BadLimits, NoSuch, TooLong, Memory, ReadFault, WriteFault}
 use Rattle.operations.specs.AnyForm.{IsJson, IsRefusedFor}
+use Rattle.lines.specs.declared.outcome.Outcome.{Outcome}
+use Rattle.lines.specs.declared.outcome.Outcome.TheVariants.{Met}
+use Rattle.lines.specs.Lines.{AreAnswered, lines_of}
 use Rattle.command_line.specs.declared.form.Form.TheVariants.{Words, Json, Certificates, Picture}
 use Rattle.command_line.specs.declared.form.LongForm.TheVariants as long_forms
 use Rattle.command_line.specs.declared.length.Length.TheVariants.{Any}
 use Rattle.command_line.specs.declared.order.Order.TheVariants.{Judge, JudgeLines, Check, Explain, ExplainLong, ListFaults, Refute, Replay, Drive}
 use Rattle.engine.specs.Lengths.{IsRefusedAs}
 use Rattle.engine.specs.Report.{IsReportAt}
-use Rattle.engine.specs.LineAnswers.{IsLinesAnswer}
+use Rattle.engine.specs.Expecting.{IsOutcomeOfReport}
+use Rattle.engine.specs.LineAnswers.{IsLineAnswer, IsLinesAnswer}
 use Rattle.engine.specs.Checking.{IsCheckReport, IsPairError, HasOtherShape}
 use Rattle.engine.specs.Refuting.{IsClaimErrorAt, IsRefutationAt}
 use Rattle.engine.specs.Certifying.{IsCertifiedExplanation}
@@ -49,6 +53,12 @@ IsOutput (Refute long) input text = IsRefutationAt long input text
 IsOutput Replay input text = IsReplayReport input text
 IsOutput (Drive drive) input text = IsDriveReport drive input text
 
+-- this comes of an output: of a report, what is expected of it; of the answers to lines, what comes of all; and else that all is met
+abbrev pub HasOutcome : Order → List ℕ → List ℕ → Outcome → Type 0
+HasOutcome (Judge judging) input text outcome = IsOutcomeOfReport judging.length judging.expected input text outcome
+HasOutcome (JudgeLines judging) input text outcome = AreAnswered (IsLineAnswer judging) (lines_of input) text outcome
+HasOutcome order input text outcome = outcome ≡ Met
+
 -- what can come in place of an output: the input is refused, or memory ran out
 abbrev pub IsOutputError : Order → List ℕ → RunError → Type 0
 IsOutputError order input Memory = Unit {0}
@@ -67,15 +77,16 @@ IsOutputError (Drive drive) input BadLimits = IsUndriven drive input BadLimits
 IsOutputError (Drive drive) input NoSuch = IsUndriven drive input NoSuch
 IsOutputError order input _ = ⊥
 
--- an input was read whole, and the output for it was written whole: what the reader had, where it tells its bytes, and
--- what the writer holds after what it held, where it tells its bytes
-pub record Completes (order : Order) (reader writer_before writer_after : Option (List ℕ)) : Type 0 where
+-- an input was read whole, the output for it was written whole, and this comes of it: what the reader had, where it tells its
+-- bytes, and what the writer holds after what it held, where it tells its bytes
+pub record Completes (order : Order) (reader writer_before writer_after : Option (List ℕ)) (outcome : Outcome) : Type 0 where
   pub input : List ℕ
   pub text : List ℕ
   pub whole : IfSome reader (λ bytes. input ≡ bytes)
   pub within : length input ≤ MAX_INPUT_BYTES
   pub output : IsOutput order input text
   pub written : Appends writer_before writer_after text
+  pub comes : HasOutcome order input text outcome
 
 -- it is so of the input, which is not too long: where the reader tells its bytes, of these bytes
 abbrev pub IsOfInput : Option (List ℕ) → (List ℕ → Type 0) → Type 0

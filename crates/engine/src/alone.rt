@@ -108,6 +108,6 @@ fn reasons_of(alloc: Global, input: &[u8]) -> Result<String, RunError>
     ensures error { IfErr result (IsOutputError (Order.Explain Json) input.now) }
 {
     let history = read_history(alloc, input)?;
-    let explanation = explanation_alone(alloc, history)?;
+    let explanation = explanation_alone(alloc, &history)?;
     Ok(explanation_text(alloc, &explanation)?)
 }

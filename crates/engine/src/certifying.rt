@@ -42,7 +42,7 @@ pub fn explain_with_certificates<T: Threads + Wait + Sync>(
     ensures error { IfErr result (IsOutputError (Order.Explain Certificates) input.now) }
 {
     let history = read_history(alloc, input)?;
-    let explanation = explanation_with_certificates(rt, alloc, history, Workers::usual())?;
+    let explanation = explanation_with_certificates(rt, alloc, &history, Workers::usual())?;
     Ok(certified_text(alloc, &explanation)?)
 }
 
@@ -57,17 +57,17 @@ pub fn explain_with_certificates<T: Threads + Wait + Sync>(
 pub fn explanation_with_certificates<T: Threads + Wait + Sync>(
     rt: &T,
     alloc: Global,
-    history: AnyHistory,
+    history: &AnyHistory,
     workers: Workers,
 ) -> Result<CertifiedExplanation, RunError>
-    ensures evidence { IfOk result (EachIsEvidence history) }
+    ensures evidence { IfOk result (EachIsEvidence history.now) }
     ensures error { IfErr result (λ e. e ≡ RunError.Memory) }
 {
     match history {
-        AnyHistory::Register(plain) => of_object(rt, alloc, plain.into_history(), workers),
-        AnyHistory::Counter(plain) => of_object(rt, alloc, plain.into_history(), workers),
-        AnyHistory::Set(plain) => of_object(rt, alloc, plain.into_history(), workers),
-        AnyHistory::Queue(plain) => of_object(rt, alloc, plain.into_history(), workers),
+        AnyHistory::Register(plain) => of_object(rt, alloc, plain.history(), workers),
+        AnyHistory::Counter(plain) => of_object(rt, alloc, plain.history(), workers),
+        AnyHistory::Set(plain) => of_object(rt, alloc, plain.history(), workers),
+        AnyHistory::Queue(plain) => of_object(rt, alloc, plain.history(), workers),
         AnyHistory::Memory(history) => of_memory(rt, alloc, history, workers),
         AnyHistory::Counters(history) => of_object(rt, alloc, history, workers),
         AnyHistory::Sets(history) => of_object(rt, alloc, history, workers),
@@ -79,16 +79,16 @@ pub fn explanation_with_certificates<T: Threads + Wait + Sync>(
 fn of_object<O: Judged + Send + Sync, T: Threads + Wait + Sync>(
     rt: &T,
     alloc: Global,
-    history: History<O>,
+    history: &History<O>,
     workers: Workers,
 ) -> Result<CertifiedExplanation, RunError>
     ensures founded { IfOk result (λ explanation. (criterion : AnyCriterion)
-        → IsFoundedEvidenceOn O.answer history criterion (evidence_for explanation criterion)) }
+        → IsFoundedEvidenceOn O.answer history.now criterion (evidence_for explanation criterion)) }
     ensures error { IfErr result (λ e. e ≡ RunError.Memory) }
 {
-    let cc = evidence_of_object(rt, alloc, &history, Criterion::Cc, workers)?;
-    let cm = evidence_of_object(rt, alloc, &history, Criterion::Cm, workers)?;
-    let ccv = evidence_of_object(rt, alloc, &history, Criterion::Ccv, workers)?;
+    let cc = evidence_of_object(rt, alloc, history, Criterion::Cc, workers)?;
+    let cm = evidence_of_object(rt, alloc, history, Criterion::Cm, workers)?;
+    let ccv = evidence_of_object(rt, alloc, history, Criterion::Ccv, workers)?;
     Ok(CertifiedExplanation { cc, cm, ccv })
 }
 
@@ -96,13 +96,13 @@ fn of_object<O: Judged + Send + Sync, T: Threads + Wait + Sync>(
 fn of_memory<T: Threads + Wait + Sync>(
     rt: &T,
     alloc: Global,
-    history: History<Memory>,
+    history: &History<Memory>,
     workers: Workers,
 ) -> Result<CertifiedExplanation, RunError>
-    ensures evidence { IfOk result (EachIsEvidence (AnyHistory.Memory history)) }
+    ensures evidence { IfOk result (EachIsEvidence (AnyHistory.Memory history.now)) }
     ensures error { IfErr result (λ e. e ≡ RunError.Memory) }
 {
-    let memory = IndexedMemory::of(alloc, &history)?;
+    let memory = IndexedMemory::of(alloc, history)?;
     if memory.is_differentiated() {
         decided(alloc, &memory)
     } else {

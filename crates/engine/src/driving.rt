@@ -187,7 +187,7 @@ fn text_of_seal<O: Drivable + Send + Sync, T: Threads + Wait + Sync>(
 {
     let history = O::copy_as_any(alloc, sealed.history())?;
     let form = write_history(alloc, &history)?;
-    let report = report_on(rt, alloc, history, sealed.advice(), workers)?;
+    let report = report_on(rt, alloc, &history, sealed.advice(), workers)?;
     let lines = report_text(alloc, &report)?;
     Ok(format!(in alloc; "{form}\n{lines}")?)
 }

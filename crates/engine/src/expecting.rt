@@ -1,55 +1,23 @@
-//! Judging a history that is expected to meet some criteria.
-ghost use Rattle.std.specs.Prelude.{◌≡◌, ◌≢◌, ◌⊎◌, IfErr, IfOk, OnOk};
-ghost use Rattle.std.specs.Io.KnownBytes.{Appends, IsAtEnd};
-ghost use Rattle.engine.specs.Expecting.{Judges, outcome_for, outcome_in};
-ghost use Rattle.lines.specs.ReadCalls.{CallsAtMost};
-ghost use Rattle.engine.specs.ReadCalls.{FindsNoEnd};
+//! Reports on inputs, and the outcome of a report where criteria are expected to be met.
+ghost use Rattle.std.specs.Prelude.{◌≡◌, IfErr, IfOk};
+ghost use Rattle.engine.specs.Expecting.{outcome_for, outcome_in};
 ghost use Rattle.engine.specs.Steps.ReportErrors.{IsReportError};
-ghost use Rattle.engine.specs.Report.{IsReportOnAt, text_for};
-ghost use Rattle.engine.specs.Running.{Fails, IsOutputError};
+ghost use Rattle.engine.specs.Report.{IsReportOnAt};
+ghost use Rattle.engine.specs.Running.{IsOutputError};
 
 use crate::failure::RunError;
-use crate::input::read_input;
 use crate::judging::report_on;
 use crate::judging_alone::report_alone;
 use crate::long_judging::report_on_long_input;
-use crate::output::write_output;
-use crate::report::{Report, report_text};
+use crate::report::Report;
 use collector::Answer;
 use command_line::{Expected, Judging, Length, Order};
-use lines::{MAX_READ_CALLS, Outcome, Source};
+use lines::Outcome;
 use long_decision::{CallingThread, WorkerThreads};
 use operations::read_history;
 use std::alloc::Global;
-use std::io::Write;
 use std::sync::Wait;
 use std::thread::Threads;
-
-/// Judges the history in the input as [`run`](crate::run) does for `judge`, with the same output, the same errors and the same cost,
-/// and returns the outcome of the report that was written.
-#[tactic(auto, using(crate::proofs::Reported::judge_fails))]
-pub fn judge_expecting<P: Threads + Wait + Sync + AllocGlobal, R: Source, W: Write>(
-    rt: &P,
-    reader: &mut R,
-    writer: &mut W,
-    judging: Judging,
-) -> Result<Outcome, RunError>
-    ensures judged { IfOk result (Judges judging.length judging.expected (R.remaining reader.old)
-        (W.contents writer.old) (W.contents writer.new)) }
-    ensures end { OnOk result (IsAtEnd (R.remaining reader.new)) }
-
-    ensures failed { IfErr result (Fails (Order.Judge judging) (R.remaining reader.old)) }
-    ensures unwritten { IfErr result (λ e. e ≢ RunError.WriteFault → writer.new ≡ writer.old) }
-
-    ensures calls { CallsAtMost R.called MAX_READ_CALLS reader.old reader.new }
-    ensures fault { result ≡ Err RunError.ReadFault → FindsNoEnd R.called MAX_READ_CALLS reader.old reader.new }
-{
-    let expected = judging.expected;
-    let input = read_input(rt.alloc(), reader)?;
-    let report = report_on_input(rt, rt.alloc(), input.as_slice(), judging)?;
-    write_report(rt.alloc(), writer, &report)?;
-    Ok(outcome_of(&report, expected))
-}
 
 /// The report on the history in an input.
 #[tactic(auto, using(crate::proofs::Reported::error_judged))]
@@ -82,7 +50,7 @@ fn report_on_limited_input<T: Threads + Wait + Sync>(
     ensures error { IfErr result (IsReportError Length.Limited input.now) }
 {
     let history = read_history(alloc, input)?;
-    report_on(rt, alloc, history, &[], judging.workers)
+    report_on(rt, alloc, &history, &[], judging.workers)
 }
 
 /// The report on the history in an input, made by the calling thread alone.
@@ -109,17 +77,7 @@ fn report_on_limited_input_alone(alloc: Global, input: &[u8]) -> Result<Report, 
     ensures error { IfErr result (IsReportError Length.Limited input.now) }
 {
     let history = read_history(alloc, input)?;
-    report_alone(alloc, history)
-}
-
-// Makes the text of a report, and then writes it.
-fn write_report<W: Write>(alloc: Global, writer: &mut W, report: &Report) -> Result<(), RunError>
-    ensures written { OnOk result (Appends (W.contents writer.old) (W.contents writer.new) (text_for report.now)) }
-    ensures error { IfErr result (λ e. (e ≡ RunError.Memory) ⊎ (e ≡ RunError.WriteFault)) }
-    ensures unwritten { IfErr result (λ e. e ≢ RunError.WriteFault → writer.new ≡ writer.old) }
-{
-    let text = report_text(alloc, report)?;
-    write_output(writer, text.as_bytes())
+    report_alone(alloc, &history)
 }
 
 /// The outcome of a report if these criteria are expected to be met: [`Outcome::Met`] where each of them has a yes,

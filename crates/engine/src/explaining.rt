@@ -42,7 +42,7 @@ pub fn explain_as_json<T: Threads + Wait + Sync>(
     ensures error { IfErr result (IsOutputError (Order.Explain Json) input.now) }
 {
     let history = read_history(alloc, input)?;
-    let explanation = explanation_of(rt, alloc, history, Workers::usual())?;
+    let explanation = explanation_of(rt, alloc, &history, Workers::usual())?;
     Ok(explanation_text(alloc, &explanation)?)
 }
 
@@ -55,15 +55,15 @@ pub fn explain_as_json<T: Threads + Wait + Sync>(
 pub fn explanation_of<T: Threads + Wait + Sync>(
     rt: &T,
     alloc: Global,
-    history: AnyHistory,
+    history: &AnyHistory,
     workers: Workers,
 ) -> Result<Explanation, RunError>
-    ensures reasons { IfOk result (EachIsReason history) }
+    ensures reasons { IfOk result (EachIsReason history.now) }
     ensures error { IfErr result (λ e. e ≡ RunError.Memory) }
 {
     match history {
         AnyHistory::Memory(history) => explanation_of_memory(rt, alloc, history, workers),
-        other => Ok(unshown(&report_on(rt, alloc, other, &[], workers)?)),
+        _ => Ok(unshown(&report_on(rt, alloc, history, &[], workers)?)),
     }
 }
 
@@ -71,15 +71,15 @@ pub fn explanation_of<T: Threads + Wait + Sync>(
 pub(crate) fn explanation_of_memory<T: Threads + Wait + Sync>(
     rt: &T,
     alloc: Global,
-    history: History<Memory>,
+    history: &History<Memory>,
     workers: Workers,
 ) -> Result<Explanation, RunError>
-    ensures reasons { IfOk result (EachIsReason (AnyHistory.Memory history)) }
+    ensures reasons { IfOk result (EachIsReason (AnyHistory.Memory history.now)) }
     ensures error { IfErr result (λ e. e ≡ RunError.Memory) }
 {
     explanation_by(
         alloc,
-        &history,
+        history,
         &|file| answer_of_file(rt, alloc, file, workers),
     )
 }

@@ -16,23 +16,23 @@ use std::alloc::Global;
 /// [`explanation_of`](crate::explanation_of). It starts no thread.
 ///
 /// Fails for want of memory alone. It costs what [`report_alone`] costs.
-pub fn explanation_alone(alloc: Global, history: AnyHistory) -> Result<Explanation, RunError>
-    ensures reasons { IfOk result (EachIsReason history) }
+pub fn explanation_alone(alloc: Global, history: &AnyHistory) -> Result<Explanation, RunError>
+    ensures reasons { IfOk result (EachIsReason history.now) }
     ensures error { IfErr result (λ e. e ≡ RunError.Memory) }
 {
     match history {
         AnyHistory::Memory(history) => explanation_of_memory_alone(alloc, history),
-        other => Ok(unshown(&report_alone(alloc, other)?)),
+        _ => Ok(unshown(&report_alone(alloc, history)?)),
     }
 }
 
 // The same for the histories of a memory, with a search for patterns.
 fn explanation_of_memory_alone(
     alloc: Global,
-    history: History<Memory>,
+    history: &History<Memory>,
 ) -> Result<Explanation, RunError>
-    ensures reasons { IfOk result (EachIsReason (AnyHistory.Memory history)) }
+    ensures reasons { IfOk result (EachIsReason (AnyHistory.Memory history.now)) }
     ensures error { IfErr result (λ e. e ≡ RunError.Memory) }
 {
-    explanation_by(alloc, &history, &|file| answer_of_file_alone(alloc, &file))
+    explanation_by(alloc, history, &|file| answer_of_file_alone(alloc, &file))
 }

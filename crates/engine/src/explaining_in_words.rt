@@ -3,7 +3,6 @@
 ghost use Rattle.std.specs.Prelude.{◌≡◌, ◌↔◌, ◌++◌, IfErr, IfOk, IsTrue, OnOk, string_bytes};
 ghost use Rattle.std.specs.Str.Iter.{LacksByte};
 ghost use Rattle.command_line.specs.declared.form.Form.TheVariants.{Words};
-ghost use Rattle.engine.specs.Explaining.{EachIsReason};
 ghost use Rattle.engine.specs.ExplainingInWords.{IsIndented, IsWorded, Tells, TellsEach, indented};
 ghost use Rattle.engine.specs.Running.{IsOutputError};
 
@@ -15,7 +14,7 @@ use crate::report::report_line;
 use crate::three_reasons::{ReasonLines, text_of_reasons};
 use cert_check::Criterion;
 use command_line::{Order, Workers};
-use operations::{AnyHistory, PlainHistory, read_history};
+use operations::{AnyHistory, read_history};
 use std::alloc::{AllocError, Global};
 use std::sync::Wait;
 use std::thread::Threads;
@@ -36,45 +35,8 @@ pub fn explain_in_words<T: Threads + Wait + Sync>(
     ensures error { IfErr result (IsOutputError (Order.Explain Words) input.now) }
 {
     let history = read_history(alloc, input)?;
-    let explanation = explanation_of_copy(rt, alloc, &history)?;
+    let explanation = explanation_of(rt, alloc, &history, Workers::usual())?;
     Ok(text_of_explanation(alloc, &history, &explanation)?)
-}
-
-/// Why a history meets each criterion or does not, or why that is unknown.
-pub(crate) fn explanation_of_copy<T: Threads + Wait + Sync>(
-    rt: &T,
-    alloc: Global,
-    history: &AnyHistory,
-) -> Result<Explanation, RunError>
-    ensures reasons { IfOk result (EachIsReason history.now) }
-    ensures error { IfErr result (λ e. e ≡ RunError.Memory) }
-{
-    let copy = copied(alloc, history)?;
-    explanation_of(rt, alloc, copy, Workers::usual())
-}
-
-// An equal history.
-fn copied(alloc: Global, history: &AnyHistory) -> Result<AnyHistory, AllocError>
-    ensures { IfOk result (λ copy. copy ≡ history.now) }
-{
-    match history {
-        AnyHistory::Register(plain) => Ok(AnyHistory::Register(PlainHistory::of(
-            plain.history().copy(alloc)?,
-        ))),
-        AnyHistory::Counter(plain) => Ok(AnyHistory::Counter(PlainHistory::of(
-            plain.history().copy(alloc)?,
-        ))),
-        AnyHistory::Set(plain) => Ok(AnyHistory::Set(PlainHistory::of(
-            plain.history().copy(alloc)?,
-        ))),
-        AnyHistory::Queue(plain) => Ok(AnyHistory::Queue(PlainHistory::of(
-            plain.history().copy(alloc)?,
-        ))),
-        AnyHistory::Memory(history) => Ok(AnyHistory::Memory(history.copy(alloc)?)),
-        AnyHistory::Counters(history) => Ok(AnyHistory::Counters(history.copy(alloc)?)),
-        AnyHistory::Sets(history) => Ok(AnyHistory::Sets(history.copy(alloc)?)),
-        AnyHistory::Queues(history) => Ok(AnyHistory::Queues(history.copy(alloc)?)),
-    }
 }
 
 // The text of an explanation of a history.

@@ -146,8 +146,9 @@ impl From<ScriptError> for RunError {
     }
 }
 
-/// The exit status after a run: 0 where it was answered, 1 where its input was refused, 3 where its reader or its writer
-/// failed, and 4 where memory ran out.
+/// The exit status after a run of which nothing was expected: 0 where it was answered, 1 where its input was refused, 3 where its reader
+/// or its writer failed, and 4 where memory ran out. After an answer of which something is expected,
+/// [`Outcome::status`](crate::Outcome::status) is the status.
 pub fn status_of(outcome: &Result<(), RunError>) -> u8
     ensures { result ≡ status_for outcome.now }
 {

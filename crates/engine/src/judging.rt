@@ -36,44 +36,22 @@ use std::thread::Threads;
 pub fn report_on<T: Threads + Wait + Sync>(
     rt: &T,
     alloc: Global,
-    history: AnyHistory,
+    history: &AnyHistory,
     advice: &[Option<Advice>],
     workers: Workers,
 ) -> Result<Report, RunError>
-    ensures truth { IfOk result (EachIsTrueOf history) }
-    ensures unknown { IfOk result (EachIsKnownOnDistinctValues history) }
-    ensures unexplained { IfOk result (EachNamesUnexplained history) }
+    ensures truth { IfOk result (EachIsTrueOf history.now) }
+    ensures unknown { IfOk result (EachIsKnownOnDistinctValues history.now) }
+    ensures unexplained { IfOk result (EachNamesUnexplained history.now) }
     ensures error { IfErr result (λ e. e ≡ RunError.Memory) }
 {
     match history {
-        AnyHistory::Register(plain) => report_on_object(
-            rt,
-            alloc,
-            plain.into_history(),
-            advice,
-            workers,
-        ),
-        AnyHistory::Counter(plain) => report_on_object(
-            rt,
-            alloc,
-            plain.into_history(),
-            advice,
-            workers,
-        ),
-        AnyHistory::Set(plain) => report_on_object(
-            rt,
-            alloc,
-            plain.into_history(),
-            advice,
-            workers,
-        ),
-        AnyHistory::Queue(plain) => report_on_object(
-            rt,
-            alloc,
-            plain.into_history(),
-            advice,
-            workers,
-        ),
+        AnyHistory::Register(plain) => {
+            report_on_object(rt, alloc, plain.history(), advice, workers)
+        }
+        AnyHistory::Counter(plain) => report_on_object(rt, alloc, plain.history(), advice, workers),
+        AnyHistory::Set(plain) => report_on_object(rt, alloc, plain.history(), advice, workers),
+        AnyHistory::Queue(plain) => report_on_object(rt, alloc, plain.history(), advice, workers),
         AnyHistory::Memory(history) => report_on_memory(rt, alloc, history, advice, workers),
         AnyHistory::Counters(history) => report_on_object(rt, alloc, history, advice, workers),
         AnyHistory::Sets(history) => report_on_object(rt, alloc, history, advice, workers),
@@ -85,18 +63,18 @@ pub fn report_on<T: Threads + Wait + Sync>(
 fn report_on_memory<T: Threads + Wait + Sync>(
     rt: &T,
     alloc: Global,
-    history: History<Memory>,
+    history: &History<Memory>,
     advice: &[Option<Advice>],
     workers: Workers,
 ) -> Result<Report, RunError>
-    ensures truth { IfOk result (EachIsTrueOf (AnyHistory.Memory history)) }
-    ensures unknown { IfOk result (EachIsKnownOnDistinctValues (AnyHistory.Memory history)) }
-    ensures unexplained { IfOk result (EachNamesUnexplained (AnyHistory.Memory history)) }
+    ensures truth { IfOk result (EachIsTrueOf (AnyHistory.Memory history.now)) }
+    ensures unknown { IfOk result (EachIsKnownOnDistinctValues (AnyHistory.Memory history.now)) }
+    ensures unexplained { IfOk result (EachNamesUnexplained (AnyHistory.Memory history.now)) }
     ensures error { IfErr result (λ e. e ≡ RunError.Memory) }
 {
     report_by(
         alloc,
-        &history,
+        history,
         advice,
         &|file| answer_of_file(rt, alloc, file, workers),
     )
@@ -106,12 +84,12 @@ fn report_on_memory<T: Threads + Wait + Sync>(
 pub(crate) fn report_on_object<O: Judged + Send + Sync, T: Threads + Wait + Sync>(
     rt: &T,
     alloc: Global,
-    history: History<O>,
+    history: &History<O>,
     advice: &[Option<Advice>],
     workers: Workers,
 ) -> Result<Report, RunError>
     ensures founded { IfOk result (λ report. (criterion : Criterion)
-        → IsFoundedOn O.answer O.excluded history criterion (answer_for report criterion)) }
+        → IsFoundedOn O.answer O.excluded history.now criterion (answer_for report criterion)) }
     ensures error { IfErr result (λ e. e ≡ RunError.Memory) }
 {
     let cc = answer_of_object(
@@ -130,7 +108,14 @@ pub(crate) fn report_on_object<O: Judged + Send + Sync, T: Threads + Wait + Sync
         Criterion::Cm,
         workers,
     )?;
-    let ccv = answer_of_object(rt, alloc, history, advice, Criterion::Ccv, workers)?;
+    let ccv = answer_of_object(
+        rt,
+        alloc,
+        history.copy(alloc)?,
+        advice,
+        Criterion::Ccv,
+        workers,
+    )?;
     Ok(Report { cc, cm, ccv })
 }
 

@@ -20,17 +20,17 @@ use std::alloc::Global;
 ///
 /// Fails for want of memory alone. It costs what `report_on` costs one worker.
 #[tactic(auto, using(crate::proofs::Founded::founded_is_true, crate::proofs::Founded::founded_names))]
-pub fn report_alone(alloc: Global, history: AnyHistory) -> Result<Report, RunError>
-    ensures truth { IfOk result (EachIsTrueOf history) }
-    ensures unknown { IfOk result (EachIsKnownOnDistinctValues history) }
-    ensures unexplained { IfOk result (EachNamesUnexplained history) }
+pub fn report_alone(alloc: Global, history: &AnyHistory) -> Result<Report, RunError>
+    ensures truth { IfOk result (EachIsTrueOf history.now) }
+    ensures unknown { IfOk result (EachIsKnownOnDistinctValues history.now) }
+    ensures unexplained { IfOk result (EachNamesUnexplained history.now) }
     ensures error { IfErr result (λ e. e ≡ RunError.Memory) }
 {
     match history {
-        AnyHistory::Register(plain) => report_on_object_alone(alloc, plain.into_history()),
-        AnyHistory::Counter(plain) => report_on_object_alone(alloc, plain.into_history()),
-        AnyHistory::Set(plain) => report_on_object_alone(alloc, plain.into_history()),
-        AnyHistory::Queue(plain) => report_on_object_alone(alloc, plain.into_history()),
+        AnyHistory::Register(plain) => report_on_object_alone(alloc, plain.history()),
+        AnyHistory::Counter(plain) => report_on_object_alone(alloc, plain.history()),
+        AnyHistory::Set(plain) => report_on_object_alone(alloc, plain.history()),
+        AnyHistory::Queue(plain) => report_on_object_alone(alloc, plain.history()),
         AnyHistory::Memory(history) => report_on_memory_alone(alloc, history),
         AnyHistory::Counters(history) => report_on_object_alone(alloc, history),
         AnyHistory::Sets(history) => report_on_object_alone(alloc, history),
@@ -39,29 +39,32 @@ pub fn report_alone(alloc: Global, history: AnyHistory) -> Result<Report, RunErr
 }
 
 // The same for the histories of a memory, with a search for patterns.
-fn report_on_memory_alone(alloc: Global, history: History<Memory>) -> Result<Report, RunError>
-    ensures truth { IfOk result (EachIsTrueOf (AnyHistory.Memory history)) }
-    ensures unknown { IfOk result (EachIsKnownOnDistinctValues (AnyHistory.Memory history)) }
-    ensures unexplained { IfOk result (EachNamesUnexplained (AnyHistory.Memory history)) }
+fn report_on_memory_alone(alloc: Global, history: &History<Memory>) -> Result<Report, RunError>
+    ensures truth { IfOk result (EachIsTrueOf (AnyHistory.Memory history.now)) }
+    ensures unknown { IfOk result (EachIsKnownOnDistinctValues (AnyHistory.Memory history.now)) }
+    ensures unexplained { IfOk result (EachNamesUnexplained (AnyHistory.Memory history.now)) }
     ensures error { IfErr result (λ e. e ≡ RunError.Memory) }
 {
     report_by(
         alloc,
-        &history,
+        history,
         &[],
         &|file| answer_of_file_alone(alloc, &file),
     )
 }
 
 // The same for the histories of one object, without a search for patterns.
-fn report_on_object_alone<O: Judged>(alloc: Global, history: History<O>) -> Result<Report, RunError>
+fn report_on_object_alone<O: Judged>(
+    alloc: Global,
+    history: &History<O>,
+) -> Result<Report, RunError>
     ensures founded { IfOk result (λ report. (criterion : Criterion)
-        → IsFoundedOn O.answer O.excluded history criterion (answer_for report criterion)) }
+        → IsFoundedOn O.answer O.excluded history.now criterion (answer_for report criterion)) }
     ensures error { IfErr result (λ e. e ≡ RunError.Memory) }
 {
     let cc = answer_of_object_alone(alloc, history.copy(alloc)?, Criterion::Cc)?;
     let cm = answer_of_object_alone(alloc, history.copy(alloc)?, Criterion::Cm)?;
-    let ccv = answer_of_object_alone(alloc, history, Criterion::Ccv)?;
+    let ccv = answer_of_object_alone(alloc, history.copy(alloc)?, Criterion::Ccv)?;
     Ok(Report { cc, cm, ccv })
 }
 

@@ -18,7 +18,7 @@ use bad_patterns::Kind;
 use cert_check::Criterion;
 use collector::Answer;
 use command_line::Order;
-use lines::Source;
+use lines::{Outcome, Source};
 use operations::AnyHistory;
 
 /// A report on the form of a history is a report on that history. For instance, it cannot be one on a history with another start.
@@ -70,8 +70,8 @@ pub fn input_is_refused_in_one_way()
 /// An input that is too long gets no answer, and no refusal but that for its length. Only want of memory or a read fault can come
 /// in its place.
 pub fn too_long_input_is_refused_as_such()
-    ensures output { (order : Order) (bytes : List ℕ) (before after : Option (List ℕ)) → MAX_INPUT_BYTES < length bytes
-        → ¬ Completes order (Some bytes) before after }
+    ensures output { (order : Order) (bytes : List ℕ) (before after : Option (List ℕ)) (outcome : Outcome)
+        → MAX_INPUT_BYTES < length bytes → ¬ Completes order (Some bytes) before after outcome }
     ensures failure { (order : Order) (bytes : List ℕ) (error : RunError) → MAX_INPUT_BYTES < length bytes
         → Fails order (Some bytes) error → (error ≡ RunError.TooLong) ⊎ ((error ≡ RunError.Memory) ⊎ (error ≡ RunError.ReadFault)) }
 {}

@@ -6,6 +6,7 @@
 #![tactic(auto)]
 
 mod alone;
+mod answered;
 mod certified;
 mod certifying;
 mod check_place;
@@ -51,6 +52,7 @@ mod three_reasons;
 mod written;
 
 pub use alone::{check_alone, explain_alone, judge_alone, refute_alone};
+pub use answered::Answered;
 pub use certified::{CertifiedExplanation, Evidence};
 pub use certifying::{explain_with_certificates, explanation_with_certificates};
 pub use checking::answer_of_certificate;
@@ -62,7 +64,7 @@ pub use command_line::{
 };
 pub use drivable::Drivable;
 pub use driving::drive_with;
-pub use expecting::{judge_expecting, outcome_of};
+pub use expecting::outcome_of;
 pub use explaining::explanation_of;
 pub use explaining_alone::explanation_alone;
 pub use explaining_in_words::explain_in_words;

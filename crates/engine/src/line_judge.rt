@@ -3,8 +3,9 @@ ghost use Rattle.std.specs.Prelude.{◌≡◌, ◌≢◌, ◌⊎◌, IfErr, IfOk
 ghost use Rattle.std.specs.Io.KnownBytes.{IsAtEnd};
 ghost use Rattle.lines.specs.Lines.{AllAreAnswered, FirstAreAnswered};
 ghost use Rattle.engine.specs.LineAnswers.{IsLineAnswer};
-ghost use Rattle.engine.specs.Running.{IsOutput, IsOutputError};
+ghost use Rattle.engine.specs.Running.{HasOutcome, IsOutput, IsOutputError};
 
+use crate::answered::Answered;
 use crate::failure::RunError;
 use crate::input::MAX_INPUT_BYTES;
 use crate::line_answers::{append_answer, append_refusal};
@@ -48,7 +49,7 @@ pub fn judge_lines<P: Threads + Wait + Sync + AllocGlobal, R: Source, W: Write>(
     Ok(outcome)
 }
 
-/// The lines that answer those of an input.
+/// The lines that answer those of an input, and what comes of all.
 ///
 /// Fails for want of memory alone. The cost is that of `judge` for each line.
 pub(crate) fn judge_each<T: Threads + Wait + Sync>(
@@ -56,15 +57,17 @@ pub(crate) fn judge_each<T: Threads + Wait + Sync>(
     alloc: Global,
     input: &[u8],
     judging: LineJudging,
-) -> Result<String, RunError>
-    ensures output { IfOk result (λ text. IsOutput (Order.JudgeLines judging) input.now (string_bytes text)) }
+) -> Result<Answered, RunError>
+    ensures output { IfOk result (λ answered. IsOutput (Order.JudgeLines judging) input.now (string_bytes answered.text)) }
+    ensures outcome { IfOk result (λ answered.
+        HasOutcome (Order.JudgeLines judging) input.now (string_bytes answered.text) answered.outcome) }
     ensures error { IfErr result (IsOutputError (Order.JudgeLines judging) input.now) }
 {
     let each = judging.judging;
     let judge = LineJudge { alloc, judging };
     let part = answer_by(rt, alloc, &judge, input, each.workers.count());
     match (part.outcome, String::from_utf8(part.text)) {
-        (Ok(_), Ok(text)) => Ok(text),
+        (Ok(outcome), Ok(text)) => Ok(Answered { text, outcome }),
         _ => Err(RunError::Memory),
     }
 }

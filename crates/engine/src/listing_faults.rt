@@ -12,7 +12,8 @@ ghost use Rattle.engine.specs.Running.{IsOutput, IsOutputError};
 ghost use Rattle.engine.specs.Steps.Listed.{AreLinesAfter, IsListOf, IsLongOf};
 ghost use Rattle.engine.specs.Steps.ReportErrors.{IsReportError};
 
-use crate::explaining_in_words::{explanation_of_copy, indented_text, text_with_lines};
+use crate::explaining::explanation_of;
+use crate::explaining_in_words::{indented_text, text_with_lines};
 use crate::failure::RunError;
 use crate::long_explaining::{LongExplanation, explanation_of_long};
 use crate::long_words::lines_of_found;
@@ -150,7 +151,7 @@ fn list_in_limited<T: Threads + Wait + Sync, N: Names>(
     ensures list { IfOk result (λ text. IsListOf form most history (string_bytes text)) }
     ensures error { IfErr result (λ e. e ≡ RunError.Memory) }
 {
-    let explanation = explanation_of_copy(rt, alloc, &history)?;
+    let explanation = explanation_of(rt, alloc, &history, Workers::usual())?;
     Ok(limited_list(alloc, &history, long, names, explanation, most, form)?)
 }
 

@@ -108,10 +108,10 @@ fn small_as<T: Threads + Wait + Sync, N: Names>(
     match form {
         LongForm::Words => words_of_small(rt, alloc, history, small, names),
         LongForm::Json => {
-            let said = explanation_of_memory(rt, alloc, small, Workers::usual())?;
+            let said = explanation_of_memory(rt, alloc, &small, Workers::usual())?;
             Ok(explanation_text(alloc, &said)?)
         }
-        LongForm::Picture => picture_of_memory(rt, alloc, small, names),
+        LongForm::Picture => picture_of_memory(rt, alloc, &small, names),
     }
 }
 
@@ -126,7 +126,7 @@ fn words_of_small<T: Threads + Wait + Sync, N: Names>(
     ensures words { IfOk result (λ text. IsWordsOf (AnyHistory.Memory small) (string_bytes text)) }
     ensures error { IfErr result (λ e. e ≡ RunError.Memory) }
 {
-    let said = explanation_of_memory(rt, alloc, small.copy(alloc)?, Workers::usual())?;
+    let said = explanation_of_memory(rt, alloc, &small, Workers::usual())?;
     let small = AnyHistory::Memory(small);
     Ok(text_of_small(alloc, history, &small, names, &said)?)
 }

@@ -54,7 +54,10 @@ pub fn report_on_long<W: SessionWork>(
     ensures error { IfErr result (λ e. e ≡ RunError.Memory) }
 {
     match small(alloc, history)? {
-        Some(small) => report_alone(alloc, AnyHistory::Memory(small)),
+        Some(small) => {
+            let any = AnyHistory::Memory(small);
+            report_alone(alloc, &any)
+        }
         None => report_on_larger(work, alloc, history),
     }
 }

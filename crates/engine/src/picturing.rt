@@ -36,23 +36,23 @@ pub fn explain_as_picture<T: Threads + Wait + Sync>(
     ensures error { IfErr result (IsOutputError (Order.Explain Picture) input.now) }
 {
     let history = read_history(alloc, input)?;
-    picture_of_any(rt, alloc, history)
+    picture_of_any(rt, alloc, &history)
 }
 
 // The picture of a history.
 fn picture_of_any<T: Threads + Wait + Sync>(
     rt: &T,
     alloc: Global,
-    history: AnyHistory,
+    history: &AnyHistory,
 ) -> Result<String, RunError>
     ensures svg { IfOk result (λ svg. IsSvgElement (string_bytes svg)) }
     ensures error { IfErr result (λ e. e ≡ RunError.Memory) }
 {
     match history {
-        AnyHistory::Register(plain) => picture_of_object(rt, alloc, plain.into_history()),
-        AnyHistory::Counter(plain) => picture_of_object(rt, alloc, plain.into_history()),
-        AnyHistory::Set(plain) => picture_of_object(rt, alloc, plain.into_history()),
-        AnyHistory::Queue(plain) => picture_of_object(rt, alloc, plain.into_history()),
+        AnyHistory::Register(plain) => picture_of_object(rt, alloc, plain.history()),
+        AnyHistory::Counter(plain) => picture_of_object(rt, alloc, plain.history()),
+        AnyHistory::Set(plain) => picture_of_object(rt, alloc, plain.history()),
+        AnyHistory::Queue(plain) => picture_of_object(rt, alloc, plain.history()),
         AnyHistory::Memory(history) => picture_of_memory(rt, alloc, history, &OwnNames),
         AnyHistory::Counters(history) => picture_of_object(rt, alloc, history),
         AnyHistory::Sets(history) => picture_of_object(rt, alloc, history),
@@ -64,27 +64,27 @@ fn picture_of_any<T: Threads + Wait + Sync>(
 fn picture_of_object<O: Judged + Labelled + Send + Sync, T: Threads + Wait + Sync>(
     rt: &T,
     alloc: Global,
-    history: History<O>,
+    history: &History<O>,
 ) -> Result<String, RunError>
     ensures svg { IfOk result (λ svg. IsSvgElement (string_bytes svg)) }
     ensures error { IfErr result (λ e. e ≡ RunError.Memory) }
 {
-    let report = report_on_object(rt, alloc, history.copy(alloc)?, &[], Workers::usual())?;
-    Ok(picture_with_report(alloc, &history, &OwnNames, &report)?)
+    let report = report_on_object(rt, alloc, history, &[], Workers::usual())?;
+    Ok(picture_with_report(alloc, history, &OwnNames, &report)?)
 }
 
 /// The picture of a history of a memory, with these names. It costs what [`explain_as_picture`] costs without the reading.
 pub(crate) fn picture_of_memory<T: Threads + Wait + Sync, N: Names>(
     rt: &T,
     alloc: Global,
-    history: History<Memory>,
+    history: &History<Memory>,
     names: &N,
 ) -> Result<String, RunError>
     ensures svg { IfOk result (λ svg. IsSvgElement (string_bytes svg)) }
     ensures error { IfErr result (λ e. e ≡ RunError.Memory) }
 {
-    let explanation = explanation_of_memory(rt, alloc, history.copy(alloc)?, Workers::usual())?;
-    Ok(picture_with_explanation(alloc, &history, names, &explanation)?)
+    let explanation = explanation_of_memory(rt, alloc, history, Workers::usual())?;
+    Ok(picture_with_explanation(alloc, history, names, &explanation)?)
 }
 
 // The picture of a history of a memory, with what is known of it.

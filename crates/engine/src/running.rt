@@ -3,11 +3,12 @@ ghost use Rattle.std.specs.Prelude.{◌≡◌, ◌≢◌, Err, IfErr, IfOk, OnOk
 ghost use Rattle.std.specs.Io.KnownBytes.{IsAtEnd};
 ghost use Rattle.lines.specs.ReadCalls.{CallsAtMost};
 ghost use Rattle.engine.specs.ReadCalls.{FindsNoEnd};
-ghost use Rattle.engine.specs.Running.{Completes, Fails, IsOutput, IsOutputError};
+ghost use Rattle.engine.specs.Running.{Completes, Fails, HasOutcome, IsOutput, IsOutputError};
 
+use crate::answered::Answered;
 use crate::checking::check;
 use crate::driving::drive_input;
-use crate::expecting::report_on_input;
+use crate::expecting::{outcome_of, report_on_input};
 use crate::explaining_forms::explain_as;
 use crate::failure::RunError;
 use crate::input::read_input;
@@ -20,13 +21,14 @@ use crate::refuting::refute;
 use crate::replaying::replay;
 use crate::report::report_text;
 use command_line::{Judging, Length, Order};
-use lines::{MAX_READ_CALLS, Source};
+use lines::{MAX_READ_CALLS, Outcome, Source};
 use std::alloc::Global;
 use std::io::Write;
 use std::sync::Wait;
 use std::thread::Threads;
 
-/// Reads the whole input, makes the whole answer that the order asks for, and then writes it.
+/// Reads the whole input, makes the whole answer that the order asks for, and then writes it. Returns what comes of the answer: where
+/// criteria are expected to be met, whether they are, and else [`Outcome::Met`].
 ///
 /// It writes nothing before the answer is made: after every error but a write fault the writer is as it was. The contract does
 /// not say how much was written before a write fault, nor how much was read before an error. [`read_input`] says how many read
@@ -37,8 +39,8 @@ pub fn run<P: Threads + Wait + Sync + AllocGlobal, R: Source, W: Write>(
     reader: &mut R,
     writer: &mut W,
     order: &Order,
-) -> Result<(), RunError>
-    ensures answered { OnOk result (Completes order.now (R.remaining reader.old)
+) -> Result<Outcome, RunError>
+    ensures answered { IfOk result (Completes order.now (R.remaining reader.old)
         (W.contents writer.old) (W.contents writer.new)) }
     ensures end { OnOk result (IsAtEnd (R.remaining reader.new)) }
 
@@ -49,8 +51,9 @@ pub fn run<P: Threads + Wait + Sync + AllocGlobal, R: Source, W: Write>(
     ensures fault { result ≡ Err RunError.ReadFault → FindsNoEnd R.called MAX_READ_CALLS reader.old reader.new }
 {
     let input = read_input(rt.alloc(), reader)?;
-    let answer = answer_to(rt, rt.alloc(), input.as_slice(), order)?;
-    write_output(writer, answer.as_bytes())
+    let answered = answer_and_outcome(rt, rt.alloc(), input.as_slice(), order)?;
+    write_output(writer, answered.text.as_bytes())?;
+    Ok(answered.outcome)
 }
 
 /// The whole answer to an input, as the order asks.
@@ -67,30 +70,52 @@ pub fn answer_to<T: Threads + Wait + Sync>(
     ensures output { IfOk result (λ text. IsOutput order.now input.now (string_bytes text)) }
     ensures error { IfErr result (IsOutputError order.now input.now) }
 {
+    let answered = answer_and_outcome(rt, alloc, input, order)?;
+    Ok(answered.text)
+}
+
+// The whole answer, and what comes of it.
+fn answer_and_outcome<T: Threads + Wait + Sync>(
+    rt: &T,
+    alloc: Global,
+    input: &[u8],
+    order: &Order,
+) -> Result<Answered, RunError>
+    ensures output { IfOk result (λ answered. IsOutput order.now input.now (string_bytes answered.text)) }
+    ensures outcome { IfOk result (λ answered. HasOutcome order.now input.now (string_bytes answered.text) answered.outcome) }
+    ensures error { IfErr result (IsOutputError order.now input.now) }
+{
     match order {
         Order::Judge(judging) => judge(rt, alloc, input, *judging),
         Order::JudgeLines(judging) => judge_each(rt, alloc, input, *judging),
-        Order::Check(workers) => check(rt, alloc, input, *workers),
-        Order::Explain(form) => explain_as(rt, alloc, input, *form),
-        Order::ExplainLong(form) => explain_long(rt, alloc, input, *form),
-        Order::ListFaults(listing) => list_faults(rt, alloc, input, *listing),
-        Order::Refute(Length::Limited) => refute(alloc, input),
-        Order::Refute(Length::Any) => refute_long(alloc, input),
-        Order::Replay => replay(alloc, input),
-        Order::Drive(drive) => drive_input(rt, alloc, input, *drive),
+        Order::Check(workers) => Ok(Answered::met(check(rt, alloc, input, *workers)?)),
+        Order::Explain(form) => Ok(Answered::met(explain_as(rt, alloc, input, *form)?)),
+        Order::ExplainLong(form) => Ok(Answered::met(explain_long(rt, alloc, input, *form)?)),
+        Order::ListFaults(listing) => Ok(Answered::met(list_faults(rt, alloc, input, *listing)?)),
+        Order::Refute(Length::Limited) => Ok(Answered::met(refute(alloc, input)?)),
+        Order::Refute(Length::Any) => Ok(Answered::met(refute_long(alloc, input)?)),
+        Order::Replay => Ok(Answered::met(replay(alloc, input)?)),
+        Order::Drive(drive) => Ok(Answered::met(drive_input(rt, alloc, input, *drive)?)),
     }
 }
 
-// The report on a history.
+// The report on a history, and what comes of it.
 fn judge<T: Threads + Wait + Sync>(
     rt: &T,
     alloc: Global,
     input: &[u8],
     judging: Judging,
-) -> Result<String, RunError>
-    ensures output { IfOk result (λ text. IsOutput (Order.Judge judging) input.now (string_bytes text)) }
+) -> Result<Answered, RunError>
+    ensures output { IfOk result (λ answered. IsOutput (Order.Judge judging) input.now (string_bytes answered.text)) }
+    ensures outcome { IfOk result (λ answered.
+        HasOutcome (Order.Judge judging) input.now (string_bytes answered.text) answered.outcome) }
     ensures error { IfErr result (IsOutputError (Order.Judge judging) input.now) }
 {
+    let expected = judging.expected;
     let report = report_on_input(rt, alloc, input, judging)?;
-    Ok(report_text(alloc, &report)?)
+    let text = report_text(alloc, &report)?;
+    Ok(Answered {
+        text,
+        outcome: outcome_of(&report, expected),
+    })
 }

@@ -10,8 +10,7 @@ use crate::page_process::write_page_of_process;
 use crate::refused::{form_of, reason_of};
 use crate::waiting::Waiting;
 use command_line::{Detail, Order, Task, Usage, command_of, fault_with};
-use engine::{RunError, fault_line, judge_expecting, run, status_of};
-use lines::{Outcome, Source};
+use engine::{RunError, fault_line, run, status_of};
 use refusal_words::InputForm;
 use std::rt::Env;
 use std::sync::Wait;
@@ -51,25 +50,10 @@ fn status_of_order<P: Threads + Wait + Sync + AllocGlobal + Input + Print + Epri
         Order::JudgeLines(judging) => judge_lines_of_process(rt, *judging),
         _ => {
             let mut reader = Keeping::of(rt.alloc(), detail, Waiting::by(rt, rt.reader()));
-            match outcome_of(rt, &mut reader, order) {
+            match run(rt, &mut reader, &mut io::writer(rt), order) {
                 Ok(outcome) => outcome.status(),
                 Err(error) => report_refused(rt, &error, detail, form_of(order), reader.text()),
             }
-        }
-    }
-}
-
-// The outcome of an order on an input.
-fn outcome_of<P: Threads + Wait + Sync + AllocGlobal + Print, R: Source>(
-    rt: &P,
-    reader: &mut R,
-    order: &Order,
-) -> Result<Outcome, RunError> {
-    match order {
-        Order::Judge(judging) => judge_expecting(rt, reader, &mut io::writer(rt), *judging),
-        _ => {
-            run(rt, reader, &mut io::writer(rt), order)?;
-            Ok(Outcome::Met)
         }
     }
 }

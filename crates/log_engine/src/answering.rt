@@ -11,20 +11,13 @@ use crate::judging::report_on_last_log;
 use crate::reading::read_log;
 use crate::writing::{history_text, names_text};
 use command_line::{LogJudging, LogOrder};
-use engine::{WorkerThreads, outcome_of, report_text, write_output};
+use engine::{Answered, WorkerThreads, outcome_of, report_text, write_output};
 use event_reader::EventReader;
-use lines::{Outcome, Source};
+use lines::Source;
 use std::alloc::Global;
 use std::io::Write;
 use std::sync::Wait;
 use std::thread::Threads;
-
-/// An answer, and what came of it.
-#[derive(Drop)]
-pub(crate) struct LogAnswer {
-    pub text: String,
-    pub outcome: Outcome,
-}
 
 /// Reads a log to its end, makes the whole answer, and then writes it.
 ///
@@ -56,29 +49,18 @@ fn answer_to<T: Threads + Wait + Sync>(
     alloc: Global,
     reader: EventReader,
     order: &LogOrder,
-) -> Result<LogAnswer, LogError>
+) -> Result<Answered, LogError>
     ensures answer { IfOk result (λ answer. IsLogAnswer order.now reader.log (string_bytes answer.text) answer.outcome) }
     ensures error { IfErr result (λ e. e ≡ LogError.Memory) }
 {
     match order {
         LogOrder::Judge(judging) => judged_log(rt, alloc, reader, *judging),
-        LogOrder::Explain(form) => Ok(met(explained_log(rt, alloc, &reader, *form)?)),
+        LogOrder::Explain(form) => Ok(Answered::met(explained_log(rt, alloc, &reader, *form)?)),
         LogOrder::ListFaults(most, form) => {
-            Ok(met(listed_log(rt, alloc, &reader, *most, *form)?))
+            Ok(Answered::met(listed_log(rt, alloc, &reader, *most, *form)?))
         }
-        LogOrder::WriteHistory => Ok(met(history_text(alloc, reader)?)),
-        LogOrder::WriteNames => Ok(met(names_text(alloc, &reader)?)),
-    }
-}
-
-// An answer without expected criteria.
-fn met(text: String) -> LogAnswer
-    ensures text { string_bytes result.text ≡ string_bytes text }
-    ensures outcome { result.outcome ≡ Outcome.Met }
-{
-    LogAnswer {
-        text,
-        outcome: Outcome::Met,
+        LogOrder::WriteHistory => Ok(Answered::met(history_text(alloc, reader)?)),
+        LogOrder::WriteNames => Ok(Answered::met(names_text(alloc, &reader)?)),
     }
 }
 
@@ -88,14 +70,14 @@ fn judged_log<T: Threads + Wait + Sync>(
     alloc: Global,
     reader: EventReader,
     judging: LogJudging,
-) -> Result<LogAnswer, LogError>
+) -> Result<Answered, LogError>
     ensures answer { IfOk result (λ answer.
         IsLogAnswer (LogOrder.Judge judging) reader.log (string_bytes answer.text) answer.outcome) }
     ensures error { IfErr result (λ e. e ≡ LogError.Memory) }
 {
     let work = WorkerThreads::of(rt, judging.workers.count());
     let report = report_on_last_log(&work, alloc, reader.into_log())?;
-    Ok(LogAnswer {
+    Ok(Answered {
         text: report_text(alloc, &report)?,
         outcome: outcome_of(&report, judging.expected),
     })

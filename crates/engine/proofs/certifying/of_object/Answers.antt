@@ -5,5 +5,5 @@ use Rattle.engine.proofs.certifying.of_object.Goals as goal
 pub returns-clause-founded : goal.returns-clause-founded
 returns-clause-founded g c =
     let answer = g.O.SeqObject.answer in
-    each_of_three (λ k evidence. IsFoundedEvidenceOn answer c.args.history k evidence) _ c.in_ok-cc.ensures.founded c.in_ok-cm.ensures.founded
+    each_of_three (λ k evidence. IsFoundedEvidenceOn answer c.args.history.now k evidence) _ c.in_ok-cc.ensures.founded c.in_ok-cm.ensures.founded
     c.in_ok-ccv.ensures.founded

@@ -4,6 +4,6 @@ pub returns-in_ok-report_alone-in_default : goal.returns-in_ok-report_alone-in_d
 returns-in_ok-report_alone-in_default c =
     let said = c.in_ok-report_alone-in_default.ensures in
     record {
-      reasons = c.unshown.ensures c.args.history said.truth said.unknown said.unexplained;
+      reasons = c.unshown.ensures c.args.history.now said.truth said.unknown said.unexplained;
       error = tt;
     }
