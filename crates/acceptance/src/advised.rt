@@ -1,14 +1,16 @@
 //! Certificates that are made from what a store reported, and the first operation that each does not explain.
 
+use crate::rows::{Finding, differing_rows};
 use cert_check::{CaseFile, Certificate, Criterion, first_unexplained};
 use history::{Advice, History, MAX_SESSIONS, TakenIn};
-use objects::Counter;
+use object_trait::SeqObject;
+use objects::Memory;
 use operations::{AnyHistory, OpId, read_history};
 use std::alloc::{AllocError, Global};
 use std::test::Fail;
 
-/// A row has a name, then a criterion, the advice on each operation and the history of a counter, and then what is wanted: the first
-/// operation that the certificate does not explain, or that all are explained.
+/// A row has a name, then a criterion, the advice on each operation and the history of a counter or a memory, and then what is wanted: the
+/// first operation that the certificate does not explain, or that all are explained, or that no certificate is made.
 ///
 /// The advice on an operation is `-`, or its counts, its stamp and its order, as `1.2/3/0.1`.
 const ROWS: &str = r#"
@@ -19,39 +21,69 @@ three_replicas_for_causal_consistency | cc 1.0.0/1/0;1.1.0/2/0.1;1.2.0/3/0.1;0.0
 three_replicas_for_causal_memory | cm 1.0.0/1/0;1.1.0/2/0.1;1.2.0/3/0.1;0.0.1/1/2;1.2.2/5/0.1.2 ["counter",[[["inc"]],[["get",1],["inc"]],[["get",0],["get",2]]]] | all are explained
 three_replicas_for_convergence | ccv 1.0.0/1/0;1.1.0/2/0.1;1.2.0/3/0.1;0.0.1/1/2;1.2.2/5/0.1.2 ["counter",[[["inc"]],[["get",1],["inc"]],[["get",0],["get",2]]]] | all are explained
 counts_above_all_lengths | cc 1.0/1/0;65535.65535/2/0.1 ["counter",[[["inc"]],[["get",1]]]] | 1.0
+counts_above_all_lengths_and_no_order | cc 1.0/1/0;65535.65535/2/ ["counter",[[["inc"]],[["get",1]]]] | 1.0
 own_update_that_is_left_out | cc 1/1/0;2/2/0 ["counter",[[["inc"],["get",1]]]] | 0.1
+own_update_in_its_place | cc 1/1/0;2/2/0.0 ["counter",[[["inc"],["get",1]]]] | all are explained
+own_operation_named_before | cc 1/1/0.0.0.0 ["counter",[[["inc"]]]] | 0.0
 nothing_reported_of_any_operation | cc -;- ["counter",[[["inc"]],[["get",1]]]] | 1.0
+nothing_reported_of_a_last_operation | cc 1.0/1/0;1.1/2/0.1;- ["counter",[[["inc"]],[["get",1],["get",1]]]] | all are explained
+nothing_reported_comes_before_all_stamps | ccv 1.0/1/0;- ["counter",[[["inc"]],[["get",0]]]] | all are explained
+own_query_between_two_updates | cm 1.0/1/0;2.0/2/0.0;0.1/1/1;1.2/2/0.1;2.3/3/0.0.1 ["counter",[[["inc"],["inc"]],[["get",0],["get",1],["get",2]]]] | all are explained
+own_query_whose_order_is_the_longer_one | cm 1.0/1/0;0.1/1/0.0.0.0.1;1.2/2/0.1 ["counter",[[["inc"]],[["get",0],["get",1]]]] | 1.0
+own_query_without_an_order | cm 1.0/1/0;-;1.2/2/0.1 ["counter",[[["inc"]],[["get",0],["get",1]]]] | all are explained
+queries_of_another_just_before_its_update | cc 1.0/1/0;2.0/2/0;3.0/3/0.0;2.1/3/0.1 ["counter",[[["get",0],["inc"],["get",1]],[["get",1]]]] | all are explained
+list_of_a_wrong_length | cc 1.0/1/0 ["counter",[[["inc"]],[["get",0]]]] | all are explained
+list_that_is_too_long | cc 1.0/1/0;1.1/1/0;1.1/1/0 ["counter",[[["inc"]],[["get",0]]]] | all are explained
+entries_that_name_nothing | cc 1.0/1/0;1.1/2/9.0.0.200.255.1 ["counter",[[["inc"]],[["get",1]]]] | all are explained
+last_entry_stands_for_the_own_operation | cc 1.0/1/0;1.1/2/0.200 ["counter",[[["inc"]],[["get",1]]]] | all are explained
+entry_that_names_nothing_counts_as_done | cm 1.0/1/0;0.1/1/9.1;1.2/2/9.0.1 ["counter",[[["inc"]],[["get",0],["get",1]]]] | all are explained
+greatest_stamp | ccv 1.0/18446744073709551615/0;1.1/0/0.1 ["counter",[[["inc"]],[["get",0]]]] | 1.0
+one_stamp_for_all | ccv 1.0/7/0;1.1/7/0.1 ["counter",[[["inc"]],[["get",1]]]] | all are explained
+memory_with_one_value_twice_goes_by_advice | cc 1.0/1/0;1.1/2/0.1;1.1.1/2/0.2 ["memory",[[["w",0,1]],[["r",0,1]],[["w",0,1]]]] | 2.0
+write_that_was_taken_in_decides_of_one_value_twice | cc 1.0.0/1/0;0.1.1/2/2.1;0.0.1/1/2 ["memory",[[["w",0,1]],[["r",0,1]],[["w",0,1]]]] | all are explained
+memory_with_one_value_twice_and_no_advice_goes_by_sources | cc - ["memory",[[["w",0,1]],[["r",0,1]],[["w",0,1]]]] | all are explained
+sources_decide_of_distinct_values | cc 1.0/1/0;0.1/2/1 ["memory",[[["w",0,1]],[["r",0,1]]]] | all are explained
+sources_of_distinct_values_leave_none | cc 1/1/0 ["memory",[[["r",0,7]]]] | no certificate
+advice_on_one_value_twice_always_has_a_certificate | cc 3/1/;3/1/;3/1/ ["memory",[[["r",0,7],["w",0,1],["w",0,1]]]] | 0.0
+causal_memory_by_advice_on_one_value_twice | cm 1.0/1/0;2.0/2/0.0;0.1/1/1;1.2/2/0.1 ["memory",[[["w",0,1],["w",0,1]],[["r",0,0],["r",0,1]]]] | all are explained
+convergence_by_advice_on_one_value_twice | ccv 1.0/5/0;2.0/6/0.0;0.1/1/1 ["memory",[[["w",0,1],["w",0,1]],[["r",0,0]]]] | all are explained
 "#;
+
+/// The first operation that the certificate made from advice does not explain.
+pub struct Unexplained;
+
+impl Finding for Unexplained {
+    fn of(alloc: Global, input: &str) -> Result<String, AllocError> {
+        let Some((criterion, advice, history)) = parts(input) else {
+            return String::from_str(alloc, "no criterion, advice and history");
+        };
+        match advice_of(alloc, advice)? {
+            Some(advice) => found_of(alloc, criterion, &advice, history),
+            None => String::from_str(alloc, "no advice"),
+        }
+    }
+}
 
 #[test]
 fn certificates_from_advice_explain_all_or_not(rt: HostRuntime) -> Result<(), Fail> {
-    assert_eq!(rt; ROWS.trim().lines().count(), 9);
-    assert_eq!(rt; differing_rows(rt.alloc())?.as_str(), "");
+    let differing = differing_rows::<Unexplained>(rt.alloc(), ROWS)?;
+    assert_eq!(rt; differing.as_str(), "");
     Ok(())
 }
 
-/// The rows that find something else than they want, each with what it finds.
-fn differing_rows(alloc: Global) -> Result<String, AllocError> {
-    let mut differing = String::new(alloc);
-    for row in ROWS.trim().lines() {
-        let (case, wanted) = row.rsplit_once(" | ").unwrap_or((row, ""));
-        let (name, input) = case.split_once(" | ").unwrap_or((case, ""));
-        let found = found_of(alloc, input)?;
-        if found.as_str() != wanted {
-            differing.push_str(format!(in alloc; "{name}: {found}\n")?.as_str())?;
+/// What is found in the history of a counter or a memory.
+fn found_of(
+    alloc: Global,
+    criterion: Criterion,
+    advice: &[Option<Advice>],
+    text: &str,
+) -> Result<String, AllocError> {
+    match read_history(alloc, text.as_bytes()) {
+        Ok(AnyHistory::Counter(plain)) => {
+            found_in(alloc, criterion, advice, plain.into_history())
         }
-    }
-    Ok(differing)
-}
-
-/// What is found of a criterion, advice and a history.
-fn found_of(alloc: Global, input: &str) -> Result<String, AllocError> {
-    let Some((criterion, advice, history)) = parts(input) else {
-        return String::from_str(alloc, "no criterion, advice and history");
-    };
-    match (advice_of(alloc, advice)?, counter(alloc, history)) {
-        (Some(advice), Some(history)) => found_in(alloc, criterion, &advice, history),
-        _ => String::from_str(alloc, "no advice or no history of a counter"),
+        Ok(AnyHistory::Memory(history)) => found_in_memory(alloc, criterion, advice, history),
+        _ => String::from_str(alloc, "no history of a counter or a memory"),
     }
 }
 
@@ -60,14 +92,6 @@ fn parts(input: &str) -> Option<(Criterion, &str, &str)> {
     let (criterion, rest) = input.split_once(' ')?;
     let (advice, history) = rest.split_once(' ')?;
     Some((Criterion::named(criterion)?, advice, history))
-}
-
-/// The history of a counter in a text.
-fn counter(alloc: Global, text: &str) -> Option<History<Counter>> {
-    match read_history(alloc, text.as_bytes()) {
-        Ok(AnyHistory::Counter(history)) => Some(history.into_history()),
-        _ => None,
-    }
 }
 
 /// The advice in a text, with semicolons between the operations.
@@ -128,11 +152,11 @@ fn sessions_of(alloc: Global, text: &str) -> Result<Vec<u8>, AllocError> {
 }
 
 /// The first operation that the certificate made from this advice does not explain.
-fn found_in(
+fn found_in<O: SeqObject>(
     alloc: Global,
     criterion: Criterion,
     advice: &[Option<Advice>],
-    history: History<Counter>,
+    history: History<O>,
 ) -> Result<String, AllocError> {
     match made(alloc, criterion, advice, &history)? {
         Some(certificate) => unexplained_by(alloc, history, certificate),
@@ -140,12 +164,25 @@ fn found_in(
     }
 }
 
-/// The certificate that is made for a criterion from advice.
-fn made(
+/// The same in a memory, whose certificate is also made by what is read.
+fn found_in_memory(
     alloc: Global,
     criterion: Criterion,
     advice: &[Option<Advice>],
-    history: &History<Counter>,
+    history: History<Memory>,
+) -> Result<String, AllocError> {
+    match made_for_memory(alloc, criterion, advice, &history)? {
+        Some(certificate) => unexplained_by(alloc, history, certificate),
+        None => String::from_str(alloc, "no certificate"),
+    }
+}
+
+/// The certificate that is made for a criterion from advice.
+fn made<O: SeqObject>(
+    alloc: Global,
+    criterion: Criterion,
+    advice: &[Option<Advice>],
+    history: &History<O>,
 ) -> Result<Option<Certificate>, AllocError> {
     match criterion {
         Criterion::Cc => certify_cc::make(alloc, history, advice),
@@ -154,10 +191,24 @@ fn made(
     }
 }
 
-/// The first operation that a certificate does not explain.
-fn unexplained_by(
+/// The same of a memory, by what is read too.
+fn made_for_memory(
     alloc: Global,
-    history: History<Counter>,
+    criterion: Criterion,
+    advice: &[Option<Advice>],
+    history: &History<Memory>,
+) -> Result<Option<Certificate>, AllocError> {
+    match criterion {
+        Criterion::Cc => certify_cc::make_memory(alloc, history, advice),
+        Criterion::Cm => certify_cm::make_memory(alloc, history, advice),
+        Criterion::Ccv => certify_ccv::make_memory(alloc, history, advice),
+    }
+}
+
+/// The first operation that a certificate does not explain.
+fn unexplained_by<O: SeqObject>(
+    alloc: Global,
+    history: History<O>,
     certificate: Certificate,
 ) -> Result<String, AllocError> {
     match CaseFile::new(history, certificate.criterion(), Some(certificate)) {

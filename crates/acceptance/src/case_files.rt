@@ -56,7 +56,7 @@ pub fn file_of(alloc: Global, text: FileText) -> Option<CaseFile<Memory>> {
 }
 
 /// The certificate in a text.
-fn certificate_of(alloc: Global, text: &str) -> Option<Certificate> {
+pub fn certificate_of(alloc: Global, text: &str) -> Option<Certificate> {
     let value = Value::from_slice(alloc, text.as_bytes()).ok()?;
     read_certificate(alloc, &value).ok()
 }

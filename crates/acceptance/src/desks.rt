@@ -303,9 +303,77 @@ fn seen_on<K: ShelfName, P: Wait + AllocGlobal>(
     let desk = Desk::<Memory, K>::on(rt.alloc(), shelf)?;
     let mut given = Given::none(rt.alloc());
     let mut all = Vec::new(rt.alloc());
+    push_seen(rt, &desk, &mut given, &mut all, steps)?;
+    Ok(all)
+}
+
+/// Adds what is seen of each step to the others.
+fn push_seen<K: ShelfName, P: Wait + AllocGlobal>(
+    rt: &P,
+    desk: &Desk<Memory, K>,
+    given: &mut Given<K>,
+    all: &mut Vec<Seen>,
+    steps: &[Step],
+) -> Result<(), AllocError> {
     for step in steps {
-        all.push(seen_of(rt, &desk, &mut given, *step)?)?;
+        all.push(seen_of(rt, desk, given, *step)?)?;
     }
+    Ok(())
+}
+
+/// Steps at a desk, then at a second one, and then at the first again.
+const BEFORE: [Step; 2] = [Step::File(READ_AFTER_ITS_WRITE), Step::On(0, Event::Ask)];
+
+const BESIDE: [Step; 4] = [
+    Step::File(VALUES_THAT_NOBODY_WROTE),
+    Step::Work,
+    Step::On(0, Event::Ask),
+    Step::On(1, Event::Ask),
+];
+
+const AFTER: [Step; 3] = [Step::On(0, Event::Ask), Step::Work, Step::On(0, Event::Ask)];
+
+/// What is seen of them: each desk has a case 0 of its own, and works on that alone.
+const APART: [Seen; 9] = [
+    Seen::Number(0),
+    Seen::Stands(Answer::Open(2)),
+    Seen::Number(0),
+    Seen::Number(2),
+    Seen::Stands(Answer::Unknown(Some(FIRST))),
+    Seen::Nothing,
+    Seen::Stands(Answer::Open(2)),
+    Seen::Number(2),
+    Seen::Stands(Answer::Yes),
+];
+
+#[test]
+fn two_desks_are_apart(rt: HostRuntime) -> Result<(), Fail> {
+    let seen = seen_at_one_of_two(&rt)?;
+    assert!(rt; seen.as_slice() == APART.as_slice());
+    Ok(())
+}
+
+/// What is seen of the steps at two desks, each with a shelf of its own.
+fn seen_at_one_of_two<P: Wait + AllocGlobal>(rt: &P) -> Result<Vec<Seen>, AllocError> {
+    let shelf = Shelf::new(rt.alloc())?;
+    seen_beside::<Brand, P>(rt, shelf)
+}
+
+/// The same where the shelf of the first is named.
+fn seen_beside<K: ShelfName, P: Wait + AllocGlobal>(
+    rt: &P,
+    shelf: Shelf<Memory>,
+) -> Result<Vec<Seen>, AllocError>
+    requires { shelf ≡ K.shelf }
+{
+    let desk = Desk::<Memory, K>::on(rt.alloc(), shelf)?;
+    let mut given = Given::none(rt.alloc());
+    let mut all = Vec::new(rt.alloc());
+    push_seen(rt, &desk, &mut given, &mut all, &BEFORE)?;
+    for seen in seen_at_desk(rt, &BESIDE)? {
+        all.push(seen)?;
+    }
+    push_seen(rt, &desk, &mut given, &mut all, &AFTER)?;
     Ok(all)
 }
 

@@ -1,7 +1,7 @@
-//! Histories of a memory in texts.
+//! Histories of a memory in texts, and operations.
 
 use objects::Memory;
-use operations::{AnyHistory, History, read_history};
+use operations::{AnyHistory, History, OpId, read_history};
 use std::alloc::{AllocError, Global};
 
 /// The history of a memory in a text.
@@ -10,6 +10,15 @@ pub fn memory(alloc: Global, text: &str) -> Option<History<Memory>> {
         Ok(AnyHistory::Memory(history)) => Some(history),
         _ => None,
     }
+}
+
+/// The operation that a text names, as `session.index`.
+pub fn op_of(text: &str) -> Option<OpId> {
+    let (session, index) = text.split_once('.')?;
+    Some(OpId {
+        session: session.parse().ok()?,
+        index: index.parse().ok()?,
+    })
 }
 
 /// Pieces one after the other, each so many times.

@@ -1,11 +1,15 @@
 //! What `judge` and `judge_with` of the library say of histories of a memory, and which numbers of workers they refuse.
 
-use crate::case_files::{FileText, READ_AFTER_ITS_WRITE, VALUES_THAT_NOBODY_WROTE, file_of};
+use crate::case_files::{
+    FileText, READ_AFTER_ITS_WRITE, VALUES_THAT_NOBODY_WROTE, WITHOUT_A_CERTIFICATE,
+    certificate_of, file_of,
+};
 use crate::histories::memory;
 use bad_patterns::Kind;
-use cert_check::{Criterion, DeskError};
+use cert_check::{CaseFile, Criterion, DeskError};
 use collector::{Answer, OpenGate, judge, judge_with};
 use history::OpId;
+use std::alloc::Global;
 use std::sync::Wait;
 use std::test::Fail;
 use std::thread::Threads;
@@ -48,13 +52,60 @@ fn certificates_are_judged_by_any_number_of_workers(rt: HostRuntime) -> Result<(
     Ok(())
 }
 
+/// Numbers of workers that are refused, each with a history that meets its criterion, with one that a pattern refutes, or with one that has
+/// no certificate.
+const OTHER_NUMBERS: [(usize, FileText); 9] = [
+    (0, READ_AFTER_ITS_WRITE),
+    (17, READ_AFTER_ITS_WRITE),
+    (usize::MAX, READ_AFTER_ITS_WRITE),
+    (0, VALUES_THAT_NOBODY_WROTE),
+    (17, VALUES_THAT_NOBODY_WROTE),
+    (usize::MAX, VALUES_THAT_NOBODY_WROTE),
+    (0, WITHOUT_A_CERTIFICATE),
+    (17, WITHOUT_A_CERTIFICATE),
+    (usize::MAX, WITHOUT_A_CERTIFICATE),
+];
+
 #[test]
 fn other_numbers_of_workers_are_refused(rt: HostRuntime) {
-    for workers in [0, 17, usize::MAX] {
-        let refused = judged(&rt, READ_AFTER_ITS_WRITE, workers);
+    for (workers, text) in OTHER_NUMBERS {
+        let refused = judged(&rt, text, workers);
         assert_eq!(rt; refused, Err(DeskError::BadWorkers));
-        let refused = judged_with(&rt, READ_AFTER_ITS_WRITE, workers);
+        let refused = judged_with(&rt, text, workers);
         assert_eq!(rt; refused, Err(DeskError::BadWorkers));
+    }
+}
+
+/// A certificate of causal consistency that is filed for causal memory.
+const OF_ANOTHER_CRITERION: FileText = FileText {
+    criterion: Criterion::Cm,
+    history: r#"["memory",[[["w",0,1]],[["r",0,1]]]]"#,
+    certificate: Some(r#"["cc",[[[1,0]],[[1,1]]],[[[0]],[[0,1]]]]"#),
+};
+
+/// The certificate has no vector of the second session.
+const OF_ANOTHER_SHAPE: FileText = FileText {
+    criterion: Criterion::Cc,
+    history: r#"["memory",[[["w",0,1]],[["r",0,1]]]]"#,
+    certificate: Some(r#"["cc",[[[1,0]]],[[[0]],[[0,1]]]]"#),
+};
+
+#[test]
+fn certificate_of_another_criterion_makes_no_case_file(rt: HostRuntime) {
+    assert!(rt; file_of(rt.alloc(), READ_AFTER_ITS_WRITE).is_some());
+    let refused = refusal_of(rt.alloc(), OF_ANOTHER_CRITERION);
+    assert_eq!(rt; refused, Some(DeskError::ShapeMismatch));
+    let refused = refusal_of(rt.alloc(), OF_ANOTHER_SHAPE);
+    assert_eq!(rt; refused, Some(DeskError::ShapeMismatch));
+}
+
+/// Why the history and the certificate of a text make no case file.
+fn refusal_of(alloc: Global, text: FileText) -> Option<DeskError> {
+    let history = memory(alloc, text.history)?;
+    let certificate = certificate_of(alloc, text.certificate?)?;
+    match CaseFile::new(history, text.criterion, Some(certificate)) {
+        Ok(_) => None,
+        Err(refused) => Some(refused),
     }
 }
 

@@ -1,8 +1,9 @@
-//! Tests of what no contract says and no table of `cases` can see: calls that succeed, desks and their workers, recorders and their
-//! seals, clients that run at the same time, what is found where memory was refused before, and runs of the whole engine over readers and
-//! writers in memory, which give or take some bytes a call, or fail.
+//! Tests of calls that no table of `cases` can make: desks and their workers, recorders and their seals, replicas step by step, the starts of
+//! objects, parts of histories, certificates from advice, clients that run at the same time, and what is found where memory was refused
+//! before. No crate here needs the engine; `engine_runs` tests its runs.
 //!
-//! The crate `cases` tests what the words of a command line and an input give. No test repeats what a contract says of every input.
+//! The crate `cases` tests what the words of a command line and an input give. Some rows here try what a contract says of every input: they
+//! fail where a contract is wrong and its body with it.
 #![tactic(auto)]
 
 #[cfg(test)]
@@ -14,31 +15,31 @@ mod cores;
 #[cfg(test)]
 mod counters;
 #[cfg(test)]
+mod cut_histories;
+#[cfg(test)]
 mod desks;
-#[cfg(test)]
-mod devices;
-#[cfg(test)]
-mod failures;
 #[cfg(test)]
 mod histories;
 #[cfg(test)]
 mod judgements;
 #[cfg(test)]
-mod line_runs;
-#[cfg(test)]
 mod many_pairs;
 #[cfg(test)]
 mod meeting;
 #[cfg(test)]
+mod object_starts;
+#[cfg(test)]
 mod receipts;
+#[cfg(test)]
+mod recorder_steps;
 #[cfg(test)]
 mod recordings;
 #[cfg(test)]
+mod replica_steps;
+#[cfg(test)]
 mod replicas;
 #[cfg(test)]
-mod running;
-#[cfg(test)]
-mod runs;
+mod rows;
 #[cfg(test)]
 mod seal_cut;
 #[cfg(test)]

@@ -1,20 +1,12 @@
 //! A session and its receipts on another thread.
 
-use crate::recordings::advice;
+use crate::recordings::{advice, second_session};
 use history::OpId;
 use objects::{Register, RegisterCall, RegisterRet};
-use recorder::{Receipt, Session, new_recorder};
+use recorder::{Receipt, Session};
 use std::alloc::Global;
 use std::test::Fail;
 use std::thread;
-
-/// The second session of a recorder of two.
-fn second_session(alloc: Global) -> Option<Session<Register>> {
-    match new_recorder::<Register>(alloc, 2, 1, 0) {
-        Ok((_, mut sessions)) => sessions.pop(),
-        Err(_) => None,
-    }
-}
 
 fn receipt_of_a_read(alloc: Global, session: &mut Session<Register>) -> Option<Receipt<Register>> {
     match session.begin(RegisterCall::Read) {
@@ -26,7 +18,7 @@ fn receipt_of_a_read(alloc: Global, session: &mut Session<Register>) -> Option<R
 #[test]
 fn a_session_and_its_receipt_move_to_other_threads(rt: HostRuntime) -> Result<(), Fail> {
     let alloc = rt.alloc();
-    let mut session = second_session(alloc).expect(&rt, "memory");
+    let mut session = second_session(alloc, 1).expect(&rt, "memory");
     let child = thread::spawn(&rt, move || receipt_of_a_read(alloc, &mut session))?;
     let receipt = child.join(&rt).expect(&rt, "memory");
     assert_eq!(rt; receipt.op(), OpId::at(1, 0));

@@ -2,7 +2,7 @@
 
 use history::{Advice, History, MAX_SESSIONS, TakenIn};
 use objects::{Register, RegisterCall, RegisterRet};
-use recorder::Session;
+use recorder::{Session, new_recorder};
 use std::alloc::{AllocError, Global};
 
 /// Advice with nothing but a stamp.
@@ -11,6 +11,14 @@ pub fn advice(alloc: Global, stamp: u64) -> Advice {
         counts: [0; MAX_SESSIONS],
         stamp,
         order: TakenIn::of(Vec::new(alloc)),
+    }
+}
+
+/// The second session of a recorder of two, whose lanes have so many places.
+pub fn second_session(alloc: Global, places: usize) -> Option<Session<Register>> {
+    match new_recorder::<Register>(alloc, 2, places, 0) {
+        Ok((_, mut sessions)) => sessions.pop(),
+        Err(_) => None,
     }
 }
 

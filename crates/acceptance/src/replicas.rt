@@ -3,16 +3,17 @@
 use causal_memory::{AsTakenIn, CausalReplica};
 use history::MAX_SESSIONS;
 use lamport_store::{ByStamp, LamportReplica};
-use objects::{Queue, QueueCall, QueueRet};
+use object_trait::SeqObject;
+use objects::{Queue, QueueCall};
 use replica::{ActedOf, Delivery, Replica, ReplicaError, UpdateOf, UpdateOrder};
 use std::alloc::{AllocError, Global};
 use std::test::Fail;
 
 /// Makes a call at a replica. Makes it again where memory was refused: the answers show whether the refusal left the replica as it was.
-fn acted<P: UpdateOrder>(
-    replica: &mut Replica<Queue, P>,
-    call: QueueCall,
-) -> Result<ActedOf<QueueCall, QueueRet>, ReplicaError> {
+pub fn acted<O: SeqObject, P: UpdateOrder>(
+    replica: &mut Replica<O, P>,
+    call: O::Call,
+) -> Result<ActedOf<O::Call, O::Ret>, ReplicaError> {
     match replica.act(call) {
         Err(ReplicaError::Memory) => replica.act(call),
         acted => acted,
@@ -20,9 +21,9 @@ fn acted<P: UpdateOrder>(
 }
 
 /// Gives a replica an update. Gives it again where memory was refused.
-fn received<P: UpdateOrder>(
-    replica: &mut Replica<Queue, P>,
-    update: UpdateOf<QueueCall>,
+pub fn received<O: SeqObject, P: UpdateOrder>(
+    replica: &mut Replica<O, P>,
+    update: UpdateOf<O::Call>,
 ) -> Result<(), ReplicaError> {
     match replica.receive(update.again()) {
         Err(ReplicaError::Memory) => replica.receive(update),

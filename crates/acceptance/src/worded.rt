@@ -1,6 +1,7 @@
 //! The words of patterns that are in no history.
 
 use crate::histories::memory;
+use crate::rows::{Finding, differing_rows};
 use bad_patterns::{Path, Pattern};
 use operations::OpId;
 use std::alloc::{AllocError, Global};
@@ -24,23 +25,34 @@ fn words_of_path(alloc: Global, length: u64) -> Result<Vec<String>, AllocError> 
     }
 }
 
-/// The length of such a cycle, how many lines it has, and one of them: that operations are in no history, that nothing is shown, and
-/// that steps of a long path are left out.
-const LINES: [(u64, usize, usize, &str); 6] = [
-    (2, 4, 0, "0.0 is not in the history"),
-    (2, 4, 2, "0.1 follows 0.0 in its session"),
-    (0, 1, 0, "These operations show nothing in this history."),
-    (60, 84, 61, "0.20 follows 0.19 in its session"),
-    (60, 84, 62, "(19 more steps are left out here)"),
-    (60, 84, 63, "0.40 follows 0.39 in its session"),
-];
+/// A row has a name, then the length of such a cycle and the number of a line, and then how many lines there are, and that line.
+const ROWS: &str = r#"
+operation_that_is_not_there | 2 0 | 4 0.0 is not in the history
+step_of_a_session | 2 2 | 4 0.1 follows 0.0 in its session
+no_operation_shows_nothing | 0 0 | 1 These operations show nothing in this history.
+last_step_before_those_left_out | 60 61 | 84 0.20 follows 0.19 in its session
+steps_of_a_long_path_are_left_out | 60 62 | 84 (19 more steps are left out here)
+first_step_after_those_left_out | 60 63 | 84 0.40 follows 0.39 in its session
+"#;
+
+/// How many lines the words of a cycle have, and one of them.
+pub struct LineOfWords;
+
+impl Finding for LineOfWords {
+    fn of(alloc: Global, input: &str) -> Result<String, AllocError> {
+        let (length, at) = input.split_once(' ').unwrap_or((input, ""));
+        let words = words_of_path(alloc, length.parse().unwrap_or(0))?;
+        let many = words.len();
+        match words.get(at.parse().unwrap_or(many)) {
+            Some(line) => format!(in alloc; "{many} {line}"),
+            None => format!(in alloc; "{many} and no such line"),
+        }
+    }
+}
 
 #[test]
 fn patterns_of_no_history_are_told(rt: HostRuntime) -> Result<(), Fail> {
-    for (length, many, at, wanted) in LINES {
-        let words = words_of_path(rt.alloc(), length)?;
-        assert_eq!(rt; words.len(), many, "{length}");
-        assert_eq!(rt; words[at].as_str(), wanted, "{length}");
-    }
+    let differing = differing_rows::<LineOfWords>(rt.alloc(), ROWS)?;
+    assert_eq!(rt; differing.as_str(), "");
     Ok(())
 }

@@ -143,7 +143,7 @@ fn lines_in_memory_are_answered_by_one_answer(rt: HostRuntime) -> Result<(), Fai
 const SOME_LINES: &str = "[\"memory\",[]]\n[]\n[\"memory\",[[[\"r\",0,7]]]]";
 
 const SOME_ANSWERS: &str =
-    "0 cc yes; cm yes; ccv yes%refused 2%cc no ThinAirRead; cm no ThinAirRead; ccv no ThinAirRead%";
+    "1 cc yes; cm yes; ccv yes%refused 2%cc no ThinAirRead; cm no ThinAirRead; ccv no ThinAirRead%";
 
 const TWO_LINES: &str = "[\"memory\",[]]\n[\"memory\",[]]\n";
 

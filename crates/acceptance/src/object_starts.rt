@@ -1,0 +1,170 @@
+//! What objects hold and answer before any call, and the starts that they take.
+
+ghost use Rattle.std.specs.Prelude.{IfOk};
+
+use object_trait::{SeqObject, replay};
+use objects::{
+    AddRemoveSet, Counter, CounterCall, CounterRet, Counters, Keyed, KeyedCall, Memory, Queue,
+    QueueCall, QueueRet, Queues, Register, RegisterCall, RegisterRet, SetCall, SetRet, Sets, Table,
+};
+use std::alloc::{AllocError, Global};
+use std::test::Fail;
+
+/// What an object answers to its first call, from its plain start.
+fn first_answer<O: SeqObject>(alloc: Global, call: O::Call) -> Result<O::Ret, AllocError> {
+    let start = O::plain(alloc)?;
+    let mut object = O::fresh(alloc, &start)?;
+    object.apply(call)
+}
+
+/// A call at a key.
+fn at_key<C>(call: C) -> KeyedCall<C> {
+    KeyedCall { key: 4, call }
+}
+
+#[test]
+fn objects_answer_from_their_plain_starts(rt: HostRuntime) -> Result<(), Fail> {
+    let read = first_answer::<Register>(rt.alloc(), RegisterCall::Read)?;
+    assert_eq!(rt; read, RegisterRet::Value(0));
+    let got = first_answer::<Counter>(rt.alloc(), CounterCall::Get)?;
+    assert_eq!(rt; got, CounterRet::Value(0));
+    let has = first_answer::<AddRemoveSet>(rt.alloc(), SetCall::Has(0))?;
+    assert_eq!(rt; has, SetRet::Has(false));
+    let popped = first_answer::<Queue>(rt.alloc(), QueueCall::Pop)?;
+    assert_eq!(rt; popped, QueueRet::Popped(None));
+    Ok(())
+}
+
+#[test]
+fn objects_under_keys_answer_from_their_plain_starts(rt: HostRuntime) -> Result<(), Fail> {
+    let read = first_answer::<Memory>(rt.alloc(), at_key(RegisterCall::Read))?;
+    assert_eq!(rt; read, RegisterRet::Value(0));
+    let got = first_answer::<Counters>(rt.alloc(), at_key(CounterCall::Get))?;
+    assert_eq!(rt; got, CounterRet::Value(0));
+    let has = first_answer::<Sets>(rt.alloc(), at_key(SetCall::Has(0)))?;
+    assert_eq!(rt; has, SetRet::Has(false));
+    let popped = first_answer::<Queues>(rt.alloc(), at_key(QueueCall::Pop))?;
+    assert_eq!(rt; popped, QueueRet::Popped(None));
+    Ok(())
+}
+
+/// What a register that starts at 7 answers to a read after some calls.
+fn read_from_seven(alloc: Global, before: &[RegisterCall]) -> Result<RegisterRet, AllocError> {
+    let mut register: Register = replay(alloc, &7, before)?;
+    register.apply(RegisterCall::Read)
+}
+
+#[test]
+fn register_has_any_start(rt: HostRuntime) -> Result<(), Fail> {
+    assert_eq!(rt; read_from_seven(rt.alloc(), &[])?, RegisterRet::Value(7));
+    let after = read_from_seven(
+        rt.alloc(),
+        &[
+            RegisterCall::Write(3),
+            RegisterCall::Read,
+            RegisterCall::Write(5),
+        ],
+    )?;
+    assert_eq!(rt; after, RegisterRet::Value(5));
+    assert_eq!(rt; Register::copy_start(rt.alloc(), &7)?, 7);
+    let start = Register::start_for(rt.alloc(), &7, &RegisterCall::Read)?;
+    assert_eq!(rt; start, 7);
+    assert_eq!(rt; Register::plain(rt.alloc())?, 0);
+    Ok(())
+}
+
+const WRITE: KeyedCall<RegisterCall> = KeyedCall {
+    key: 1,
+    call: RegisterCall::Write(2),
+};
+
+const READ: KeyedCall<RegisterCall> = KeyedCall {
+    key: 1,
+    call: RegisterCall::Read,
+};
+
+#[test]
+fn memory_tells_queries_and_fitting_returns(rt: HostRuntime) {
+    assert!(rt; Memory::is_query(&READ));
+    assert!(rt; !Memory::is_query(&WRITE));
+    assert!(rt; Memory::fits(&WRITE, &RegisterRet::Done));
+    assert!(rt; !Memory::fits(&READ, &RegisterRet::Done));
+}
+
+/// The initial values 5 at key 2 and 7 at key 9.
+fn two_initial_values(alloc: Global) -> Result<Table<u64>, AllocError>
+    ensures { IfOk result ⟦<Keyed<Register> as SeqObject>⟧.is_start }
+{
+    let mut table = Table::new(alloc);
+    table.push(2, 5)?;
+    table.push(9, 7)?;
+    Ok(table)
+}
+
+/// What a memory with these initial values reads first.
+fn first_read(alloc: Global, key: u32) -> Result<RegisterRet, AllocError> {
+    let start = two_initial_values(alloc)?;
+    let mut memory = Memory::fresh(alloc, &start)?;
+    memory.apply(KeyedCall { key, ..READ })
+}
+
+#[test]
+fn memory_answers_from_its_initial_values(rt: HostRuntime) -> Result<(), Fail> {
+    for (key, value) in [(2, 5), (9, 7), (3, 0)] {
+        assert_eq!(rt; first_read(rt.alloc(), key)?, RegisterRet::Value(value));
+    }
+    Ok(())
+}
+
+/// The entries of a table, how many there are, whether there is none, and the values at 2, 9 and 3.
+fn text_of_table(alloc: Global) -> Result<String, AllocError> {
+    let table = two_initial_values(alloc)?;
+    let entries = table.entries();
+    let len = table.len();
+    let is_empty = table.is_empty();
+    let second = table.get(2).copied();
+    let ninth = table.get(9).copied();
+    let third = table.get(3).copied();
+    format!(in alloc; "{entries:?} {len} {is_empty} {second:?} {ninth:?} {third:?}")
+}
+
+#[test]
+fn table_finds_its_keys(rt: HostRuntime) -> Result<(), Fail> {
+    let text = text_of_table(rt.alloc())?;
+    let wanted = "[(2, 5), (9, 7)] 2 false Some(5) Some(7) None";
+    assert_eq!(rt; text.as_str(), wanted);
+    Ok(())
+}
+
+/// Whether a copy of a start is equal to it, and whether it is equal to the plain start; and how many entries it has.
+fn text_of_copy(alloc: Global) -> Result<String, AllocError> {
+    let start = two_initial_values(alloc)?;
+    let copy = Memory::copy_start(alloc, &start)?;
+    let is_equal = copy == start;
+    let is_plain = copy == Memory::plain(alloc)?;
+    let len = copy.len();
+    format!(in alloc; "{is_equal} {is_plain} {len}")
+}
+
+#[test]
+fn copied_start_is_equal(rt: HostRuntime) -> Result<(), Fail> {
+    assert_eq!(rt; text_of_copy(rt.alloc())?.as_str(), "true false 2");
+    Ok(())
+}
+
+/// The entries of the starts for a read at 9 and for one at 3.
+fn text_of_starts_for_reads(alloc: Global) -> Result<String, AllocError> {
+    let start = two_initial_values(alloc)?;
+    let ninth = Memory::start_for(alloc, &start, &KeyedCall { key: 9, ..READ })?;
+    let third = Memory::start_for(alloc, &start, &KeyedCall { key: 3, ..READ })?;
+    let ninth = ninth.entries();
+    let third = third.entries();
+    format!(in alloc; "{ninth:?} {third:?}")
+}
+
+#[test]
+fn start_for_a_call_has_its_key_alone(rt: HostRuntime) -> Result<(), Fail> {
+    let text = text_of_starts_for_reads(rt.alloc())?;
+    assert_eq!(rt; text.as_str(), "[(9, 7)] []");
+    Ok(())
+}
