@@ -82,7 +82,7 @@ SAID = {
     ),
 }
 DRIVEN = ("many_clients",)
-LOGGED = {"events_lost_write": (INITIAL, ""), "events_deletes": (STALE, ""), "events_torn": (YES, plain_events.NOT_WHOLE)}
+LOGGED = {"events_lost_write": (INITIAL, ""), "events_missing_post": (INITIAL, ""), "events_deletes": (STALE, ""), "events_torn": (YES, plain_events.NOT_WHOLE)}
 
 
 class Command(NamedTuple):
@@ -213,14 +213,21 @@ def report_of(words):
     return "".join(f"{criterion} {word}\n" for criterion, word in zip(("cc", "cm", "ccv"), words))
 
 
+def shown_beside(path):
+    """The command lines that explain a file of examples/, with the text or the picture that is kept of it, where there is one."""
+    for words, shown in ((["explain"], path.with_suffix(".txt")), (["explain", "--svg"], path.parent.parent / "docs" / f"{path.stem}.svg")):
+        if shown.is_file():
+            yield words, shown.read_text(encoding="utf-8")
+
+
 def wanted_of_log(path):
     """The command lines for a log of events in examples/, with what is written to both outputs."""
     if path.stem in LOGGED:
         words, errors = LOGGED[path.stem]
         yield ["judge", "--long", "--events"], report_of(words), errors
         yield ["events"], plain_events.text_of(plain_events.history_of(plain_events.read_log(path.read_bytes()).events)), errors
-        if path.with_suffix(".txt").is_file():
-            yield ["explain", "--long", "--events"], path.with_suffix(".txt").read_text(encoding="utf-8"), errors
+        for words, shown in shown_beside(path):
+            yield [words[0], "--long", "--events", *words[1:]], shown, errors
 
 
 def wanted_of(path):
@@ -231,9 +238,7 @@ def wanted_of(path):
         yield command.split(), lines.replace(";", "\n") + "\n"
     if name in JUDGED:
         yield from ((["judge", "--workers", str(workers)], report_of(JUDGED[name])) for workers in (1, 2, 16))
-    for words, shown in ((["explain"], path.with_suffix(".txt")), (["explain", "--svg"], path.parent.parent / "docs" / f"{name}.svg")):
-        if shown.is_file():
-            yield words, shown.read_text(encoding="utf-8")
+    yield from shown_beside(path)
 
 
 def runs_of(given):
