@@ -32,6 +32,9 @@ own_query_between_two_updates | cm 1.0/1/0;2.0/2/0.0;0.1/1/1;1.2/2/0.1;2.3/3/0.0
 own_query_whose_order_is_the_longer_one | cm 1.0/1/0;0.1/1/0.0.0.0.1;1.2/2/0.1 ["counter",[[["inc"]],[["get",0],["get",1]]]] | 1.0
 own_query_without_an_order | cm 1.0/1/0;-;1.2/2/0.1 ["counter",[[["inc"]],[["get",0],["get",1]]]] | all are explained
 queries_of_another_just_before_its_update | cc 1.0/1/0;2.0/2/0;3.0/3/0.0;2.1/3/0.1 ["counter",[[["get",0],["inc"],["get",1]],[["get",1]]]] | all are explained
+program_order_leaves_sessions_alone_for_causal_consistency | cc - ["counter",[[["inc"]],[],[["get",0],["get",0]]]] | all are explained
+program_order_leaves_sessions_alone_for_causal_memory | cm - ["counter",[[["inc"]],[],[["get",0],["get",0]]]] | all are explained
+program_order_leaves_sessions_alone_for_convergence | ccv - ["counter",[[["inc"]],[],[["get",0],["get",1]]]] | 2.1
 list_of_a_wrong_length | cc 1.0/1/0 ["counter",[[["inc"]],[["get",0]]]] | all are explained
 list_that_is_too_long | cc 1.0/1/0;1.1/1/0;1.1/1/0 ["counter",[[["inc"]],[["get",0]]]] | all are explained
 entries_that_name_nothing | cc 1.0/1/0;1.1/2/9.0.0.200.255.1 ["counter",[[["inc"]],[["get",1]]]] | all are explained
