@@ -1,0 +1,3 @@
+mod PlaceLaws
+mod NextLaws
+mod FiledLaws

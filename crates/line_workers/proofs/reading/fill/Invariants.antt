@@ -1,0 +1,10 @@
+use Rattle.std.proofs.Common.{◌≡◌}
+use Rattle.lines.specs.Steps.{IsCut, Takes}
+use Rattle.line_workers.proofs.reading.fill.Given as goal
+
+abbrev pub invariant-loop : goal.invariant-loop
+invariant-loop g l = record {
+  takes : Takes (g.R.Source.remaining l.initial.reader) (g.R.Source.remaining l.reader) l.initial.held.bytes.items l.held.bytes.items;
+  cut : IsCut l.held.whole l.held.bytes.items;
+  at : l.held.at ≡ l.initial.held.at;
+}

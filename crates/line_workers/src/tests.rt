@@ -1,0 +1,194 @@
+//! Tests of whole streams over readers and writers in memory, by one to four workers.
+
+use crate::devices::{Client, Device, Echo, Sink};
+use crate::running::answer_lines;
+use lines::{Fault, Outcome};
+use memchr::memrchr;
+use std::alloc::{AllocError, Global};
+use std::sync::Wait;
+use std::sync::atomic::AtomicU64;
+use std::test::Fail;
+use std::thread::Threads;
+
+/// What was written, and what came of it.
+#[derive(Drop)]
+struct Run {
+    text: Vec<u8>,
+    result: Result<Outcome, Fault>,
+}
+
+/// Answers a text by so many workers. The reader gives so many bytes a call, and the writer fails once it took so many calls.
+fn answer<P: Threads + Wait + Sync + AllocGlobal>(
+    rt: &P,
+    device: Device<'_>,
+    calls: u64,
+    workers: usize,
+) -> Run {
+    let answers = AtomicU64::new(0);
+    let sink = Sink {
+        taken: Vec::new(rt.alloc()),
+        piece: 1_000,
+        calls,
+        answers: &answers,
+    };
+    let echo = Echo { alloc: rt.alloc() };
+    let (_, sink, result) = answer_lines(rt, rt.alloc(), device, sink, &echo, workers);
+    Run {
+        text: sink.taken,
+        result,
+    }
+}
+
+/// Many short lines.
+fn many_lines(alloc: Global) -> Result<Vec<u8>, AllocError> {
+    let mut text = Vec::new(alloc);
+    for i in 0..3_000_u64 {
+        text.extend_from_slice(format!(in alloc; "{}\n", i * i % 9_973)?.as_bytes())?;
+    }
+    Ok(text)
+}
+
+#[test]
+fn answers_stand_in_the_order_of_the_lines(rt: HostRuntime) -> Result<(), Fail> {
+    let text = many_lines(rt.alloc())?;
+    for workers in 0..5 {
+        let device = Device {
+            text: text.as_slice(),
+            piece: 100,
+            broken: false,
+        };
+        let done = answer(&rt, device, u64::MAX, workers);
+        assert!(rt; done.result == Ok(Outcome::Met), "by {workers}");
+        assert!(rt; done.text == text, "by {workers}");
+    }
+    Ok(())
+}
+
+#[test]
+fn whole_lines_are_answered_while_the_next_is_not_whole(rt: HostRuntime) -> Result<(), Fail> {
+    for workers in 1..5 {
+        let answers = AtomicU64::new(0);
+        let client = Client {
+            first: b"one\ntwo\nthr",
+            second: b"ee\n",
+            answers: &answers,
+            seen: 0,
+        };
+        let sink = Sink {
+            taken: Vec::new(rt.alloc()),
+            piece: 1_000,
+            calls: u64::MAX,
+            answers: &answers,
+        };
+        let echo = Echo { alloc: rt.alloc() };
+        let (client, sink, result) = answer_lines(&rt, rt.alloc(), client, sink, &echo, workers);
+        assert!(rt; result == Ok(Outcome::Met), "by {workers}");
+        assert_eq!(rt; client.seen, 2, "by {workers}");
+        assert!(rt;
+            sink.taken.as_slice() == b"one\ntwo\nthree\n".as_slice(),
+            "by {workers}"
+        );
+    }
+    Ok(())
+}
+
+#[test]
+fn a_write_that_fails_ends_the_run(rt: HostRuntime) -> Result<(), Fail> {
+    let text = many_lines(rt.alloc())?;
+    for workers in 1..5 {
+        let device = Device {
+            text: text.as_slice(),
+            piece: 100,
+            broken: false,
+        };
+        let done = answer(&rt, device, 20, workers);
+        assert!(rt; done.result == Err(Fault::Write), "by {workers}");
+        assert!(rt;
+            text.as_slice().starts_with(done.text.as_slice()),
+            "by {workers}"
+        );
+        assert!(rt; done.text.len() > 0, "by {workers}");
+    }
+    Ok(())
+}
+
+#[test]
+fn workers_that_are_ahead_wait_for_a_slow_line(rt: HostRuntime) -> Result<(), Fail> {
+    let mut text = Vec::new(rt.alloc());
+    text.extend_from_slice(b"slow\n")?;
+    for _ in 0..2_000_u64 {
+        text.extend_from_slice(b"abc\n")?;
+    }
+    for workers in 1..5 {
+        for (calls, wanted) in [
+            (u64::MAX, Ok(Outcome::Met)),
+            (1, Err(Fault::Write)),
+            (0, Err(Fault::Write)),
+        ] {
+            let device = Device {
+                text: text.as_slice(),
+                piece: 5,
+                broken: false,
+            };
+            let done = answer(&rt, device, calls, workers);
+            assert!(rt; done.result == wanted, "by {workers}");
+            assert!(rt;
+                text.as_slice().starts_with(done.text.as_slice()),
+                "by {workers}"
+            );
+            assert!(rt; calls < 2 || done.text == text, "by {workers}");
+        }
+    }
+    Ok(())
+}
+
+#[test]
+fn what_was_read_before_a_fault_is_answered(rt: HostRuntime) -> Result<(), Fail> {
+    let text = many_lines(rt.alloc())?;
+    let (front, _) = text.as_slice().split_at(text.len().min(7_003));
+    let whole = match memrchr(b'\n', front) {
+        Some(at) => &front[..at + 1],
+        None => &[],
+    };
+    for workers in 1..5 {
+        let device = Device {
+            text: front,
+            piece: 100,
+            broken: true,
+        };
+        let done = answer(&rt, device, u64::MAX, workers);
+        assert!(rt; done.result == Err(Fault::Read), "by {workers}");
+        assert!(rt; done.text.as_slice() == whole, "by {workers}");
+    }
+    Ok(())
+}
+
+#[test]
+fn a_line_that_is_too_long_is_answered_and_passed_over(rt: HostRuntime) -> Result<(), Fail> {
+    let mut text = Vec::new(rt.alloc());
+    text.extend_from_slice(b"12345678\n123456789\n\n")?;
+    for _ in 0..40_000_u64 {
+        text.push(b'x')?;
+    }
+    text.extend_from_slice(b"\nab\nxxxxxxxxxxxx")?;
+    for workers in 1..5 {
+        for piece in [1, 5, 9, 100_000] {
+            let device = Device {
+                text: text.as_slice(),
+                piece,
+                broken: false,
+            };
+            let done = answer(&rt, device, u64::MAX, workers);
+            assert!(rt;
+                done.result == Ok(Outcome::Refused),
+                "by {workers}, {piece}"
+            );
+            assert!(rt;
+                done.text.as_slice()
+                    == b"12345678\ntoo long\n\ntoo long\nab\ntoo long\n".as_slice(),
+                "by {workers}, {piece}"
+            );
+        }
+    }
+    Ok(())
+}
