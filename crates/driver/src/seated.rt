@@ -16,7 +16,7 @@ use object_trait::SeqObject;
 use recorder::Session;
 use replica::UpdateOrder;
 use std::alloc::AllocError;
-use std::marker::PhantomData;
+use std::marker::{Model, PhantomData};
 use std::sync::{Mutex, Wait};
 use std::thread;
 use std::thread::Threads;
@@ -63,20 +63,43 @@ fn play_at<O: SeqObject, K: RunName<O::Start, O::Call, O::Ret>, P: UpdateOrder, 
     }
 }
 
-/// The same at one of the seats.
-fn play_index<
-    O: SeqObject,
-    K: RunName<O::Start, O::Call, O::Ret>,
-    P: UpdateOrder,
-    R: Wait,
-    G: Gate,
->(rt: &R, run: &Run<O>, gate: &G, seats: &Vec<Mutex<Seat<O, K>>>, _order: &PhantomData<P>, s: usize)
-    requires ready { (own : SessionState O.Call O.Ret) → K.ready own → IsFresh run.now.lanes.now run.now.input.now own }
-    requires left { (s : ℕ) (p : Result (PlayedState O.Start O.Call O.Ret) DriveError)
-        → MatchResult p (IsPlayed run.now.lanes.now run.now.plan.stop run.now.input.now s) IsGivenUp → K.left s p }
-{
-    if let Some(seat) = seats.get(s) {
-        play_at::<O, K, P, R, G>(rt, run, gate, seat);
+/// The seats of a run, and the run whose clients play there.
+///
+/// The invariant says what a session is that a client may take, and what a client may leave. So a thread that borrows the seats
+/// needs no condition of its own.
+#[derive(Drop)]
+struct Seated<'a, 'r, O: SeqObject, K: RunName<O::Start, O::Call, O::Ret>> {
+    run: &'a Run<'r, O>,
+    seats: &'a Vec<Mutex<Seat<O, K>>>,
+}
+
+impl<'a, 'r, O: SeqObject, K: RunName<O::Start, O::Call, O::Ret>> Model for Seated<'a, 'r, O, K> {
+    ghost use Rattle.std.specs.Prelude.{MatchResult, Result, ℕ};
+    ghost use Rattle.recorder.specs.Sessions.{SessionState};
+    ghost use Rattle.driver.specs.Clients.{IsFresh, IsGivenUp, IsPlayed, PlayedState};
+    ghost use Rattle.driver.specs.declared.drive_error.DriveError.{DriveError};
+
+    ghost Value = { Unit {0} };
+
+    ghost view = { λ _. tt {0} };
+
+    ghost invariant = { λ seated. ((own : SessionState O.Call O.Ret) → K.ready own → IsFresh seated.run.now.lanes.now seated.run.now.input.now own)
+        × ((s : ℕ) (p : Result (PlayedState O.Start O.Call O.Ret) DriveError)
+        → MatchResult p (IsPlayed seated.run.now.lanes.now seated.run.now.plan.stop seated.run.now.input.now s) IsGivenUp → K.left s p) };
+}
+
+impl<'a, 'r, O: SeqObject, K: RunName<O::Start, O::Call, O::Ret>> Seated<'a, 'r, O, K> {
+    /// Plays at one of the seats, if there is a seat at this index.
+    fn play<P: UpdateOrder, R: Wait, G: Gate>(
+        &self,
+        rt: &R,
+        gate: &G,
+        _order: &PhantomData<P>,
+        s: usize,
+    ) {
+        if let Some(seat) = self.seats.get(s) {
+            play_at::<O, K, P, R, G>(rt, self.run, gate, seat);
+        }
     }
 }
 
@@ -98,15 +121,12 @@ pub(crate) fn play_seats<
     requires left { (s : ℕ) (p : Result (PlayedState O.Start O.Call O.Ret) DriveError)
         → MatchResult p (IsPlayed run.now.lanes.now run.now.plan.stop run.now.input.now s) IsGivenUp → K.left s p }
 {
+    let seated = Seated { run, seats };
     let _played = thread::map_indices(
         rt,
         run.alloc,
         seats.len(),
-        &|s: usize| -> ()
-            requires { ((own : SessionState O.Call O.Ret) → K.ready own → IsFresh run.now.lanes.now run.now.input.now own)
-                × ((s : ℕ) (p : Result (PlayedState O.Start O.Call O.Ret) DriveError)
-                → MatchResult p (IsPlayed run.now.lanes.now run.now.plan.stop run.now.input.now s) IsGivenUp → K.left s p) }
-        { play_index::<O, K, P, R, G>(rt, run, gate, seats, order, s) },
+        &|s: usize| { seated.play::<P, R, G>(rt, gate, order, s) },
     )?;
     Ok(())
 }
