@@ -8,8 +8,8 @@ a run of its own, and all by runs of `judge --lines` with 1, 2 and 4 workers, wi
 whose lines come in one piece, or in pieces of random length. The lines that are written have to be those of the single runs: the
 three of a report joined by `; `, or the one on standard error; and the status has to be what follows from them. With `--skip-blank` a
 blank line has to answer each blank one, and nothing else changes. Standard error has to name the first blank line that is refused, and
-the first that ends in the midst of a JSON text, and no other. A client that writes one line and waits for its answer has to get it. It
-ends with status 1 where something is wrong.
+the first that ends in the midst of a JSON text, and no other. A client that writes one line and waits for its answer has to get it, and one
+that writes two lines and the beginning of a third has to get two answers. It ends with status 1 where something is wrong.
 
 With `--operations N` runs of a store by short_runs.py, healthy ones and such with a fault, of N operations in all, are judged so by
 1, 2, 4 and 16 workers: the healthy ones are causally consistent and a causal memory, the others are not, nothing is left unknown, and
@@ -26,6 +26,7 @@ import os
 import pathlib
 import random
 import re
+import select
 import subprocess
 import tempfile
 import time
@@ -36,6 +37,7 @@ from command_words import with_program
 from counting import end
 
 WORKERS = (1, 2, 4)
+PATIENCE = 10
 MET = "cc yes; cm yes; "
 EXPECTED = ("", "cc", "cm", "ccv", "cc,cm,ccv")
 
@@ -166,6 +168,32 @@ def talked(program):
     return asked - wrong, wrong
 
 
+def lines_within(process, many):
+    """So many lines that a process writes, or fewer where it writes none for ten seconds."""
+    text = b""
+    while text.count(b"\n") < many and select.select([process.stdout], [], [], PATIENCE)[0]:
+        text += os.read(process.stdout.fileno(), 65_536) or b"\n" * many
+    return text.decode().splitlines()
+
+
+def talked_in_part(program):
+    """How many times a client that has begun a third line got the answers to two, and then to all, and how many times not."""
+    wrong = 0
+    lines = [b'["memory",[]]\n', b'["memory",[[["r",0,7]]]]\n', b'["counter",[]]\n']
+    due = [answer_alone(program, line) for line in lines]
+    for workers in (1, 2, 3, 4):
+        how = {"stdin": subprocess.PIPE, "stdout": subprocess.PIPE, "stderr": subprocess.DEVNULL}
+        with subprocess.Popen([*program, *words_for(workers, "")], **how) as process:
+            for part, answers in ((lines[0] + lines[1] + lines[2][:5], due[:2]), (lines[2][5:], due[2:])):
+                process.stdin.write(part)
+                process.stdin.flush()
+                found = lines_within(process, len(answers))
+                if found != answers:
+                    wrong += 1
+                    print(f"a client that pauses, by {workers} workers: {found}")
+    return 8 - wrong, wrong
+
+
 def runs_of_store(most):
     """Runs of a store of so many operations in all, with what is wrong in each."""
     runs = [
@@ -253,7 +281,7 @@ def main():
     parser.add_argument("--rounds", type=int, default=5)
     given = with_program(parser)
     rng = random.Random(given.seed)
-    counts = [compared(rng, given.program, [line_of(rng) for _ in range(given.lines)]), talked(given.program)]
+    counts = [compared(rng, given.program, [line_of(rng) for _ in range(given.lines)]), talked(given.program), talked_in_part(given.program)]
     if given.operations:
         counts.append(judged_by_many(given.program, given.operations))
     if given.small:

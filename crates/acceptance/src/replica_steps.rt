@@ -184,14 +184,14 @@ where
             if let Some(update) = &acted.update {
                 sent.push(update.again())?;
             }
-            told(alloc, &acted, history.sessions())
+            returned(alloc, &acted, history.sessions())
         }
         Err(refusal) => refused(alloc, refusal),
     }
 }
 
 /// What an operation returned, and the advice on it.
-fn told<C: Drop, R: Drop + Debug>(
+fn returned<C: Drop, R: Drop + Debug>(
     alloc: Global,
     acted: &ActedOf<C, R>,
     k: usize,

@@ -1,5 +1,5 @@
 -- What answers a line, and what answers all lines of an input.
-use Rattle.std.proofs.Common.{◌≡◌, ◌<◌, ◌≤◌, ℕ, List, length, Result, Ok, Err, IfOk, ◌∙◌, ap, sym, subst, inr, arith}
+use Rattle.std.proofs.Common.{◌≡◌, ◌<◌, ◌≤◌, ◌++◌, ℕ, List, [], Some, length, Result, Ok, Err, IfOk, ◌∙◌, ap, sym, subst, inr, arith}
 use Rattle.std.specs.Prelude.{◌≢◌}
 use Rattle.command_line.specs.declared.expected.Expected.{Expected}
 use Rattle.command_line.specs.declared.length.Length.{Length}
@@ -9,7 +9,7 @@ use Rattle.lines.specs.declared.fault.Fault.{Fault}
 use Rattle.lines.specs.declared.fault.Fault.TheVariants as faults
 use Rattle.lines.specs.declared.outcome.Outcome.{Outcome}
 use Rattle.lines.specs.Clerks.{AppendsAnswer, SaysOfLonger}
-use Rattle.lines.specs.Lines.{AnswersAs, AreAnswered, lines_of}
+use Rattle.lines.specs.Lines.{AllAreAnswered, AreAnswered, lines_of}
 use Rattle.engine.specs.declared.failure.RunError.{RunError}
 use Rattle.engine.specs.declared.failure.RunError.TheVariants.{TooLong, WriteFault}
 use Rattle.engine.specs.declared.input.TheConstants.{MAX_INPUT_BYTES}
@@ -42,13 +42,13 @@ longer_answers judging before after (Ok outcome) told =
     (told.0, (λ line longer. inr (longer_not_skipped judging.blank line longer, inr (told.1 judging.judging.length line longer))), told.2)
 longer_answers judging before after (Err fault) told = tt
 
--- what is made of all lines without a fault answers them
-pub lines_answered : (judging : LineJudging) (input text said : List ℕ) (outcome : Result Outcome Fault) (one : Outcome) → outcome ≡ Ok one → said ≡ text
-    → AnswersAs (IsLineAnswer judging) (lines_of input) outcome text
-    → AreAnswered (IsLineAnswer judging) (lines_of input) said one
-lines_answered judging input text said outcome one is same answers =
-    subst (λ (t : List ℕ). AreAnswered (IsLineAnswer judging) (lines_of input) t one) (sym same)
-    (subst (λ (r : Result Outcome Fault). AnswersAs (IsLineAnswer judging) (lines_of input) r text) is answers)
+-- where all lines of a text are answered after nothing, what is written answers them
+pub lines_answered : (judging : LineJudging) (input before text said : List ℕ) (outcome : Outcome) → before ≡ [] → said ≡ text
+    → AllAreAnswered (IsLineAnswer judging) (Some input) (Some before) (Some text) outcome
+    → AreAnswered (IsLineAnswer judging) (lines_of input) said outcome
+lines_answered judging input before text said outcome none same all =
+    subst (λ (t : List ℕ). AreAnswered (IsLineAnswer judging) (lines_of input) t outcome) (sym (same ∙ all.written ∙ ap (λ b. b ++ all.text) none))
+    (subst (λ (bytes : List ℕ). AreAnswered (IsLineAnswer judging) (lines_of bytes) all.text outcome) all.whole all.answered)
 
 -- a run that did not fail for its writer failed for no fault of it
 pub not_written : (fault : Fault) (error : RunError) → error ≡ stream_failure fault → error ≢ WriteFault → fault ≢ faults.Write

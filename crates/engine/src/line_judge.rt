@@ -10,7 +10,8 @@ use crate::failure::RunError;
 use crate::input::MAX_INPUT_BYTES;
 use crate::line_answers::{append_answer, append_refusal};
 use command_line::{LineJudging, Order};
-use lines::{Clerk, Fault, Outcome, Source, answer_by, answer_lines};
+use line_workers::answer_lines;
+use lines::{Clerk, Fault, Outcome, Source};
 use std::alloc::Global;
 use std::io::Write;
 use std::sync::Wait;
@@ -18,35 +19,36 @@ use std::thread::Threads;
 
 /// Judges the history in each line of the input, and writes a line for each, in order: the lines of its report joined by `; `, or
 /// the line of its refusal as [`fault_line`](crate::fault_line) has it. A blank line that is skipped is answered by a blank line.
-/// Returns the outcome of all.
+/// Returns the reader, the writer, and the outcome of all.
 ///
 /// Each line has the byte limit of an input. A longer line is refused like an input that is too long, and its rest is passed over. The
-/// last line may lack its line feed. As many lines as there are workers are judged side by side, each by one thread. The answers to
-/// whole lines that are at hand are written before more is read, as [`answer_lines`] says.
+/// last line may lack its line feed. Each worker judges lines of its own, one after the other, while the others read and judge on. The
+/// answers to whole lines that were read do not wait for further input, as [`answer_lines`] says.
 ///
 /// It fails if the reader or the writer does, or memory runs out for a line. What was answered before stays written then. The
 /// cost is that of `judge` for each line.
 #[tactic(auto, using(crate::proofs::LineAnswerLaws::not_written))]
-pub fn judge_lines<P: Threads + Wait + Sync + AllocGlobal, R: Source, W: Write>(
-    rt: &P,
-    reader: &mut R,
-    writer: &mut W,
-    judging: LineJudging,
-) -> Result<Outcome, RunError>
-    ensures answered { IfOk result (AllAreAnswered (IsLineAnswer judging)
-        (R.remaining reader.old) (W.contents writer.old) (W.contents writer.new)) }
-    ensures end { OnOk result (IsAtEnd (R.remaining reader.new)) }
-    ensures faulted { IfErr result (λ e. e ≢ RunError.WriteFault → FirstAreAnswered (IsLineAnswer judging)
-        (R.remaining reader.old) (W.contents writer.old) (W.contents writer.new)) }
-    ensures error { IfErr result (λ e. (e ≡ RunError.Memory) ⊎ ((e ≡ RunError.ReadFault) ⊎ (e ≡ RunError.WriteFault))) }
+pub fn judge_lines<
+    P: Threads + Wait + Sync + AllocGlobal,
+    R: Source + Drop + Send,
+    W: Write + Drop + Send,
+>(rt: &P, reader: R, writer: W, judging: LineJudging) -> (R, W, Result<Outcome, RunError>)
+    ensures answered { IfOk result.2 (AllAreAnswered (IsLineAnswer judging)
+        (R.remaining reader) (W.contents writer) (W.contents result.1)) }
+    ensures end { OnOk result.2 (IsAtEnd (R.remaining result.0)) }
+    ensures faulted { IfErr result.2 (λ e. e ≢ RunError.WriteFault → FirstAreAnswered (IsLineAnswer judging)
+        (R.remaining reader) (W.contents writer) (W.contents result.1)) }
+    ensures error { IfErr result.2 (λ e. (e ≡ RunError.Memory) ⊎ ((e ≡ RunError.ReadFault) ⊎ (e ≡ RunError.WriteFault))) }
 {
+    let alloc = rt.alloc();
     let each = judging.judging;
-    let judge = LineJudge {
-        alloc: rt.alloc(),
-        judging,
-    };
-    let outcome = answer_lines(rt, rt.alloc(), reader, writer, &judge, each.workers.count())?;
-    Ok(outcome)
+    let judge = LineJudge { alloc, judging };
+    let workers = each.workers.count();
+    let (reader, writer, outcome) = answer_lines(rt, alloc, reader, writer, &judge, workers);
+    match outcome {
+        Ok(outcome) => (reader, writer, Ok(outcome)),
+        Err(fault) => (reader, writer, Err(RunError::from(fault))),
+    }
 }
 
 /// The lines that answer those of an input, and what comes of all.
@@ -65,8 +67,9 @@ pub(crate) fn judge_each<T: Threads + Wait + Sync>(
 {
     let each = judging.judging;
     let judge = LineJudge { alloc, judging };
-    let part = answer_by(rt, alloc, &judge, input, each.workers.count());
-    match (part.outcome, String::from_utf8(part.text)) {
+    let workers = each.workers.count();
+    let (_, text, outcome) = answer_lines(rt, alloc, input, Vec::new(alloc), &judge, workers);
+    match (outcome, String::from_utf8(text)) {
         (Ok(outcome), Ok(text)) => Ok(Answered { text, outcome }),
         _ => Err(RunError::Memory),
     }

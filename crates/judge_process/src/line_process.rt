@@ -18,10 +18,13 @@ use std::time::Clock;
 pub(crate) fn judge_lines_of_process<
     P: Threads + Wait + Sync + AllocGlobal + Input + Print + Eprint + Clock,
 >(rt: &P, judging: LineJudging) -> u8
+where
+    P::Reader: Send,
     ensures { result ≤ 6 }
 {
-    let mut reader = Noticing::of(judging.blank, Waiting::by(rt, rt.reader()));
-    match judge_lines(rt, &mut reader, &mut io::writer(rt), judging) {
+    let reader = Noticing::of(judging.blank, Waiting::by(rt, rt.reader()));
+    let (mut reader, _, outcome) = judge_lines(rt, reader, io::writer(rt), judging);
+    match outcome {
         Ok(outcome) => {
             if let Ok(remarks) = reader.remarks(rt.alloc()) {
                 let _ = rt.eprint(remarks);

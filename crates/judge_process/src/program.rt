@@ -28,6 +28,8 @@ const USAGE_STATUS: u8 = 2;
 pub fn status_of_process<
     P: Env + Threads + Wait + Sync + AllocGlobal + Input + Print + Eprint + Clock,
 >(rt: &P) -> u8
+where
+    P::Reader: Send,
     ensures { result ≤ 6 }
 {
     match task_of_process(rt) {
@@ -44,6 +46,8 @@ fn status_of_order<P: Threads + Wait + Sync + AllocGlobal + Input + Print + Epri
     order: &Order,
     detail: Detail,
 ) -> u8
+where
+    P::Reader: Send,
     ensures { result ≤ 6 }
 {
     match order {

@@ -1,3 +1,4 @@
 mod PlaceLaws
 mod NextLaws
 mod FiledLaws
+pub mod CutLaws

@@ -7,14 +7,14 @@ use Rattle.std.proofs.lemmas.List.{drop-append-le, drop-drop, drop_all, length-a
 use Rattle.std.proofs.lemmas.List.Elements.{All-append, All-nil}
 use Rattle.memchr.specs.Find.{IsFirstByte, is_byte}
 use Rattle.lines.specs.Lines.{lines_of}
-use Rattle.lines.specs.Steps.{IsCut, IsFree, Takes}
+use Rattle.lines.specs.Steps.{IsFree, Takes}
 use Rattle.lines.proofs.FeedLaws.{free-all, free-before, split_at}
 use Rattle.lines.proofs.LineLaws.{lines_of-nil}
 use Rattle.line_workers.specs.declared.place.Place.{Place}
 use Rattle.line_workers.specs.declared.held.Held.{Held}
 use Rattle.line_workers.specs.declared.reading.Next.{Next}
 use Rattle.line_workers.specs.Places.{IsEnd, IsLong, IsPiece, Spans, after_feed, next_lines, rest_from}
-use Rattle.line_workers.specs.Pieces.{HandsOut, IsAfter, IsNext, IsReading, NothingIf, Passed, Passes, TellsLong}
+use Rattle.line_workers.specs.Pieces.{HandsOut, IsAfter, IsCut, IsNext, IsReading, NothingIf, Passed, Passes, HandsOutLong}
 use Rattle.line_workers.proofs.PlaceLaws.{begins, free-end, free-feed}
 
 pub if-ok : {T E : Type 0} (r : Result T E) (P Q : T → Type 0) → ((x : T) → P x → Q x) → IfOk r P → IfOk r Q
@@ -154,12 +154,12 @@ module _ (input : Option (List ℕ)) (most : ℕ) (old new : Held) (reader : Opt
 
   -- ---- a line that is too long
 
-  module _ (tells : TellsLong old new next) (whole : old.whole ≡ 0) (long : most < length old.bytes.items) where
+  module _ (hands : HandsOutLong old new next) (whole : old.whole ≡ 0) (long : most < length old.bytes.items) where
     free-held : IsFree old.bytes.items
     free-held = subst (λ (n : ℕ). IsFree (drop n old.bytes.items)) whole reading.cut.free
 
     long-at : (all behind : List ℕ) → drop old.at.at all ≡ old.bytes.items ++ behind → drop new.at.at all ≡ behind
-    long-at all behind at = later all old.at.at new.at.at (length old.bytes.items) tells.at ∙ ap (λ l. drop (length old.bytes.items) l) at ∙ drop-append_seam old.bytes.items behind
+    long-at all behind at = later all old.at.at new.at.at (length old.bytes.items) hands.at ∙ ap (λ l. drop (length old.bytes.items) l) at ∙ drop-append_seam old.bytes.items behind
 
     is-long : (i : Option (List ℕ)) → IfSome i (λ all. (behind : List ℕ) × (reader ≡ Some behind) × (drop old.at.at all ≡ old.bytes.items ++ behind)) → IsLong i most old.at new.at
     is-long None was = record { line = old.bytes.items; long = long; free = free-held; spans = tt }
@@ -171,23 +171,23 @@ module _ (input : Option (List ℕ)) (most : ℕ) (old new : Held) (reader : Opt
           free = line.free;
           spans = ap lines_of (ap (λ b. next_lines b (drop old.at.at all)) outside ∙ at) ∙ line.whole
               ∙ ap (λ l. (old.bytes.items ++ line.rest) ∷ lines_of l)
-              (sym (ap (λ b. next_lines b (drop new.at.at all)) tells.inside ∙ ap after_feed (long-at all behind at)));
+              (sym (ap (λ b. next_lines b (drop new.at.at all)) hands.inside ∙ ap after_feed (long-at all behind at)));
         }
 
     pub next-long : IsNext input most old.at new reader next
     next-long = record {
-      piece = subst (λ (l : Bool). IsPiece input most old.at new.at l next.bytes.items) (sym tells.long) (is-long input reading.rest);
-      after = subst (λ (last : Bool). IsAfter input new reader last) (sym tells.last_is) (record {
-        cut = tells.cut;
+      piece = subst (λ (l : Bool). IsPiece input most old.at new.at l next.bytes.items) (sym hands.long) (is-long input reading.rest);
+      after = subst (λ (last : Bool). IsAfter input new reader last) (sym hands.last_is) (record {
+        cut = hands.cut;
         rest = rest input reading.rest;
-        inside = subst (λ (b : Bool). NothingIf b new.bytes.items) (sym tells.inside) tells.left;
+        inside = subst (λ (b : Bool). NothingIf b new.bytes.items) (sym hands.inside) hands.left;
       });
     }
       where
         rest : (i : Option (List ℕ)) → IfSome i (λ all. (behind : List ℕ) × (reader ≡ Some behind) × (drop old.at.at all ≡ old.bytes.items ++ behind))
             → IfSome i (λ all. (behind : List ℕ) × (reader ≡ Some behind) × (drop new.at.at all ≡ new.bytes.items ++ behind))
         rest None was = tt
-        rest (Some all) (behind, is, at) = (behind, is, long-at all behind at ∙ ap (λ l. l ++ behind) (sym tells.left))
+        rest (Some all) (behind, is, at) = (behind, is, long-at all behind at ∙ ap (λ l. l ++ behind) (sym hands.left))
 
 -- ---- the rest of a line that is too long
 

@@ -1,13 +1,20 @@
 -- What is read of an input and handed out.
-use Rattle.std.specs.Prelude.{⊤, ◌≡◌, ◌<◌, ◌+◌, ℕ, Bool, true, false, List, [], ◌∷◌, ◌++◌, Option, Some, IfSome, length, take, drop}
+use Rattle.std.specs.Prelude.{⊤, ◌≡◌, ◌<◌, ◌≤◌, ◌+◌, ℕ, Bool, true, false, List, [], ◌∷◌, ◌++◌, Option, Some, IfSome, length, take, drop}
 use Rattle.std.specs.Io.KnownBytes.{Consumes, IsAtEnd}
-use Rattle.lines.specs.Steps.{IsCut, IsFree}
+use Rattle.lines.specs.Lines.{lines_of}
+use Rattle.lines.specs.Steps.{IsFree}
 use Rattle.line_workers.specs.declared.place.Place.{Place}
 use Rattle.line_workers.specs.declared.held.Held.{Held}
 use Rattle.line_workers.specs.declared.held.Stop.{Stop}
 use Rattle.line_workers.specs.declared.held.Stop.TheVariants.{Lines, TooLong, End}
 use Rattle.line_workers.specs.declared.reading.Next.{Next}
 use Rattle.line_workers.specs.Places.{IsEnd, IsPiece}
+
+-- so many bytes are whole lines, and no line feed stands behind them
+pub record IsCut (whole : ℕ) (bytes : List ℕ) : Type 0 where
+  pub within : whole ≤ length bytes
+  pub apart : (more : List ℕ) → lines_of (bytes ++ more) ≡ lines_of (take whole bytes) ++ lines_of (drop whole bytes ++ more)
+  pub free : IsFree (drop whole bytes)
 
 -- nothing is held inside a line that is answered already
 abbrev pub NothingIf : Bool → List ℕ → Type 0
@@ -36,8 +43,8 @@ pub record HandsOut (count : ℕ) (last : Bool) (old new : Held) (next : Next) :
   pub long : next.long ≡ false
   pub last_is : next.last ≡ last
 
--- a line goes on after so many bytes, and all of it that was held was let go
-pub record TellsLong (old new : Held) (next : Next) : Type 0 where
+-- a line that goes on after so many bytes was handed out as too long, and all of it that was held was let go
+pub record HandsOutLong (old new : Held) (next : Next) : Type 0 where
   pub left : new.bytes.items ≡ []
   pub at : new.at.at ≡ old.at.at + length old.bytes.items
   pub inside : new.at.inside ≡ true

@@ -1,6 +1,6 @@
 //! What was read of a stream and is not yet handed out.
-ghost use Rattle.std.specs.Prelude.{◌≡◌, ◌++◌, ℕ, List, [], Option, IfSome, OnOk};
-ghost use Rattle.lines.specs.Steps.{IsCut};
+ghost use Rattle.std.specs.Prelude.{◌≡◌, ◌++◌, ◌+◌, ◌≤◌, ℕ, List, [], Option, IfNone, IfSome, OnOk, length};
+ghost use Rattle.line_workers.specs.Pieces.{IsCut};
 ghost use Rattle.line_workers.specs.Places.{start};
 ghost use Rattle.line_workers.specs.Pieces.{Stops};
 
@@ -51,6 +51,7 @@ impl Held {
         ensures bytes { OnOk result (self.new.bytes.items ≡ self.old.bytes.items ++ bytes.now) }
         ensures cut { OnOk result (IsCut self.new.whole self.new.bytes.items) }
         ensures at { self.new.at ≡ self.old.at }
+        ensures few { length self.new.bytes.items ≤ length self.old.bytes.items + length bytes.now }
     {
         let before = self.bytes.len();
         self.bytes.extend_from_slice(bytes)?;
@@ -62,7 +63,8 @@ impl Held {
 
     /// Why reading stops here, if it does: whole lines are at hand, or the line that is read has more bytes than are read of a line.
     pub(crate) fn stop(&self, most: usize) -> Option<Stop>
-        ensures { IfSome result (λ stop. (reader : Option (List ℕ)) → Stops most stop reader self.now) }
+        ensures stop { IfSome result (λ stop. (reader : Option (List ℕ)) → Stops most stop reader self.now) }
+        ensures short { IfNone result (length self.now.bytes.items ≤ most) }
     {
         if self.whole > 0 {
             return Some(Stop::Lines);

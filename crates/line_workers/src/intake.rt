@@ -26,7 +26,7 @@ pub struct Intake<J: Job, R: Source + Drop> {
 }
 
 impl<J: Job, R: Source + Drop> Model for Intake<J, R> {
-    ghost use Rattle.std.specs.Prelude.{◌≡◌, ◌<◌, Bool, false, true, vec_len};
+    ghost use Rattle.std.specs.Prelude.{◌≡◌, ◌<◌, ◌≤◌, ◌+◌, Bool, false, true, length, vec_len};
     ghost use Rattle.std.specs.Io.KnownBytes.{IsAtEnd};
     ghost use Rattle.line_workers.specs.Places.{IsEnd};
     ghost use Rattle.line_workers.specs.Pieces.{IsReading};
@@ -36,6 +36,7 @@ impl<J: Job, R: Source + Drop> Model for Intake<J, R> {
     ghost view = { λ s. s.over };
 
     ghost invariant = { λ s. (0 < vec_len s.chunk) × (s.most ≡ J.most)
+        × (length s.held.bytes.items ≤ s.most + length s.chunk.items)
         × (s.over ≡ false → IsReading J.input s.held (R.remaining s.reader))
         × (s.ended ≡ true → IsEnd J.input s.held.at × IsAtEnd (R.remaining s.reader)) };
 }

@@ -4,8 +4,6 @@
 //! Everything but [`answer_lines`] and its contract may be changed without asking above.
 #![tactic(auto)]
 
-#[cfg(test)]
-mod devices;
 mod held;
 mod intake;
 mod job;
@@ -14,7 +12,5 @@ mod piece;
 mod place;
 mod reading;
 mod running;
-#[cfg(test)]
-mod tests;
 
 pub use running::answer_lines;

@@ -5,10 +5,9 @@ ghost use Rattle.line_workers.specs.Places.{IsPartOf, IsPiece, Serves};
 use crate::job::Job;
 use crate::place::Place;
 use crate::reading::Next;
-use lines::{Clerk, Part, answer_by};
+use lines::{Clerk, Part, answer_alone};
 use std::alloc::Global;
 use std::marker::{Model, PhantomData};
-use std::thread::Threads;
 
 /// The lines between two places of the input, or one line that is too long.
 #[derive(Drop)]
@@ -46,12 +45,7 @@ impl<J: Job> Piece<J> {
     }
 
     /// Answers the lines.
-    pub(crate) fn answered<T: Threads + Sync, C: Clerk + Sync>(
-        self,
-        rt: &T,
-        alloc: Global,
-        clerk: &C,
-    ) -> Done<J>
+    pub(crate) fn answered<C: Clerk>(self, alloc: Global, clerk: &C) -> Done<J>
         requires { Serves (C.says clerk.now) (C.most clerk.now) J.says J.most }
     {
         let Piece {
@@ -61,7 +55,7 @@ impl<J: Job> Piece<J> {
             bytes,
             ..
         } = self;
-        let part = part_of(rt, alloc, clerk, long, bytes.as_slice());
+        let part = part_of(alloc, clerk, long, bytes.as_slice());
         Done {
             from,
             until,
@@ -96,19 +90,13 @@ impl<J: Job> Model for Done<J> {
 }
 
 // What is made of the lines of some bytes, or of a line that is too long.
-fn part_of<T: Threads + Sync, C: Clerk + Sync>(
-    rt: &T,
-    alloc: Global,
-    clerk: &C,
-    long: bool,
-    bytes: &[u8],
-) -> Part
+fn part_of<C: Clerk>(alloc: Global, clerk: &C, long: bool, bytes: &[u8]) -> Part
     ensures { IsPartOf (C.says clerk.now) (C.most clerk.now) long bytes.now result }
 {
     if long {
         return part_of_long(alloc, clerk);
     }
-    answer_by(rt, alloc, clerk, bytes, 1)
+    answer_alone(alloc, clerk, bytes)
 }
 
 // What is made of any line that is too long.

@@ -1,16 +1,15 @@
 //! Reading what comes next of a stream.
 ghost use Rattle.std.specs.Prelude.{◌≡◌, ◌<◌, ◌≤◌, ◌+◌, [], true, false, IfOk, OnOk, length, vec_len, drop};
 ghost use Rattle.std.specs.Io.KnownBytes.{IsAtEnd};
-ghost use Rattle.lines.specs.Steps.{Gives, IsCut, IsFree, Takes};
-ghost use Rattle.line_workers.specs.Pieces.{HandsOut, IsNext, IsReading, Passes, Stops, TellsLong};
+ghost use Rattle.lines.specs.Steps.{IsFree, Takes};
+ghost use Rattle.line_workers.specs.Pieces.{HandsOut, IsCut, IsNext, IsReading, Passes, Stops, HandsOutLong};
 
 use crate::held::{Held, Stop};
 use crate::job::Job;
 use crate::place::Place;
-use lines::{Fault, MAX_READ_CALLS, Source};
+use lines::{Fault, MAX_READ_CALLS, Source, drop_front, read_once};
 use memchr::memchr;
-use std::alloc::{AllocError, Global};
-use std::io::ErrorKind;
+use std::alloc::Global;
 
 /// What comes next: lines, or one that is too long; and whether nothing comes after them.
 #[derive(Drop)]
@@ -23,7 +22,7 @@ pub struct Next {
     pub last: bool,
 }
 
-/// Reads until lines are at hand, and returns those that are whole, or all at the end; or tells of a line that is too long; or passes
+/// Reads until lines are at hand, and returns those that are whole, or all at the end; or that a line is too long; or passes
 /// over the rest of such a line.
 ///
 /// It fails if memory runs out, or the reader fails, or no line ended in [`MAX_READ_CALLS`] calls.
@@ -36,7 +35,9 @@ pub(crate) fn next_lines<J: Job, R: Source>(
 ) -> Result<Next, Fault>
     requires room { 0 < length chunk.old }
     requires reading { IsReading J.input held.old (R.remaining reader.old) }
-    ensures { IfOk result (IsNext J.input most held.old.at held.new (R.remaining reader.new)) }
+    requires few { length held.old.bytes.items ≤ most + length chunk.old }
+    ensures next { IfOk result (IsNext J.input most held.old.at held.new (R.remaining reader.new)) }
+    ensures few { length held.new.bytes.items ≤ most + length chunk.old }
 {
     if held.at.inside {
         return rest_of_line::<J, R>(alloc, reader, chunk, held, most);
@@ -44,7 +45,7 @@ pub(crate) fn next_lines<J: Job, R: Source>(
     whole_lines::<J, R>(alloc, reader, chunk, held, most)
 }
 
-// Reads until lines are at hand, and returns those that are whole, or all at the end; or tells of a line that is too long.
+// Reads until lines are at hand, and returns those that are whole, or all at the end; or that a line is too long.
 fn whole_lines<J: Job, R: Source>(
     alloc: Global,
     reader: &mut R,
@@ -55,7 +56,9 @@ fn whole_lines<J: Job, R: Source>(
     requires room { 0 < length chunk.old }
     requires reading { IsReading J.input held.old (R.remaining reader.old) }
     requires outside { held.old.at.inside ≡ false }
-    ensures { IfOk result (IsNext J.input most held.old.at held.new (R.remaining reader.new)) }
+    requires few { length held.old.bytes.items ≤ most + length chunk.old }
+    ensures next { IfOk result (IsNext J.input most held.old.at held.new (R.remaining reader.new)) }
+    ensures few { length held.new.bytes.items ≤ most + length chunk.old }
 {
     match fill(reader, chunk, held, most)? {
         Stop::Lines => {
@@ -66,7 +69,7 @@ fn whole_lines<J: Job, R: Source>(
             let count = held.bytes.len();
             hand_out(alloc, held, count, true)
         }
-        Stop::TooLong => tell_long(alloc, held),
+        Stop::TooLong => hand_out_long(alloc, held),
     }
 }
 
@@ -79,10 +82,12 @@ fn fill<R: Source>(
 ) -> Result<Stop, Fault>
     requires room { 0 < length chunk.old }
     requires cut { IsCut held.old.whole held.old.bytes.items }
+    requires few { length held.old.bytes.items ≤ most + length chunk.old }
     ensures taken { OnOk result (Takes (R.remaining reader.old) (R.remaining reader.new) held.old.bytes.items held.new.bytes.items) }
     ensures stop { IfOk result (λ stop. Stops most stop (R.remaining reader.new) held.new) }
     ensures cut { OnOk result (IsCut held.new.whole held.new.bytes.items) }
     ensures at { OnOk result (held.new.at ≡ held.old.at) }
+    ensures few { length held.new.bytes.items ≤ most + length chunk.old }
 {
     for _ in 0..MAX_READ_CALLS {
         if let Some(stop) = held.stop(most) {
@@ -103,6 +108,7 @@ fn read_more<R: Source>(reader: &mut R, chunk: &mut [u8], held: &mut Held) -> Re
     ensures end { IfOk result (λ found. found ≡ true → IsAtEnd (R.remaining reader.new)) }
     ensures cut { OnOk result (IsCut held.new.whole held.new.bytes.items) }
     ensures at { held.new.at ≡ held.old.at }
+    ensures few { length held.new.bytes.items ≤ length held.old.bytes.items + length chunk.old }
 {
     match read_once(reader, chunk)? {
         None => Ok(true),
@@ -113,25 +119,13 @@ fn read_more<R: Source>(reader: &mut R, chunk: &mut [u8], held: &mut Held) -> Re
     }
 }
 
-// Makes one read call. Returns how many bytes it gave, or `None` if it found the end. An interrupted call gave no bytes.
-fn read_once<R: Source>(reader: &mut R, chunk: &mut [u8]) -> Result<Option<usize>, Fault>
-    requires { 0 < length chunk.old }
-    ensures given { IfOk result (Gives (R.remaining reader.old) (R.remaining reader.new) chunk.new) }
-{
-    match reader.call(chunk) {
-        Ok(0) => Ok(None),
-        Ok(count) => Ok(Some(count)),
-        Err(error) if error.kind() == ErrorKind::Interrupted => Ok(Some(0)),
-        Err(_) => Err(Fault::Read),
-    }
-}
-
 // Hands out so many of the first bytes, in which the last line ends.
 fn hand_out(alloc: Global, held: &mut Held, count: usize, last: bool) -> Result<Next, Fault>
     requires within { count ≤ vec_len held.old.bytes }
     requires free { IsFree (drop count held.old.bytes.items) }
     requires outside { held.old.at.inside ≡ false }
-    ensures { IfOk result (HandsOut count last held.old held.new) }
+    ensures handed { IfOk result (HandsOut count last held.old held.new) }
+    ensures few { length held.new.bytes.items ≤ length held.old.bytes.items }
 {
     let mut bytes = Vec::new(alloc);
     bytes.extend_from_slice(&held.bytes[..count])?;
@@ -148,19 +142,10 @@ fn hand_out(alloc: Global, held: &mut Held, count: usize, last: bool) -> Result<
     })
 }
 
-// Drops the first elements.
-fn drop_front(bytes: &mut Vec<u8>, count: usize)
-    requires { count ≤ vec_len bytes.old }
-    ensures { bytes.new.items ≡ drop count bytes.old.items }
-{
-    let len = bytes.len();
-    bytes.copy_within(count..len, 0);
-    bytes.truncate(len - count);
-}
-
-// Tells of a line that is too long, and lets go of its beginning.
-fn tell_long(alloc: Global, held: &mut Held) -> Result<Next, Fault>
-    ensures { IfOk result (TellsLong held.old held.new) }
+// Returns that a line is too long, and lets go of its beginning.
+fn hand_out_long(alloc: Global, held: &mut Held) -> Result<Next, Fault>
+    ensures handed { IfOk result (HandsOutLong held.old held.new) }
+    ensures few { length held.new.bytes.items ≤ length held.old.bytes.items }
 {
     let count = held.bytes.len();
     let Some(at) = held.at.at.checked_add(count as u64) else {
@@ -188,7 +173,8 @@ fn rest_of_line<J: Job, R: Source>(
     requires room { 0 < length chunk.old }
     requires reading { IsReading J.input held.old (R.remaining reader.old) }
     requires inside { held.old.at.inside ≡ true }
-    ensures { IfOk result (IsNext J.input most held.old.at held.new (R.remaining reader.new)) }
+    ensures next { IfOk result (IsNext J.input most held.old.at held.new (R.remaining reader.new)) }
+    ensures few { length held.new.bytes.items ≤ length chunk.old }
 {
     let (count, last) = pass_over(reader, chunk, held)?;
     let Some(at) = held.at.at.checked_add(count) else {
@@ -216,6 +202,7 @@ fn pass_over<R: Source>(
     ensures passed { IfOk result (λ r. Passes (R.remaining reader.old) (R.remaining reader.new) r.0 held.new.bytes.items r.1) }
     ensures cut { OnOk result (IsCut held.new.whole held.new.bytes.items) }
     ensures at { OnOk result (held.new.at ≡ held.old.at) }
+    ensures few { length held.new.bytes.items ≤ length chunk.old }
 {
     let mut passed: u64 = 0;
     for _ in 0..MAX_READ_CALLS {

@@ -137,7 +137,7 @@ fn work<J: Job, T: Threads + Wait + Sync, R: Source + Drop, W: Write + Drop, C: 
         let Some(piece) = taken else {
             break;
         };
-        let done = piece.answered(rt, alloc, clerk);
+        let done = piece.answered(alloc, clerk);
         if !hand_over(rt, outlet, moved, ahead, done) {
             break;
         }

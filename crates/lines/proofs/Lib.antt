@@ -3,7 +3,5 @@ pub mod FeedLaws
 pub mod FeedingLaws
 pub mod FindingLaws
 pub mod ReadCallLaws
-pub mod BoundLaws
-pub mod PassLaws
 pub mod AnswerLaws
-pub mod TurnLaws
+pub mod TakingLaws

@@ -4,7 +4,7 @@ ghost use Rattle.lines.specs.ReadCalls.{CallsAtMost};
 ghost use Rattle.lines.specs.Steps.{EndsIn, FindsEnd, IsFree, IsStreamOver, TakesSome};
 
 use crate::fault::Fault;
-use crate::filling::{MAX_READ_CALLS, read_once};
+use crate::read_call::{MAX_READ_CALLS, read_once};
 use crate::source::Source;
 use memchr::memchr;
 

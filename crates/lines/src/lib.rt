@@ -1,33 +1,30 @@
-//! Answering a stream line by line: each line of what is read is answered by a line of what is written, in order, by several
-//! threads side by side. A [`Clerk`] makes the answers.
+//! Lines of a stream, and who answers them: a [`Clerk`] answers a line by a line, and a [`LineReader`] reads a stream line by line.
+//! Answering a whole stream by several workers is `line_workers`, which uses this.
 #![tactic(auto)]
 
 mod answering;
 mod blank;
 mod clerk;
-mod dividing;
+mod dropping;
 mod fault;
 mod feeding;
-mod filling;
 mod found;
-mod held;
 mod line_reader;
 mod outcome;
 mod part;
-mod passing;
-mod running;
+mod read_call;
 mod source;
 mod writing;
 
+pub use answering::answer_alone;
 pub use blank::is_blank;
 pub use clerk::Clerk;
-pub use dividing::answer_by;
+pub use dropping::drop_front;
 pub use fault::Fault;
-pub use filling::MAX_READ_CALLS;
 pub use found::Found;
 pub use line_reader::LineReader;
 pub use outcome::Outcome;
 pub use part::Part;
-pub use running::answer_lines;
+pub use read_call::{MAX_READ_CALLS, read_once};
 pub use source::Source;
 pub use writing::write_whole;

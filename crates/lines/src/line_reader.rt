@@ -4,11 +4,11 @@ ghost use Rattle.lines.specs.LineReaders.{FindsNext, IsFirst, IsOver};
 ghost use Rattle.lines.specs.ReadCalls.{CallsAtMost};
 ghost use Rattle.lines.specs.Steps.{EndsIn, IsStreamOver, TakesSome};
 
+use crate::dropping::drop_front;
 use crate::fault::Fault;
 use crate::feeding::{LineEnd, first_end, read_to_end};
-use crate::filling::{CHUNK_BYTES, MAX_READ_CALLS};
 use crate::found::Found;
-use crate::held::drop_front;
+use crate::read_call::{CHUNK_BYTES, MAX_READ_CALLS};
 use crate::source::Source;
 use std::alloc::{AllocError, Global};
 use std::marker::Model;

@@ -1,9 +1,9 @@
-use Rattle.std.proofs.Common.{refl, ◌∙◌}
-use Rattle.lines.proofs.TurnLaws.{takes-more, takes-none}
+use Rattle.std.proofs.Common.{refl, rules, ◌∙◌}
+use Rattle.lines.proofs.TakingLaws.{takes-more, takes-none}
 use Rattle.line_workers.proofs.reading.fill.Goals as goal
 
 pub loop-init : goal.loop-init
-loop-init g c = record { takes = takes-none _ _; cut = c.requires.cut; at = refl }
+loop-init g c = record { takes = takes-none _ _; cut = c.requires.cut; at = refl; few = c.requires.few; chunk = refl }
 
 pub returns-then-branch-clause-taken : goal.returns-then-branch-clause-taken
 returns-then-branch-clause-taken g c = takes-more _ _ _ _ _ _ c.loop.invariant.takes c.in_ok-read_more.ensures.taken
@@ -13,4 +13,6 @@ loop-preserved g c = record {
   takes = takes-more _ _ _ _ _ _ c.loop.invariant.takes c.in_ok-read_more.ensures.taken;
   cut = c.in_ok-read_more.ensures.cut;
   at = c.read_more.ensures.at ∙ c.loop.invariant.at;
+  few = search rules;
+  chunk = search rules;
 }

@@ -1,10 +1,10 @@
 use Rattle.std.proofs.Common.{List, ℕ, refl, rules, sym, subst}
-use Rattle.lines.specs.Steps.{IsCut}
-use Rattle.lines.proofs.FeedLaws.{cut-free}
+use Rattle.line_workers.specs.Pieces.{IsCut}
+use Rattle.line_workers.proofs.CutLaws.{cut-free}
 use Rattle.line_workers.proofs.reading.hand_out.Goals as goal
 
-pub returns : goal.returns
-returns c = record {
+pub returns-clause-handed : goal.returns-clause-handed
+returns-clause-handed c = record {
   bytes = search rules;
   left = c.drop_front.ensures;
   at = search rules;

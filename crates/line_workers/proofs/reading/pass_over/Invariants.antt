@@ -1,5 +1,5 @@
 use Rattle.std.proofs.Common.{◌≡◌, []}
-use Rattle.lines.specs.Steps.{IsCut}
+use Rattle.line_workers.specs.Pieces.{IsCut}
 use Rattle.line_workers.specs.Pieces.{Passed}
 use Rattle.line_workers.proofs.reading.pass_over.Given as goal
 

@@ -4,7 +4,7 @@ use Rattle.lines.specs.Steps.{Takes}
 use Rattle.lines.specs.declared.feeding.LineEnd.TheVariants.{Feed, TooLong}
 use Rattle.lines.proofs.FeedingLaws.{feed_after, free_after, free_long}
 use Rattle.lines.proofs.ReadCallLaws.{at_most_more, calls_more, calls_none}
-use Rattle.lines.proofs.TurnLaws.{takes-more, takes-none}
+use Rattle.lines.proofs.TakingLaws.{takes-more, takes-none}
 use Rattle.lines.proofs.feeding.read_to_end.Goals as goal
 
 pub loop-init : goal.loop-init

@@ -1,6 +1,6 @@
 use Rattle.std.proofs.Common.{List, ℕ, sym, subst}
-use Rattle.lines.specs.Steps.{IsCut}
-use Rattle.lines.proofs.FeedLaws.{cut-nothing}
+use Rattle.line_workers.specs.Pieces.{IsCut}
+use Rattle.line_workers.proofs.CutLaws.{cut-nothing}
 use Rattle.line_workers.proofs.held.Held.new.Goals as goal
 
 pub returns-clause-cut : goal.returns-clause-cut

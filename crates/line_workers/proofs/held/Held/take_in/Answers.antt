@@ -1,7 +1,7 @@
 use Rattle.std.proofs.Common.{◌≡◌, ◌+◌, ◌++◌, ℕ, List, length, rules, subst, sym}
 use Rattle.memchr.specs.Find.{IsLastByte, is_byte}
-use Rattle.lines.specs.Steps.{IsCut}
-use Rattle.lines.proofs.FeedLaws.{cut-found, cut-unfound}
+use Rattle.line_workers.specs.Pieces.{IsCut}
+use Rattle.line_workers.proofs.CutLaws.{cut-found, cut-unfound}
 use Rattle.line_workers.proofs.held.Held.take_in.Goals as goal
 
 pub returns-in-Some-clause-cut : goal.returns-in-Some-clause-cut

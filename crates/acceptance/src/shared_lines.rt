@@ -1,10 +1,12 @@
-//! Tests of whole streams over readers and writers in memory, by one to four workers.
+//! Streams that several workers answer, over readers and writers in memory.
 
-use crate::devices::{Client, Device, Echo, Sink};
-use crate::running::answer_lines;
+use crate::devices::{Device, Failing, NEVER, Sink};
+use crate::line_clients::{Client, Counting, Echo};
+use line_workers::answer_lines;
 use lines::{Fault, Outcome};
 use memchr::memrchr;
 use std::alloc::{AllocError, Global};
+use std::io::ErrorKind;
 use std::sync::Wait;
 use std::sync::atomic::AtomicU64;
 use std::test::Fail;
@@ -17,22 +19,25 @@ struct Run {
     result: Result<Outcome, Fault>,
 }
 
-/// Answers a text by so many workers. The reader gives so many bytes a call, and the writer fails once it took so many calls.
+/// Each call fails from this one on.
+fn failing_from(first: u64) -> Failing {
+    Failing {
+        first,
+        end: u64::MAX,
+        kind: ErrorKind::Other,
+    }
+}
+
+/// Answers a text by so many workers, over a writer whose calls fail so.
 fn answer<P: Threads + Wait + Sync + AllocGlobal>(
     rt: &P,
     device: Device<'_>,
-    calls: u64,
+    failing: Failing,
     workers: usize,
 ) -> Run {
-    let answers = AtomicU64::new(0);
-    let sink = Sink {
-        taken: Vec::new(rt.alloc()),
-        piece: 1_000,
-        calls,
-        answers: &answers,
-    };
-    let echo = Echo { alloc: rt.alloc() };
-    let (_, sink, result) = answer_lines(rt, rt.alloc(), device, sink, &echo, workers);
+    let alloc = rt.alloc();
+    let sink = Sink::new(alloc, 1_000, failing);
+    let (_, sink, result) = answer_lines(rt, alloc, device, sink, &Echo { alloc }, workers);
     Run {
         text: sink.taken,
         result,
@@ -49,15 +54,11 @@ fn many_lines(alloc: Global) -> Result<Vec<u8>, AllocError> {
 }
 
 #[test]
-fn answers_stand_in_the_order_of_the_lines(rt: HostRuntime) -> Result<(), Fail> {
+fn answers_are_in_the_order_of_the_lines(rt: HostRuntime) -> Result<(), Fail> {
     let text = many_lines(rt.alloc())?;
     for workers in 0..5 {
-        let device = Device {
-            text: text.as_slice(),
-            piece: 100,
-            broken: false,
-        };
-        let done = answer(&rt, device, u64::MAX, workers);
+        let device = Device::new(text.as_slice(), 0, 100, NEVER);
+        let done = answer(&rt, device, NEVER, workers);
         assert!(rt; done.result == Ok(Outcome::Met), "by {workers}");
         assert!(rt; done.text == text, "by {workers}");
     }
@@ -74,18 +75,23 @@ fn whole_lines_are_answered_while_the_next_is_not_whole(rt: HostRuntime) -> Resu
             answers: &answers,
             seen: 0,
         };
-        let sink = Sink {
-            taken: Vec::new(rt.alloc()),
-            piece: 1_000,
-            calls: u64::MAX,
+        let counting = Counting {
+            sink: Sink::new(rt.alloc(), 1_000, NEVER),
             answers: &answers,
         };
         let echo = Echo { alloc: rt.alloc() };
-        let (client, sink, result) = answer_lines(&rt, rt.alloc(), client, sink, &echo, workers);
+        let (client, counting, result) = answer_lines(
+            &rt,
+            rt.alloc(),
+            client,
+            counting,
+            &echo,
+            workers,
+        );
         assert!(rt; result == Ok(Outcome::Met), "by {workers}");
         assert_eq!(rt; client.seen, 2, "by {workers}");
         assert!(rt;
-            sink.taken.as_slice() == b"one\ntwo\nthree\n".as_slice(),
+            counting.sink.taken.as_slice() == b"one\ntwo\nthree\n".as_slice(),
             "by {workers}"
         );
     }
@@ -96,12 +102,8 @@ fn whole_lines_are_answered_while_the_next_is_not_whole(rt: HostRuntime) -> Resu
 fn a_write_that_fails_ends_the_run(rt: HostRuntime) -> Result<(), Fail> {
     let text = many_lines(rt.alloc())?;
     for workers in 1..5 {
-        let device = Device {
-            text: text.as_slice(),
-            piece: 100,
-            broken: false,
-        };
-        let done = answer(&rt, device, 20, workers);
+        let device = Device::new(text.as_slice(), 0, 100, NEVER);
+        let done = answer(&rt, device, failing_from(21), workers);
         assert!(rt; done.result == Err(Fault::Write), "by {workers}");
         assert!(rt;
             text.as_slice().starts_with(done.text.as_slice()),
@@ -120,23 +122,19 @@ fn workers_that_are_ahead_wait_for_a_slow_line(rt: HostRuntime) -> Result<(), Fa
         text.extend_from_slice(b"abc\n")?;
     }
     for workers in 1..5 {
-        for (calls, wanted) in [
-            (u64::MAX, Ok(Outcome::Met)),
-            (1, Err(Fault::Write)),
-            (0, Err(Fault::Write)),
+        for (failing, wanted) in [
+            (NEVER, Ok(Outcome::Met)),
+            (failing_from(2), Err(Fault::Write)),
+            (failing_from(1), Err(Fault::Write)),
         ] {
-            let device = Device {
-                text: text.as_slice(),
-                piece: 5,
-                broken: false,
-            };
-            let done = answer(&rt, device, calls, workers);
+            let device = Device::new(text.as_slice(), 0, 5, NEVER);
+            let done = answer(&rt, device, failing, workers);
             assert!(rt; done.result == wanted, "by {workers}");
             assert!(rt;
                 text.as_slice().starts_with(done.text.as_slice()),
                 "by {workers}"
             );
-            assert!(rt; calls < 2 || done.text == text, "by {workers}");
+            assert!(rt; wanted.is_err() || done.text == text, "by {workers}");
         }
     }
     Ok(())
@@ -151,12 +149,8 @@ fn what_was_read_before_a_fault_is_answered(rt: HostRuntime) -> Result<(), Fail>
         None => &[],
     };
     for workers in 1..5 {
-        let device = Device {
-            text: front,
-            piece: 100,
-            broken: true,
-        };
-        let done = answer(&rt, device, u64::MAX, workers);
+        let device = Device::new(front, 0, 100, failing_from(72));
+        let done = answer(&rt, device, NEVER, workers);
         assert!(rt; done.result == Err(Fault::Read), "by {workers}");
         assert!(rt; done.text.as_slice() == whole, "by {workers}");
     }
@@ -173,12 +167,8 @@ fn a_line_that_is_too_long_is_answered_and_passed_over(rt: HostRuntime) -> Resul
     text.extend_from_slice(b"\nab\nxxxxxxxxxxxx")?;
     for workers in 1..5 {
         for piece in [1, 5, 9, 100_000] {
-            let device = Device {
-                text: text.as_slice(),
-                piece,
-                broken: false,
-            };
-            let done = answer(&rt, device, u64::MAX, workers);
+            let device = Device::new(text.as_slice(), 0, piece, NEVER);
+            let done = answer(&rt, device, NEVER, workers);
             assert!(rt;
                 done.result == Ok(Outcome::Refused),
                 "by {workers}, {piece}"

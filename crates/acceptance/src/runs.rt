@@ -91,18 +91,16 @@ fn an_input_is_as_long_as_may_be(rt: HostRuntime) -> Result<(), Fail> {
     Ok(())
 }
 
-const FAILING_BEHIND_THE_LIMIT: Failing = Failing {
+const FAILING_AFTER_THE_LIMIT: Failing = Failing {
     first: 1026,
     end: u64::MAX,
     kind: ErrorKind::Other,
 };
 
 #[test]
-fn what_is_behind_the_read_that_passes_the_limit_is_never_learned(
-    rt: HostRuntime,
-) -> Result<(), Fail> {
+fn nothing_is_read_after_the_limit_is_passed(rt: HostRuntime) -> Result<(), Fail> {
     let blanks = MAX_INPUT_BYTES + 1;
-    let device = Device::new(b"", blanks, PIECE, FAILING_BEHIND_THE_LIMIT);
+    let device = Device::new(b"", blanks, PIECE, FAILING_AFTER_THE_LIMIT);
     let said = said_of_reads(&rt, device)?;
     assert_eq!(rt; said.as_str(), "1 refused 9 after 1025 reads");
     Ok(())

@@ -14,11 +14,11 @@ pub fn said_over<P: Threads + Wait + Sync + AllocGlobal>(
     sink: &mut Sink,
 ) -> Result<String, AllocError> {
     let ended = run(rt, device, sink, &order);
-    told(rt.alloc(), ended, sink)
+    said_of(rt.alloc(), ended, sink)
 }
 
 /// The status of a run that ended so, what it wrote, and its line where it failed. A percent sign means a line feed.
-pub fn told(
+pub fn said_of(
     alloc: Global,
     ended: Result<Outcome, RunError>,
     sink: &Sink,

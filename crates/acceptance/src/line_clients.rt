@@ -1,13 +1,14 @@
-//! Readers, writers and a clerk for the tests.
+//! Who writes lines and waits for their answers, and who answers them.
 ghost use Rattle.std.specs.Prelude.{◌≡◌, ◌++◌, OnErr, OnOk};
 ghost use Rattle.lines.specs.Lines.{ended};
 
+use crate::devices::Sink;
 use lines::{Clerk, Fault, Outcome};
 use memchr::memchr_iter;
 use std::alloc::Global;
 use std::hint::spin_loop;
 use std::io;
-use std::io::{ErrorKind, Read, Write};
+use std::io::{Read, Write};
 use std::sync::atomic::{AtomicU64, Ordering};
 
 /// How often a client looks for answers before it gives up.
@@ -24,7 +25,7 @@ pub(crate) struct Echo {
 
 impl Clerk for Echo {
     ghost use Rattle.std.specs.Prelude.{⊤};
-    ghost use Rattle.line_workers.specs.declared.devices.TheConstants.{LIMIT as MOST};
+    ghost use Rattle.acceptance.specs.declared.line_clients.TheConstants.{LIMIT as MOST};
 
     ghost says = { λ _ _ _ _. ⊤ };
 
@@ -71,27 +72,7 @@ fn append_line(alloc: Global, line: &[u8], text: &mut Vec<u8>) -> Result<(), Fau
     Ok(())
 }
 
-/// A reader that gives a text, some bytes a call, and fails at the end if it is broken.
-#[derive(Drop)]
-pub(crate) struct Device<'a> {
-    pub text: &'a [u8],
-    pub piece: usize,
-    pub broken: bool,
-}
-
-impl Read for Device<'_> {
-    fn read(&mut self, buffer: &mut [u8]) -> io::Result<usize> {
-        if self.broken && self.text.is_empty() {
-            return Err(io::Error::from(ErrorKind::Other));
-        }
-        let count = self.text.len().min(buffer.len()).min(self.piece);
-        buffer[..count].copy_from_slice(&self.text[..count]);
-        self.text = &self.text[count..];
-        Ok(count)
-    }
-}
-
-/// A reader that gives one text, and gives another only once two answers are written, or it has given up. It tells how many it saw.
+/// A reader that gives one text, and gives another only once two answers are written, or it has given up. It keeps how many it saw.
 #[derive(Drop)]
 pub(crate) struct Client<'a> {
     pub first: &'a [u8],
@@ -128,26 +109,18 @@ fn seen_answers(answers: &AtomicU64) -> u64 {
     answers.load(Ordering::SeqCst)
 }
 
-/// A writer that counts lines, takes at most `piece` bytes a call, and fails once it took so many calls.
+/// A writer that counts the lines that it takes.
 #[derive(Drop)]
-pub(crate) struct Sink<'a> {
-    pub taken: Vec<u8>,
-    pub piece: usize,
-    pub calls: u64,
+pub(crate) struct Counting<'a> {
+    pub sink: Sink,
     pub answers: &'a AtomicU64,
 }
 
-impl Write for Sink<'_> {
+impl Write for Counting<'_> {
     fn write(&mut self, buffer: &[u8]) -> io::Result<usize> {
-        if self.calls == 0 {
-            return Err(io::Error::from(ErrorKind::Other));
-        }
-        self.calls -= 1;
-        let count = buffer.len().min(self.piece);
-        let bytes = &buffer[..count];
-        self.taken.extend_from_slice(bytes)?;
-        self.answers
-            .fetch_add(memchr_iter(b'\n', bytes).count() as u64, Ordering::SeqCst);
+        let count = self.sink.write(buffer)?;
+        let lines = memchr_iter(b'\n', &buffer[..count]).count();
+        self.answers.fetch_add(lines as u64, Ordering::SeqCst);
         Ok(count)
     }
 

@@ -1,7 +1,7 @@
 //! Histories in lines, in pieces and over readers that fail.
 
 use crate::devices::{Device, Failing, NEVER, Sink};
-use crate::running::{said_over, told};
+use crate::running::{said_of, said_over};
 use engine::{
     BlankLines, Judging, LineJudging, MAX_INPUT_BYTES, MAX_READ_CALLS, Order, Workers, judge_lines,
 };
@@ -86,10 +86,10 @@ fn said<P: Threads + Wait + Sync + AllocGlobal>(
         return String::from_str(rt.alloc(), "no order");
     };
     let text = text.replace(rt.alloc(), "%", "\n")?;
-    let mut device = Device::new(text.as_bytes(), 0, piece, NEVER);
-    let mut sink = Sink::new(rt.alloc(), 64, NEVER);
-    let judged = judge_lines(rt, &mut device, &mut sink, judging);
-    told(rt.alloc(), judged, &sink)
+    let device = Device::new(text.as_bytes(), 0, piece, NEVER);
+    let sink = Sink::new(rt.alloc(), 64, NEVER);
+    let (_, sink, judged) = judge_lines(rt, device, sink, judging);
+    said_of(rt.alloc(), judged, &sink)
 }
 
 /// How so many workers judge, where a list names what is expected of each line, or is `-`, and has `skip` where blank lines are skipped.
@@ -156,10 +156,10 @@ const FAILING_IN_THE_SECOND_LINE: Failing = Failing {
 #[test]
 fn what_was_answered_before_a_fault_stays(rt: HostRuntime) -> Result<(), Fail> {
     let judging = judging_of(4, "-").expect(&rt, "an order");
-    let mut device = Device::new(TWO_LINES.as_bytes(), 0, 1, FAILING_IN_THE_SECOND_LINE);
-    let mut sink = Sink::new(rt.alloc(), 64, NEVER);
-    let judged = judge_lines(&rt, &mut device, &mut sink, judging);
-    let said = told(rt.alloc(), judged, &sink)?;
+    let device = Device::new(TWO_LINES.as_bytes(), 0, 1, FAILING_IN_THE_SECOND_LINE);
+    let sink = Sink::new(rt.alloc(), 64, NEVER);
+    let (_, sink, judged) = judge_lines(&rt, device, sink, judging);
+    let said = said_of(rt.alloc(), judged, &sink)?;
     assert_eq!(rt; said.as_str(), "3 cc yes; cm yes; ccv yes%read fault");
     Ok(())
 }
@@ -169,10 +169,10 @@ fn too_long_a_line_is_refused_and_passed_over(rt: HostRuntime) -> Result<(), Fai
     let judging = judging_of(2, "cc").expect(&rt, "an order");
     let blanks = MAX_INPUT_BYTES + 65_537;
     let before = Device::new(b"[\"memory\",[]]\n", blanks, 65_536, NEVER);
-    let behind = Device::new(b" \n[\"memory\",[]]\n", 0, 65_536, NEVER);
-    let mut sink = Sink::new(rt.alloc(), 64, NEVER);
-    let judged = judge_lines(&rt, &mut before.chain(behind), &mut sink, judging);
-    let said = told(rt.alloc(), judged, &sink)?;
+    let after = Device::new(b" \n[\"memory\",[]]\n", 0, 65_536, NEVER);
+    let sink = Sink::new(rt.alloc(), 64, NEVER);
+    let (_, sink, judged) = judge_lines(&rt, before.chain(after), sink, judging);
+    let said = said_of(rt.alloc(), judged, &sink)?;
     assert_eq!(rt;
         said.as_str(),
         "1 cc yes; cm yes; ccv yes%refused 9%cc yes; cm yes; ccv yes%"
@@ -184,10 +184,10 @@ fn too_long_a_line_is_refused_and_passed_over(rt: HostRuntime) -> Result<(), Fai
 fn a_line_is_passed_over_in_so_many_read_calls(rt: HostRuntime) -> Result<(), Fail> {
     let judging = judging_of(2, "cc").expect(&rt, "an order");
     let before = Device::new(b"", MAX_INPUT_BYTES + 65_537, 65_536, NEVER);
-    let behind = Device::new(b"", MAX_READ_CALLS as usize + 1, 1, NEVER);
-    let mut sink = Sink::new(rt.alloc(), 64, NEVER);
-    let judged = judge_lines(&rt, &mut before.chain(behind), &mut sink, judging);
-    let said = told(rt.alloc(), judged, &sink)?;
+    let after = Device::new(b"", MAX_READ_CALLS as usize + 1, 1, NEVER);
+    let sink = Sink::new(rt.alloc(), 64, NEVER);
+    let (_, sink, judged) = judge_lines(&rt, before.chain(after), sink, judging);
+    let said = said_of(rt.alloc(), judged, &sink)?;
     assert_eq!(rt; said.as_str(), "3 refused 9%read fault");
     Ok(())
 }
