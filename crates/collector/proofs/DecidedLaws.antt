@@ -14,7 +14,7 @@ use Rattle.memory_order.specs.Relations.{CO, CF}
 use Rattle.memory_order.specs.SourceOrder.{IsCyclic, LacksSource}
 use Rattle.bad_patterns.specs.declared.kind.Kind.TheVariants.{CyclicCO, ThinAirRead, WriteCOInitRead, WriteCORead, WriteHBInitRead, CyclicHB, CyclicCF}
 use Rattle.bad_patterns.specs.Kinds.{is_against, IsFreeOf}
-use Rattle.decision.proofs.Completeness.{free-meets}
+use Rattle.long_decision.proofs.Completeness.{free-meets}
 use Rattle.memory_order.specs.HappenedBeforePatterns.{HasHBCycle, HasStartOverwrittenInHB}
 use Rattle.certify_cm.specs.ByTurns.{HasNoTurns}
 use Rattle.pattern_search.specs.Searches.{HasLargeHB, IsFreeOrLarge}

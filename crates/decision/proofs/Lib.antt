@@ -1,3 +1,2 @@
-pub mod Completeness
 pub mod Decided
-pub mod SessionOrders
+pub mod WithoutLimits

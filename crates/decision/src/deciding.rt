@@ -1,26 +1,25 @@
 //! The decision whether a memory history meets a criterion.
 
-ghost use Rattle.std.specs.Prelude.{◌≢◌, IfOk, IsTrue, None};
+ghost use Rattle.std.specs.Prelude.{◌≢◌, IfOk, None};
 ghost use Rattle.bad_patterns.specs.Kinds.{IsFreeOf};
 ghost use Rattle.cert_check.specs.declared.criterion.Criterion.{Criterion as AnyCriterion};
-ghost use Rattle.cert_check.specs.declared.criterion.Criterion.TheVariants.{Cc, Ccv, Cm};
+ghost use Rattle.cert_check.specs.declared.criterion.Criterion.TheVariants.{Cc, Cm};
 ghost use Rattle.decision.specs.Decisions.{IsDecided, decision_for};
-ghost use Rattle.cert_check.specs.Criteria.{Meets};
+ghost use Rattle.long_decision.specs.LongDecisions.{AreDecided, IsLongDecided};
 ghost use Rattle.memory_order.specs.HappenedBeforePatterns.{HasHBCycle, HasStartOverwrittenInHB};
-ghost use Rattle.memory_order.specs.Memory.{IsDifferentiated, memory_answer};
+ghost use Rattle.memory_order.specs.Memory.{IsDifferentiated};
 ghost use Rattle.pattern_search.specs.Searches.{AreSearched};
 
-use crate::session_orders::is_shown_by_orders;
+use crate::lengthened::lengthened;
 use bad_patterns::laws::present_kinds_exclude_criteria;
 use bad_patterns::{Kind, Pattern};
 use cert_check::Criterion;
-use memory_order::{CausalOrder, IndexedMemory};
-use pattern_search::{Searched, SearchedKinds, find_conflicts, find_in, search_happened_before};
+use history::History;
+use long_decision::{CallingThread, LongDecision, LongDecisions, decide_long};
+use memory_order::IndexedMemory;
+use objects::Memory;
+use pattern_search::{Searched, SearchedKinds, find_in, search_happened_before};
 use std::alloc::{AllocError, Global};
-
-/// The number of pairs missing from the causal order at which the happened-before relations of a history cost more than orders of
-/// its sessions.
-const FEW_PAIRS: u32 = 64;
 
 /// What is decided of a memory history and a criterion.
 #[derive(Debug, Drop)]
@@ -41,13 +40,12 @@ pub enum Decision {
 ///
 /// It does exactly where no kind of bad pattern against the criterion is present (Bouajjani, Enea, Guerraoui and Hamza, "On
 /// Verifying Causal Consistency", POPL 2017), so the search is for kinds, and no certificate is made. Where it does not, the
-/// decision names the first kind that is present, whether a pattern of it is found or not. For causal memory, orders of the
-/// sessions' pasts are tried before happened-before relations without a limit on their pairs are made. `Open` exactly where
-/// values are not distinct.
+/// decision names the first kind that is present, whether a pattern of it is found or not. For causal memory it is decided first whether
+/// the history meets the criterion, as for a long history. `Open` exactly where values are not distinct.
 ///
-/// Fails for want of memory alone. O(n k (k + log n)) for n operations of k sessions, and for causal memory besides, where no
-/// such orders are found, for each session O(n (log n + k^2) + m k log n) for m pairs that the happened-before relation of
-/// its last operation has more than the causal order.
+/// Fails for want of memory alone. O(n k (k + log n)) for n operations of k sessions, and for causal memory besides, where it is not met, for
+/// each session O(n (log n + k^2) + m k log n) for m pairs that the happened-before relation of its last operation has more than the
+/// causal order.
 pub fn decide(
     alloc: Global,
     memory: &IndexedMemory,
@@ -60,7 +58,10 @@ pub fn decide(
     }
     match criterion {
         Criterion::Cc => decide_by_patterns(alloc, memory, Criterion::Cc),
-        Criterion::Cm => decide_causal_memory(alloc, memory),
+        Criterion::Cm => {
+            let whether = decide_whether(alloc, memory.history())?;
+            decide_which(alloc, memory, Criterion::Cm, whether.cm)
+        }
         Criterion::Ccv => decide_by_patterns(alloc, memory, Criterion::Ccv),
     }
 }
@@ -73,46 +74,75 @@ pub struct Decisions {
     pub ccv: Decision,
 }
 
-/// What `decide` decides for each criterion. If no kind against causal consistency is present in a history, these kinds are
-/// looked for once.
+/// What `decide` decides for each criterion: whether it is met for all three at once, and then the kind for each that is not.
 ///
-/// Fails for want of memory alone. What `decide` costs for causal memory and for causal convergence.
+/// Fails for want of memory alone. What [`decide_whether`] costs, and for each criterion that is not met what `decide` costs.
 pub fn decide_all(alloc: Global, memory: &IndexedMemory) -> Result<Decisions, AllocError>
     ensures { IfOk result (λ all. (criterion : AnyCriterion) → IsDecided memory.now criterion (decision_for all criterion)) }
 {
-    if !memory.is_differentiated() {
-        return Ok(Decisions {
-            cc: Decision::Open,
-            cm: Decision::Open,
-            ccv: Decision::Open,
-        });
-    }
-    let Some(pattern) = find_in(alloc, memory, Criterion::Cc)? else {
-        return decide_all_consistent(alloc, memory);
-    };
-    let cm = decide(alloc, memory, Criterion::Cm)?;
-    let ccv = decide(alloc, memory, Criterion::Ccv)?;
-    Ok(Decisions {
-        cc: Decision::Excluded(pattern),
-        cm,
-        ccv,
-    })
+    let whether = decide_whether(alloc, memory.history())?;
+    decide_kinds(alloc, memory, whether)
 }
 
-/// What is decided of a memory history without a pattern against causal consistency.
-fn decide_all_consistent(alloc: Global, memory: &IndexedMemory) -> Result<Decisions, AllocError>
-    requires distinct { IsDifferentiated memory.now }
-    requires free { IsFreeOf memory.now Cc }
+/// Whether a memory history meets each criterion, as [`decide_long`] decides it in the calling thread. `Open` exactly where values are not
+/// distinct. The kind that it names for causal memory may be another than the first that is present.
+///
+/// Fails for want of memory alone. O(n (k + log n)) for n operations of k sessions.
+pub fn decide_whether(alloc: Global, h: &History<Memory>) -> Result<LongDecisions, AllocError>
+    ensures { IfOk result (AreDecided h.now) }
+{
+    let long = lengthened(alloc, h)?;
+    decide_long(&CallingThread, alloc, &long)
+}
+
+/// What `decide` decides for each criterion, where it is known whether the history meets it.
+///
+/// Fails for want of memory alone. For each criterion that is not met what `decide` costs.
+pub fn decide_kinds(
+    alloc: Global,
+    memory: &IndexedMemory,
+    whether: LongDecisions,
+) -> Result<Decisions, AllocError>
+    requires { AreDecided memory.now whether }
     ensures { IfOk result (λ all. (criterion : AnyCriterion) → IsDecided memory.now criterion (decision_for all criterion)) }
 {
-    memory.history().value_is_history();
-    let cm = decide_consistent(alloc, memory)?;
-    let ccv = decide_convergent(alloc, memory)?;
-    Ok(Decisions {
-        cc: Decision::Meets,
-        cm,
-        ccv,
-    })
+    let cc = decide_which(alloc, memory, Criterion::Cc, whether.cc)?;
+    let cm = decide_which(alloc, memory, Criterion::Cm, whether.cm)?;
+    let ccv = decide_which(alloc, memory, Criterion::Ccv, whether.ccv)?;
+    Ok(Decisions { cc, cm, ccv })
+}
+
+/// What is decided of a criterion, where it is known whether the history meets it.
+fn decide_which(
+    alloc: Global,
+    memory: &IndexedMemory,
+    criterion: Criterion,
+    whether: LongDecision,
+) -> Result<Decision, AllocError>
+    requires { IsLongDecided memory.now criterion whether }
+    ensures { IfOk result (IsDecided memory.now criterion) }
+{
+    match whether {
+        LongDecision::Meets => Ok(Decision::Meets),
+        LongDecision::ExcludedBy(_) => decide_kind(alloc, memory, criterion),
+        LongDecision::Open => Ok(Decision::Open),
+    }
+}
+
+/// What is decided of a criterion by the kinds of a memory history of distinct values.
+fn decide_kind(
+    alloc: Global,
+    memory: &IndexedMemory,
+    criterion: Criterion,
+) -> Result<Decision, AllocError>
+    requires { IsDifferentiated memory.now }
+    ensures { IfOk result (IsDecided memory.now criterion) }
+{
+    match criterion {
+        Criterion::Cc => decide_by_patterns(alloc, memory, Criterion::Cc),
+        Criterion::Cm => decide_causal_memory(alloc, memory),
+        Criterion::Ccv => decide_by_patterns(alloc, memory, Criterion::Ccv),
+    }
 }
 
 /// Whether a memory history of distinct values meets a criterion against which the search for patterns misses none.
@@ -152,13 +182,6 @@ fn decide_consistent(alloc: Global, memory: &IndexedMemory) -> Result<Decision, 
     let Some(order) = memory.order() else {
         unreachable!();
     };
-    memory.history().value_is_history();
-    if is_clear_by_few(alloc, &order)? {
-        return Ok(Decision::Meets);
-    }
-    if is_shown_by_orders(alloc, &order)? {
-        return Ok(Decision::Meets);
-    }
     let searched = search_happened_before(alloc, &order, None)?;
     Ok(decision_of(memory, searched))
 }
@@ -183,33 +206,5 @@ fn decision_of(memory: &IndexedMemory, searched: SearchedKinds) -> Decision
             Searched::Open => unreachable!(),
             Searched::Nothing => Decision::Meets,
         },
-    }
-}
-
-/// Whether the happened-before relations of a history have few pairs that the causal order doesn't have, and show no kind
-/// against causal memory: then it meets causal memory.
-fn is_clear_by_few(alloc: Global, order: &CausalOrder) -> Result<bool, AllocError>
-    requires distinct { IsDifferentiated order.now }
-    requires free { IsFreeOf order.now Cc }
-    ensures { IfOk result (λ yes. IsTrue yes → Meets memory_answer order.now Cm) }
-{
-    order.history().value_is_history();
-    let searched = search_happened_before(alloc, order, Some(FEW_PAIRS))?;
-    Ok(searched.is_nothing())
-}
-
-/// Whether a memory history without a pattern against causal consistency meets causal convergence.
-fn decide_convergent(alloc: Global, memory: &IndexedMemory) -> Result<Decision, AllocError>
-    requires distinct { IsDifferentiated memory.now }
-    requires free { IsFreeOf memory.now Cc }
-    ensures { IfOk result (IsDecided memory.now Ccv) }
-{
-    let Some(order) = memory.order() else {
-        unreachable!();
-    };
-    memory.history().value_is_history();
-    match find_conflicts(alloc, &order, Criterion::Ccv)? {
-        Some(pattern) => Ok(Decision::Excluded(pattern)),
-        None => Ok(Decision::Meets),
     }
 }

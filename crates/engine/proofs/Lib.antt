@@ -24,3 +24,4 @@ pub mod SealedTexts
 pub mod DriveOutcomes
 pub mod EvidenceForms
 pub mod EvidenceLaws
+pub mod MetAll

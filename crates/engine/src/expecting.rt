@@ -9,12 +9,12 @@ use crate::failure::RunError;
 use crate::judging::report_on;
 use crate::judging_alone::report_alone;
 use crate::long_judging::report_on_long_input;
+use crate::reading::read_within_limits;
 use crate::report::Report;
 use collector::Answer;
 use command_line::{Expected, Judging, Length, Order};
 use lines::Outcome;
 use long_decision::{CallingThread, WorkerThreads};
-use operations::read_history;
 use std::alloc::Global;
 use std::sync::Wait;
 use std::thread::Threads;
@@ -49,7 +49,7 @@ fn report_on_limited_input<T: Threads + Wait + Sync>(
     ensures report { IfOk result (IsReportOnAt Length.Limited input.now) }
     ensures error { IfErr result (IsReportError Length.Limited input.now) }
 {
-    let history = read_history(alloc, input)?;
+    let history = read_within_limits(alloc, input)?;
     report_on(rt, alloc, &history, &[], judging.workers)
 }
 
@@ -76,7 +76,7 @@ fn report_on_limited_input_alone(alloc: Global, input: &[u8]) -> Result<Report, 
     ensures report { IfOk result (IsReportOnAt Length.Limited input.now) }
     ensures error { IfErr result (IsReportError Length.Limited input.now) }
 {
-    let history = read_history(alloc, input)?;
+    let history = read_within_limits(alloc, input)?;
     report_alone(alloc, &history)
 }
 

@@ -41,6 +41,7 @@ mod memory_judging;
 mod output;
 mod part_lines;
 mod picturing;
+mod reading;
 mod reason;
 mod reason_lines;
 mod refuting;

@@ -1,6 +1,7 @@
 //! What is known of a history of a memory, whether threads or the calling thread alone check the pieces of certificates.
 
 ghost use Rattle.std.specs.Prelude.{◌≡◌, IfErr, IfOk};
+ghost use Rattle.cert_check.specs.Criteria.{Meets};
 ghost use Rattle.memory_order.specs.Memory.{memory_answer};
 ghost use Rattle.decision.specs.Decisions.{IsDecided, decision_for};
 ghost use Rattle.engine.specs.Report.{IsFirstNo, IsTrueOf, NamesUnexplained, IsKnownOnDistinctValues};
@@ -14,14 +15,16 @@ use crate::report::Report;
 use bad_patterns::laws::bad_patterns_exclude_criteria;
 use cert_check::{CaseFile, Criterion};
 use collector::Answer;
-use decision::{Decision, Decisions, decide_all};
+use decision::{Decision, Decisions, decide_kinds, decide_whether};
 use history::Advice;
+use long_decision::LongDecision;
 use memory_order::IndexedMemory;
 use objects::Memory;
 use operations::{AnyHistory, History};
 use std::alloc::Global;
 
-/// What is known of a history of a memory, for each criterion. `check` returns what the certificate of a case file shows.
+/// What is known of a history of a memory, for each criterion. `check` returns what the certificate of a case file shows. What is known of
+/// its operations is gone into only where a criterion is not met, or nothing is decided.
 ///
 /// Fails for want of memory alone.
 pub(crate) fn report_by<F: Fn(CaseFile<Memory>) -> Result<Answer, RunError>>(
@@ -37,9 +40,32 @@ pub(crate) fn report_by<F: Fn(CaseFile<Memory>) -> Result<Answer, RunError>>(
     ensures unexplained { IfOk result (EachNamesUnexplained (AnyHistory.Memory history.now)) }
     ensures error { IfErr result (λ e. e ≡ RunError.Memory) }
 {
-    let memory = IndexedMemory::of(alloc, history)?;
-    let decisions = decide_all(alloc, &memory)?;
-    report_of_decisions(alloc, &memory, advice, decisions, check)
+    let whether = decide_whether(alloc, history)?;
+    match (whether.cc, whether.cm, whether.ccv) {
+        (LongDecision::Meets, LongDecision::Meets, LongDecision::Meets) => {
+            Ok(report_of_met(history))
+        }
+        _ => {
+            let memory = IndexedMemory::of(alloc, history)?;
+            let decisions = decide_kinds(alloc, &memory, whether)?;
+            report_of_decisions(alloc, &memory, advice, decisions, check)
+        }
+    }
+}
+
+// What is known of a history of a memory that meets each criterion.
+#[tactic(auto, using(crate::proofs::EachAnswer::each_true, crate::proofs::EachAnswer::each_known, crate::proofs::EachAnswer::each_names))]
+fn report_of_met(_history: &History<Memory>) -> Report
+    requires { (criterion : Criterion) → Meets memory_answer _history.now criterion }
+    ensures truth { EachIsTrueOf (AnyHistory.Memory _history.now) result }
+    ensures unknown { EachIsKnownOnDistinctValues (AnyHistory.Memory _history.now) result }
+    ensures unexplained { EachNamesUnexplained (AnyHistory.Memory _history.now) result }
+{
+    Report {
+        cc: Answer::Yes,
+        cm: Answer::Yes,
+        ccv: Answer::Yes,
+    }
 }
 
 // What is known of a history of a memory, from this decision on it.

@@ -10,7 +10,7 @@ use Rattle.memory_order.specs.Relations.{CO, CF}
 use Rattle.memory_order.specs.Memory.{IsDifferentiated, memory_answer}
 use Rattle.memory_order.proofs.ReadAnswers.{Fits}
 use Rattle.cert_check.specs.Criteria.{Meets}
-use Rattle.decision.proofs.Completeness.{free-meets}
+use Rattle.long_decision.proofs.Completeness.{free-meets}
 use Rattle.long_history.specs.LongHistories.{IsLongHistory}
 use Rattle.long_decision.specs.Steps.Consistency.{IsConsistent}
 use Rattle.long_decision.proofs.Firsts.{sourceless}

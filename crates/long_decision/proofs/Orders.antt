@@ -17,8 +17,8 @@ use Rattle.cert_check.specs.Criteria.{IsCausalMemory, Meets}
 use Rattle.cert_check.specs.Witnesses.{counted_before}
 use Rattle.cert_check.proofs.Pasts.{counted_before-parts, counted-from_past, past-from_counted}
 use Rattle.certify.proofs.ReadPieces.{explains-reads}
-use Rattle.decision.specs.SessionOrders.{IsExplainingList}
-use Rattle.decision.proofs.SessionOrders.{lists-meet}
+use Rattle.long_decision.specs.Steps.ExplainingLists.{IsExplainingList}
+use Rattle.long_decision.proofs.ExplainingLists.{lists-meet}
 use Rattle.session_orders.specs.SessionOrders.{IsOrderOfPast, IsOrderedSession}
 use Rattle.long_history.specs.LongHistories.{IsLongHistory}
 use Rattle.long_decision.specs.Steps.Consistency.{IsConsistent}

@@ -153,7 +153,7 @@ fn find_overwritten(alloc: Global, order: &CausalOrder) -> Result<Option<Pattern
 /// A cycle of the causal order and of conflicts, where such cycles are against the criterion and there is one.
 ///
 /// Fails for want of memory alone. O(n k log n) for n operations of k sessions.
-pub fn find_conflicts(
+fn find_conflicts(
     alloc: Global,
     order: &CausalOrder,
     criterion: Criterion,

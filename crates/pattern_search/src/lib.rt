@@ -1,7 +1,7 @@
 //! The search for bad patterns. What it gives passes the test of `bad_patterns::check_pattern`.
 //!
-//! [`find`] and [`find_in`] search for a pattern against a criterion, [`find_conflicts`] for a cycle with conflicts alone, and
-//! [`search_happened_before`] says what happened-before relations show ([`SearchedKinds`]). It uses bad_patterns, memory_order.
+//! [`find`] and [`find_in`] search for a pattern against a criterion, and [`search_happened_before`] says what happened-before relations
+//! show ([`SearchedKinds`]). It uses bad_patterns, memory_order.
 //! How the search goes may change: callers rest on the contracts alone.
 #![tactic(auto)]
 
@@ -10,6 +10,6 @@ mod finding_happened_before;
 mod search;
 mod searched;
 
-pub use finding::{find, find_conflicts, find_in};
+pub use finding::{find, find_in};
 pub use finding_happened_before::search_happened_before;
 pub use searched::{Searched, SearchedKinds};

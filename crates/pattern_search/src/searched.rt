@@ -47,16 +47,6 @@ impl Searched {
             Searched::Present | Searched::Open | Searched::Nothing => false,
         }
     }
-
-    /// Whether the kind is not present.
-    pub fn is_nothing(&self) -> bool
-        ensures { IsTrue result ↔ (self.now ≡ Searched.Nothing) }
-    {
-        match self {
-            Searched::Nothing => true,
-            Searched::Pattern(_) | Searched::Present | Searched::Open => false,
-        }
-    }
 }
 
 /// The result of a search of happened-before relations, for each kind that rests on them.
@@ -66,13 +56,4 @@ pub struct SearchedKinds {
     pub starts: Searched,
     /// For an operation before itself (`CyclicHB`). If `starts` is a pattern, this says nothing: the search ends there.
     pub cycles: Searched,
-}
-
-impl SearchedKinds {
-    /// Whether neither kind is present.
-    pub fn is_nothing(&self) -> bool
-        ensures { IsTrue result ↔ ((self.now.starts ≡ Searched.Nothing) × (self.now.cycles ≡ Searched.Nothing)) }
-    {
-        self.starts.is_nothing() && self.cycles.is_nothing()
-    }
 }

@@ -2,7 +2,7 @@ use Rattle.std.proofs.Common.{subst}
 use Rattle.memory_order.specs.Memory.{MemoryHistory}
 use Rattle.memory_order.specs.MemoryHistories.{IsMemoryHistory}
 use Rattle.memory_order.proofs.ReadAnswers.{history-fits}
-use Rattle.decision.proofs.Completeness.{free-meets}
+use Rattle.long_decision.proofs.Completeness.{free-meets}
 use Rattle.decision.proofs.deciding.decide_by_patterns.Goals as goal
 
 pub returns-in-None : goal.returns-in-None

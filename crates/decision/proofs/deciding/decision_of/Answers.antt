@@ -8,7 +8,7 @@ use Rattle.memory_order.proofs.ReadAnswers.{history-fits}
 use Rattle.pattern_search.specs.Searches.{HasLargeHB}
 use Rattle.pattern_search.proofs.FirstKindLaws.{first-cycle_in_hb, first-start_in_hb}
 use Rattle.pattern_search.proofs.NothingFound.{free-memory}
-use Rattle.decision.proofs.Completeness.{free-meets}
+use Rattle.long_decision.proofs.Completeness.{free-meets}
 use Rattle.decision.proofs.Decided.{cycles-left}
 use Rattle.decision.proofs.deciding.decision_of.Goals as goal
 

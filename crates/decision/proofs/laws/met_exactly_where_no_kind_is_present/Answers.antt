@@ -1,5 +1,5 @@
 use Rattle.memory_order.proofs.ReadAnswers.{history-fits}
-use Rattle.decision.proofs.Completeness.{free-meets}
+use Rattle.long_decision.proofs.Completeness.{free-meets}
 use Rattle.decision.proofs.laws.met_exactly_where_no_kind_is_present.Goals as goal
 
 pub returns : goal.returns

@@ -1,10 +1,9 @@
--- Orders of what is before the last operations of sessions (this project's profile).
+-- Lists of what is before the last operations of sessions.
 use Rattle.std.specs.Prelude.{◌≡◌, ℕ, ◌+◌, List, length}
 use Rattle.history.specs.declared.op_id.OpId.{OpId}
 use Rattle.history.specs.History.{session}
 use Rattle.causal_order.specs.Orders.{op, past, program_past, IsLinearization}
 use Rattle.causal_order.specs.Vectors.{Counts}
-use Rattle.cert_check.specs.Certificates.{IsScheduledPiece}
 use Rattle.cert_check.specs.Criteria.{Explains}
 use Rattle.cert_check.specs.Witnesses.{counted_before}
 use Rattle.memory_order.specs.Memory.{MemoryHistory, memory_answer}
@@ -17,9 +16,3 @@ pub record IsExplainingList (h : MemoryHistory) (v : Counts) (o : OpId) (ops : L
 -- the last operation of the session s, if it has one, has such a list
 abbrev pub IsListedSession : MemoryHistory → Counts → ℕ → Type 0
 IsListedSession h v s = (i : ℕ) → length (session h s) ≡ i + 1 → (ops : List OpId) × IsExplainingList h v (op s i) ops
-
--- some schedule of the last operation of the session s, if it has one, explains the session's known returns
-abbrev pub IsExplainedSession : MemoryHistory → Counts → ℕ → Type 0
-IsExplainedSession h v s =
-    (i : ℕ) → length (session h s) ≡ i + 1
-    → (schedule : List ℕ) × IsScheduledPiece memory_answer h v schedule (op s i) (program_past (op s i))

@@ -22,16 +22,13 @@ use Rattle.memory_order.proofs.LastWrites.{IsUnwritten, IsLastWrite, answer-case
 use Rattle.memory_order.proofs.MemoryLaws.{write-or_read, read-of_history}
 use Rattle.memory_order.proofs.ReadAnswers.{Fits, AnswersBehind, answers-source, answers-start}
 use Rattle.memory_order.proofs.SourceVectors.{order-vector_ok, counts-before, counted-counted, counted-within, own-count}
-use Rattle.cert_check.specs.Certificates.{IsScheduledPiece}
 use Rattle.cert_check.specs.Criteria.{Explains, IsCausalMemory}
-use Rattle.cert_check.specs.Schedules.{named}
 use Rattle.cert_check.specs.Witnesses.{counted_before}
 use Rattle.cert_check.proofs.ConvergentLaws.{cut_to_past}
 use Rattle.cert_check.proofs.FilteredLaws.{filter_from, filter_keeps, filter_in_order}
 use Rattle.cert_check.proofs.Pasts.{counted_before-causal, counted-from_past, past-from_counted}
-use Rattle.cert_check.proofs.Sound.{scheduled_past}
 use Rattle.certify.proofs.ReadPieces.{explains-reads}
-use Rattle.decision.specs.SessionOrders.{IsExplainedSession, IsExplainingList, IsListedSession}
+use Rattle.long_decision.specs.Steps.ExplainingLists.{IsExplainingList, IsListedSession}
 
 module _ (h : MemoryHistory) (fits : Fits h) (distinct : IsDifferentiated h) (v : Counts) (order : CountsSourceOrder h v) where
   good : (o : OpId) → IsOp h o → IsVectorOk h v o
@@ -159,25 +156,3 @@ module _ (h : MemoryHistory) (fits : Fits h) (distinct : IsDifferentiated h) (v 
           cut-explains (op a.session i) a last earlier found.0 found.1,
         ),
   )
-
-  -- a schedule that is a good piece names such a list
-  schedule-explains : (o : OpId) → IsOp h o → (schedule : List ℕ) → IsScheduledPiece memory_answer h v schedule o (program_past o)
-      → IsExplainingList h v o (named schedule)
-  schedule-explains o is_op schedule piece = record {
-    linear = scheduled_past h v good o schedule is_op piece.schedules;
-    explains = piece.explains;
-  }
-
-  -- so where each session has such a schedule, it does too
-  pub sessions-meet : ((s : ℕ) → s < length h.1 → IsExplainedSession h v s) → IsCausalMemory memory_answer h
-  sessions-meet explained = lists-meet (λ s exists i ends.
-      let piece = explained s exists i ends in
-      (named piece.0, schedule-explains (op s i) (omega arith) piece.0 piece.1))
-
--- the last operation of a session, where its schedule is good
-pub session-explained : (h : MemoryHistory) (v : Counts) (s n : ℕ) (last : OpId) (schedule : List ℕ) → length (session h s) ≡ n
-    → last ≡ op s (n - 1) → IsScheduledPiece memory_answer h v schedule last (program_past last) → IsExplainedSession h v s
-session-explained h v s n last schedule long same piece i ends =
-    let index : n - 1 ≡ i = omega arith in
-    let one : last ≡ op s i = same ∙ ap (op s) index in
-    (schedule, subst (λ (o : OpId). IsScheduledPiece memory_answer h v schedule o (program_past o)) one piece)
