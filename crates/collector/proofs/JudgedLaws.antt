@@ -24,9 +24,6 @@ pub some-is : {A : Type 0} (o : Option A) → IsSome o → (x : A) × (o ≡ Som
 some-is (Some x) some = (x, refl)
 some-is None some = absurd cc
 
-pub at-some : {A : Type 0} (P : A → Type 0) (o : Option A) (x : A) → o ≡ Some x → IfSome o P → P x
-at-some P o x same holds = subst (λ p. IfSome p P) same holds
-
 -- a refusal for want of memory, where there may be so many workers
 pub memory_alone : (workers : ℕ) (e : DeskError) → AreWorkers workers → e ≡ Memory → IsJudgeError workers e
 memory_alone workers e are same = subst (λ (d : DeskError). IsJudgeError workers d) (sym same) are

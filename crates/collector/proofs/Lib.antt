@@ -1,3 +1,4 @@
 pub mod DecidedLaws
+pub mod DecisionLaws
 pub mod DeskLaws
 pub mod JudgedLaws

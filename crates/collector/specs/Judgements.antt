@@ -1,5 +1,5 @@
 -- What is said of a history and a criterion, and when it is true.
-use Rattle.std.specs.Prelude.{◌≡◌, ⊤, ℕ, ◌≤◌, List, MatchOption, Some, None}
+use Rattle.std.specs.Prelude.{◌≡◌, ⊤, ℕ, List, MatchOption, Some, None}
 use Rattle.history.specs.declared.op_id.OpId.{OpId}
 use Rattle.history.specs.History.{HistoryValue}
 use Rattle.history.specs.Workers.{AreWorkers}

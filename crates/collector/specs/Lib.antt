@@ -1,2 +1,3 @@
 pub mod Decided
 pub mod Judgements
+pub mod NamedKinds

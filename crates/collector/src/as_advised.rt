@@ -6,14 +6,15 @@ ghost use Rattle.cert_check.specs.Certificates.{HasShapeOf, criterion_of};
 use crate::judged::Judged;
 use bad_patterns::Pattern;
 use cert_check::{Certificate, Criterion};
+use decision::Decision;
 use history::{Advice, History};
 use object_trait::SeqObject;
 use objects::{AddRemoveSet, Counter, Counters, Queue, Queues, Register, Sets};
 use std::alloc::{AllocError, Global};
 
-// The histories of these objects are judged as a store advises: no pattern is looked for, and certificates are made from what a
-// store reported of each operation, or by program order alone if it reported nothing. Each implementation is written out: one for
-// all objects of a kind makes every call at an object under keys several times as long to prove.
+// The histories of these objects are judged as a store advises: nothing is decided without a certificate, no pattern is looked for, and
+// certificates are made from what a store reported of each operation, or by program order alone if it reported nothing. Each implementation
+// is written out: one for all objects of a kind makes every call at an object under keys several times as long to prove.
 
 /// A certificate for any object: from what a store reported, or by program order alone if the advice is empty or of another
 /// length than the history.
@@ -34,9 +35,21 @@ fn certificate_for<O: SeqObject>(
 }
 
 impl Judged for Register {
+    ghost resolves = { λ h. ⊥ };
+
+    ghost names = { λ h criterion kind. ⊥ };
+
     ghost decides = { λ h criterion. ⊥ };
 
     ghost finds = { λ h criterion kind. ⊥ };
+
+    fn decide(
+        _alloc: Global,
+        _h: &History<Register>,
+        _criterion: Criterion,
+    ) -> Result<Decision, AllocError> {
+        Ok(Decision::Open)
+    }
 
     fn find(
         _alloc: Global,
@@ -57,9 +70,21 @@ impl Judged for Register {
 }
 
 impl Judged for Counter {
+    ghost resolves = { λ h. ⊥ };
+
+    ghost names = { λ h criterion kind. ⊥ };
+
     ghost decides = { λ h criterion. ⊥ };
 
     ghost finds = { λ h criterion kind. ⊥ };
+
+    fn decide(
+        _alloc: Global,
+        _h: &History<Counter>,
+        _criterion: Criterion,
+    ) -> Result<Decision, AllocError> {
+        Ok(Decision::Open)
+    }
 
     fn find(
         _alloc: Global,
@@ -80,9 +105,21 @@ impl Judged for Counter {
 }
 
 impl Judged for AddRemoveSet {
+    ghost resolves = { λ h. ⊥ };
+
+    ghost names = { λ h criterion kind. ⊥ };
+
     ghost decides = { λ h criterion. ⊥ };
 
     ghost finds = { λ h criterion kind. ⊥ };
+
+    fn decide(
+        _alloc: Global,
+        _h: &History<AddRemoveSet>,
+        _criterion: Criterion,
+    ) -> Result<Decision, AllocError> {
+        Ok(Decision::Open)
+    }
 
     fn find(
         _alloc: Global,
@@ -103,9 +140,21 @@ impl Judged for AddRemoveSet {
 }
 
 impl Judged for Queue {
+    ghost resolves = { λ h. ⊥ };
+
+    ghost names = { λ h criterion kind. ⊥ };
+
     ghost decides = { λ h criterion. ⊥ };
 
     ghost finds = { λ h criterion kind. ⊥ };
+
+    fn decide(
+        _alloc: Global,
+        _h: &History<Queue>,
+        _criterion: Criterion,
+    ) -> Result<Decision, AllocError> {
+        Ok(Decision::Open)
+    }
 
     fn find(
         _alloc: Global,
@@ -126,9 +175,21 @@ impl Judged for Queue {
 }
 
 impl Judged for Counters {
+    ghost resolves = { λ h. ⊥ };
+
+    ghost names = { λ h criterion kind. ⊥ };
+
     ghost decides = { λ h criterion. ⊥ };
 
     ghost finds = { λ h criterion kind. ⊥ };
+
+    fn decide(
+        _alloc: Global,
+        _h: &History<Counters>,
+        _criterion: Criterion,
+    ) -> Result<Decision, AllocError> {
+        Ok(Decision::Open)
+    }
 
     fn find(
         _alloc: Global,
@@ -149,9 +210,21 @@ impl Judged for Counters {
 }
 
 impl Judged for Sets {
+    ghost resolves = { λ h. ⊥ };
+
+    ghost names = { λ h criterion kind. ⊥ };
+
     ghost decides = { λ h criterion. ⊥ };
 
     ghost finds = { λ h criterion kind. ⊥ };
+
+    fn decide(
+        _alloc: Global,
+        _h: &History<Sets>,
+        _criterion: Criterion,
+    ) -> Result<Decision, AllocError> {
+        Ok(Decision::Open)
+    }
 
     fn find(
         _alloc: Global,
@@ -172,9 +245,21 @@ impl Judged for Sets {
 }
 
 impl Judged for Queues {
+    ghost resolves = { λ h. ⊥ };
+
+    ghost names = { λ h criterion kind. ⊥ };
+
     ghost decides = { λ h criterion. ⊥ };
 
     ghost finds = { λ h criterion kind. ⊥ };
+
+    fn decide(
+        _alloc: Global,
+        _h: &History<Queues>,
+        _criterion: Criterion,
+    ) -> Result<Decision, AllocError> {
+        Ok(Decision::Open)
+    }
 
     fn find(
         _alloc: Global,

@@ -1,26 +1,42 @@
-//! The judging of memory histories, by a search for patterns and by the sources of the reads.
+//! The judging of memory histories, by a decision, by a search for patterns and by the sources of the reads.
 
-ghost use Rattle.std.specs.Prelude.{◌≡◌, IfNone, IfOk, IfSome, IsSomeAnd};
+ghost use Rattle.std.specs.Prelude.{◌≡◌, ◌≢◌, IfNone, IfOk, IfSome, IsSomeAnd};
+ghost use Rattle.bad_patterns.specs.Kinds.{IsTrueNo};
 ghost use Rattle.bad_patterns.specs.Patterns.{IsBadPattern, kind_of};
 ghost use Rattle.cert_check.specs.Certificates.{HasShapeOf, IsExplainedThroughout, criterion_of};
 ghost use Rattle.cert_check.specs.Criteria.{Meets};
 ghost use Rattle.cert_check.specs.declared.criterion.Criterion.TheVariants.{Cc, Ccv, Cm};
 ghost use Rattle.memory_order.specs.Memory.{IsDifferentiated, memory_answer};
 ghost use Rattle.collector.specs.Decided.{HasFewRaises, IsDecided};
-ghost use Rattle.pattern_search.specs.FirstKinds.{ComesFirstOrLarge};
+ghost use Rattle.collector.specs.NamedKinds.{IfExcluded};
+ghost use Rattle.pattern_search.specs.FirstKinds.{ComesFirst, ComesFirstOrLarge};
 
 use crate::judged::Judged;
 use bad_patterns::Pattern;
-use bad_patterns::laws::present_kinds_exclude_criteria;
+use bad_patterns::laws::{bad_patterns_exclude_criteria, present_kinds_exclude_criteria};
 use cert_check::{Certificate, Criterion};
+use decision::Decision;
 use history::{Advice, History};
+use memory_order::IndexedMemory;
 use objects::Memory;
 use std::alloc::{AllocError, Global};
 
 impl Judged for Memory {
+    ghost resolves = { IsDifferentiated };
+
+    ghost names = { ComesFirst };
+
     ghost decides = { IsDecided };
 
     ghost finds = { ComesFirstOrLarge };
+
+    fn decide(
+        alloc: Global,
+        h: &History<Memory>,
+        criterion: Criterion,
+    ) -> Result<Decision, AllocError> {
+        decide(alloc, h, criterion)
+    }
 
     fn find(
         alloc: Global,
@@ -42,6 +58,19 @@ impl Judged for Memory {
             Criterion::Ccv => make_for_convergence(alloc, h, advice),
         }
     }
+}
+
+/// What is decided of a memory history and a criterion: it is open exactly where values are not distinct.
+fn decide(alloc: Global, h: &History<Memory>, criterion: Criterion) -> Result<Decision, AllocError>
+    ensures meets { IfOk result (λ d. d ≡ Decision.Meets → Meets memory_answer h.now criterion) }
+    ensures excluded { IfOk result (λ d. IfExcluded d (IsTrueNo h.now criterion)) }
+    ensures not_met { IfOk result (λ d. IfExcluded d (λ kind. ¬ Meets memory_answer h.now criterion)) }
+    ensures kind { IfOk result (λ d. IfExcluded d (ComesFirst h.now criterion)) }
+    ensures resolved { IsDifferentiated h.now → IfOk result (λ d. d ≢ Decision.Open) }
+{
+    bad_patterns_exclude_criteria();
+    let memory = IndexedMemory::of(alloc, h)?;
+    decision::decide(alloc, &memory, criterion)
 }
 
 /// A pattern that shows that a memory history does not meet a criterion.

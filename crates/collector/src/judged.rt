@@ -1,29 +1,51 @@
-//! What judging asks of an object: a search for patterns, and a maker of certificates.
+//! What judging asks of an object: a decision, a search for patterns, and a maker of certificates.
 
-ghost use Rattle.std.specs.Prelude.{◌≡◌, List, Option, IfNone, IfOk, IfSome, IsSomeAnd};
+ghost use Rattle.std.specs.Prelude.{◌≡◌, ◌≢◌, List, Option, IfNone, IfOk, IfSome, IsSomeAnd};
 ghost use Rattle.bad_patterns.specs.declared.kind.Kind.{Kind as AnyKind};
 ghost use Rattle.bad_patterns.specs.Patterns.{kind_of};
 ghost use Rattle.history.specs.History.{HistoryValue};
 ghost use Rattle.cert_check.specs.declared.criterion.Criterion.{Criterion as AnyCriterion};
 ghost use Rattle.cert_check.specs.Certificates.{HasShapeOf, IsExplainedThroughout, criterion_of};
 ghost use Rattle.cert_check.specs.Criteria.{Meets};
+ghost use Rattle.collector.specs.NamedKinds.{IfExcluded};
 
 use bad_patterns::Pattern;
 use cert_check::{Certificate, Criterion};
+use decision::Decision;
 use history::{Advice, History};
 use refutable::Refutable;
 use std::alloc::{AllocError, Global};
 
-/// An object whose histories are judged: how patterns are looked for, and how certificates are made.
+/// An object whose histories are judged: how they are decided, how patterns are looked for, and how certificates are made.
 ///
-/// For some histories and criteria both are exact: if the criterion is not met, a pattern is found, and if it is met, the
-/// certificate that is made explains every operation.
+/// A decision is true, and leaves some histories open. For some histories and criteria find and make are exact: if the criterion
+/// is not met, a pattern is found, and if it is met, the certificate that is made explains every operation.
 pub trait Judged: Refutable {
+    /// Whether decide leaves no criterion of a history open.
+    ghost resolves: { HistoryValue Self.Start Self.Call Self.Ret → Type 0 };
+
+    /// Whether a decision may name a kind: for a memory, no kind before it is against the criterion and present.
+    ghost names: { HistoryValue Self.Start Self.Call Self.Ret → AnyCriterion → AnyKind → Type 0 };
+
     /// Whether find and make are exact for a history and a criterion.
     ghost decides: { HistoryValue Self.Start Self.Call Self.Ret → AnyCriterion → Type 0 };
 
     /// Whether a pattern of a kind may be found: for a memory, what `pattern_search::find` says of its kind.
     ghost finds: { HistoryValue Self.Start Self.Call Self.Ret → AnyCriterion → AnyKind → Type 0 };
+
+    /// What is decided of a history and a criterion without a certificate.
+    ///
+    /// Fails for want of memory alone.
+    fn decide(
+        alloc: Global,
+        h: &History<Self>,
+        criterion: Criterion,
+    ) -> Result<Decision, AllocError>
+        ensures meets { IfOk result (λ d. d ≡ Decision.Meets → Meets Self.answer h.now criterion) }
+        ensures excluded { IfOk result (λ d. IfExcluded d (Self.excluded h.now criterion)) }
+        ensures not_met { IfOk result (λ d. IfExcluded d (λ kind. ¬ Meets Self.answer h.now criterion)) }
+        ensures kind { IfOk result (λ d. IfExcluded d (names h.now criterion)) }
+        ensures resolved { resolves h.now → IfOk result (λ d. d ≢ Decision.Open) };
 
     /// A pattern that shows that the history does not meet the criterion, where the search finds one.
     ///

@@ -11,6 +11,7 @@ use crate::making::made_file;
 use crate::working::answer_of_file;
 use cert_check::laws::explained_certificates_show_their_criterion;
 use cert_check::{CaseFile, Criterion, DeskError};
+use decision::Decision;
 use desk::Answer;
 use history::{Advice, Gate, History, MAX_WORKERS};
 use std::alloc::Global;
@@ -19,15 +20,17 @@ use std::thread::Threads;
 
 /// What is known of a history and a criterion.
 ///
-/// It looks for a pattern first: `No` with its kind where one is found. Else it makes a certificate, and its pieces are
-/// checked as `judge_with` does: `Yes` where every piece explains its operation, and `Unknown` with the first operation whose
-/// piece does not. `Unknown` with no operation where no certificate is made. It is never `Open`.
+/// It decides the history first: `Yes` where it meets the criterion, and `No` with a kind that excludes the criterion where it
+/// does not. Each history of a memory with distinct values is decided, and its kind is the first that is present. A history
+/// that is not decided gets a certificate, whose pieces are checked as `judge_with` does: `Yes` where every piece explains its
+/// operation, and `Unknown` with the first operation whose piece does not. `Unknown` with no operation where no certificate is
+/// made. It is never `Open`.
 ///
 /// The advice is what a store reported of each operation, in order; empty advice is none. It can help to make a certificate,
 /// and nobody trusts it: the answer is correct whatever the advice says.
 ///
-/// `BadWorkers` where `workers` is not 1 to 16, and then nothing else happens; else `Memory`. The cost is that of `find`, of
-/// `make` and of `judge_with`.
+/// `BadWorkers` where `workers` is not 1 to 16, and then nothing else happens; else `Memory`. The cost is that of `decide`, and
+/// where that leaves the history open also that of `make` and of `judge_with`.
 #[tactic(auto, using(crate::proofs::JudgedLaws::memory_alone))]
 pub fn judge<O: Judged + Send + Sync, R: Threads + Wait + Sync, G: Gate>(
     rt: &R,
@@ -40,22 +43,25 @@ pub fn judge<O: Judged + Send + Sync, R: Threads + Wait + Sync, G: Gate>(
 ) -> Result<Answer, DeskError>
     ensures founded { IfOk result (IsFounded (Meets O.answer h criterion) (O.excluded h criterion) (IsUnexplainedOf O.answer h criterion)) }
     ensures not_met { IfOk result (λ a. (kind : AnyKind) → a ≡ Answer.No kind → ¬ Meets O.answer h criterion) }
-    ensures kind { IfOk result (λ a. (kind : AnyKind) → a ≡ Answer.No kind → O.finds h criterion kind) }
-    ensures decided { O.decides h criterion → IfOk result IsKnown }
+    ensures kind { IfOk result (λ a. (kind : AnyKind) → a ≡ Answer.No kind → O.names h criterion kind) }
+    ensures decided { O.resolves h → IfOk result IsKnown }
+    ensures certified { O.decides h criterion → Meets O.answer h criterion → IfOk result IsKnown }
     ensures workers { IfOk result (λ _. AreWorkers workers) }
     ensures error { IfErr result (IsJudgeError workers) }
 {
     if !are_workers(workers) {
         return Err(DeskError::BadWorkers);
     }
-    O::passing_patterns_exclude();
-    match O::find(alloc, &h, criterion)? {
-        Some(pattern) => Ok(Answer::No(pattern.kind())),
-        None => judge_by_certificate(rt, alloc, h, advice, criterion, workers, gate),
+    let decision = O::decide(alloc, &h, criterion)?;
+    match decision {
+        Decision::Meets => Ok(Answer::Yes),
+        Decision::Excluded(pattern) => Ok(Answer::No(pattern.kind())),
+        Decision::ExcludedBy(kind) => Ok(Answer::No(kind)),
+        Decision::Open => judge_by_certificate(rt, alloc, h, advice, criterion, workers, gate),
     }
 }
 
-/// What is known of a history for which no pattern is found: what the pieces of a certificate show, where one is made.
+/// What is known of a history that is not decided: what the pieces of a certificate show, where one is made.
 fn judge_by_certificate<O: Judged + Send + Sync, R: Threads + Wait + Sync, G: Gate>(
     rt: &R,
     alloc: Global,

@@ -10,6 +10,7 @@ use crate::making::made_file;
 use crate::working::answer_of_pieces;
 use cert_check::laws::explained_certificates_show_their_criterion;
 use cert_check::{CaseFile, Criterion, DeskError};
+use decision::Decision;
 use desk::Answer;
 use history::{Advice, History};
 use object_trait::SeqObject;
@@ -18,7 +19,8 @@ use std::alloc::Global;
 /// What is known of a history and a criterion, as `judge` says it. The calling thread checks the pieces of the certificate, one
 /// after the other, and no thread is started.
 ///
-/// Fails for want of memory alone. The cost is that of `find`, of `make` and of `first_unexplained`.
+/// Fails for want of memory alone. The cost is that of `decide`, and where that leaves the history open also that of `make` and
+/// of `first_unexplained`.
 pub fn judge_alone<O: Judged>(
     alloc: Global,
     h: History<O>,
@@ -27,18 +29,21 @@ pub fn judge_alone<O: Judged>(
 ) -> Result<Answer, DeskError>
     ensures founded { IfOk result (IsFounded (Meets O.answer h criterion) (O.excluded h criterion) (IsUnexplainedOf O.answer h criterion)) }
     ensures not_met { IfOk result (λ a. (kind : AnyKind) → a ≡ Answer.No kind → ¬ Meets O.answer h criterion) }
-    ensures kind { IfOk result (λ a. (kind : AnyKind) → a ≡ Answer.No kind → O.finds h criterion kind) }
-    ensures decided { O.decides h criterion → IfOk result IsKnown }
+    ensures kind { IfOk result (λ a. (kind : AnyKind) → a ≡ Answer.No kind → O.names h criterion kind) }
+    ensures decided { O.resolves h → IfOk result IsKnown }
+    ensures certified { O.decides h criterion → Meets O.answer h criterion → IfOk result IsKnown }
     ensures error { IfErr result (λ e. e ≡ DeskError.Memory) }
 {
-    O::passing_patterns_exclude();
-    match O::find(alloc, &h, criterion)? {
-        Some(pattern) => Ok(Answer::No(pattern.kind())),
-        None => judge_by_certificate_alone(alloc, h, advice, criterion),
+    let decision = O::decide(alloc, &h, criterion)?;
+    match decision {
+        Decision::Meets => Ok(Answer::Yes),
+        Decision::Excluded(pattern) => Ok(Answer::No(pattern.kind())),
+        Decision::ExcludedBy(kind) => Ok(Answer::No(kind)),
+        Decision::Open => judge_by_certificate_alone(alloc, h, advice, criterion),
     }
 }
 
-// What is known of a history for which no pattern is found: what the pieces of a certificate show, where one is made.
+// What is known of a history that is not decided: what the pieces of a certificate show, where one is made.
 fn judge_by_certificate_alone<O: Judged>(
     alloc: Global,
     h: History<O>,

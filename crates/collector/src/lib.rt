@@ -1,7 +1,7 @@
 //! From a history to an answer: how the histories of each object are judged.
 //!
 //! [`judge`] and [`judge_with`] check the pieces in threads, [`judge_alone`] and [`judge_alone_with`] start none. [`Judged`] says
-//! what an object gives for it. It uses desk, pattern_search, and certify_cc, certify_cm and certify_ccv.
+//! what an object gives for it. It uses decision, desk, pattern_search, and certify_cc, certify_cm and certify_ccv.
 //! How pieces are shared among workers may change: callers rest on the contracts alone, and nobody trusts advice.
 #![tactic(auto)]
 

@@ -1,52 +1,68 @@
-use Rattle.std.proofs.Common.{◌≡◌, ◌∙◌, sym, subst}
+use Rattle.std.proofs.Common.{◌≡◌, subst}
 use Rattle.bad_patterns.specs.declared.kind.Kind.{Kind}
-use Rattle.bad_patterns.specs.Patterns.{kind_of}
 use Rattle.cert_check.specs.Criteria.{Meets}
 use Rattle.collector.specs.Judgements.{IsUnexplainedOf}
-use Rattle.collector.proofs.DecidedLaws.{at-none}
-use Rattle.collector.proofs.JudgedLaws.{at-some, founded-more, founded-no, ok-follows}
+use Rattle.collector.proofs.DecisionLaws.{at-kind, at-pattern}
+use Rattle.collector.proofs.JudgedLaws.{founded-more, founded-no, ok-follows}
 use Rattle.collector.proofs.judging_alone.judge_alone.Goals as goal
 
-pub returns-in-Some-clause-founded : goal.returns-in-Some-clause-founded
-returns-in-Some-clause-founded g c =
-    subst (λ (kind : Kind). g.O.Refutable.excluded c.args.h c.args.criterion kind) (sym c.kind.ensures)
-    (c.passing_patterns_exclude.ensures.excluded c.args.h c.args.criterion c.in-Some.pattern
-    (at-some (g.O.Refutable.passes c.args.h c.args.criterion) c.in_ok-pattern.field-0 c.in-Some.pattern c.in-Some.is c.in_ok-pattern.ensures.found))
+pub returns-in-Meets-clause-founded : goal.returns-in-Meets-clause-founded
+returns-in-Meets-clause-founded g c = c.in_ok-decision.ensures.meets c.in-Meets.is
 
-pub returns-in-Some-clause-not_met : goal.returns-in-Some-clause-not_met
-returns-in-Some-clause-not_met g c = λ kind same.
-    c.passing_patterns_exclude.ensures.not_met c.args.h c.args.criterion c.in-Some.pattern
-    (at-some (g.O.Refutable.passes c.args.h c.args.criterion) c.in_ok-pattern.field-0 c.in-Some.pattern c.in-Some.is c.in_ok-pattern.ensures.found)
+pub returns-in-Excluded-clause-founded : goal.returns-in-Excluded-clause-founded
+returns-in-Excluded-clause-founded g c =
+    at-pattern (g.O.Refutable.excluded c.args.h c.args.criterion) c.in_ok-decision.decision c.in-Excluded.pattern c.kind.result c.in-Excluded.is
+    c.kind.ensures c.in_ok-decision.ensures.excluded
 
-pub returns-in-Some-clause-kind : goal.returns-in-Some-clause-kind
-returns-in-Some-clause-kind g c = λ kind same.
+pub returns-in-Excluded-clause-not_met : goal.returns-in-Excluded-clause-not_met
+returns-in-Excluded-clause-not_met g c = λ kind same.
+    at-pattern (λ (k : Kind). ¬ Meets g.O.SeqObject.answer c.args.h c.args.criterion) c.in_ok-decision.decision c.in-Excluded.pattern c.kind.result
+    c.in-Excluded.is c.kind.ensures c.in_ok-decision.ensures.not_met
+
+pub returns-in-Excluded-clause-kind : goal.returns-in-Excluded-clause-kind
+returns-in-Excluded-clause-kind g c = λ kind same.
     let no : c.kind.result ≡ kind = cc in
-    subst (λ (k : Kind). g.O.Judged.finds c.args.h c.args.criterion k) (sym c.kind.ensures ∙ no)
-    (at-some (λ pattern. g.O.Judged.finds c.args.h c.args.criterion (kind_of pattern)) c.in_ok-pattern.field-0 c.in-Some.pattern c.in-Some.is
-    c.in_ok-pattern.ensures.kind)
+    subst (λ (k : Kind). g.O.Judged.names c.args.h c.args.criterion k) no
+    (at-pattern (g.O.Judged.names c.args.h c.args.criterion) c.in_ok-decision.decision c.in-Excluded.pattern c.kind.result c.in-Excluded.is
+    c.kind.ensures c.in_ok-decision.ensures.kind)
 
-pub returns-in-None-clause-founded : goal.returns-in-None-clause-founded
-returns-in-None-clause-founded g c =
+pub returns-in-ExcludedBy-clause-founded : goal.returns-in-ExcludedBy-clause-founded
+returns-in-ExcludedBy-clause-founded g c =
+    at-kind (g.O.Refutable.excluded c.args.h c.args.criterion) c.in_ok-decision.decision c.in-ExcludedBy.kind c.in-ExcludedBy.is
+    c.in_ok-decision.ensures.excluded
+
+pub returns-in-ExcludedBy-clause-not_met : goal.returns-in-ExcludedBy-clause-not_met
+returns-in-ExcludedBy-clause-not_met g c = λ kind same.
+    at-kind (λ (k : Kind). ¬ Meets g.O.SeqObject.answer c.args.h c.args.criterion) c.in_ok-decision.decision c.in-ExcludedBy.kind c.in-ExcludedBy.is
+    c.in_ok-decision.ensures.not_met
+
+pub returns-in-ExcludedBy-clause-kind : goal.returns-in-ExcludedBy-clause-kind
+returns-in-ExcludedBy-clause-kind g c = λ kind same.
+    let no : c.in-ExcludedBy.kind ≡ kind = cc in
+    subst (λ (k : Kind). g.O.Judged.names c.args.h c.args.criterion k) no
+    (at-kind (g.O.Judged.names c.args.h c.args.criterion) c.in_ok-decision.decision c.in-ExcludedBy.kind c.in-ExcludedBy.is
+    c.in_ok-decision.ensures.kind)
+
+pub returns-in-Open-clause-founded : goal.returns-in-Open-clause-founded
+returns-in-Open-clause-founded g c =
     let answer = g.O.SeqObject.answer in
     ok-follows c.judge_by_certificate_alone.result
     (founded-more (Meets answer c.args.h c.args.criterion) (g.O.Refutable.excluded c.args.h c.args.criterion) (IsUnexplainedOf answer c.args.h c.args.criterion))
     c.judge_by_certificate_alone.ensures.founded
 
-pub returns-in-None-clause-not_met : goal.returns-in-None-clause-not_met
-returns-in-None-clause-not_met g c =
+pub returns-in-Open-clause-not_met : goal.returns-in-Open-clause-not_met
+returns-in-Open-clause-not_met g c =
     let answer = g.O.SeqObject.answer in
     ok-follows c.judge_by_certificate_alone.result
     (λ a founded kind same. absurd (founded-no (Meets answer c.args.h c.args.criterion) (IsUnexplainedOf answer c.args.h c.args.criterion) a founded kind same))
     c.judge_by_certificate_alone.ensures.founded
 
-pub returns-in-None-clause-kind : goal.returns-in-None-clause-kind
-returns-in-None-clause-kind g c =
+pub returns-in-Open-clause-kind : goal.returns-in-Open-clause-kind
+returns-in-Open-clause-kind g c =
     let answer = g.O.SeqObject.answer in
     ok-follows c.judge_by_certificate_alone.result
     (λ a founded kind same. absurd (founded-no (Meets answer c.args.h c.args.criterion) (IsUnexplainedOf answer c.args.h c.args.criterion) a founded kind same))
     c.judge_by_certificate_alone.ensures.founded
 
-pub returns-in-None-clause-decided : goal.returns-in-None-clause-decided
-returns-in-None-clause-decided g c = λ decides.
-    c.judge_by_certificate_alone.ensures.decided decides
-    (at-none c.in_ok-pattern.field-0 c.in-None.is (c.in_ok-pattern.ensures.decided decides))
+pub returns-in-Open-clause-decided : goal.returns-in-Open-clause-decided
+returns-in-Open-clause-decided g c = λ resolves. absurd (c.in_ok-decision.ensures.resolved resolves c.in-Open.is)

@@ -1,6 +1,6 @@
 use Rattle.std.proofs.Common.{refl, sym, subst}
 use Rattle.std.specs.Prelude.{◌≡◌, IsSomeAnd}
-use Rattle.cert_check.specs.Certificates.{CaseRecord, IsExplainedThroughout}
+use Rattle.cert_check.specs.Certificates.{IsExplainedThroughout}
 use Rattle.collector.proofs.JudgedLaws.{made-case_file}
 use Rattle.collector.proofs.making.made_file.Goals as goal
 

@@ -1,0 +1,38 @@
+use Rattle.std.proofs.Common.{subst}
+use Rattle.std.specs.Prelude.{IfOk}
+use Rattle.bad_patterns.specs.declared.kind.Kind.{Kind}
+use Rattle.bad_patterns.specs.Kinds.{IsTrueNo}
+use Rattle.decision.specs.declared.deciding.Decision.{Decision}
+use Rattle.decision.specs.Decisions.{IsDecided}
+use Rattle.memory_order.specs.Memory.{MemoryHistory}
+use Rattle.collector.proofs.DecisionLaws.{decided-first, decided-met, decided-no, decided-resolved, excluded-follows}
+use Rattle.collector.proofs.JudgedLaws.{ok-follows}
+use Rattle.collector.proofs.by_sources.decide.Goals as goal
+
+pub returns-clause-meets : goal.returns-clause-meets
+returns-clause-meets c =
+    ok-follows c.decide.result (decided-met c.args.h.now c.args.criterion)
+    (subst (λ (h : MemoryHistory). IfOk c.decide.result (IsDecided h c.args.criterion)) c.in_ok-memory.ensures c.decide.ensures)
+
+pub returns-clause-excluded : goal.returns-clause-excluded
+returns-clause-excluded c =
+    ok-follows c.decide.result
+    (decided-no c.args.h.now c.args.criterion (c.bad_patterns_exclude_criteria.ensures c.args.h.now c.args.criterion))
+    (subst (λ (h : MemoryHistory). IfOk c.decide.result (IsDecided h c.args.criterion)) c.in_ok-memory.ensures c.decide.ensures)
+
+pub returns-clause-not_met : goal.returns-clause-not_met
+returns-clause-not_met c =
+    ok-follows c.decide.result
+    (λ (d : Decision) decided. excluded-follows (λ (kind : Kind) (no : IsTrueNo c.args.h.now c.args.criterion kind). no.not_met) d
+    (decided-no c.args.h.now c.args.criterion (c.bad_patterns_exclude_criteria.ensures c.args.h.now c.args.criterion) d decided))
+    (subst (λ (h : MemoryHistory). IfOk c.decide.result (IsDecided h c.args.criterion)) c.in_ok-memory.ensures c.decide.ensures)
+
+pub returns-clause-kind : goal.returns-clause-kind
+returns-clause-kind c =
+    ok-follows c.decide.result (decided-first c.args.h.now c.args.criterion)
+    (subst (λ (h : MemoryHistory). IfOk c.decide.result (IsDecided h c.args.criterion)) c.in_ok-memory.ensures c.decide.ensures)
+
+pub returns-clause-resolved : goal.returns-clause-resolved
+returns-clause-resolved c = λ distinct.
+    ok-follows c.decide.result (decided-resolved c.args.h.now c.args.criterion distinct)
+    (subst (λ (h : MemoryHistory). IfOk c.decide.result (IsDecided h c.args.criterion)) c.in_ok-memory.ensures c.decide.ensures)
