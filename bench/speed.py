@@ -74,8 +74,8 @@ def short_rows(program, peer, folder):
         for shape in SHAPES:
             path = healthy(folder, size, shape)
             ours, theirs = (float(instructions(command, path)) for command in ([*program, "judge", "--workers", "1"], peer))
-            beyond = max(theirs - start, 0.01)
-            yield [f"judge {size} {shape}", "million instructions", f"{ours:.1f}", f"{beyond:.1f}", ratio(ours, beyond)]
+            beyond = max(theirs - start, 0)
+            yield [f"judge {size} {shape}", "million instructions", f"{ours:.1f}", f"{beyond:.1f}", ratio(ours, beyond) if beyond >= 1 else ""]
 
 
 def undecided_rows(program, folder, rounds, output):
@@ -98,7 +98,8 @@ def line_rows(program, folder, room, rounds):
             raise SystemExit(f"{name} lines: answers differ")
         one = float(rows[0][3].replace(",", ""))
         for _, workers, _, line, _, by_processes, beside, _ in rows:
-            yield [f"judge --lines, {name}, {workers} workers", "microseconds a line", line, f"{one / float(by_processes):,.1f}", f"{1 / float(beside):.2f}"]
+            words = [f"judge --lines, {name}, {workers} workers", "microseconds a line"]
+            yield [*words, line, f"{one / float(by_processes):,.1f} by processes", f"{1 / float(beside):.2f}"]
 
 
 def long_rows(program, prototype, folder, operations, rounds, output):
@@ -125,7 +126,9 @@ def main():
         room = pathlib.Path(name)
         folder, output = given.folder or room / "histories", room / "output"
         folder.mkdir(parents=True, exist_ok=True)
-        peer, prototype = build_peer(given.peer, room), built(given.prototype, room)
+        for part in ("peer", "prototype"):
+            (room / part).mkdir()
+        peer, prototype = build_peer(given.peer, room / "peer"), built(given.prototype, room / "prototype")
         rows = [
             *short_rows(given.program, peer, folder),
             *undecided_rows(given.program, folder, given.rounds, output),
