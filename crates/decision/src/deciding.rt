@@ -43,8 +43,8 @@ pub enum Decision {
 /// decision names the first kind that is present, whether a pattern of it is found or not. For causal memory it is decided first whether
 /// the history meets the criterion, as for a long history. `Open` exactly where values are not distinct.
 ///
-/// Fails for want of memory alone. O(n k (k + log n)) for n operations of k sessions, and for causal memory besides, where it is not met, for
-/// each session O(n (log n + k^2) + m k log n) for m pairs that the happened-before relation of its last operation has more than the
+/// Fails for want of memory alone. O(n k (k + log n)) for n operations of k sessions. For causal memory that is not met it costs besides, for
+/// each session, O(n (log n + k^2) + m k log n) for m pairs that the happened-before relation of its last operation has more than the
 /// causal order.
 pub fn decide(
     alloc: Global,

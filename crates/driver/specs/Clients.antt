@@ -74,6 +74,15 @@ module _ {S C R : Type 0} where
     pub calls : (i : ℕ) (c : C) (known : Option R) → entry input (session_operation s i) ≡ Some (c, known) → ¬ StaysOpen stop input (session_operation s i)
         → (r : ReceiptState C R) × (p.receipt ≡ Some r) × StandsFor r s i c
 
+  -- each session that may be taken at a seat is fresh
+  abbrev pub AreFreshWhere : LanesState S → HistoryValue S C R → (SessionState C R → Type 0) → Type 0
+  AreFreshWhere lanes input ready = (own : SessionState C R) → ready own → IsFresh lanes input own
+
+  -- what a client plays may be left at its seat, and so may why it gave up
+  abbrev pub CanLeave : LanesState S → Option ℕ → HistoryValue S C R → (ℕ → Result (PlayedState S C R) DriveError → Type 0) → Type 0
+  CanLeave lanes stop input left =
+      (s : ℕ) (p : Result (PlayedState S C R) DriveError) → MatchResult p (IsPlayed lanes stop input s) IsGivenUp → left s p
+
   -- each session of a recorder is fresh, and they stand in order
   abbrev pub AreFresh : LanesState S → HistoryValue S C R → List (SessionState C R) → Type 0
   AreFresh lanes input owns = (s : ℕ) (own : SessionState C R) → slice_get owns s ≡ Some own → (own.lane ≡ s) × IsFresh lanes input own

@@ -1,9 +1,7 @@
 //! Clients at their seats, each in its own thread where one can be made.
 
-ghost use Rattle.std.specs.Prelude.{IfSome, MatchResult, Result, ℕ};
-ghost use Rattle.recorder.specs.Sessions.{SessionState};
-ghost use Rattle.driver.specs.Clients.{IsFresh, IsGivenUp, IsPlayed, PlayedState};
-ghost use Rattle.driver.specs.declared.drive_error.DriveError.{DriveError};
+ghost use Rattle.std.specs.Prelude.{IfSome};
+ghost use Rattle.driver.specs.Clients.{AreFreshWhere, CanLeave};
 
 use crate::drive_error::DriveError;
 use crate::played::Played;
@@ -52,9 +50,8 @@ fn play_at<O: SeqObject, K: RunName<O::Start, O::Call, O::Ret>, P: UpdateOrder, 
     gate: &G,
     seat: &Mutex<Seat<O, K>>,
 )
-    requires ready { (own : SessionState O.Call O.Ret) → K.ready own → IsFresh run.now.lanes.now run.now.input.now own }
-    requires left { (s : ℕ) (p : Result (PlayedState O.Start O.Call O.Ret) DriveError)
-        → MatchResult p (IsPlayed run.now.lanes.now run.now.plan.stop run.now.input.now s) IsGivenUp → K.left s p }
+    requires ready { AreFreshWhere run.now.lanes.now run.now.input.now K.ready }
+    requires left { CanLeave run.now.lanes.now run.now.plan.stop run.now.input.now K.left }
 {
     if let Some(own) = take_own(rt, seat) {
         let s = own.lane() as usize;
@@ -74,18 +71,14 @@ struct Seated<'a, 'r, O: SeqObject, K: RunName<O::Start, O::Call, O::Ret>> {
 }
 
 impl<'a, 'r, O: SeqObject, K: RunName<O::Start, O::Call, O::Ret>> Model for Seated<'a, 'r, O, K> {
-    ghost use Rattle.std.specs.Prelude.{MatchResult, Result, ℕ};
-    ghost use Rattle.recorder.specs.Sessions.{SessionState};
-    ghost use Rattle.driver.specs.Clients.{IsFresh, IsGivenUp, IsPlayed, PlayedState};
-    ghost use Rattle.driver.specs.declared.drive_error.DriveError.{DriveError};
+    ghost use Rattle.driver.specs.Clients.{AreFreshWhere, CanLeave};
 
     ghost Value = { Unit {0} };
 
     ghost view = { λ _. tt {0} };
 
-    ghost invariant = { λ seated. ((own : SessionState O.Call O.Ret) → K.ready own → IsFresh seated.run.now.lanes.now seated.run.now.input.now own)
-        × ((s : ℕ) (p : Result (PlayedState O.Start O.Call O.Ret) DriveError)
-        → MatchResult p (IsPlayed seated.run.now.lanes.now seated.run.now.plan.stop seated.run.now.input.now s) IsGivenUp → K.left s p) };
+    ghost invariant = { λ seated. AreFreshWhere seated.run.now.lanes.now seated.run.now.input.now K.ready
+        × CanLeave seated.run.now.lanes.now seated.run.now.plan.stop seated.run.now.input.now K.left };
 }
 
 impl<'a, 'r, O: SeqObject, K: RunName<O::Start, O::Call, O::Ret>> Seated<'a, 'r, O, K> {
@@ -117,9 +110,8 @@ pub(crate) fn play_seats<
     seats: &Vec<Mutex<Seat<O, K>>>,
     order: &PhantomData<P>,
 ) -> Result<(), AllocError>
-    requires ready { (own : SessionState O.Call O.Ret) → K.ready own → IsFresh run.now.lanes.now run.now.input.now own }
-    requires left { (s : ℕ) (p : Result (PlayedState O.Start O.Call O.Ret) DriveError)
-        → MatchResult p (IsPlayed run.now.lanes.now run.now.plan.stop run.now.input.now s) IsGivenUp → K.left s p }
+    requires ready { AreFreshWhere run.now.lanes.now run.now.input.now K.ready }
+    requires left { CanLeave run.now.lanes.now run.now.plan.stop run.now.input.now K.left }
 {
     let seated = Seated { run, seats };
     let _played = thread::map_indices(
