@@ -1,6 +1,6 @@
 -- What a decision says, and what a decision on a memory history says.
 use Rattle.std.specs.Prelude.{◌≡◌, ◌≢◌}
-use Rattle.std.proofs.Common.{subst, sym}
+use Rattle.std.proofs.Common.{inl, subst, sym}
 use Rattle.bad_patterns.specs.declared.kind.Kind.{Kind}
 use Rattle.bad_patterns.specs.declared.pattern.Pattern.{Pattern}
 use Rattle.bad_patterns.specs.Kinds.{IsTrueNo}
@@ -8,10 +8,12 @@ use Rattle.bad_patterns.specs.Patterns.{IsBadPattern, kind_of}
 use Rattle.cert_check.specs.declared.criterion.Criterion.{Criterion}
 use Rattle.cert_check.specs.Criteria.{Meets}
 use Rattle.memory_order.specs.Memory.{MemoryHistory, IsDifferentiated, memory_answer}
-use Rattle.pattern_search.specs.FirstKinds.{ComesFirst}
+use Rattle.pattern_search.specs.FirstKinds.{ComesFirst, ComesFirstOrLarge}
 use Rattle.decision.specs.declared.deciding.Decision.{Decision}
 use Rattle.decision.specs.declared.deciding.Decision.TheVariants as decisions
 use Rattle.decision.specs.Decisions.{IsDecided}
+use Rattle.cert_check.specs.declared.criterion.Criterion.TheVariants.{Cc, Cm, Ccv}
+use Rattle.collector.specs.Decided.{IsDecided as IsExact}
 use Rattle.collector.specs.NamedKinds.{IfExcluded}
 
 -- what holds of the kind that a decision names, where it has a pattern, and where it has a kind alone
@@ -54,3 +56,12 @@ module _ (h : MemoryHistory) (criterion : Criterion) where
   decided-resolved distinct (decisions.Excluded pattern) decided = λ same. absurd cc
   decided-resolved distinct (decisions.ExcludedBy kind) decided = λ same. absurd cc
   decided-resolved distinct decisions.Open decided = absurd (decided distinct)
+
+  pub decided-found : (d : Decision) → IsDecided h criterion d → IfExcluded d (ComesFirstOrLarge h criterion)
+  decided-found d decided = excluded-follows (λ (kind : Kind) (first : ComesFirst h criterion kind). inl first) d (decided-first d decided)
+
+-- where the search and the makers are exact, values are distinct
+pub exact-distinct : (h : MemoryHistory) (criterion : Criterion) → IsExact h criterion → IsDifferentiated h
+exact-distinct h Cc exact = exact
+exact-distinct h Cm exact = exact.0
+exact-distinct h Ccv exact = exact

@@ -65,7 +65,9 @@ fn decide(alloc: Global, h: &History<Memory>, criterion: Criterion) -> Result<De
     ensures meets { IfOk result (λ d. d ≡ Decision.Meets → Meets memory_answer h.now criterion) }
     ensures excluded { IfOk result (λ d. IfExcluded d (IsTrueNo h.now criterion)) }
     ensures not_met { IfOk result (λ d. IfExcluded d (λ kind. ¬ Meets memory_answer h.now criterion)) }
-    ensures kind { IfOk result (λ d. IfExcluded d (ComesFirst h.now criterion)) }
+    ensures kind { IfOk result (λ d. IfExcluded d (ComesFirstOrLarge h.now criterion)) }
+    ensures first { IfOk result (λ d. IfExcluded d (ComesFirst h.now criterion)) }
+    ensures decided { IsDecided h.now criterion → IfOk result (λ d. d ≢ Decision.Open) }
     ensures resolved { IsDifferentiated h.now → IfOk result (λ d. d ≢ Decision.Open) }
 {
     bad_patterns_exclude_criteria();

@@ -44,7 +44,9 @@ pub trait Judged: Refutable {
         ensures meets { IfOk result (λ d. d ≡ Decision.Meets → Meets Self.answer h.now criterion) }
         ensures excluded { IfOk result (λ d. IfExcluded d (Self.excluded h.now criterion)) }
         ensures not_met { IfOk result (λ d. IfExcluded d (λ kind. ¬ Meets Self.answer h.now criterion)) }
-        ensures kind { IfOk result (λ d. IfExcluded d (names h.now criterion)) }
+        ensures kind { IfOk result (λ d. IfExcluded d (finds h.now criterion)) }
+        ensures first { IfOk result (λ d. IfExcluded d (names h.now criterion)) }
+        ensures decided { decides h.now criterion → IfOk result (λ d. d ≢ Decision.Open) }
         ensures resolved { resolves h.now → IfOk result (λ d. d ≢ Decision.Open) };
 
     /// A pattern that shows that the history does not meet the criterion, where the search finds one.

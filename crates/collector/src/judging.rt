@@ -43,9 +43,10 @@ pub fn judge<O: Judged + Send + Sync, R: Threads + Wait + Sync, G: Gate>(
 ) -> Result<Answer, DeskError>
     ensures founded { IfOk result (IsFounded (Meets O.answer h criterion) (O.excluded h criterion) (IsUnexplainedOf O.answer h criterion)) }
     ensures not_met { IfOk result (λ a. (kind : AnyKind) → a ≡ Answer.No kind → ¬ Meets O.answer h criterion) }
-    ensures kind { IfOk result (λ a. (kind : AnyKind) → a ≡ Answer.No kind → O.names h criterion kind) }
-    ensures decided { O.resolves h → IfOk result IsKnown }
-    ensures certified { O.decides h criterion → Meets O.answer h criterion → IfOk result IsKnown }
+    ensures kind { IfOk result (λ a. (kind : AnyKind) → a ≡ Answer.No kind → O.finds h criterion kind) }
+    ensures first { IfOk result (λ a. (kind : AnyKind) → a ≡ Answer.No kind → O.names h criterion kind) }
+    ensures decided { O.decides h criterion → IfOk result IsKnown }
+    ensures resolved { O.resolves h → IfOk result IsKnown }
     ensures workers { IfOk result (λ _. AreWorkers workers) }
     ensures error { IfErr result (IsJudgeError workers) }
 {

@@ -43,9 +43,9 @@ pub enum Decision {
 /// decision names the first kind that is present, whether a pattern of it is found or not. For causal memory it is decided first whether
 /// the history meets the criterion, as for a long history. `Open` exactly where values are not distinct.
 ///
-/// Fails for want of memory alone. O(n k (k + log n)) for n operations of k sessions. For causal memory that is not met it costs besides, for
-/// each session, O(n (log n + k^2) + m k log n) for m pairs that the happened-before relation of its last operation has more than the
-/// causal order.
+/// Fails for want of memory alone. O(n k (k + log n)) for n operations of k sessions. Causal memory that is not met costs more: for each
+/// session O(n (log n + k^2) + m k log n) for m pairs that the happened-before relation of its last operation has more than the causal
+/// order.
 pub fn decide(
     alloc: Global,
     memory: &IndexedMemory,

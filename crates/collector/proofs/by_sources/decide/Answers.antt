@@ -5,7 +5,7 @@ use Rattle.bad_patterns.specs.Kinds.{IsTrueNo}
 use Rattle.decision.specs.declared.deciding.Decision.{Decision}
 use Rattle.decision.specs.Decisions.{IsDecided}
 use Rattle.memory_order.specs.Memory.{MemoryHistory}
-use Rattle.collector.proofs.DecisionLaws.{decided-first, decided-met, decided-no, decided-resolved, excluded-follows}
+use Rattle.collector.proofs.DecisionLaws.{decided-first, decided-found, decided-met, decided-no, decided-resolved, exact-distinct, excluded-follows}
 use Rattle.collector.proofs.JudgedLaws.{ok-follows}
 use Rattle.collector.proofs.by_sources.decide.Goals as goal
 
@@ -27,12 +27,22 @@ returns-clause-not_met c =
     (decided-no c.args.h.now c.args.criterion (c.bad_patterns_exclude_criteria.ensures c.args.h.now c.args.criterion) d decided))
     (subst (λ (h : MemoryHistory). IfOk c.decide.result (IsDecided h c.args.criterion)) c.in_ok-memory.ensures c.decide.ensures)
 
-pub returns-clause-kind : goal.returns-clause-kind
-returns-clause-kind c =
+pub returns-clause-first : goal.returns-clause-first
+returns-clause-first c =
     ok-follows c.decide.result (decided-first c.args.h.now c.args.criterion)
     (subst (λ (h : MemoryHistory). IfOk c.decide.result (IsDecided h c.args.criterion)) c.in_ok-memory.ensures c.decide.ensures)
 
 pub returns-clause-resolved : goal.returns-clause-resolved
 returns-clause-resolved c = λ distinct.
     ok-follows c.decide.result (decided-resolved c.args.h.now c.args.criterion distinct)
+    (subst (λ (h : MemoryHistory). IfOk c.decide.result (IsDecided h c.args.criterion)) c.in_ok-memory.ensures c.decide.ensures)
+
+pub returns-clause-kind : goal.returns-clause-kind
+returns-clause-kind c =
+    ok-follows c.decide.result (decided-found c.args.h.now c.args.criterion)
+    (subst (λ (h : MemoryHistory). IfOk c.decide.result (IsDecided h c.args.criterion)) c.in_ok-memory.ensures c.decide.ensures)
+
+pub returns-clause-decided : goal.returns-clause-decided
+returns-clause-decided c = λ exact.
+    ok-follows c.decide.result (decided-resolved c.args.h.now c.args.criterion (exact-distinct c.args.h.now c.args.criterion exact))
     (subst (λ (h : MemoryHistory). IfOk c.decide.result (IsDecided h c.args.criterion)) c.in_ok-memory.ensures c.decide.ensures)

@@ -22,9 +22,16 @@ returns-in-Excluded-clause-not_met g c = λ kind same.
 pub returns-in-Excluded-clause-kind : goal.returns-in-Excluded-clause-kind
 returns-in-Excluded-clause-kind g c = λ kind same.
     let no : c.kind.result ≡ kind = cc in
+    subst (λ (k : Kind). g.O.Judged.finds c.args.h c.args.criterion k) no
+    (at-pattern (g.O.Judged.finds c.args.h c.args.criterion) c.in_ok-decision.decision c.in-Excluded.pattern c.kind.result c.in-Excluded.is
+    c.kind.ensures c.in_ok-decision.ensures.kind)
+
+pub returns-in-Excluded-clause-first : goal.returns-in-Excluded-clause-first
+returns-in-Excluded-clause-first g c = λ kind same.
+    let no : c.kind.result ≡ kind = cc in
     subst (λ (k : Kind). g.O.Judged.names c.args.h c.args.criterion k) no
     (at-pattern (g.O.Judged.names c.args.h c.args.criterion) c.in_ok-decision.decision c.in-Excluded.pattern c.kind.result c.in-Excluded.is
-    c.kind.ensures c.in_ok-decision.ensures.kind)
+    c.kind.ensures c.in_ok-decision.ensures.first)
 
 pub returns-in-ExcludedBy-clause-founded : goal.returns-in-ExcludedBy-clause-founded
 returns-in-ExcludedBy-clause-founded g c =
@@ -39,9 +46,16 @@ returns-in-ExcludedBy-clause-not_met g c = λ kind same.
 pub returns-in-ExcludedBy-clause-kind : goal.returns-in-ExcludedBy-clause-kind
 returns-in-ExcludedBy-clause-kind g c = λ kind same.
     let no : c.in-ExcludedBy.kind ≡ kind = cc in
+    subst (λ (k : Kind). g.O.Judged.finds c.args.h c.args.criterion k) no
+    (at-kind (g.O.Judged.finds c.args.h c.args.criterion) c.in_ok-decision.decision c.in-ExcludedBy.kind c.in-ExcludedBy.is
+    c.in_ok-decision.ensures.kind)
+
+pub returns-in-ExcludedBy-clause-first : goal.returns-in-ExcludedBy-clause-first
+returns-in-ExcludedBy-clause-first g c = λ kind same.
+    let no : c.in-ExcludedBy.kind ≡ kind = cc in
     subst (λ (k : Kind). g.O.Judged.names c.args.h c.args.criterion k) no
     (at-kind (g.O.Judged.names c.args.h c.args.criterion) c.in_ok-decision.decision c.in-ExcludedBy.kind c.in-ExcludedBy.is
-    c.in_ok-decision.ensures.kind)
+    c.in_ok-decision.ensures.first)
 
 pub returns-in-Open-clause-founded : goal.returns-in-Open-clause-founded
 returns-in-Open-clause-founded g c =
@@ -64,5 +78,15 @@ returns-in-Open-clause-kind g c =
     (λ a founded kind same. absurd (founded-no (Meets answer c.args.h c.args.criterion) (IsUnexplainedOf answer c.args.h c.args.criterion) a founded kind same))
     c.judge_by_certificate_alone.ensures.founded
 
+pub returns-in-Open-clause-first : goal.returns-in-Open-clause-first
+returns-in-Open-clause-first g c =
+    let answer = g.O.SeqObject.answer in
+    ok-follows c.judge_by_certificate_alone.result
+    (λ a founded kind same. absurd (founded-no (Meets answer c.args.h c.args.criterion) (IsUnexplainedOf answer c.args.h c.args.criterion) a founded kind same))
+    c.judge_by_certificate_alone.ensures.founded
+
 pub returns-in-Open-clause-decided : goal.returns-in-Open-clause-decided
-returns-in-Open-clause-decided g c = λ resolves. absurd (c.in_ok-decision.ensures.resolved resolves c.in-Open.is)
+returns-in-Open-clause-decided g c = λ decides. absurd (c.in_ok-decision.ensures.decided decides c.in-Open.is)
+
+pub returns-in-Open-clause-resolved : goal.returns-in-Open-clause-resolved
+returns-in-Open-clause-resolved g c = λ resolves. absurd (c.in_ok-decision.ensures.resolved resolves c.in-Open.is)
