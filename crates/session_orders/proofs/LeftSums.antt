@@ -66,3 +66,7 @@ left-placed k item t left after placing below =
     (item (last_left left t))
     below (omega arith) (λ s exists other. ap (sum_below (λ i. item (op s i))) (sym (placing.others s other))) in
     omega arith
+
+-- fewer operations are left then
+pub placed-fewer : (k : ℕ) (t : ℕ) (left after : ℕ → ℕ) → IsPlacing t left after → t < k → left_sum k (λ a. 1) after < left_sum k (λ a. 1) left
+placed-fewer k t left after placing below = let placed = left-placed k (λ a. 1) t left after placing below in omega arith

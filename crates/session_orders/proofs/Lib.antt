@@ -18,6 +18,7 @@ pub mod Placing
 pub mod SessionSteps
 pub mod Starts
 pub mod Stuck
+pub mod TakenOut
 pub mod Tests
 pub mod TurnLaws
 pub mod WriteCounts

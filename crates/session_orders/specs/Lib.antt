@@ -1,5 +1,6 @@
 pub mod Backward
 pub mod BackwardOrder
+pub mod Beginnings
 pub mod LoneSources
 pub mod OnItsWay
 pub mod OrderedParts

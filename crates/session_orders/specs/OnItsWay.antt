@@ -14,11 +14,15 @@ use Rattle.session_orders.specs.declared.backward.Backward.{Backward}
 use Rattle.session_orders.specs.Backward.{HasReadLeft, IsOpen, IsBlocked, IsLockedOut, ReadsLockedOut, AreOthersBlocked, IsPlacing, last_left}
 use Rattle.session_orders.specs.SessionOrders.{last_op}
 use Rattle.session_orders.specs.SessionStates.{IsSessionState}
-use Rattle.session_orders.specs.Tables.{AreCounts, AreLocks, left_counts}
+use Rattle.session_orders.specs.Tables.{AreCounts, AreLocks, left_counts, left_sum}
 
 -- how many operations of each session are left
 abbrev pub left_of : MemoryHistory → Backward → ℕ → ℕ
 left_of h b = left_counts h b.ends.items
+
+-- how many operations are left
+abbrev pub many_left : MemoryHistory → Backward → ℕ
+many_left h b = left_sum (length h.1) (λ a. 1) (left_of h b)
 
 -- what holds of the history and of the last operation of a session while its order is made
 pub record IsKnown (index : Indexed) (own : ℕ) : Type 0 where

@@ -1,15 +1,14 @@
 //! What is left of the past of a session's last operation, while an order of this past is made from its end.
 
-ghost use Rattle.std.specs.Prelude.{◌≡◌, ◌<◌, ◌≤◌, ◌+◌, ℕ, [], length, None, slice_index_or};
+ghost use Rattle.std.specs.Prelude.{◌≡◌, ◌<◌, ◌≤◌, ◌+◌, ℕ, length, None, slice_index_or};
 ghost use Rattle.std.specs.Prelude.{IfOk};
 ghost use Rattle.history.specs.History.{many_before};
 ghost use Rattle.memory_order.specs.Memory.{IsDifferentiated};
-ghost use Rattle.long_history.specs.Steps.{IsOrderBy, many};
-ghost use Rattle.session_orders.specs.OnItsWay.{CountsUpTo, HasCounts, HasSizes, IsClear, IsKnown, IsOnItsWay, left_of};
+ghost use Rattle.long_history.specs.Steps.{many};
+ghost use Rattle.session_orders.specs.OnItsWay.{CountsUpTo, HasCounts, HasSizes, IsClear, left_of};
 ghost use Rattle.session_orders.specs.Tables.{left_under};
 
 use crate::numbers::add_one;
-use crate::pasts::leave_past;
 use long_history::MAX_NUMBERS;
 use long_index::{LongIndex, Part};
 use std::alloc::{AllocError, Global};
@@ -47,22 +46,8 @@ impl Backward {
         })
     }
 
-    /// Starts from a state with nothing left: leaves the past of the last operation of a session. O(n) for n operations.
-    pub(crate) fn begin(&mut self, index: &LongIndex, order: &[u32], own: u32)
-        requires known { IsKnown index.now own }
-        requires order { IsOrderBy index.now.history [] order.now }
-        requires clear { IsClear index.now self.old }
-        ensures on_its_way { IsOnItsWay index.now self.new }
-        ensures own { self.new.own ≡ own }
-    {
-        self.own = own;
-        leave_past(index, order, own, &mut self.ends);
-        self.count(index);
-        self.start = false;
-    }
-
     /// Counts the reads and writes that are left; none may be counted yet.
-    fn count(&mut self, index: &LongIndex)
+    pub(crate) fn count(&mut self, index: &LongIndex)
         requires distinct { IsDifferentiated index.now.history }
         requires few { many index.now.history ≤ MAX_NUMBERS }
         requires sizes { HasSizes index.now self.old }

@@ -6,6 +6,7 @@
 #![tactic(auto)]
 
 mod backward;
+mod beginning;
 mod free;
 mod lone_sources;
 mod numbers;

@@ -4,13 +4,16 @@ ghost use Rattle.std.specs.Prelude.{◌≡◌, ◌<◌, ℕ, [], length, IfOk, I
 ghost use Rattle.long_history.specs.Steps.{IsOrderBy, many};
 ghost use Rattle.memory_order.specs.SourceOrder.{LacksSource};
 ghost use Rattle.session_orders.specs.Backward.{IsOpen};
+ghost use Rattle.session_orders.specs.Beginnings.{IsBeginning};
 ghost use Rattle.session_orders.specs.declared.ordering.SessionOrder.TheVariants.{Explained};
 ghost use Rattle.session_orders.specs.LoneSources.{CountsWrites};
-ghost use Rattle.session_orders.specs.OnItsWay.{IsClear, IsKnown, IsOnItsWay, IsStopped, ListsSessions, left_of};
+ghost use Rattle.session_orders.specs.OnItsWay.{CanBePlaced, IsAwake, IsClear, IsKnown, IsOnItsWay, IsStopped, ListsSessions};
+ghost use Rattle.session_orders.specs.OnItsWay.{left_of, many_left};
 ghost use Rattle.session_orders.specs.OrderedParts.{IsOrderedPart};
 ghost use Rattle.session_orders.specs.SessionOrders.{IsOutcome};
 
 use crate::backward::Backward;
+use crate::beginning::Beginning;
 use crate::lone_sources::{count_writes, may_lack_order};
 use crate::turns::Turns;
 use long_index::LongIndex;
@@ -57,13 +60,22 @@ pub(crate) fn order_part(
     ensures { IfOk result (IsOrderedPart index.now.history sessions.now parts part) }
 {
     index.value_is_indexed();
+    let mut beginning = Beginning::of(alloc, index)?;
     let mut backward = Backward::clear(alloc, index)?;
     let mut turns = Turns::of(alloc, index)?;
     let counts = count_writes(alloc, index)?;
     for place in 0..sessions.len() {
         let own = sessions[place];
         if place % parts == part {
-            match order_where_needed(index, order, &counts, own, &mut backward, &mut turns)? {
+            match order_where_needed(
+                index,
+                order,
+                &counts,
+                own,
+                &mut beginning,
+                &mut backward,
+                &mut turns,
+            )? {
                 SessionOrder::Explained => {}
                 SessionOrder::StartOverwritten => {
                     return Ok(Some(Unexplained {
@@ -89,6 +101,7 @@ fn order_where_needed(
     order: &[u32],
     counts: &[u32],
     own: u32,
+    beginning: &mut Beginning,
     backward: &mut Backward,
     turns: &mut Turns,
 ) -> Result<SessionOrder, AllocError>
@@ -97,14 +110,16 @@ fn order_where_needed(
     requires sources { ¬ LacksSource index.now.history }
     requires size { length counts.now ≡ index.now.bound }
     requires counts { CountsWrites index.now.history index.now.variables (many index.now.history) counts.now }
+    requires beginning { IsBeginning index.now beginning.old }
     requires clear { IsClear index.now backward.old }
     requires sessions { ListsSessions index.now.history (length index.now.history.1) turns.old.sessions.items }
     ensures outcome { IfOk result (IsOutcome index.now.history own) }
+    ensures beginning { IfOk result (λ _. IsBeginning index.now beginning.new) }
     ensures clear { IfOk result (λ outcome. outcome ≡ Explained → IsClear index.now backward.new) }
     ensures sessions { IfOk result (λ _. turns.new.sessions.items ≡ turns.old.sessions.items) }
 {
     if may_lack_order(index, counts, own) {
-        order_session(index, order, own, backward, turns)
+        order_session(index, order, own, beginning, backward, turns)
     } else {
         Ok(SessionOrder::Explained)
     }
@@ -115,29 +130,55 @@ fn order_session(
     index: &LongIndex,
     order: &[u32],
     own: u32,
+    beginning: &mut Beginning,
     backward: &mut Backward,
     turns: &mut Turns,
 ) -> Result<SessionOrder, AllocError>
     requires known { IsKnown index.now own }
     requires order { IsOrderBy index.now.history [] order.now }
     requires sources { ¬ LacksSource index.now.history }
+    requires beginning { IsBeginning index.now beginning.old }
     requires clear { IsClear index.now backward.old }
     requires sessions { ListsSessions index.now.history (length index.now.history.1) turns.old.sessions.items }
     ensures outcome { IfOk result (IsOutcome index.now.history own) }
+    ensures beginning { IfOk result (λ _. IsBeginning index.now beginning.new) }
     ensures clear { IfOk result (λ outcome. outcome ≡ Explained → IsClear index.now backward.new) }
     ensures sessions { IfOk result (λ _. turns.new.sessions.items ≡ turns.old.sessions.items) }
 {
-    backward.begin(index, order, own);
+    beginning.begin(index, order, own, backward);
     turns.wake_all()?;
     while let Some(session) = backward.next_session(index, turns) {
-        let hint = backward.place(index, session);
-        turns.take_hint(hint)?;
-        turns.limit()?;
+        backward.place_run(index, session, turns)?;
     }
     Ok(backward.outcome(index, &turns.sessions))
 }
 
 impl Backward {
+    /// Places the last operations of a session that are left, as long as it can go on: of the own session one.
+    fn place_run(
+        &mut self,
+        index: &LongIndex,
+        session: u32,
+        turns: &mut Turns,
+    ) -> Result<(), AllocError>
+        requires next { CanBePlaced index.now self.old session }
+        requires sessions { ListsSessions index.now.history (length index.now.history.1) turns.old.sessions.items }
+        requires awake { IsAwake index.now self.old turns.old.awake.items }
+        ensures on_its_way { IfOk result (λ _. IsOnItsWay index.now self.new) }
+        ensures own { IfOk result (λ _. self.new.own ≡ self.old.own) }
+        ensures sessions { IfOk result (λ _. turns.new.sessions.items ≡ turns.old.sessions.items) }
+        ensures awake { IfOk result (λ _. IsAwake index.now self.new turns.new.awake.items) }
+        ensures fewer { IfOk result (λ _. many_left index.now.history self.new < many_left index.now.history self.old) }
+    {
+        let mut goes_on = true;
+        while goes_on {
+            let hint = self.place(index, session);
+            turns.take_hint(hint)?;
+            goes_on = self.is_free_other(index, session);
+        }
+        Ok(())
+    }
+
     /// The result for the own session, once no session can go on.
     fn outcome(&self, index: &LongIndex, sessions: &[u32]) -> SessionOrder
         requires on_its_way { IsOnItsWay index.now self.now }

@@ -52,21 +52,24 @@ impl Turns {
         Ok(())
     }
 
-    /// Takes a hint, if there is one.
+    /// Takes a hint, if there is one. Asks each session once, if hints have made `awake` longer than about twice `sessions`.
+    ///
+    /// O(1), and O(k) for k sessions once for k hints.
     pub(crate) fn take_hint(&mut self, hint: Option<u32>) -> Result<(), AllocError>
         ensures sessions { IfOk result (λ _. self.new.sessions.items ≡ self.old.sessions.items) }
-        ensures awake { IfOk result (λ _. IsWoken self.old.awake.items hint self.new.awake.items) }
+        ensures awake { IfOk result (λ _. IsWoken self.old.awake.items hint self.new.awake.items
+            ⊎ (self.new.awake.items ≡ self.old.sessions.items)) }
     {
         if let Some(session) = hint {
             self.hints.push(session)?;
             self.awake.push(session)?;
+            self.limit()?;
         }
         Ok(())
     }
 
-    /// Asks each session once, if hints have made `awake` longer than about twice `sessions`. O(k) for k sessions, and that only once
-    /// for k hints.
-    pub(crate) fn limit(&mut self) -> Result<(), AllocError>
+    /// Asks each session once, if `awake` is longer than about twice `sessions`. O(k) for k sessions.
+    fn limit(&mut self) -> Result<(), AllocError>
         ensures sessions { IfOk result (λ _. self.new.sessions.items ≡ self.old.sessions.items) }
         ensures awake { IfOk result (λ _. (self.new.awake.items ≡ self.old.awake.items)
             ⊎ (self.new.awake.items ≡ self.old.sessions.items)) }
@@ -172,7 +175,7 @@ impl Backward {
     }
 
     /// Whether a session is not the own one and can go on.
-    fn is_free_other(&self, index: &LongIndex, session: u32) -> bool
+    pub(crate) fn is_free_other(&self, index: &LongIndex, session: u32) -> bool
         requires on_its_way { IsOnItsWay index.now self.now }
         requires exists { session < length index.now.history.1 }
         ensures next { IsTrue result → CanBePlaced index.now self.now session }

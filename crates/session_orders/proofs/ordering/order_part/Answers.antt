@@ -1,4 +1,4 @@
-use Rattle.std.specs.Prelude.{◌<◌, [], ℕ, List, length, slice_index_or}
+use Rattle.std.specs.Prelude.{◌<◌, ◌≤◌, [], ℕ, List, length, slice_index_or}
 use Rattle.std.proofs.Common.{arith, subst, ◌∙◌}
 use Rattle.long_order.proofs.Orders.{order_by-straight}
 use Rattle.session_orders.specs.SessionOrders.{IsOrderedSession, IsOutcome}
@@ -33,14 +33,21 @@ loop-place-preserved c =
       | then-place-parts+in_ok-order_where_needed+in-Explained w ↦
           let explained : IsOrderedSession h (slice_index_or list place 0) =
           subst (IsOutcome h (slice_index_or list place 0)) w.in-Explained.is w.in_ok-order_where_needed.ensures.outcome in
-          rw (w.backward-is, w.turns-is) (record {
+          rw (w.beginning-is, w.backward-is, w.turns-is) (record {
+            beginning = w.in_ok-order_where_needed.ensures.beginning;
             clear = w.in_ok-order_where_needed.ensures.clear w.in-Explained.is;
             sessions = w.in_ok-order_where_needed.ensures.sessions ∙ was.sessions;
             ordered = ordered-more h list c.args.parts c.args.part place was.ordered explained;
           })
-      | else-place-parts w ↦ rw (w.backward-is, w.turns-is) (record {
+      | else-place-parts w ↦ rw (w.beginning-is, w.backward-is, w.turns-is) (record {
+        beginning = was.beginning;
         clear = was.clear;
         sessions = was.sessions;
         ordered = ordered-same h list c.args.parts c.args.part place w.if-place-parts.false was.ordered;
       })
     ]
+
+pub returns : goal.returns
+returns c k below =
+    let whole : length c.args.sessions.now ≤ c.loop-place.place = grind arith in
+    c.loop-place.invariant.ordered k (omega arith)

@@ -1,6 +1,5 @@
-use Rattle.std.specs.Prelude.{◌≡◌, length}
-use Rattle.session_orders.specs.OnItsWay.{IsAwake, IsOnItsWay, left_of}
-use Rattle.session_orders.specs.Tables.{left_sum}
+use Rattle.std.specs.Prelude.{◌≡◌}
+use Rattle.session_orders.specs.OnItsWay.{IsAwake, IsOnItsWay, many_left}
 use Rattle.session_orders.proofs.ordering.order_session.Given as goal
 
 abbrev pub invariant-loop-session : goal.invariant-loop-session
@@ -11,6 +10,6 @@ invariant-loop-session l = record {
   awake : IsAwake l.index l.backward l.turns.awake.items;
 }
 
--- one operation fewer is left
+-- fewer operations are left
 abbrev pub decreases-loop-session : goal.decreases-loop-session
-decreases-loop-session l = left_sum (length l.index.history.1) (λ a. 1) (left_of l.index.history l.backward)
+decreases-loop-session l = many_left l.index.history l.backward
