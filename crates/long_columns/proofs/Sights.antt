@@ -40,6 +40,10 @@ module _ (h : MemoryHistory) (t : ℕ) (ends firsts : ℕ → ℕ) (r : OpId) wh
     λ w a beside. absurd (none beside.0.0 beside.0.1 beside.0.3 a beside.1),
   )
 
+  -- a write shows nothing
+  pub looks-write : IsPart h r parts.Write → IsSight h t ends firsts r sights.Nothing
+  looks-write (y, v, wrote) = sight-none (λ x u reads a is. write-or_read h r r y v x u wrote reads refl)
+
   module _ (distinct : IsDifferentiated h) (w a : OpId) (from : ReadsFrom h w r)
       (last : IsLastIn h (WritesTo h) t from.0 (ends (number h r)) a) where
     -- the last write is the source

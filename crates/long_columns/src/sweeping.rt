@@ -63,14 +63,19 @@ pub(crate) fn sweep_column(
         read: false,
     };
     for operation in 0..index.operations() {
-        let end = ends[operation as usize];
-        advance(index, start, at, end, last);
-        at = end;
-        note(
-            look(index, ends, firsts, last, start, operation),
-            &mut overwritten,
-            late,
-        );
+        match index.part(operation) {
+            Part::Write => {}
+            _ => {
+                let end = ends[operation as usize];
+                advance(index, start, at, end, last);
+                at = end;
+                note(
+                    look(index, ends, firsts, last, start, operation),
+                    &mut overwritten,
+                    late,
+                );
+            }
+        }
     }
     overwritten
 }

@@ -6,7 +6,6 @@ ghost use Rattle.std.specs.Prelude.{◌≡◌, ◌≢◌, ◌<◌, ◌≤◌, �
 ghost use Rattle.history.specs.History.{many_before};
 ghost use Rattle.memory_order.specs.Memory.{IsDifferentiated};
 ghost use Rattle.long_history.specs.Steps.{IsOrderBy};
-ghost use Rattle.session_orders.specs.Backward.{IsPlacing};
 ghost use Rattle.session_orders.specs.Beginnings.{ArePastEnds, IsBeginning, IsLeftOnly, IsWhole};
 ghost use Rattle.session_orders.specs.OnItsWay.{CountsUpTo, HasCounts, HasSizes, IsClear, IsKnown, IsOnItsWay, left_of};
 
@@ -78,7 +77,8 @@ impl Backward {
         requires clear { IsClear index.now self.old }
         ensures sizes { HasSizes index.now self.new }
         ensures zero { CountsUpTo 0 self.new }
-        ensures ends { (t : ℕ) → t < length index.now.history.1 → slice_index_or self.new.ends.items t 0 ≡ many_before index.now.history (t + 1) }
+        ensures ends { (t : ℕ) → t < length index.now.history.1
+            → slice_index_or self.new.ends.items t 0 ≡ many_before index.now.history (t + 1) }
     {
         for session in 0..index.sessions() {
             self.ends[session as usize] = index.end(session);

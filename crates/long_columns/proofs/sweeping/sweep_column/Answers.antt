@@ -1,12 +1,14 @@
 use Rattle.std.specs.Prelude.{◌<◌, ◌≤◌, ℕ, List, slice_index_or}
-use Rattle.std.proofs.Common.{arith, sym, ◌∙◌, subst}
+use Rattle.std.proofs.Common.{arith, refl, sym, ◌∙◌, subst}
 use Rattle.long_history.specs.Steps.{many}
+use Rattle.long_columns.specs.declared.sight.Sight.TheVariants.{Nothing}
 use Rattle.long_columns.specs.Sights.{IsSeen, IsTable, WritesNumbered}
 use Rattle.long_columns.proofs.ColumnSteps.{column-noted, end-from, end-to, late-below}
 use Rattle.long_columns.proofs.LastWrites.{table-empty}
-use Rattle.long_columns.proofs.Sights.{are-numbered}
+use Rattle.long_columns.proofs.Sights.{are-numbered, looks-write}
 use Rattle.long_columns.proofs.Sweeps.{swept-first, swept-starts, swept-reads, swept-edges}
 use Rattle.long_columns.proofs.sweeping.sweep_column.Goals as goal
+use Rattle.long_columns.proofs.sweeping.sweep_column.Goals.{in-Write, in_default}
 
 pub advance-requires-clause-from : goal.advance-requires-clause-from
 advance-requires-clause-from c =
@@ -37,23 +39,36 @@ loop-operation-init c =
 pub loop-operation-preserved : goal.loop-operation-preserved
 loop-operation-preserved c =
     let h = c.args.index.now.history in
+    let ends : ℕ → ℕ = λ n. slice_index_or c.args.ends.now n 0 in
+    let firsts : ℕ → ℕ = λ n. slice_index_or c.args.firsts.now n 0 in
     let below : c.loop-operation.operation < many h = grind arith in
-    let end : ℕ = slice_index_or c.args.ends.now c.loop-operation.operation 0 in
-    let table = c.advance.ensures.table c.args.session c.start-start.ensures.number c.loop-operation.invariant.table in
+    let was = c.loop-operation.invariant in
     let before = c.loop-operation.overwritten in
-    let after = c.note.new.overwritten in
-    record {
-      last_size = c.advance.ensures.size;
-      late_size = c.note.ensures.size ∙ c.loop-operation.invariant.late_size;
-      table = table;
-      swept = column-noted h c.args.session (λ n. slice_index_or c.args.ends.now n 0) (λ n. slice_index_or c.args.firsts.now n 0)
-          c.value_is_indexed.ensures.distinct c.loop-operation.operation below before.start before.read
-          (λ n. slice_index_or c.loop-operation.late.items n 0) c.loop-operation.invariant.swept
-          after.start after.read (λ n. slice_index_or c.note.new.late.items n 0) c.look.result
-          (λ a is_op at. c.look.ensures.sight c.args.session a c.start-start.ensures.number is_op at c.requires.within
-          (subst (λ (xs : List ℕ). IsTable h c.args.index.now.variables c.args.session end xs) (sym c.deref.ensures.value) table))
-          c.note.ensures.noted;
-    }
+    let late : ℕ → ℕ = λ n. slice_index_or c.loop-operation.late.items n 0 in
+    elim c.match-part.branch [
+      | in-Write w ↦ rw (w.last-is, w.late-is, w.at-is, w.overwritten-is) (record {
+        last_size = was.last_size;
+        late_size = was.late_size;
+        table = was.table;
+        swept = column-noted h c.args.session ends firsts c.value_is_indexed.ensures.distinct c.loop-operation.operation below
+            before.start before.read late was.swept before.start before.read late Nothing
+            (λ a is_op at. looks-write h c.args.session ends firsts a (w.in-Write.ensures.part a is_op at)) (refl, refl, λ n. refl);
+      })
+      | in_default w ↦
+          let end : ℕ = slice_index_or c.args.ends.now c.loop-operation.operation 0 in
+          let table = w.advance.ensures.table c.args.session c.start-start.ensures.number was.table in
+          let after = w.note.new.overwritten in
+          rw (w.last-is, w.late-is, w.at-is, w.overwritten-is) (record {
+            last_size = w.advance.ensures.size;
+            late_size = w.note.ensures.size ∙ was.late_size;
+            table = table;
+            swept = column-noted h c.args.session ends firsts c.value_is_indexed.ensures.distinct c.loop-operation.operation below
+                before.start before.read late was.swept after.start after.read (λ n. slice_index_or w.note.new.late.items n 0) w.look.result
+                (λ a is_op at. w.look.ensures.sight c.args.session a c.start-start.ensures.number is_op at c.requires.within
+                (subst (λ (xs : List ℕ). IsTable h c.args.index.now.variables c.args.session end xs) (sym w.deref.ensures.value) table))
+                w.note.ensures.noted;
+          })
+    ]
 
 pub returns-clause-start : goal.returns-clause-start
 returns-clause-start c =
