@@ -103,3 +103,17 @@ listed-more sessions i s here t = (
       (λ (same : t ≡ s). (i, omega arith, here ∙ ap (λ (u : ℕ). Some u) (sym same)))
       either,
 )
+
+-- past the end of a list stand no sessions
+pub listed-past : (sessions : List ℕ) (i : ℕ) → length sessions ≤ i → (t : ℕ) → IsListed sessions (i + 1) t ↔ IsListed sessions i t
+listed-past sessions i past t = (
+  (λ (k, below, at). let inside = slice_get_within sessions k t at in (k, omega arith, at)),
+  λ (k, below, at). (k, omega arith, at),
+)
+
+pub listed-whole : (sessions : List ℕ) (i : ℕ) → length sessions ≤ i → (t : ℕ)
+    → IsListed sessions (length sessions) t ↔ IsListed sessions i t
+listed-whole sessions i past t = (
+  (λ (k, below, at). (k, omega arith, at)),
+  λ (k, below, at). (k, slice_get_within sessions k t at, at),
+)

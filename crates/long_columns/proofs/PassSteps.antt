@@ -1,5 +1,5 @@
--- One place of an order more, with the numbers of a column in a list.
-use Rattle.std.specs.Prelude.{◌≡◌, ℕ, ◌+◌, ◌<◌, List, [], Some, length, slice_get, slice_index_or, slice_set}
+-- One place of an order more, with the numbers of a column in a list, or in a lane of rows.
+use Rattle.std.specs.Prelude.{◌≡◌, ◌≢◌, ℕ, ◌+◌, ◌<◌, List, [], Some, length, slice_get, slice_index_or, slice_set}
 use Rattle.std.proofs.Common.{sym, ap, ◌∙◌, subst}
 use Rattle.std.proofs.lemmas.List.{get_or-set_same, get_or-set_other}
 use Rattle.std.proofs.lemmas.Option.{slice_get-get_or}
@@ -9,6 +9,7 @@ use Rattle.memory_order.specs.Memory.{MemoryHistory}
 use Rattle.long_history.specs.Steps.{IsListedEdge, IsOrderBy, many}
 use Rattle.long_history.proofs.Numbers.{number-all}
 use Rattle.long_columns.specs.Columns.{ArePastEndsBefore, AreFirstsFrom, IsLowered, IsNextEnd}
+use Rattle.long_columns.specs.Lanes.{in_lane, lane_of}
 use Rattle.long_columns.proofs.Columns.{column-next}
 use Rattle.long_columns.proofs.Firsts.{firsts-next}
 use Rattle.long_order.proofs.Orders.{listed-of_history}
@@ -26,19 +27,38 @@ module _ (h : MemoryHistory) (order : List ℕ) (ordered : IsOrderBy h [] order)
       let a = ordered.no_other i n at in
       subst (λ (k : ℕ). k < many h) a.2 (number-all h a.0 a.1)
 
+  -- the end for the operation at the place is found, and the others stay
+  ends-next : (ends made : ℕ → ℕ) → ((a : OpId) → IsOp h a → number h a ≡ n → IsNextEnd h t ends a (made n))
+      → ((k : ℕ) → k ≢ n → made k ≡ ends k) → ArePastEndsBefore h t order i ends → ArePastEndsBefore h t order (i + 1) made
+  ends-next ends made next others now =
+      let a = ordered.no_other i n at in
+      column-next h (IsListedEdge h []) (listed-of_history h []) order ordered t i ends made a.0 a.1
+      (at ∙ ap (λ (k : ℕ). Some k) (sym a.2))
+      (subst (λ (k : ℕ). IsNextEnd h t ends a.0 (made k)) (sym a.2) (next a.0 a.1 a.2))
+      (λ k apart. others k (λ same. apart (same ∙ sym a.2)))
+      now
+
   pub ends-step : (ends : List ℕ) (m : ℕ) → n < length ends
       → ((a : OpId) → IsOp h a → number h a ≡ n → IsNextEnd h t (λ k. slice_index_or ends k 0) a m)
       → ArePastEndsBefore h t order i (λ k. slice_index_or ends k 0)
       → ArePastEndsBefore h t order (i + 1) (λ k. slice_index_or (slice_set ends n m) k 0)
   ends-step ends m within next now =
-      let a = ordered.no_other i n at in
-      let here : slice_index_or (slice_set ends n m) (number h a.0) 0 ≡ m =
-      ap (λ (k : ℕ). slice_index_or (slice_set ends n m) k 0) a.2 ∙ get_or-set_same ends n m 0 within in
-      column-next h (IsListedEdge h []) (listed-of_history h []) order ordered t i
-      (λ k. slice_index_or ends k 0) (λ k. slice_index_or (slice_set ends n m) k 0) a.0 a.1
-      (at ∙ ap (λ (k : ℕ). Some k) (sym a.2))
-      (subst (λ (k : ℕ). IsNextEnd h t (λ j. slice_index_or ends j 0) a.0 k) (sym here) (next a.0 a.1 a.2))
-      (λ k apart. get_or-set_other ends n k m 0 (λ same. apart (same ∙ sym a.2)))
+      ends-next (λ k. slice_index_or ends k 0) (λ k. slice_index_or (slice_set ends n m) k 0)
+      (λ a is_op here. subst (λ (k : ℕ). IsNextEnd h t (λ j. slice_index_or ends j 0) a k) (sym (get_or-set_same ends n m 0 within))
+      (next a is_op here))
+      (λ k apart. get_or-set_other ends n k m 0 apart)
+      now
+
+  -- the same in a lane of rows
+  pub row-step : (rows : List (List ℕ)) (row : List ℕ) (lane : ℕ) → n < length rows
+      → ((a : OpId) → IsOp h a → number h a ≡ n → IsNextEnd h t (lane_of rows lane) a (in_lane row lane))
+      → ArePastEndsBefore h t order i (lane_of rows lane)
+      → ArePastEndsBefore h t order (i + 1) (lane_of (slice_set rows n row) lane)
+  row-step rows row lane within next now =
+      ends-next (lane_of rows lane) (lane_of (slice_set rows n row) lane)
+      (λ a is_op here. subst (λ (r : List ℕ). IsNextEnd h t (lane_of rows lane) a (in_lane r lane))
+      (sym (get_or-set_same rows n row [] within)) (next a is_op here))
+      (λ k apart. ap (λ (r : List ℕ). in_lane r lane) (get_or-set_other rows n k row [] apart))
       now
 
   pub firsts-step : (firsts lowered : ℕ → ℕ) → ((a : OpId) → IsOp h a → number h a ≡ n → IsLowered h t firsts a lowered)

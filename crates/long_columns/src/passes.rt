@@ -54,7 +54,8 @@ fn raised(ends: &[u32], end: u32, operation: Option<u32>) -> u32
     }
 }
 
-fn greater(a: u32, b: u32) -> u32
+/// The greater of two numbers.
+pub(crate) fn greater(a: u32, b: u32) -> u32
     ensures { IsGreater a b result }
 {
     if a < b { b } else { a }

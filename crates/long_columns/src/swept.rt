@@ -1,13 +1,17 @@
-//! The columns of some sessions, one after the other.
+//! The columns of some sessions, four at once, and what each shows.
 
 ghost use Rattle.std.specs.Prelude.{◌≡◌, ◌⊎◌, ◌↔◌, ◌+◌, ◌++◌, ◌<◌, ℕ, List, [], Some, length, slice_get, slice_index_or};
 ghost use Rattle.std.specs.Prelude.{IfOk, IsTrue, OnOk};
+ghost use Rattle.memory_order.specs.SourceOrder.{IsCyclic};
 ghost use Rattle.long_history.specs.Steps.{IsOrderBy, many};
+ghost use Rattle.long_columns.specs.Lanes.{HasNumbers, HasRows, IsLane, in_lane};
 ghost use Rattle.long_columns.specs.Parts.{HasWriters, IsSweptOver, IsSweptPart};
 ghost use Rattle.long_columns.specs.Swept.{HasEdge, IsListed};
 
 use crate::forks::sweep_forks;
-use crate::passes::{fill, find_firsts, find_past_ends};
+use crate::lanes::{Lanes, find_lanes};
+use crate::passes::fill;
+use crate::rows::{Row, take_lane};
 use crate::shares::share_of;
 use crate::sweeping::sweep_column;
 use long_index::{LongIndex, Part};
@@ -75,7 +79,7 @@ pub(crate) fn sweep_part(
     Ok(swept)
 }
 
-/// What the sessions of a list show, by a column each.
+/// What the sessions of a list show, by a column each. It takes 44 bytes an operation and 4 a variable.
 fn sweep_sessions(
     alloc: Global,
     index: &LongIndex,
@@ -86,37 +90,48 @@ fn sweep_sessions(
     requires below { (k t : ℕ) → slice_get sessions.now k ≡ Some t → t < length index.now.history.1 }
     ensures { IfOk result (IsSweptOver index.now.history (IsListed sessions.now (length sessions.now))) }
 {
-    let mut arrays = Arrays::new(alloc, index)?;
     let mut swept = Swept {
         has_overwritten_start: false,
         has_overwritten_read: false,
         edges: Vec::new(alloc),
     };
-    for i in 0..sessions.len() {
-        sweep_session(index, order, sessions[i], &mut arrays, &mut swept)?;
+    if sessions.len() == 0 {
+        return Ok(swept);
+    }
+    let mut lanes = Lanes::new(alloc, index)?;
+    let mut arrays = Arrays::new(alloc, index)?;
+    let mut from = 0;
+    'fours: while from < sessions.len() {
+        sweep_four(
+            index,
+            order,
+            sessions,
+            from,
+            &mut lanes,
+            &mut arrays,
+            &mut swept,
+        )?;
+        from += 4;
     }
     Ok(swept)
 }
 
 /// The numbers of one column and its sweep: the arrays are made once and filled again for each session.
 #[derive(Drop)]
-struct Arrays {
+pub(crate) struct Arrays {
     /// By operation: where its past ends in the session.
-    ends: Vec<u32>,
+    pub(crate) ends: Vec<u32>,
     /// By operation: the first operation of the session that has it in its past.
-    firsts: Vec<u32>,
+    pub(crate) firsts: Vec<u32>,
     /// By variable: the number after that of its last write in the session, or 0.
-    last: Vec<u32>,
+    pub(crate) last: Vec<u32>,
     /// By write: the number after that of the last write of the session that conflicts with it, or 0.
-    late: Vec<u32>,
+    pub(crate) late: Vec<u32>,
 }
 
 impl Arrays {
     fn new(alloc: Global, index: &LongIndex) -> Result<Arrays, AllocError>
-        ensures ends { IfOk result (λ a. length a.ends.items ≡ many index.now.history) }
-        ensures firsts { IfOk result (λ a. length a.firsts.items ≡ many index.now.history) }
-        ensures last { IfOk result (λ a. length a.last.items ≡ index.now.bound) }
-        ensures late { IfOk result (λ a. length a.late.items ≡ many index.now.history) }
+        ensures { IfOk result (HasNumbers index.now) }
     {
         let operations = index.operations() as usize;
         Ok(Arrays {
@@ -128,30 +143,84 @@ impl Arrays {
     }
 }
 
-/// Adds what the column of one session shows.
-fn sweep_session(
+/// Adds what the columns of four sessions show, those at a place of a list and after it, or of fewer where the list ends before.
+fn sweep_four(
     index: &LongIndex,
     order: &[u32],
-    session: u32,
+    sessions: &[u32],
+    from: usize,
+    lanes: &mut Lanes,
     arrays: &mut Arrays,
     swept: &mut Swept,
 ) -> Result<(), AllocError>
-    requires session { session < length index.now.history.1 }
     requires order { IsOrderBy index.now.history [] order.now }
-    requires ends { length arrays.old.ends.items ≡ many index.now.history }
-    requires firsts { length arrays.old.firsts.items ≡ many index.now.history }
-    requires last { length arrays.old.last.items ≡ index.now.bound }
-    requires late { length arrays.old.late.items ≡ many index.now.history }
-    ensures ends { length arrays.new.ends.items ≡ many index.now.history }
-    ensures firsts { length arrays.new.firsts.items ≡ many index.now.history }
-    ensures last { length arrays.new.last.items ≡ index.now.bound }
-    ensures late { length arrays.new.late.items ≡ many index.now.history }
+    requires below { (k t : ℕ) → slice_get sessions.now k ≡ Some t → t < length index.now.history.1 }
+    requires from { from < length sessions.now }
+    requires rows { HasRows index.now.history lanes.old }
+    requires numbers { HasNumbers index.now arrays.old }
+    ensures rows { HasRows index.now.history lanes.new }
+    ensures numbers { HasNumbers index.now arrays.new }
+    ensures swept { OnOk result (IsSweptOver index.now.history (IsListed sessions.now from) swept.old
+        → IsSweptOver index.now.history (IsListed sessions.now (from + 4)) swept.new) }
+{
+    find_lanes(index, order, four_from(sessions, from), lanes);
+    for lane in 0..4 {
+        if from + lane < sessions.len() {
+            sweep_session(index, sessions[from + lane], lanes, lane, arrays, swept)?;
+        }
+    }
+    Ok(())
+}
+
+/// Four sessions of a list: those at a place and after it. Where the list ends before, the session at the place stands for the rest.
+fn four_from(sessions: &[u32], from: usize) -> Row
+    requires { from < length sessions.now }
+    ensures listed { (k : ℕ) → k < 4 → (j : ℕ) × (slice_get sessions.now j ≡ Some (in_lane result k)) }
+    ensures places { (k : ℕ) → k < 4 → from + k < length sessions.now → slice_get sessions.now (from + k) ≡ Some (in_lane result k) }
+{
+    [
+        sessions[from],
+        session_or(sessions, from + 1, from),
+        session_or(sessions, from + 2, from),
+        session_or(sessions, from + 3, from),
+    ]
+}
+
+/// The session at a place of a list, or the one at another place where the list ends before.
+fn session_or(sessions: &[u32], place: usize, other: usize) -> u32
+    requires { other < length sessions.now }
+    ensures listed { (j : ℕ) × (slice_get sessions.now j ≡ Some result) }
+    ensures place { place < length sessions.now → slice_get sessions.now place ≡ Some result }
+{
+    if place < sessions.len() {
+        sessions[place]
+    } else {
+        sessions[other]
+    }
+}
+
+/// Adds what the column of one session shows, which stands in a lane.
+fn sweep_session(
+    index: &LongIndex,
+    session: u32,
+    lanes: &Lanes,
+    lane: usize,
+    arrays: &mut Arrays,
+    swept: &mut Swept,
+) -> Result<(), AllocError>
+    requires straight { ¬ IsCyclic index.now.history }
+    requires session { session < length index.now.history.1 }
+    requires rows { HasRows index.now.history lanes.now }
+    requires lane { lane < 4 }
+    requires column { IsLane index.now.history lanes.now lane session }
+    requires numbers { HasNumbers index.now arrays.old }
+    ensures numbers { HasNumbers index.now arrays.new }
     ensures swept { OnOk result ((sessions : List ℕ) (i : ℕ) → slice_get sessions i ≡ Some session
         → IsSweptOver index.now.history (IsListed sessions i) swept.old
         → IsSweptOver index.now.history (IsListed sessions (i + 1)) swept.new) }
 {
-    find_past_ends(index, order, session, &mut arrays.ends);
-    find_firsts(index, order, session, &mut arrays.firsts);
+    take_lane(&lanes.ends, lane, &mut arrays.ends);
+    take_lane(&lanes.firsts, lane, &mut arrays.firsts);
     fill(&mut arrays.last, 0);
     fill(&mut arrays.late, 0);
     let overwritten = sweep_column(

@@ -1,14 +1,43 @@
-use Rattle.std.specs.Prelude.{◌≡◌, ◌⊎◌, ◌↔◌, ℕ, ◌+◌, ◌||◌, List, [], slice_index_or}
+use Rattle.std.specs.Prelude.{◌≡◌, ◌⊎◌, ◌↔◌, ℕ, ◌+◌, ◌||◌, List, slice_index_or}
 use Rattle.std.proofs.Common.{arith, subst}
 use Rattle.std.proofs.lemmas.List.{get_or_past}
-use Rattle.long_order.proofs.Orders.{order_by-straight}
+use Rattle.long_history.specs.Steps.{many}
+use Rattle.long_columns.specs.Lanes.{lane_of}
 use Rattle.long_columns.specs.Swept.{HasEdge, IsListed}
+use Rattle.long_columns.proofs.Copies.{ends-copied, firsts-copied, lane-copied, within-copied}
 use Rattle.long_columns.proofs.Dealt.{listed-more}
 use Rattle.long_columns.proofs.SessionsSwept.{or-either, swept-both, swept-column}
 use Rattle.long_columns.proofs.swept.sweep_session.Goals as goal
 
-pub sweep_column-overwritten-requires-clause-straight : goal.sweep_column-overwritten-requires-clause-straight
-sweep_column-overwritten-requires-clause-straight c = order_by-straight c.args.index.now.history [] c.args.order.now c.requires.order
+pub sweep_column-overwritten-requires-clause-ends : goal.sweep_column-overwritten-requires-clause-ends
+sweep_column-overwritten-requires-clause-ends c =
+    let h = c.args.index.now.history in
+    let rows : List (List ℕ) = c.args.lanes.now.ends.items in
+    let ends : List ℕ = c.deref-3.result.now in
+    ends-copied h c.args.session (lane_of rows c.args.lane) (λ n. slice_index_or ends n 0)
+    (lane-copied (many h) rows c.deref.result.now c.args.lane c.take_lane.new.column.items ends c.requires.rows.ends
+    c.deref.ensures.value c.deref-3.ensures.value c.take_lane.ensures.taken)
+    c.requires.column.ends
+
+pub sweep_column-overwritten-requires-clause-within : goal.sweep_column-overwritten-requires-clause-within
+sweep_column-overwritten-requires-clause-within c =
+    let h = c.args.index.now.history in
+    let rows : List (List ℕ) = c.args.lanes.now.ends.items in
+    let ends : List ℕ = c.deref-3.result.now in
+    within-copied h c.args.session (lane_of rows c.args.lane) (λ n. slice_index_or ends n 0)
+    (lane-copied (many h) rows c.deref.result.now c.args.lane c.take_lane.new.column.items ends c.requires.rows.ends
+    c.deref.ensures.value c.deref-3.ensures.value c.take_lane.ensures.taken)
+    c.requires.column.within
+
+pub sweep_column-overwritten-requires-clause-firsts : goal.sweep_column-overwritten-requires-clause-firsts
+sweep_column-overwritten-requires-clause-firsts c =
+    let h = c.args.index.now.history in
+    let rows : List (List ℕ) = c.args.lanes.now.firsts.items in
+    let firsts : List ℕ = c.deref-4.result.now in
+    firsts-copied h c.args.session (lane_of rows c.args.lane) (λ n. slice_index_or firsts n 0)
+    (lane-copied (many h) rows c.deref-2.result.now c.args.lane c.take_lane-2.new.column.items firsts c.requires.rows.firsts
+    c.deref-2.ensures.value c.deref-4.ensures.value c.take_lane-2.ensures.taken)
+    c.requires.column.firsts
 
 pub returns-clause-swept : goal.returns-clause-swept
 returns-clause-swept c sessions i here was =
@@ -28,4 +57,4 @@ returns-clause-swept c sessions i here was =
     (or-either old.has_overwritten_start one.start) (or-either old.has_overwritten_read one.read)
     (subst (λ (xs : List ℕ). (from to : ℕ)
     → HasEdge edges from to ↔ (HasEdge old.edges.items from to ⊎ (slice_index_or xs to 0 ≡ from + 1)))
-    c.deref-3.ensures.value c.in_ok-push_edges.ensures)
+    c.deref-5.ensures.value c.in_ok-push_edges.ensures)

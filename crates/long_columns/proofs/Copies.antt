@@ -1,0 +1,36 @@
+-- A column that is copied from a lane is right where the lane is.
+use Rattle.std.specs.Prelude.{◌≡◌, ◌↔◌, ℕ, ◌+◌, ◌<◌, ◌≤◌, List, length, slice_index_or}
+use Rattle.std.proofs.Common.{arith, ap, sym, ◌∙◌, subst}
+use Rattle.history.specs.declared.op_id.OpId.{OpId}
+use Rattle.history.specs.History.{IsOp, many_before, number}
+use Rattle.memory_order.specs.Memory.{MemoryHistory}
+use Rattle.memory_order.specs.Relations.{IsPast}
+use Rattle.long_history.specs.Steps.{many}
+use Rattle.long_history.proofs.Numbers.{number-all}
+use Rattle.long_columns.specs.Columns.{AreFirsts, ArePastEnds, AreWithinSession}
+use Rattle.long_columns.specs.Lanes.{lane_of}
+
+module _ (h : MemoryHistory) (t : ℕ) (column copy : ℕ → ℕ) (same : (n : ℕ) → n < many h → copy n ≡ column n) where
+  same-of : (o : OpId) → IsOp h o → column (number h o) ≡ copy (number h o)
+  same-of o is_op = sym (same (number h o) (number-all h o is_op))
+
+  pub ends-copied : ArePastEnds h t column → ArePastEnds h t copy
+  ends-copied right o c is_op is_c of_t =
+      subst (λ (n : ℕ). (number h c < n) ↔ IsPast h o c) (same-of o is_op) (right o c is_op is_c of_t)
+
+  pub within-copied : AreWithinSession h t column → AreWithinSession h t copy
+  within-copied right o is_op =
+      subst (λ (n : ℕ). (many_before h t ≤ n) × (n ≤ many_before h (t + 1))) (same-of o is_op) (right o is_op)
+
+  pub firsts-copied : AreFirsts h t column → AreFirsts h t copy
+  firsts-copied right o c is_op is_c of_t =
+      subst (λ (n : ℕ). (n ≤ number h c) ↔ IsPast h c o) (same-of o is_op) (right o c is_op is_c of_t)
+
+-- the numbers of a list are those of a lane, where both are read by other names
+pub lane-copied : (many : ℕ) (rows read : List (List ℕ)) (lane : ℕ) (column copy : List ℕ) → length rows ≡ many → read ≡ rows
+    → copy ≡ column → ((n : ℕ) → n < length read → slice_index_or column n 0 ≡ lane_of read lane n)
+    → (n : ℕ) → n < many → slice_index_or copy n 0 ≡ lane_of rows lane n
+lane-copied many rows read lane column copy size same_rows same_column taken n below =
+    let read_size = ap (λ (xs : List (List ℕ)). length xs) same_rows ∙ size in
+    ap (λ (xs : List ℕ). slice_index_or xs n 0) same_column ∙ taken n (omega arith)
+    ∙ ap (λ (xs : List (List ℕ)). lane_of xs lane n) same_rows
