@@ -24,4 +24,3 @@ pub mod SealedTexts
 pub mod DriveOutcomes
 pub mod EvidenceForms
 pub mod EvidenceLaws
-pub mod MetAll

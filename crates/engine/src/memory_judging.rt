@@ -1,9 +1,9 @@
 //! What is known of a history of a memory, whether threads or the calling thread alone check the pieces of certificates.
 
-ghost use Rattle.std.specs.Prelude.{◌≡◌, IfErr, IfOk};
-ghost use Rattle.cert_check.specs.Criteria.{Meets};
+ghost use Rattle.std.specs.Prelude.{◌≡◌, IfErr, IfOk, IfSome};
 ghost use Rattle.memory_order.specs.Memory.{memory_answer};
 ghost use Rattle.decision.specs.Decisions.{IsDecided, decision_for};
+ghost use Rattle.long_decision.specs.LongDecisions.{AreDecided, IsLongDecided};
 ghost use Rattle.engine.specs.Report.{IsFirstNo, IsTrueOf, NamesUnexplained, IsKnownOnDistinctValues};
 ghost use Rattle.engine.specs.Report.{EachIsTrueOf, EachNamesUnexplained, EachIsKnownOnDistinctValues};
 ghost use Rattle.engine.specs.Steps.FileChecks.{ChecksFiles};
@@ -12,12 +12,13 @@ ghost use Rattle.engine.specs.Steps.FoundedAnswers.{IsFoundedOn};
 use crate::failure::RunError;
 use crate::making::file_of_memory;
 use crate::report::Report;
+use bad_patterns::Kind;
 use bad_patterns::laws::bad_patterns_exclude_criteria;
 use cert_check::{CaseFile, Criterion};
 use collector::Answer;
 use decision::{Decision, Decisions, decide_kinds, decide_whether};
 use history::Advice;
-use long_decision::LongDecision;
+use long_decision::{LongDecision, LongDecisions};
 use memory_order::IndexedMemory;
 use objects::Memory;
 use operations::{AnyHistory, History};
@@ -41,30 +42,51 @@ pub(crate) fn report_by<F: Fn(CaseFile<Memory>) -> Result<Answer, RunError>>(
     ensures error { IfErr result (λ e. e ≡ RunError.Memory) }
 {
     let whether = decide_whether(alloc, history)?;
-    match (whether.cc, whether.cm, whether.ccv) {
-        (LongDecision::Meets, LongDecision::Meets, LongDecision::Meets) => {
-            Ok(report_of_met(history))
-        }
-        _ => {
-            let memory = IndexedMemory::of(alloc, history)?;
-            let decisions = decide_kinds(alloc, &memory, whether)?;
-            report_of_decisions(alloc, &memory, advice, decisions, check)
-        }
+    if let Some(report) = report_of_decided(history, whether) {
+        return Ok(report);
     }
+    let memory = IndexedMemory::of(alloc, history)?;
+    let decisions = decide_kinds(alloc, &memory, whether)?;
+    report_of_decisions(alloc, &memory, advice, decisions, check)
 }
 
-// What is known of a history of a memory that meets each criterion.
+// What is known of a history of a memory, if what is decided says it of each criterion. It is asked before anything else is made.
 #[tactic(auto, using(crate::proofs::EachAnswer::each_true, crate::proofs::EachAnswer::each_known, crate::proofs::EachAnswer::each_names))]
-fn report_of_met(_history: &History<Memory>) -> Report
-    requires { (criterion : Criterion) → Meets memory_answer _history.now criterion }
-    ensures truth { EachIsTrueOf (AnyHistory.Memory _history.now) result }
-    ensures unknown { EachIsKnownOnDistinctValues (AnyHistory.Memory _history.now) result }
-    ensures unexplained { EachNamesUnexplained (AnyHistory.Memory _history.now) result }
+fn report_of_decided(history: &History<Memory>, whether: LongDecisions) -> Option<Report>
+    requires { AreDecided history.now whether }
+    ensures truth { IfSome result (EachIsTrueOf (AnyHistory.Memory history.now)) }
+    ensures unknown { IfSome result (EachIsKnownOnDistinctValues (AnyHistory.Memory history.now)) }
+    ensures unexplained { IfSome result (EachNamesUnexplained (AnyHistory.Memory history.now)) }
 {
-    Report {
-        cc: Answer::Yes,
-        cm: Answer::Yes,
-        ccv: Answer::Yes,
+    Some(Report {
+        cc: answer_of_decided(history, Criterion::Cc, whether.cc)?,
+        cm: answer_of_decided(history, Criterion::Cm, whether.cm)?,
+        ccv: answer_of_decided(history, Criterion::Ccv, whether.ccv)?,
+    })
+}
+
+// What a decision says of a history of a memory and a criterion, if it says it for certain. Where it names CyclicHB, WriteHBInitRead may be
+// present too, and comes first.
+fn answer_of_decided(
+    _history: &History<Memory>,
+    _criterion: Criterion,
+    decision: LongDecision,
+) -> Option<Answer>
+    requires { IsLongDecided _history.now _criterion decision }
+    ensures truth { IfSome result (IsTrueOf (AnyHistory.Memory _history.now) _criterion) }
+    ensures unknown { IfSome result (IsKnownOnDistinctValues (AnyHistory.Memory _history.now)) }
+    ensures unexplained { IfSome result (NamesUnexplained (AnyHistory.Memory _history.now) _criterion) }
+{
+    match decision {
+        LongDecision::Meets => Some(Answer::Yes),
+        LongDecision::ExcludedBy(kind) => {
+            if kind == Kind::CyclicHB {
+                None
+            } else {
+                Some(Answer::No(kind))
+            }
+        }
+        LongDecision::Open => None,
     }
 }
 
