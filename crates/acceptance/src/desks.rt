@@ -183,10 +183,25 @@ const FULL: [(Step, Seen); 7] = [
 ];
 
 #[test]
-fn desk_shows_what_was_done(rt: HostRuntime) -> Result<(), Fail> {
+fn desk_shows_verdicts(rt: HostRuntime) -> Result<(), Fail> {
     assert_eq!(rt; first_unwanted(&rt, &VERDICTS)?, None);
+    Ok(())
+}
+
+#[test]
+fn desk_shows_patterns(rt: HostRuntime) -> Result<(), Fail> {
     assert_eq!(rt; first_unwanted(&rt, &PATTERNS)?, None);
+    Ok(())
+}
+
+#[test]
+fn desk_shows_pieces(rt: HostRuntime) -> Result<(), Fail> {
     assert_eq!(rt; first_unwanted(&rt, &PIECES)?, None);
+    Ok(())
+}
+
+#[test]
+fn desk_is_full(rt: HostRuntime) -> Result<(), Fail> {
     assert_eq!(rt; first_unwanted(&rt, &FULL)?, None);
     Ok(())
 }

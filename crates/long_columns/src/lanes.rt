@@ -34,7 +34,7 @@ impl Lanes {
     }
 }
 
-/// Finds the columns of four sessions. A session may stand in several lanes.
+/// Finds the columns of four sessions. A session may have several lanes.
 ///
 /// The order is one that [`long_order::causal_order`] gives. O(n) for n operations.
 pub(crate) fn find_lanes(index: &LongIndex, order: &[u32], sessions: Row, lanes: &mut Lanes)

@@ -33,6 +33,7 @@ fn lesser_row(a: Row, b: Row) -> Row
     ]
 }
 
+/// The lesser of two numbers.
 fn lesser(a: u32, b: u32) -> u32
     ensures { IsLesser a b result }
 {

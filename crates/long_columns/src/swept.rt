@@ -79,7 +79,7 @@ pub(crate) fn sweep_part(
     Ok(swept)
 }
 
-/// What the sessions of a list show, by a column each. It takes 44 bytes an operation and 4 a variable.
+/// What the sessions of a list show, by a column each. It takes 44 bytes an operation and 4 a variable, or nothing for an empty list.
 fn sweep_sessions(
     alloc: Global,
     index: &LongIndex,
@@ -143,7 +143,7 @@ impl Arrays {
     }
 }
 
-/// Adds what the columns of four sessions show, those at a place of a list and after it, or of fewer where the list ends before.
+/// Adds what the columns of the next four sessions of a list show, or of all that are left. O(n) for n operations, beside the sweeps.
 fn sweep_four(
     index: &LongIndex,
     order: &[u32],
@@ -172,7 +172,7 @@ fn sweep_four(
     Ok(())
 }
 
-/// Four sessions of a list: those at a place and after it. Where the list ends before, the session at the place stands for the rest.
+/// Four sessions of a list, from a place on. If fewer are left, the first of them fills the other lanes.
 fn four_from(sessions: &[u32], from: usize) -> Row
     requires { from < length sessions.now }
     ensures listed { (k : ℕ) → k < 4 → (j : ℕ) × (slice_get sessions.now j ≡ Some (in_lane result k)) }
@@ -199,7 +199,7 @@ fn session_or(sessions: &[u32], place: usize, other: usize) -> u32
     }
 }
 
-/// Adds what the column of one session shows, which stands in a lane.
+/// Adds what the column of one session shows, which is in this lane.
 fn sweep_session(
     index: &LongIndex,
     session: u32,

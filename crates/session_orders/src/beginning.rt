@@ -1,6 +1,6 @@
 //! How the order of a session begins: what is in the past of its last operation is left, and counted.
 //!
-//! That past is mostly nearly all of a history. So the whole history is counted once, and what is not in the past is taken out.
+//! Most of a history is in that past. So the whole history is counted once, and the rest is taken out.
 
 ghost use Rattle.std.specs.Prelude.{◌≡◌, ◌≢◌, ◌<◌, ◌≤◌, ◌+◌, ℕ, [], length, max, slice_index_or, IfOk};
 ghost use Rattle.history.specs.History.{many_before};
@@ -20,7 +20,7 @@ use std::alloc::{AllocError, Global};
 pub(crate) struct Beginning {
     /// The state with everything left.
     pub(crate) whole: Backward,
-    /// For each session, the number after that of its last operation in the past.
+    /// For each session, the number after that of its last operation in the past that was found last.
     pub(crate) pasts: Vec<u32>,
 }
 
@@ -85,7 +85,7 @@ impl Backward {
         }
     }
 
-    /// Copies what is left, and its counts, of a state of the same history.
+    /// Copies from a state of the same history what is left, and its counts. O(n + k) for n operations of k sessions.
     fn copy_counts(&mut self, whole: &Backward)
         requires ends { length self.old.ends.items ≡ length whole.now.ends.items }
         requires readers { length self.old.readers.items ≡ length whole.now.readers.items }
@@ -102,7 +102,8 @@ impl Backward {
         self.writes.copy_from_slice(&whole.writes);
     }
 
-    /// Takes out of a state with everything left what is not before these ends. O(k + m) for k sessions and m operations that it takes out.
+    /// Takes out of a state with everything left the operations at these ends and after them. O(k + m) for k sessions and m operations that
+    /// it takes out.
     fn leave_only(&mut self, index: &LongIndex, pasts: &[u32])
         requires distinct { IsDifferentiated index.now.history }
         requires whole { IsWhole index.now self.old }
@@ -120,7 +121,7 @@ impl Backward {
         }
     }
 
-    /// Takes the operations of a session out that are not before an end.
+    /// Takes out the operations of a session from an end on. O(m) for m operations that it takes out.
     fn leave_before(&mut self, index: &LongIndex, session: u32, end: u32)
         requires exists { session < length index.now.history.1 }
         requires distinct { IsDifferentiated index.now.history }
@@ -142,7 +143,7 @@ impl Backward {
         }
     }
 
-    /// Takes the last operation of a session that is left out.
+    /// Takes out the last operation of a session that is still left. O(1).
     fn take_last(&mut self, index: &LongIndex, session: u32)
         requires exists { session < length index.now.history.1 }
         requires distinct { IsDifferentiated index.now.history }

@@ -154,7 +154,8 @@ fn order_session(
 }
 
 impl Backward {
-    /// Places the last operations of a session that are left, as long as it can go on: of the own session one.
+    /// Places operations of a session from its end as long as it can go on, but of the own session one. O(1) an operation, beside what
+    /// hints cost.
     fn place_run(
         &mut self,
         index: &LongIndex,

@@ -52,9 +52,9 @@ impl Turns {
         Ok(())
     }
 
-    /// Takes a hint, if there is one. Asks each session once, if hints have made `awake` longer than about twice `sessions`.
+    /// Takes a hint, if there is one. If hints have made `awake` longer than about twice `sessions`, it has each session once again.
     ///
-    /// O(1), and O(k) for k sessions once for k hints.
+    /// O(1), and O(k) for k sessions once in about k hints.
     pub(crate) fn take_hint(&mut self, hint: Option<u32>) -> Result<(), AllocError>
         ensures sessions { IfOk result (λ _. self.new.sessions.items ≡ self.old.sessions.items) }
         ensures awake { IfOk result (λ _. IsWoken self.old.awake.items hint self.new.awake.items
@@ -68,7 +68,7 @@ impl Turns {
         Ok(())
     }
 
-    /// Asks each session once, if `awake` is longer than about twice `sessions`. O(k) for k sessions.
+    /// Puts each session into `awake` once, if it is longer than about twice `sessions`. O(k) for k sessions.
     fn limit(&mut self) -> Result<(), AllocError>
         ensures sessions { IfOk result (λ _. self.new.sessions.items ≡ self.old.sessions.items) }
         ensures awake { IfOk result (λ _. (self.new.awake.items ≡ self.old.awake.items)
