@@ -1,7 +1,8 @@
 -- What is raised or lowered by a number is so by the operation that has it.
-use Rattle.std.specs.Prelude.{ℕ, Option, None, Some}
-use Rattle.std.proofs.Common.{inl, inr, subst, sym}
+use Rattle.std.specs.Prelude.{◌≡◌, ℕ, ◌≤◌, Option, None, Some, MatchOption}
+use Rattle.std.proofs.Common.{ap, arith, inl, inr, ◌∙◌, subst, sym}
 use Rattle.history.specs.declared.op_id.OpId.{OpId}
+use Rattle.history.specs.History.{number}
 use Rattle.memory_order.specs.Memory.{MemoryHistory}
 use Rattle.long_index.specs.Parts.{IsNumberOf}
 use Rattle.long_columns.specs.Visits.{IsGreater, IsLoweredAt, IsLoweredBy, IsLoweredTo, IsRaisedBy, IsRaisedTo}
@@ -11,6 +12,15 @@ module _ (h : MemoryHistory) (related : OpId → OpId → Type 0) (o : OpId) whe
       → IsRaisedBy h o related ends a m
   raised-by None ends a m none same = inl (none, same)
   raised-by (Some n) ends a m (p, is_op, is, at) raised = inr (p, is, subst (λ (k : ℕ). IsGreater a (ends k) m) (sym at) raised)
+
+  -- the same where no number is below the first one
+  pub taken-by : (e : Option ℕ) (ends : ℕ → ℕ) (a m : ℕ) → IsNumberOf h related o e → MatchOption e (m ≡ a) (λ n. m ≡ ends n)
+      → ((p : OpId) → related p o → a ≤ ends (number h p)) → IsRaisedBy h o related ends a m
+  taken-by None ends a m none same from = inl (none, same)
+  taken-by (Some n) ends a m (p, is_op, is, at) same from =
+      let low = from p is in
+      let here : m ≡ ends (number h p) = same ∙ sym (ap ends at) in
+      inr (p, is, record { first = omega arith; second = omega arith; one = inr here })
 
   pub lowered-by : (e : Option ℕ) (firsts lowered : ℕ → ℕ) (m : ℕ) → IsNumberOf h related o e → IsLoweredTo firsts e m lowered
       → IsLoweredBy h o related firsts lowered m

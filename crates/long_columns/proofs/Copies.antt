@@ -1,5 +1,5 @@
 -- A column that is copied from a lane is right where the lane is.
-use Rattle.std.specs.Prelude.{◌≡◌, ◌↔◌, ℕ, ◌+◌, ◌<◌, ◌≤◌, List, length, slice_index_or}
+use Rattle.std.specs.Prelude.{◌≡◌, ◌↔◌, ℕ, ◌+◌, ◌<◌, ◌≤◌, List, slice_index_or}
 use Rattle.std.proofs.Common.{arith, ap, sym, ◌∙◌, subst}
 use Rattle.history.specs.declared.op_id.OpId.{OpId}
 use Rattle.history.specs.History.{IsOp, many_before, number}
@@ -26,11 +26,9 @@ module _ (h : MemoryHistory) (t : ℕ) (column copy : ℕ → ℕ) (same : (n : 
   firsts-copied right o c is_op is_c of_t =
       subst (λ (n : ℕ). (n ≤ number h c) ↔ IsPast h c o) (same-of o is_op) (right o c is_op is_c of_t)
 
--- the numbers of a list are those of a lane, where both are read by other names
-pub lane-copied : (many : ℕ) (rows read : List (List ℕ)) (lane : ℕ) (column copy : List ℕ) → length rows ≡ many → read ≡ rows
-    → copy ≡ column → ((n : ℕ) → n < length read → slice_index_or column n 0 ≡ lane_of read lane n)
+-- the numbers of a list are those of a lane, where the list is read by another name
+pub lane-copied : (many : ℕ) (rows : List (List ℕ)) (lane : ℕ) (column copy : List ℕ) {before : ℕ} → before ≡ many → copy ≡ column
+    → ((n : ℕ) → n < before → slice_index_or column n 0 ≡ lane_of rows lane n)
     → (n : ℕ) → n < many → slice_index_or copy n 0 ≡ lane_of rows lane n
-lane-copied many rows read lane column copy size same_rows same_column taken n below =
-    let read_size = ap (λ (xs : List (List ℕ)). length xs) same_rows ∙ size in
-    ap (λ (xs : List ℕ). slice_index_or xs n 0) same_column ∙ taken n (omega arith)
-    ∙ ap (λ (xs : List (List ℕ)). lane_of xs lane n) same_rows
+lane-copied many rows lane column copy size same taken n below =
+    ap (λ (xs : List ℕ). slice_index_or xs n 0) same ∙ taken n (omega arith)

@@ -1,13 +1,14 @@
 -- One place of an order more, with the numbers of a column in a list, or in a lane of rows.
-use Rattle.std.specs.Prelude.{◌≡◌, ◌≢◌, ℕ, ◌+◌, ◌<◌, List, [], Some, length, slice_get, slice_index_or, slice_set}
-use Rattle.std.proofs.Common.{sym, ap, ◌∙◌, subst}
+use Rattle.std.specs.Prelude.{◌≡◌, ◌≢◌, ℕ, ◌+◌, ◌<◌, ◌≤◌, List, [], Some, length, slice_get, slice_index_or, slice_set}
+use Rattle.std.proofs.Common.{sym, ap, ◌∙◌, subst, inl}
 use Rattle.std.proofs.lemmas.List.{get_or-set_same, get_or-set_other}
 use Rattle.std.proofs.lemmas.Option.{slice_get-get_or}
 use Rattle.history.specs.declared.op_id.OpId.{OpId}
-use Rattle.history.specs.History.{IsOp, number}
+use Rattle.history.specs.History.{IsOp, many_before, number}
 use Rattle.memory_order.specs.Memory.{MemoryHistory}
-use Rattle.long_history.specs.Steps.{IsListedEdge, IsOrderBy, many}
+use Rattle.long_history.specs.Steps.{IsListedEdge, IsNext, IsOrderBy, many}
 use Rattle.long_history.proofs.Numbers.{number-all}
+use Rattle.long_history.proofs.Steps.{step-of_history}
 use Rattle.long_columns.specs.Columns.{ArePastEndsBefore, AreFirstsFrom, IsLowered, IsNextEnd}
 use Rattle.long_columns.specs.Lanes.{in_lane, lane_of}
 use Rattle.long_columns.proofs.Columns.{column-next}
@@ -26,6 +27,13 @@ module _ (h : MemoryHistory) (order : List ℕ) (ordered : IsOrderBy h [] order)
   place-below =
       let a = ordered.no_other i n at in
       subst (λ (k : ℕ). k < many h) a.2 (number-all h a.0 a.1)
+
+  -- the end for the operation before the one at the place is found
+  pub next-from : (ends : ℕ → ℕ) → ArePastEndsBefore h t order i ends → (o p : OpId) → number h o ≡ n → IsNext h p o
+      → many_before h t ≤ ends (number h p)
+  next-from ends now o p here next =
+      now.from p (step-of_history h p o (inl next)).0
+      (ordered.after i p o (inl (inl next)) (at ∙ ap (λ (k : ℕ). Some k) (sym here)))
 
   -- the end for the operation at the place is found, and the others stay
   ends-next : (ends made : ℕ → ℕ) → ((a : OpId) → IsOp h a → number h a ≡ n → IsNextEnd h t ends a (made n))

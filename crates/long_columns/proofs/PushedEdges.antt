@@ -1,9 +1,10 @@
 -- Edges that are pushed to a list, one place of a table after the other, and lists of edges that are joined.
-use Rattle.std.specs.Prelude.{◌≡◌, ◌⊎◌, ◌↔◌, ◌++◌, ℕ, ◌+◌, ◌-◌, ◌<◌, ◌≤◌, List, Some, length, slice_index_or}
+use Rattle.std.specs.Prelude.{◌≡◌, ◌≢◌, ◌⊎◌, ◌↔◌, ◌++◌, ℕ, ◌+◌, ◌-◌, ◌<◌, ◌≤◌, List, Some, length, slice_index_or}
 use Rattle.std.proofs.Common.{arith, ap, sym, ◌∙◌, refl, inl, inr, ⊎_elim, length-append}
 use Rattle.std.proofs.lemmas.Bool.{cases_eq, cases_lt}
 use Rattle.std.proofs.lemmas.List.{get_or_append_left, get_or-append-add, get_or-append_right, get_or_past}
 use Rattle.std.proofs.lemmas.Option.{get_or_from_slice_get, slice_get-get_or, slice_get_within}
+use Rattle.long_columns.specs.Lanes.{IsClear}
 use Rattle.long_columns.specs.Swept.{HasEdge}
 
 abbrev Edges : Type 0
@@ -51,6 +52,26 @@ edges-whole late first edges n whole now a b = (
       (cases_lt b n))
       either),
 )
+
+-- one place of the table more is cleared
+module _ (old now : List ℕ) (n : ℕ) (others : (k : ℕ) → k ≢ n → slice_index_or now k 0 ≡ slice_index_or old k 0) where
+  pub cleared-more : slice_index_or now n 0 ≡ 0 → ((k : ℕ) → k < n → slice_index_or old k 0 ≡ 0)
+      → (k : ℕ) → k < n + 1 → slice_index_or now k 0 ≡ 0
+  cleared-more none was k below = ⊎_elim
+      (λ (here : k ≡ n). ap (λ (j : ℕ). slice_index_or now j 0) here ∙ none)
+      (λ (apart : k ≢ n). others k apart ∙ was k (omega arith))
+      (cases_eq k n)
+
+  pub left-more : (first : List ℕ) → ((k : ℕ) → n ≤ k → slice_index_or old k 0 ≡ slice_index_or first k 0)
+      → (k : ℕ) → n + 1 ≤ k → slice_index_or now k 0 ≡ slice_index_or first k 0
+  left-more first was k above = others k (λ (here : k ≡ n). omega arith) ∙ was k (omega arith)
+
+-- the whole table is cleared
+pub cleared-whole : (late : List ℕ) (n : ℕ) → length late ≤ n → ((k : ℕ) → k < n → slice_index_or late k 0 ≡ 0) → IsClear late
+cleared-whole late n whole was k = ⊎_elim
+    (λ (below : k < n). was k below)
+    (λ (past : n ≤ k). get_or_past late k 0 (omega arith))
+    (cases_lt k n)
 
 -- a list has the edges of both its parts
 module _ (first second : Edges) (from to : ℕ) where

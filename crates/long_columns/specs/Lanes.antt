@@ -31,9 +31,14 @@ module _ (h : MemoryHistory) where
   abbrev pub AreLanes : Lanes → List ℕ → Type 0
   AreLanes lanes sessions = (k : ℕ) → k < 4 → IsLane lanes k (in_lane sessions k)
 
--- a number for each operation in three arrays, and one for each variable in the other
+-- no number of a late write is left in the table
+abbrev pub IsClear : List ℕ → Type 0
+IsClear late = (n : ℕ) → slice_index_or late n 0 ≡ 0
+
+-- a number for each operation in three arrays, and one for each variable in the other; the table of late writes is clear
 pub record HasNumbers (index : Indexed) (arrays : Arrays) : Type 0 where
   pub ends : length arrays.ends.items ≡ many index.history
   pub firsts : length arrays.firsts.items ≡ many index.history
   pub last : length arrays.last.items ≡ index.bound
   pub late : length arrays.late.items ≡ many index.history
+  pub clear : IsClear arrays.late.items

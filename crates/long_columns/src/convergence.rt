@@ -23,7 +23,7 @@ pub fn is_convergent(
     requires reduced { (t : ℕ) → IsReducedIn index.now.history t (IsListedEdge index.now.history edges.items) }
     ensures { IfOk result (IsConvergence index.now.history) }
 {
-    let edges = sorted(edges);
+    let edges = sorted(edges)?;
     match order(alloc, index, &edges)? {
         Some(_) => Ok(true),
         None => Ok(false),
@@ -31,10 +31,12 @@ pub fn is_convergent(
 }
 
 /// The edges, sorted by where they lead.
-fn sorted(mut edges: Vec<(u32, u32)>) -> Vec<(u32, u32)>
-    ensures same { IsPermutation edges.items result.items }
-    ensures sorted { AreSortedEdges result.items }
+///
+/// The edges come as sorted runs, one a session, so a sort that merges runs is cheap. Fails for want of memory alone.
+fn sorted(mut edges: Vec<(u32, u32)>) -> Result<Vec<(u32, u32)>, AllocError>
+    ensures same { IfOk result (λ sorted. IsPermutation edges.items sorted.items) }
+    ensures sorted { IfOk result (λ sorted. AreSortedEdges sorted.items) }
 {
-    edges.sort_unstable_by_key(|edge| edge.1);
-    edges
+    edges.sort_by_key(|edge| edge.1)?;
+    Ok(edges)
 }

@@ -1,14 +1,14 @@
 //! The columns of four sessions at once, by one pass along an order and one back.
 
-ghost use Rattle.std.specs.Prelude.{◌≡◌, ◌+◌, ◌<◌, ℕ, [], length, IfOk};
+ghost use Rattle.std.specs.Prelude.{◌≡◌, ◌+◌, ◌<◌, ◌≤◌, ℕ, [], length, slice_index_or, IfOk};
 ghost use Rattle.history.specs.declared.op_id.OpId.{OpId as Operation};
 ghost use Rattle.history.specs.History.{IsOp, many_before, number};
-ghost use Rattle.long_history.specs.Steps.{IsOrderBy, many};
+ghost use Rattle.long_history.specs.Steps.{IsNext, IsOrderBy, many};
 ghost use Rattle.long_columns.specs.Columns.{AreFirsts, ArePastEnds, AreWithinSession, IsLowered, IsNextEnd};
 ghost use Rattle.long_columns.specs.Lanes.{AreLanes, HasRows, in_lane, lane_of};
 
 use crate::passes::number_after;
-use crate::rows::{Row, fill_rows, lower_row, put_row, raised_row, with_own};
+use crate::rows::{Row, fill_rows, lower_row, put_row, raised_row, row_before, with_own};
 use long_index::LongIndex;
 use std::alloc::{AllocError, Global};
 
@@ -78,15 +78,19 @@ fn starts_of(index: &LongIndex, sessions: Row) -> Row
 }
 
 /// The ends for an operation, by those for the operation before it and for its source.
+///
+/// The ends for the operation before it are in the sessions already, so none is below the start of its session.
 fn end_row(index: &LongIndex, rows: &[Row], sessions: Row, starts: Row, operation: u32) -> Row
     requires starts { (k : ℕ) → k < 4 → in_lane starts k ≡ many_before index.now.history (in_lane sessions k) }
     requires operation { operation < many index.now.history }
     requires size { length rows.now ≡ many index.now.history }
+    requires from { (k : ℕ) (o p : Operation) → k < 4 → number index.now.history o ≡ operation → IsNext index.now.history p o
+        → many_before index.now.history (in_lane sessions k) ≤ lane_of rows.now k (number index.now.history p) }
     ensures { (k : ℕ) (o : Operation) → k < 4 → IsOp index.now.history o → number index.now.history o ≡ operation
         → IsNextEnd index.now.history (in_lane sessions k) (lane_of rows.now k) o (in_lane result k) }
 {
     index.value_is_indexed();
-    let before = raised_row(rows, starts, index.before(operation));
+    let before = row_before(rows, starts, index.before(operation));
     let read = raised_row(rows, before, index.source(operation));
     let session = index.session_of(operation);
     with_own(read, sessions, session, number_after(index, operation))
@@ -133,4 +137,21 @@ fn lower_rows(index: &LongIndex, sessions: Row, operation: u32, rows: &mut Vec<R
     put_row(rows, operation, row);
     lower_row(rows, index.before(operation), row);
     lower_row(rows, index.source(operation), row);
+}
+
+/// Copies a lane to the columns of a session. O(n) for n operations.
+pub(crate) fn take_lanes(lanes: &Lanes, lane: usize, ends: &mut Vec<u32>, firsts: &mut Vec<u32>)
+    requires lane { lane < 4 }
+    requires ends { length lanes.now.ends.items ≡ length ends.old.items }
+    requires firsts { length lanes.now.firsts.items ≡ length ends.old.items }
+    requires size { length firsts.old.items ≡ length ends.old.items }
+    ensures ends_size { length ends.new.items ≡ length ends.old.items }
+    ensures firsts_size { length firsts.new.items ≡ length firsts.old.items }
+    ensures ends { (n : ℕ) → n < length ends.old.items → slice_index_or ends.new.items n 0 ≡ lane_of lanes.now.ends.items lane n }
+    ensures firsts { (n : ℕ) → n < length firsts.old.items → slice_index_or firsts.new.items n 0 ≡ lane_of lanes.now.firsts.items lane n }
+{
+    for i in 0..ends.len() {
+        ends[i] = lanes.ends[i][lane];
+        firsts[i] = lanes.firsts[i][lane];
+    }
 }

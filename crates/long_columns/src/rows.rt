@@ -1,6 +1,6 @@
 //! Rows of four numbers, a lane for each of four sessions: their lanes are compared and changed at once.
 
-ghost use Rattle.std.specs.Prelude.{◌≡◌, ◌≢◌, ℕ, ◌<◌, [], length, slice_index_or, slice_set, IfSome, IsTrue};
+ghost use Rattle.std.specs.Prelude.{◌≡◌, ◌≢◌, ℕ, ◌<◌, [], length, slice_index_or, slice_set, IfSome, IsTrue, MatchOption};
 ghost use Rattle.long_columns.specs.Lanes.{in_lane, lane_of};
 ghost use Rattle.long_columns.specs.Visits.{IsGreater, IsLesser, IsLoweredTo, IsRaisedTo};
 
@@ -61,6 +61,17 @@ fn either(is_first: bool, first: u32, other: u32) -> u32
     if is_first { first } else { other }
 }
 
+/// The row of an operation, or the starts where there is none.
+pub(crate) fn row_before(rows: &[Row], starts: Row, operation: Option<u32>) -> Row
+    requires { IfSome operation (λ n. n < length rows.now) }
+    ensures { (k : ℕ) → k < 4 → MatchOption operation (in_lane result k ≡ in_lane starts k) (λ n. in_lane result k ≡ lane_of rows.now k n) }
+{
+    match operation {
+        Some(operation) => rows[operation as usize],
+        None => starts,
+    }
+}
+
 /// A row, raised in each lane to the row of an operation, if there is one.
 pub(crate) fn raised_row(rows: &[Row], row: Row, operation: Option<u32>) -> Row
     requires { IfSome operation (λ n. n < length rows.now) }
@@ -99,17 +110,5 @@ pub(crate) fn fill_rows(rows: &mut Vec<Row>, row: Row)
 {
     for i in 0..rows.len() {
         rows[i] = row;
-    }
-}
-
-/// Copies a lane of rows to a column. O(n) for n rows.
-pub(crate) fn take_lane(rows: &[Row], lane: usize, column: &mut Vec<u32>)
-    requires lane { lane < 4 }
-    requires size { length rows.now ≡ length column.old.items }
-    ensures size { length column.new.items ≡ length column.old.items }
-    ensures taken { (n : ℕ) → n < length rows.now → slice_index_or column.new.items n 0 ≡ lane_of rows.now lane n }
-{
-    for i in 0..column.len() {
-        column[i] = rows[i][lane];
     }
 }

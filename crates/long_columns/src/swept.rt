@@ -1,17 +1,17 @@
 //! The columns of some sessions, four at once, and what each shows.
 
-ghost use Rattle.std.specs.Prelude.{◌≡◌, ◌⊎◌, ◌↔◌, ◌+◌, ◌++◌, ◌<◌, ℕ, List, [], Some, length, slice_get, slice_index_or};
+ghost use Rattle.std.specs.Prelude.{◌≡◌, ◌≢◌, ◌⊎◌, ◌↔◌, ◌+◌, ◌++◌, ◌<◌, ℕ, List, [], Some, length, slice_get, slice_index_or};
 ghost use Rattle.std.specs.Prelude.{IfOk, IsTrue, OnOk};
 ghost use Rattle.memory_order.specs.SourceOrder.{IsCyclic};
 ghost use Rattle.long_history.specs.Steps.{IsOrderBy, many};
-ghost use Rattle.long_columns.specs.Lanes.{HasNumbers, HasRows, IsLane, in_lane};
+ghost use Rattle.long_columns.specs.Lanes.{HasNumbers, HasRows, IsClear, IsLane, in_lane};
 ghost use Rattle.long_columns.specs.Parts.{HasWriters, IsSweptOver, IsSweptPart};
 ghost use Rattle.long_columns.specs.Swept.{HasEdge, IsListed};
 
 use crate::forks::sweep_forks;
-use crate::lanes::{Lanes, find_lanes};
+use crate::lanes::{Lanes, find_lanes, take_lanes};
 use crate::passes::fill;
-use crate::rows::{Row, take_lane};
+use crate::rows::Row;
 use crate::shares::share_of;
 use crate::sweeping::sweep_column;
 use long_index::{LongIndex, Part};
@@ -116,7 +116,7 @@ fn sweep_sessions(
     Ok(swept)
 }
 
-/// The numbers of one column and its sweep: the arrays are made once and filled again for each session.
+/// The numbers of one column and its sweep: the arrays are made once and used again for each session.
 #[derive(Drop)]
 pub(crate) struct Arrays {
     /// By operation: where its past ends in the session.
@@ -125,7 +125,7 @@ pub(crate) struct Arrays {
     pub(crate) firsts: Vec<u32>,
     /// By variable: the number after that of its last write in the session, or 0.
     pub(crate) last: Vec<u32>,
-    /// By write: the number after that of the last write of the session that conflicts with it, or 0.
+    /// By write: the number after that of the last write of the session that conflicts with it, or 0. Between two sessions all are 0.
     pub(crate) late: Vec<u32>,
 }
 
@@ -159,7 +159,7 @@ fn sweep_four(
     requires rows { HasRows index.now.history lanes.old }
     requires numbers { HasNumbers index.now arrays.old }
     ensures rows { HasRows index.now.history lanes.new }
-    ensures numbers { HasNumbers index.now arrays.new }
+    ensures numbers { OnOk result (HasNumbers index.now arrays.new) }
     ensures swept { OnOk result (IsSweptOver index.now.history (IsListed sessions.now from) swept.old
         → IsSweptOver index.now.history (IsListed sessions.now (from + 4)) swept.new) }
 {
@@ -214,15 +214,13 @@ fn sweep_session(
     requires lane { lane < 4 }
     requires column { IsLane index.now.history lanes.now lane session }
     requires numbers { HasNumbers index.now arrays.old }
-    ensures numbers { HasNumbers index.now arrays.new }
+    ensures numbers { OnOk result (HasNumbers index.now arrays.new) }
     ensures swept { OnOk result ((sessions : List ℕ) (i : ℕ) → slice_get sessions i ≡ Some session
         → IsSweptOver index.now.history (IsListed sessions i) swept.old
         → IsSweptOver index.now.history (IsListed sessions (i + 1)) swept.new) }
 {
-    take_lane(&lanes.ends, lane, &mut arrays.ends);
-    take_lane(&lanes.firsts, lane, &mut arrays.firsts);
+    take_lanes(lanes, lane, &mut arrays.ends, &mut arrays.firsts);
     fill(&mut arrays.last, 0);
-    fill(&mut arrays.late, 0);
     let overwritten = sweep_column(
         index,
         session,
@@ -231,26 +229,41 @@ fn sweep_session(
         &mut arrays.last,
         &mut arrays.late,
     );
-    push_edges(index, &arrays.late, &mut swept.edges)?;
+    push_edges(index, &mut arrays.late, &mut swept.edges)?;
     swept.has_overwritten_start |= overwritten.start;
     swept.has_overwritten_read |= overwritten.read;
     Ok(())
 }
 
-/// Pushes the edges of the table of late writes.
+/// Pushes the edges of the table of late writes and clears it.
 fn push_edges(
     index: &LongIndex,
-    late: &[u32],
+    late: &mut Vec<u32>,
     edges: &mut Vec<(u32, u32)>,
 ) -> Result<(), AllocError>
-    requires { length late.now ≡ many index.now.history }
-    ensures { OnOk result ((from to : ℕ) → HasEdge edges.new.items from to
-        ↔ (HasEdge edges.old.items from to ⊎ (slice_index_or late.now to 0 ≡ from + 1))) }
+    requires { length late.old.items ≡ many index.now.history }
+    ensures size { length late.new.items ≡ length late.old.items }
+    ensures clear { OnOk result (IsClear late.new.items) }
+    ensures edges { OnOk result ((from to : ℕ) → HasEdge edges.new.items from to
+        ↔ (HasEdge edges.old.items from to ⊎ (slice_index_or late.old.items to 0 ≡ from + 1))) }
 {
     for to in 0..index.operations() {
-        push_edge(late[to as usize], to, edges)?;
+        push_edge(take_late(late, to), to, edges)?;
     }
     Ok(())
+}
+
+/// Takes the number of a write out of the table of late writes.
+fn take_late(late: &mut Vec<u32>, write: u32) -> u32
+    requires { write < length late.old.items }
+    ensures size { length late.new.items ≡ length late.old.items }
+    ensures taken { result ≡ slice_index_or late.old.items write 0 }
+    ensures none { slice_index_or late.new.items write 0 ≡ 0 }
+    ensures others { (n : ℕ) → n ≢ write → slice_index_or late.new.items n 0 ≡ slice_index_or late.old.items n 0 }
+{
+    let number = late[write as usize];
+    late[write as usize] = 0;
+    number
 }
 
 /// Pushes an edge from the operation before a number, unless that is 0.

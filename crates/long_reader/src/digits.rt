@@ -4,8 +4,6 @@ ghost use Rattle.std.specs.Prelude.{◌≡◌, Some, IfSome};
 ghost use Rattle.serde_json.specs.Data.{unsigned};
 ghost use Rattle.serde_json.specs.Read.{number_of};
 
-use fast_float::parse_u64;
-
 /// The number that a token of JSON writes, where it is digits alone and fits 64 bits. O(n) for n digits.
 #[inline]
 pub fn whole_number(text: &str) -> Option<u64>
@@ -15,7 +13,7 @@ pub fn whole_number(text: &str) -> Option<u64>
     if bytes.is_empty() || bytes[0] == b'+' {
         return None;
     }
-    match parse_u64(bytes) {
+    match text.parse::<u64>() {
         Ok(number) => Some(number),
         Err(_) => None,
     }

@@ -8,7 +8,7 @@ ghost use Rattle.long_reader.specs.Steps.Scalars.{entry_of as spelled_entry, key
 ghost use Rattle.long_reader.specs.Steps.Reading.{IsRest, IsValue};
 
 use crate::passing::{next_token, pass_no_list};
-use crate::scalar::{Scalar, next_scalar};
+use crate::scalar::{Scalar, expected_scalar, next_scalar};
 use bounded_json::{TextError, walk_items};
 use json::{Reader, Token};
 use long_history::LongEntry;
@@ -68,13 +68,13 @@ fn read_elements(
     ensures shorter { OnOk result (length reader.new ≤ length reader.old) }
     ensures refused { IfErr result (AreRefused depth reader.old) }
 {
-    let Some(word) = next_scalar(alloc, reader, depth)? else {
+    let Some(word) = expected_scalar(alloc, reader, depth)? else {
         return Ok(None);
     };
-    let Some(key) = next_scalar(alloc, reader, depth)? else {
+    let Some(key) = expected_scalar(alloc, reader, depth)? else {
         return Ok(None);
     };
-    let Some(first) = next_scalar(alloc, reader, depth)? else {
+    let Some(first) = expected_scalar(alloc, reader, depth)? else {
         return Ok(None);
     };
     let Some(second) = next_scalar(alloc, reader, depth)? else {

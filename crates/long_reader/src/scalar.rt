@@ -33,14 +33,11 @@ pub(crate) enum Scalar {
 fn scalar_of_text(text: &str) -> Scalar
     ensures { result ≡ text_scalar text.now }
 {
-    if text == "w" {
-        Scalar::Write
-    } else if text == "r" {
-        Scalar::Read
-    } else if text == "?" {
-        Scalar::Unknown
-    } else {
-        Scalar::Other
+    match text.as_bytes() {
+        [b'w'] => Scalar::Write,
+        [b'r'] => Scalar::Read,
+        [b'?'] => Scalar::Unknown,
+        _ => Scalar::Other,
     }
 }
 
@@ -91,7 +88,25 @@ fn read_scalar(
     Ok(scalar_of(&value))
 }
 
-/// What the next element of a list says, or none at its end, which it passes.
+/// What the next element of a list says, or none at its end, which it passes. It is for a place where an element is expected.
+#[inline]
+pub(crate) fn expected_scalar(
+    alloc: Global,
+    reader: &mut Reader<'_>,
+    depth: usize,
+) -> Result<Option<Scalar>, TextError>
+    ensures read { IfOk result (λ s. IsNextScalar depth reader.old reader.new s) }
+    ensures shorter { OnOk result (length reader.new < length reader.old) }
+    ensures refused { IfErr result (AreRefused depth reader.old) }
+{
+    let token = next_token(reader)?;
+    if let Token::EndArray = token {
+        return Ok(None);
+    }
+    Ok(Some(read_scalar(alloc, token, reader, depth)?))
+}
+
+/// The same, for a place where the end is expected.
 #[inline]
 pub(crate) fn next_scalar(
     alloc: Global,

@@ -9,7 +9,7 @@ use Rattle.long_columns.proofs.convergence.is_convergent.Goals as goal
 pub order-requires-clause-from_operations : goal.order-requires-clause-from_operations
 order-requires-clause-from_operations c =
     subst (λ (xs : List (ℕ × ℕ)). AreFromOperations c.args.index.now.history xs) (sym c.deref.ensures.value)
-    (from-moved c.args.index.now.history c.args.edges.items c.sorted-edges.result.items c.sorted-edges.ensures.same c.requires.below)
+    (from-moved c.args.index.now.history c.args.edges.items c.in_ok-edges.edges.items c.in_ok-edges.ensures.same c.requires.below)
 
 pub returns-in-Some : goal.returns-in-Some
 returns-in-Some c =
@@ -17,7 +17,7 @@ returns-in-Some c =
     let ordered = rw c.in-Some.is at c.in_ok-order.ensures in
     record {
       acyclic = λ _.
-          moved-acyclic h c.args.edges.items c.sorted-edges.result.items c.sorted-edges.ensures.same c.requires.reduced c.in-Some.field-0.items
+          moved-acyclic h c.args.edges.items c.in_ok-edges.edges.items c.in_ok-edges.ensures.same c.requires.reduced c.in-Some.field-0.items
           (subst (λ (xs : List (ℕ × ℕ)). IsOrderBy h xs c.in-Some.field-0.items) c.deref.ensures.value ordered);
       cyclic = λ no. absurd (no refl);
     }
@@ -26,7 +26,7 @@ pub returns : goal.returns
 returns c =
     let h = c.args.index.now.history in
     let cycle = rw c.in-None.is at c.in_ok-order.ensures in
-    let leads = moved-cyclic h c.args.edges.items c.sorted-edges.result.items c.sorted-edges.ensures.same c.requires.reduced cycle.0
+    let leads = moved-cyclic h c.args.edges.items c.in_ok-edges.edges.items c.in_ok-edges.ensures.same c.requires.reduced cycle.0
     (subst (λ (xs : List (ℕ × ℕ)). Leads (IsStepWith h (IsListedEdge h xs)) cycle.0 cycle.0) c.deref.ensures.value cycle.1) in
     record {
       acyclic = λ bad. absurd cc;

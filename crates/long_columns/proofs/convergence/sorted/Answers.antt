@@ -6,5 +6,5 @@ use Rattle.long_columns.proofs.convergence.sorted.Goals as goal
 
 pub returns-clause-sorted : goal.returns-clause-sorted
 returns-clause-sorted c =
-    sorted-edges _ (IsNonDecreasingBy-from_sort_by_key (λ (e : ℕ × ℕ). e.1) _ c.sort_unstable_by_key.ensures.sorted
+    sorted-edges _ (IsNonDecreasingBy-from_sort_by_key (λ (e : ℕ × ℕ). e.1) _ c.in_ok-sort_by_key.ensures.sorted
     (λ a r q k. search rules))

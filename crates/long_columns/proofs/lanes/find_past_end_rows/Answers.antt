@@ -1,17 +1,26 @@
 use Rattle.std.specs.Prelude.{◌<◌, ◌≤◌, ◌+◌, ℕ, List, [], length, slice_index_or}
 use Rattle.std.proofs.Common.{arith, sym, ap, ◌∙◌, subst}
 use Rattle.std.proofs.lemmas.List.{length-set}
+use Rattle.history.specs.History.{many_before, number}
 use Rattle.long_history.specs.Steps.{IsListedEdge}
 use Rattle.long_order.proofs.Orders.{listed-of_history}
 use Rattle.long_columns.specs.Columns.{ArePastEndsBefore, IsNextEnd}
 use Rattle.long_columns.specs.Lanes.{in_lane, lane_of}
 use Rattle.long_columns.proofs.Columns.{column-first, column-whole, column-within}
-use Rattle.long_columns.proofs.PassSteps.{place-below, row-step}
+use Rattle.long_columns.proofs.PassSteps.{next-from, place-below, row-step}
 use Rattle.long_columns.proofs.lanes.find_past_end_rows.Goals as goal
 
 pub end_row-row-requires-clause-operation : goal.end_row-row-requires-clause-operation
 end_row-row-requires-clause-operation c =
     place-below c.args.index.now.history c.args.order.now c.requires.order 0 c.loop-operation.operation-index (grind arith)
+
+pub end_row-row-requires-clause-from : goal.end_row-row-requires-clause-from
+end_row-row-requires-clause-from c k o p lane at next =
+    let h = c.args.index.now.history in
+    let t : ℕ = in_lane c.args.sessions k in
+    subst (λ (xs : List (List ℕ)). many_before h t ≤ lane_of xs k (number h p)) (sym c.deref.ensures.value)
+    (next-from h c.args.order.now c.requires.order t c.loop-operation.operation-index (grind arith)
+    (lane_of c.loop-operation.rows.items k) (c.loop-operation.invariant.exact k lane) o p at next)
 
 pub put_row-requires : goal.put_row-requires
 put_row-requires c =

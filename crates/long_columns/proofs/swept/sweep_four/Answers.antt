@@ -42,7 +42,7 @@ loop-lane-preserved c =
       | then-from-lane+in_ok-sweep_session w ↦
           let inside : place < length list = w.if-from-lane.true in
           rw (w.arrays-is, w.swept-is) (record {
-            numbers = w.sweep_session.ensures.numbers;
+            numbers = w.in_ok-sweep_session.ensures.numbers;
             swept = λ before. subst (λ (n : ℕ). IsSweptOver h (IsListed list n) w.sweep_session.new.swept) next
                 (w.in_ok-sweep_session.ensures.swept list place (slice_get-get_or list place 0 inside) (was.swept before));
           })

@@ -1,5 +1,5 @@
-use Rattle.std.specs.Prelude.{◌≡◌, ◌⊎◌, ◌↔◌, ℕ, ◌+◌, ◌||◌, List, slice_index_or}
-use Rattle.std.proofs.Common.{arith, subst}
+use Rattle.std.specs.Prelude.{◌≡◌, ℕ, ◌+◌, ◌||◌, List, slice_index_or}
+use Rattle.std.proofs.Common.{arith}
 use Rattle.std.proofs.lemmas.List.{get_or_past}
 use Rattle.long_history.specs.Steps.{many}
 use Rattle.long_columns.specs.Lanes.{lane_of}
@@ -12,31 +12,28 @@ use Rattle.long_columns.proofs.swept.sweep_session.Goals as goal
 pub sweep_column-overwritten-requires-clause-ends : goal.sweep_column-overwritten-requires-clause-ends
 sweep_column-overwritten-requires-clause-ends c =
     let h = c.args.index.now.history in
-    let rows : List (List ℕ) = c.args.lanes.now.ends.items in
-    let ends : List ℕ = c.deref-3.result.now in
-    ends-copied h c.args.session (lane_of rows c.args.lane) (λ n. slice_index_or ends n 0)
-    (lane-copied (many h) rows c.deref.result.now c.args.lane c.take_lane.new.column.items ends c.requires.rows.ends
-    c.deref.ensures.value c.deref-3.ensures.value c.take_lane.ensures.taken)
+    let ends : List ℕ = c.deref.result.now in
+    ends-copied h c.args.session (lane_of c.args.lanes.now.ends.items c.args.lane) (λ n. slice_index_or ends n 0)
+    (lane-copied (many h) c.args.lanes.now.ends.items c.args.lane c.take_lanes.new.ends.items ends c.requires.numbers.ends
+    c.deref.ensures.value c.take_lanes.ensures.ends)
     c.requires.column.ends
 
 pub sweep_column-overwritten-requires-clause-within : goal.sweep_column-overwritten-requires-clause-within
 sweep_column-overwritten-requires-clause-within c =
     let h = c.args.index.now.history in
-    let rows : List (List ℕ) = c.args.lanes.now.ends.items in
-    let ends : List ℕ = c.deref-3.result.now in
-    within-copied h c.args.session (lane_of rows c.args.lane) (λ n. slice_index_or ends n 0)
-    (lane-copied (many h) rows c.deref.result.now c.args.lane c.take_lane.new.column.items ends c.requires.rows.ends
-    c.deref.ensures.value c.deref-3.ensures.value c.take_lane.ensures.taken)
+    let ends : List ℕ = c.deref.result.now in
+    within-copied h c.args.session (lane_of c.args.lanes.now.ends.items c.args.lane) (λ n. slice_index_or ends n 0)
+    (lane-copied (many h) c.args.lanes.now.ends.items c.args.lane c.take_lanes.new.ends.items ends c.requires.numbers.ends
+    c.deref.ensures.value c.take_lanes.ensures.ends)
     c.requires.column.within
 
 pub sweep_column-overwritten-requires-clause-firsts : goal.sweep_column-overwritten-requires-clause-firsts
 sweep_column-overwritten-requires-clause-firsts c =
     let h = c.args.index.now.history in
-    let rows : List (List ℕ) = c.args.lanes.now.firsts.items in
-    let firsts : List ℕ = c.deref-4.result.now in
-    firsts-copied h c.args.session (lane_of rows c.args.lane) (λ n. slice_index_or firsts n 0)
-    (lane-copied (many h) rows c.deref-2.result.now c.args.lane c.take_lane-2.new.column.items firsts c.requires.rows.firsts
-    c.deref-2.ensures.value c.deref-4.ensures.value c.take_lane-2.ensures.taken)
+    let firsts : List ℕ = c.deref-2.result.now in
+    firsts-copied h c.args.session (lane_of c.args.lanes.now.firsts.items c.args.lane) (λ n. slice_index_or firsts n 0)
+    (lane-copied (many h) c.args.lanes.now.firsts.items c.args.lane c.take_lanes.new.firsts.items firsts c.requires.numbers.firsts
+    c.deref-2.ensures.value c.take_lanes.ensures.firsts)
     c.requires.column.firsts
 
 pub returns-clause-swept : goal.returns-clause-swept
@@ -55,6 +52,4 @@ returns-clause-swept c sessions i here was =
     (HasEdge old.edges.items) was one.start one.read (λ from to. slice_index_or late to 0 ≡ from + 1) column
     (old.has_overwritten_start || one.start) (old.has_overwritten_read || one.read) (HasEdge edges)
     (or-either old.has_overwritten_start one.start) (or-either old.has_overwritten_read one.read)
-    (subst (λ (xs : List ℕ). (from to : ℕ)
-    → HasEdge edges from to ↔ (HasEdge old.edges.items from to ⊎ (slice_index_or xs to 0 ≡ from + 1)))
-    c.deref-5.ensures.value c.in_ok-push_edges.ensures)
+    c.in_ok-push_edges.ensures.edges

@@ -1,9 +1,10 @@
-use Rattle.std.proofs.Common.{sym, ap, ◌∙◌}
-use Rattle.serde_json.specs.Read.{number_of}
+use Rattle.std.specs.Prelude.{◌≢◌, get_or}
+use Rattle.std.proofs.Common.{arith}
 use Rattle.long_reader.proofs.WholeNumbers.{number_parsed}
 use Rattle.long_reader.proofs.digits.whole_number.Goals as goal
 
 pub returns-in-Ok : goal.returns-in-Ok
 returns-in-Ok c =
-    let s = c.as_bytes-bytes.result.now in
-    sym (ap number_of c.as_bytes-bytes.ensures.value) ∙ number_parsed s c.parse_u64.result c.in-Ok.number c.if-bytes-eq43.false c.parse_u64.ensures c.in-Ok.is
+    let s = c.args.text.now in
+    let no_plus : get_or s 0 0 ≢ 43 = rw (← c.as_bytes-bytes.ensures.value) c.if-bytes-eq43.false in
+    number_parsed s c.parse.result c.in-Ok.number no_plus c.parse.ensures.value.0 c.in-Ok.is
