@@ -15,6 +15,7 @@ pub mod PastLaws
 pub mod PlacedOrder
 pub mod PlacementLaws
 pub mod Placing
+pub mod ReadEdges
 pub mod SessionSteps
 pub mod Starts
 pub mod Stuck

@@ -6,6 +6,7 @@ use Rattle.long_index.specs.Indexed.{Indexed}
 use Rattle.session_orders.specs.declared.backward.Backward.{Backward}
 use Rattle.session_orders.specs.declared.beginning.Beginning.{Beginning}
 use Rattle.session_orders.specs.OnItsWay.{HasCounts, HasSizes, left_of}
+use Rattle.session_orders.specs.Pasts.{AreReadEdges}
 
 -- every operation is left and counted
 pub record IsWhole (index : Indexed) (b : Backward) : Type 0 where
@@ -13,13 +14,14 @@ pub record IsWhole (index : Indexed) (b : Backward) : Type 0 where
   pub ends : (t : ℕ) → t < length index.history.1 → slice_index_or b.ends.items t 0 ≡ many_before index.history (t + 1)
   pub counts : HasCounts index (left_of index.history b) b
 
--- and there is a number for each session
-pub record IsBeginning (index : Indexed) (b : Beginning) : Type 0 where
+-- every operation is left and counted, there is a number for each session, and the edges are those of the reads of an order
+pub record IsBeginning (index : Indexed) (order : List ℕ) (b : Beginning) : Type 0 where
   pub whole : IsWhole index b.whole
   pub pasts : length b.pasts.items ≡ length index.history.1
+  pub edges : AreReadEdges index.history order (length order) b.edges.items
 
 -- there is a number for each session, and none is above the number after that of its last operation
-pub record ArePastEnds (h : MemoryHistory) (pasts : List ℕ) : Type 0 where
+pub record AreEndsWithin (h : MemoryHistory) (pasts : List ℕ) : Type 0 where
   pub size : length pasts ≡ length h.1
   pub within : (t : ℕ) → slice_index_or pasts t 0 ≤ many_before h (t + 1)
 

@@ -6,12 +6,13 @@ ghost use Rattle.std.specs.Prelude.{◌≡◌, ◌≢◌, ◌<◌, ◌≤◌, �
 ghost use Rattle.history.specs.History.{many_before};
 ghost use Rattle.memory_order.specs.Memory.{IsDifferentiated};
 ghost use Rattle.long_history.specs.Steps.{IsOrderBy};
-ghost use Rattle.session_orders.specs.Beginnings.{ArePastEnds, IsBeginning, IsLeftOnly, IsWhole};
+ghost use Rattle.session_orders.specs.Beginnings.{AreEndsWithin, IsBeginning, IsLeftOnly, IsWhole};
 ghost use Rattle.session_orders.specs.OnItsWay.{CountsUpTo, HasCounts, HasSizes, IsClear, IsKnown, IsOnItsWay, left_of};
 
 use crate::backward::Backward;
 use crate::numbers::take_one;
 use crate::pasts::leave_past;
+use crate::read_edges::{ReadEdge, read_edges};
 use long_index::{LongIndex, Part};
 use std::alloc::{AllocError, Global};
 
@@ -22,16 +23,24 @@ pub(crate) struct Beginning {
     pub(crate) whole: Backward,
     /// For each session, the number after that of its last operation in the past that was found last.
     pub(crate) pasts: Vec<u32>,
+    /// The edges of the known reads of written values.
+    pub(crate) edges: Vec<ReadEdge>,
 }
 
 impl Beginning {
-    /// Counts a whole history. Fails for want of memory alone. O(n + k) for n operations of k sessions.
-    pub(crate) fn of(alloc: Global, index: &LongIndex) -> Result<Beginning, AllocError>
-        ensures { IfOk result (IsBeginning index.now) }
+    /// Counts a whole history, and lists the edges of its reads. Fails for want of memory alone. O(n + k) for n operations of k sessions.
+    pub(crate) fn of(
+        alloc: Global,
+        index: &LongIndex,
+        order: &[u32],
+    ) -> Result<Beginning, AllocError>
+        requires { IsOrderBy index.now.history [] order.now }
+        ensures { IfOk result (IsBeginning index.now order.now) }
     {
         Ok(Beginning {
             whole: Backward::whole(alloc, index)?,
             pasts: vec![in alloc; 0; index.sessions() as usize]?,
+            edges: read_edges(alloc, index, order)?,
         })
     }
 
@@ -46,16 +55,16 @@ impl Beginning {
         requires known { IsKnown index.now own }
         requires order { IsOrderBy index.now.history [] order.now }
         requires clear { IsClear index.now backward.old }
-        requires beginning { IsBeginning index.now self.old }
+        requires beginning { IsBeginning index.now order.now self.old }
         ensures on_its_way { IsOnItsWay index.now backward.new }
         ensures own { backward.new.own ≡ own }
-        ensures beginning { IsBeginning index.now self.new }
+        ensures beginning { IsBeginning index.now order.now self.new }
     {
         self.pasts.fill(0);
-        leave_past(index, order, own, &mut self.pasts);
+        leave_past(index, order, &self.edges, own, &mut self.pasts);
         backward.own = own;
         backward.start = false;
-        backward.copy_counts(&self.whole);
+        backward.copy_left(&self.whole);
         backward.leave_only(index, &self.pasts);
     }
 }
@@ -86,7 +95,7 @@ impl Backward {
     }
 
     /// Copies from a state of the same history what is left, and its counts. O(n + k) for n operations of k sessions.
-    fn copy_counts(&mut self, whole: &Backward)
+    fn copy_left(&mut self, whole: &Backward)
         requires ends { length self.old.ends.items ≡ length whole.now.ends.items }
         requires readers { length self.old.readers.items ≡ length whole.now.readers.items }
         requires writes { length self.old.writes.items ≡ length whole.now.writes.items }
@@ -107,7 +116,7 @@ impl Backward {
     fn leave_only(&mut self, index: &LongIndex, pasts: &[u32])
         requires distinct { IsDifferentiated index.now.history }
         requires whole { IsWhole index.now self.old }
-        requires pasts { ArePastEnds index.now.history pasts.now }
+        requires pasts { AreEndsWithin index.now.history pasts.now }
         ensures sizes { HasSizes index.now self.new }
         ensures counts { HasCounts index.now (left_of index.now.history self.new) self.new }
         ensures only { IsLeftOnly index.now.history (length index.now.history.1) pasts.now self.new.ends.items }

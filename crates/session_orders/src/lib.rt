@@ -14,6 +14,7 @@ mod ordering;
 mod parts;
 mod pasts;
 mod placement;
+mod read_edges;
 mod turns;
 
 pub use ordering::SessionOrder;

@@ -60,7 +60,7 @@ pub(crate) fn order_part(
     ensures { IfOk result (IsOrderedPart index.now.history sessions.now parts part) }
 {
     index.value_is_indexed();
-    let mut beginning = Beginning::of(alloc, index)?;
+    let mut beginning = Beginning::of(alloc, index, order)?;
     let mut backward = Backward::clear(alloc, index)?;
     let mut turns = Turns::of(alloc, index)?;
     let counts = count_writes(alloc, index)?;
@@ -110,11 +110,11 @@ fn order_where_needed(
     requires sources { ¬ LacksSource index.now.history }
     requires size { length counts.now ≡ index.now.bound }
     requires counts { CountsWrites index.now.history index.now.variables (many index.now.history) counts.now }
-    requires beginning { IsBeginning index.now beginning.old }
+    requires beginning { IsBeginning index.now order.now beginning.old }
     requires clear { IsClear index.now backward.old }
     requires sessions { ListsSessions index.now.history (length index.now.history.1) turns.old.sessions.items }
     ensures outcome { IfOk result (IsOutcome index.now.history own) }
-    ensures beginning { IfOk result (λ _. IsBeginning index.now beginning.new) }
+    ensures beginning { IfOk result (λ _. IsBeginning index.now order.now beginning.new) }
     ensures clear { IfOk result (λ outcome. outcome ≡ Explained → IsClear index.now backward.new) }
     ensures sessions { IfOk result (λ _. turns.new.sessions.items ≡ turns.old.sessions.items) }
 {
@@ -137,11 +137,11 @@ fn order_session(
     requires known { IsKnown index.now own }
     requires order { IsOrderBy index.now.history [] order.now }
     requires sources { ¬ LacksSource index.now.history }
-    requires beginning { IsBeginning index.now beginning.old }
+    requires beginning { IsBeginning index.now order.now beginning.old }
     requires clear { IsClear index.now backward.old }
     requires sessions { ListsSessions index.now.history (length index.now.history.1) turns.old.sessions.items }
     ensures outcome { IfOk result (IsOutcome index.now.history own) }
-    ensures beginning { IfOk result (λ _. IsBeginning index.now beginning.new) }
+    ensures beginning { IfOk result (λ _. IsBeginning index.now order.now beginning.new) }
     ensures clear { IfOk result (λ outcome. outcome ≡ Explained → IsClear index.now backward.new) }
     ensures sessions { IfOk result (λ _. turns.new.sessions.items ≡ turns.old.sessions.items) }
 {

@@ -55,10 +55,7 @@ impl Backward {
         if self.readers[write as usize] > 0 {
             return None;
         }
-        if self.ends[session as usize] <= write {
-            return None;
-        }
-        if self.ends[session as usize] - 1 > write {
+        if self.ends[session as usize] != write + 1 {
             return None;
         }
         Some(session)

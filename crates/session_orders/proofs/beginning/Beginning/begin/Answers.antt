@@ -4,7 +4,7 @@ use Rattle.history.specs.declared.op_id.OpId.{OpId}
 use Rattle.memory_order.specs.Relations.{IsPast}
 use Rattle.memory_order.proofs.HappenedBeforeLaws.{past-of_history}
 use Rattle.session_orders.specs.Backward.{IsLeft}
-use Rattle.session_orders.specs.Beginnings.{ArePastEnds, IsLeftOnly}
+use Rattle.session_orders.specs.Beginnings.{AreEndsWithin, IsLeftOnly}
 use Rattle.session_orders.specs.SessionOrders.{last_op}
 use Rattle.session_orders.specs.OnItsWay.{IsKnown}
 use Rattle.session_orders.specs.SessionStates.{IsSessionState}
@@ -21,7 +21,7 @@ leave_only-requires-clause-pasts c =
     let found = c.leave_past.ensures.sessions in
     let filled = c.fill.ensures.len in
     let pasts = c.requires.beginning.pasts in
-    subst (λ (xs : List ℕ). ArePastEnds h xs) (sym c.deref.ensures.value) (record {
+    subst (λ (xs : List ℕ). AreEndsWithin h xs) (sym c.deref-2.ensures.value) (record {
       size = omega arith;
       within = ends-within h c.leave_past.new.ends.items
           (λ a is_left. past-of_history h (last_op h c.args.own) a c.requires.known.operation ((c.leave_past.ensures.left a).0 is_left));
@@ -40,11 +40,11 @@ returns-clause-on_its_way c =
     let found = c.leave_past.ensures.sessions in
     let filled = c.fill.ensures.len in
     let first = c.requires.beginning.pasts in
-    let own = sym (c.leave_only.ensures.own ∙ c.copy_counts.ensures.own) in
-    let start = sym (c.leave_only.ensures.start ∙ c.copy_counts.ensures.start) in
+    let own = sym (c.leave_only.ensures.own ∙ c.copy_left.ensures.own) in
+    let start = sym (c.leave_only.ensures.start ∙ c.copy_left.ensures.start) in
     let same : (t : ℕ) → left_counts h ends t ≡ left_counts h pasts t =
     left-only h pasts ends (omega arith) sizes.ends
-    (subst (λ (xs : List ℕ). IsLeftOnly h (length h.1) xs ends) c.deref.ensures.value c.leave_only.ensures.only) in
+    (subst (λ (xs : List ℕ). IsLeftOnly h (length h.1) xs ends) c.deref-2.ensures.value c.leave_only.ensures.only) in
     let whole : (a : OpId) → IsLeft (left_counts h ends) a ↔ IsPast h o a = λ a. (
       λ is_left. (c.leave_past.ensures.left a).0 (let equal = same a.session in omega arith),
       λ is_past. let before = (c.leave_past.ensures.left a).1 is_past in let equal = same a.session in omega arith,
@@ -58,6 +58,6 @@ returns-clause-on_its_way c =
       counts = c.leave_only.ensures.counts;
       locks = subst (λ (s : ℕ). AreLocks h variables (last_op h s) (left_counts h ends) (λ x. slice_index_or after.locks.items x None)) own
           (first-locks h variables o is_op (left_counts h ends) (λ a. (whole a).1) (λ x. slice_index_or after.locks.items x None)
-          (λ x. ap (λ (es : List (Option ℕ)). slice_index_or es x None) (c.leave_only.ensures.locks ∙ c.copy_counts.ensures.locks)
+          (λ x. ap (λ (es : List (Option ℕ)). slice_index_or es x None) (c.leave_only.ensures.locks ∙ c.copy_left.ensures.locks)
           ∙ c.requires.clear.unlocked x));
     }

@@ -1,0 +1,59 @@
+//! The reads of written values, from the end of an order: what the pasts of sessions are found by.
+
+ghost use Rattle.std.specs.Prelude.{◌≡◌, ◌<◌, ℕ, [], length, IfOk, OnOk};
+ghost use Rattle.history.specs.declared.op_id.OpId.{OpId as Operation};
+ghost use Rattle.history.specs.History.{IsOp, number};
+ghost use Rattle.long_history.specs.Steps.{IsOrderBy, many};
+ghost use Rattle.session_orders.specs.Pasts.{AreReadEdges, IsPushed};
+
+use long_index::LongIndex;
+use std::alloc::{AllocError, Global};
+
+/// A known read of a written value, and where its source ends the past of the read in the session of the source.
+#[derive(Clone, Copy, Debug)]
+pub(crate) struct ReadEdge {
+    /// The number of the read.
+    pub(crate) read: u32,
+    /// The session of the read.
+    pub(crate) session: u32,
+    /// The number after that of the source.
+    pub(crate) end: u32,
+    /// The session of the source.
+    pub(crate) source_session: u32,
+}
+
+/// The edges of all known reads of written values, those of the last reads of the order first. Fails for want of memory alone. O(n) for n
+/// operations.
+pub(crate) fn read_edges(
+    alloc: Global,
+    index: &LongIndex,
+    order: &[u32],
+) -> Result<Vec<ReadEdge>, AllocError>
+    requires { IsOrderBy index.now.history [] order.now }
+    ensures { IfOk result (λ edges. AreReadEdges index.now.history order.now (length order.now) edges.items) }
+{
+    let mut edges = Vec::new(alloc);
+    for i in 0..order.len() {
+        push_edge(index, order[order.len() - 1 - i], &mut edges)?;
+    }
+    Ok(edges)
+}
+
+/// Pushes the edge of an operation, if it is such a read.
+fn push_edge(index: &LongIndex, operation: u32, edges: &mut Vec<ReadEdge>) -> Result<(), AllocError>
+    requires { operation < many index.now.history }
+    ensures { OnOk result ((b : Operation) → IsOp index.now.history b → number index.now.history b ≡ operation
+        → IsPushed index.now.history b edges.old.items edges.new.items) }
+{
+    // There are so few operations that the number after each fits 32 bits.
+    let _operations = index.operations();
+    if let Some(source) = index.source(operation) {
+        edges.push(ReadEdge {
+            read: operation,
+            session: index.session_of(operation),
+            end: source + 1,
+            source_session: index.session_of(source),
+        })?;
+    }
+    Ok(())
+}
