@@ -235,16 +235,37 @@ fn together_on<K: ShelfName + Send + Sync, P: Threads + Wait + Sync + AllocGloba
     requires { shelf ≡ K.shelf }
 {
     let desk = Desk::<Memory, K>::on(rt.alloc(), shelf)?;
+    together_at(rt, &desk, file, parts)
+}
+
+/// The same at a desk.
+fn together_at<K: ShelfName + Send + Sync, P: Threads + Wait + Sync + AllocGlobal>(
+    rt: &P,
+    desk: &Desk<Memory, K>,
+    file: CaseFile<Memory>,
+    parts: Parts,
+) -> Result<Left, DeskError> {
     let ticket = desk.file(rt, file)?;
     let hold = Hold::new();
+    let put = put_by_two(rt, desk, &ticket, &hold, parts)?;
+    left_by(rt, desk, &ticket, put, hold.is_in_time())
+}
+
+/// How many verdicts two threads put together.
+fn put_by_two<K: ShelfName + Send + Sync, P: Threads + Wait + Sync + AllocGlobal>(
+    rt: &P,
+    desk: &Desk<Memory, K>,
+    ticket: &Ticket<Memory, K>,
+    hold: &Hold,
+    parts: Parts,
+) -> Result<u32, DeskError> {
     let ended = thread::map_indices(
         rt,
         rt.alloc(),
         2,
-        &|thread| { play(rt, &desk, &ticket, &hold, parts, thread) },
+        &|thread| { play(rt, desk, ticket, hold, parts, thread) },
     )?;
-    let put = sum(ended)?;
-    left_by(rt, &desk, &ticket, put, hold.is_in_time())
+    sum(ended)
 }
 
 /// What a thread puts.
