@@ -15,6 +15,9 @@ use command_line::{BlankLines, Judging, Length, LineJudging};
 use lines::{Fault, Outcome, is_blank};
 use std::alloc::{AllocError, Global};
 
+// The joined lines of a report have fewer bytes, but for those of an open case file.
+const USUAL_BYTES: usize = 96;
+
 /// Appends the answer to a line and a line feed, and returns the outcome. The answer is the lines of the report on its history
 /// joined by `; `, or the line of its refusal. A blank line that is skipped gets an empty answer.
 ///
@@ -97,7 +100,8 @@ pub fn joined_text(alloc: Global, report: &Report) -> Result<Vec<u8>, AllocError
     let cc = report_line(alloc, Criterion::Cc, report.cc)?;
     let cm = report_line(alloc, Criterion::Cm, report.cm)?;
     let ccv = report_line(alloc, Criterion::Ccv, report.ccv)?;
-    let mut text = Vec::from_slice(alloc, without_end(cc.as_bytes()))?;
+    let mut text = Vec::with_capacity(alloc, USUAL_BYTES)?;
+    text.extend_from_slice(without_end(cc.as_bytes()))?;
     text.extend_from_slice(b"; ")?;
     text.extend_from_slice(without_end(cm.as_bytes()))?;
     text.extend_from_slice(b"; ")?;

@@ -58,12 +58,9 @@ pub fn report_line(
 {
     let name = criterion.name();
     match answer {
-        Answer::Yes => format!(in alloc; "{name} yes\n"),
-        Answer::No(kind) => {
-            let kind = kind.name();
-            format!(in alloc; "{name} no {kind}\n")
-        }
-        Answer::Unknown(None) => format!(in alloc; "{name} unknown\n"),
+        Answer::Yes => [name, " yes\n"].concat(alloc),
+        Answer::No(kind) => [name, " no ", kind.name(), "\n"].concat(alloc),
+        Answer::Unknown(None) => [name, " unknown\n"].concat(alloc),
         Answer::Unknown(Some(OpId { session, index })) => {
             format!(in alloc; "{name} unknown {session}.{index}\n")
         }
