@@ -238,7 +238,7 @@ fn together_on<K: ShelfName + Send + Sync, P: Threads + Wait + Sync + AllocGloba
     together_at(rt, &desk, file, parts)
 }
 
-/// The same at a desk.
+/// What two threads leave of a case at a desk.
 fn together_at<K: ShelfName + Send + Sync, P: Threads + Wait + Sync + AllocGlobal>(
     rt: &P,
     desk: &Desk<Memory, K>,
@@ -251,7 +251,7 @@ fn together_at<K: ShelfName + Send + Sync, P: Threads + Wait + Sync + AllocGloba
     left_by(rt, desk, &ticket, put, hold.is_in_time())
 }
 
-/// How many verdicts two threads put together.
+/// Runs two threads at a desk, and returns how many verdicts they put in all.
 fn put_by_two<K: ShelfName + Send + Sync, P: Threads + Wait + Sync + AllocGlobal>(
     rt: &P,
     desk: &Desk<Memory, K>,

@@ -79,7 +79,8 @@ fn starts_of(index: &LongIndex, sessions: Row) -> Row
 
 /// The ends for an operation, by those for the operation before it and for its source.
 ///
-/// The ends for the operation before it are in the sessions already, so none is below the start of its session.
+/// No end for the operation before is below the start of the session of its lane. So its row is copied. The first operation of a session
+/// begins with the starts.
 fn end_row(index: &LongIndex, rows: &[Row], sessions: Row, starts: Row, operation: u32) -> Row
     requires starts { (k : ℕ) → k < 4 → in_lane starts k ≡ many_before index.now.history (in_lane sessions k) }
     requires operation { operation < many index.now.history }
@@ -139,7 +140,7 @@ fn lower_rows(index: &LongIndex, sessions: Row, operation: u32, rows: &mut Vec<R
     lower_row(rows, index.source(operation), row);
 }
 
-/// Copies a lane to the columns of a session. O(n) for n operations.
+/// Copies one lane of the rows to the two columns of a session. O(n) for n operations.
 pub(crate) fn take_lanes(lanes: &Lanes, lane: usize, ends: &mut Vec<u32>, firsts: &mut Vec<u32>)
     requires lane { lane < 4 }
     requires ends { length lanes.now.ends.items ≡ length ends.old.items }

@@ -235,7 +235,7 @@ fn sweep_session(
     Ok(())
 }
 
-/// Pushes the edges of the table of late writes and clears it.
+/// Pushes the edges of the table of late writes, and clears the table.
 fn push_edges(
     index: &LongIndex,
     late: &mut Vec<u32>,

@@ -4,7 +4,7 @@ ghost use Rattle.std.specs.Prelude.{◌≡◌, Some, IfSome};
 ghost use Rattle.serde_json.specs.Data.{unsigned};
 ghost use Rattle.serde_json.specs.Read.{number_of};
 
-/// The number that a token of JSON writes, where it is digits alone and fits 64 bits. O(n) for n digits.
+/// The number that a token of JSON writes, where it is digits alone and fits 64 bits. O(n) for n digits. None says nothing of the token.
 #[inline]
 pub fn whole_number(text: &str) -> Option<u64>
     ensures { IfSome result (λ n. number_of text.now ≡ Some (unsigned n)) }

@@ -88,7 +88,9 @@ fn read_scalar(
     Ok(scalar_of(&value))
 }
 
-/// What the next element of a list says, or none at its end, which it passes. It is for a place where an element is expected.
+/// What the next element of a list says, or none at the end of the list, which it passes.
+///
+/// It takes the token first, and so it is faster where an element comes next.
 #[inline]
 pub(crate) fn expected_scalar(
     alloc: Global,
@@ -106,7 +108,9 @@ pub(crate) fn expected_scalar(
     Ok(Some(read_scalar(alloc, token, reader, depth)?))
 }
 
-/// The same, for a place where the end is expected.
+/// What the next element of a list says, or none at the end of the list, which it passes.
+///
+/// It looks for the end first, and so it is faster where the list ends.
 #[inline]
 pub(crate) fn next_scalar(
     alloc: Global,

@@ -23,7 +23,7 @@ pub(crate) struct Beginning {
     pub(crate) whole: Backward,
     /// For each session, the number after that of its last operation in the past that was found last.
     pub(crate) pasts: Vec<u32>,
-    /// The edges of the known reads of written values.
+    /// The edges of the known reads of written values, from the last read of the order to the first.
     pub(crate) edges: Vec<ReadEdge>,
 }
 

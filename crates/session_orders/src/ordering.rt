@@ -44,7 +44,7 @@ pub(crate) struct Unexplained {
 /// list.
 ///
 /// Fails for want of memory alone. O(n k / p) for n operations, k sessions with operations and p parts, and O(n + k) numbers of memory for
-/// k sessions in all.
+/// k sessions in all, of which four are for each known read of a written value.
 pub(crate) fn order_part(
     alloc: Global,
     index: &LongIndex,

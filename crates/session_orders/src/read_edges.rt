@@ -1,4 +1,5 @@
-//! The reads of written values, from the end of an order: what the pasts of sessions are found by.
+//! The reads of written values with their sources, from the last read of an order to the first. `leave_past` finds the past of a session
+//! by them.
 
 ghost use Rattle.std.specs.Prelude.{◌≡◌, ◌<◌, ℕ, [], length, IfOk, OnOk};
 ghost use Rattle.history.specs.declared.op_id.OpId.{OpId as Operation};
@@ -9,7 +10,7 @@ ghost use Rattle.session_orders.specs.Pasts.{AreReadEdges, IsPushed};
 use long_index::LongIndex;
 use std::alloc::{AllocError, Global};
 
-/// A known read of a written value, and where its source ends the past of the read in the session of the source.
+/// A known read of a written value and its source, by numbers.
 #[derive(Clone, Copy, Debug)]
 pub(crate) struct ReadEdge {
     /// The number of the read.
@@ -22,8 +23,9 @@ pub(crate) struct ReadEdge {
     pub(crate) source_session: u32,
 }
 
-/// The edges of all known reads of written values, those of the last reads of the order first. Fails for want of memory alone. O(n) for n
-/// operations.
+/// The edge of each known read of a written value, from the last read of the order to the first.
+///
+/// Fails for want of memory alone. O(n) for n operations. It takes 16 bytes a read.
 pub(crate) fn read_edges(
     alloc: Global,
     index: &LongIndex,
@@ -45,7 +47,7 @@ fn push_edge(index: &LongIndex, operation: u32, edges: &mut Vec<ReadEdge>) -> Re
     ensures { OnOk result ((b : Operation) → IsOp index.now.history b → number index.now.history b ≡ operation
         → IsPushed index.now.history b edges.old.items edges.new.items) }
 {
-    // There are so few operations that the number after each fits 32 bits.
+    // There are so few operations that the number after that of the source fits 32 bits.
     let _operations = index.operations();
     if let Some(source) = index.source(operation) {
         edges.push(ReadEdge {
