@@ -37,6 +37,8 @@ impl Lanes {
 /// Finds the columns of four sessions. A session may have several lanes.
 ///
 /// The order is one that [`long_order::causal_order`] gives. O(n) for n operations.
+// A function of its own keeps its loops in registers.
+#[inline(never)]
 pub(crate) fn find_lanes(index: &LongIndex, order: &[u32], sessions: Row, lanes: &mut Lanes)
     requires sessions { (k : ℕ) → k < 4 → in_lane sessions k < length index.now.history.1 }
     requires order { IsOrderBy index.now.history [] order.now }

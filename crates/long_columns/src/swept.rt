@@ -59,6 +59,8 @@ fn add_session(sessions: &mut Vec<u32>, session: u32) -> Result<(), AllocError>
 ///
 /// Fails for want of memory alone. O(n k / p) for n operations, k sessions in the list and p parts, where 64 sessions with one write each
 /// count as one.
+// A function of its own keeps its loops in registers.
+#[inline(never)]
 pub(crate) fn sweep_part(
     alloc: Global,
     index: &LongIndex,

@@ -51,6 +51,8 @@ impl<'a> LongIndex<'a> {
     ///
     /// Fails for want of memory alone. O(n log n + k) for n operations in k sessions. It takes at most 48 bytes an operation, of which it
     /// keeps 16, and 4 a session.
+    // A function of its own keeps its loops in registers.
+    #[inline(never)]
     pub fn of(alloc: Global, h: &'a LongHistory) -> Result<Option<LongIndex<'a>>, AllocError>
         ensures { IfOk result (λ found. MatchOption found (¬ IsDifferentiated h.now) (λ index. index.history ≡ h.now)) }
     {

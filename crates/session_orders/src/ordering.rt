@@ -45,6 +45,8 @@ pub(crate) struct Unexplained {
 ///
 /// Fails for want of memory alone. O(n k / p) for n operations, k sessions with operations and p parts, and O(n + k) numbers of memory for
 /// k sessions in all, of which four are for each known read of a written value.
+// A function of its own keeps its loops in registers.
+#[inline(never)]
 pub(crate) fn order_part(
     alloc: Global,
     index: &LongIndex,
