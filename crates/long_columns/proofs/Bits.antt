@@ -1,6 +1,6 @@
 -- Bits of words, and of words in lists.
 use Rattle.std.specs.Prelude.{◌≡◌, ◌≢◌, ◌⊎◌, ◌↔◌, ℕ, ◌-◌, ◌*◌, ◌^◌, ◌%◌, ◌<◌, List, length, slice_index_or, slice_set, bit_and, bit_or}
-use Rattle.std.specs.Int.{bit_at, w64}
+use Rattle.std.specs.Int.{bit_at, w128}
 use Rattle.std.proofs.Common.{arith, refl, sym, subst, inl, inr, ⊎_elim}
 use Rattle.std.proofs.lemmas.Bool.{cases_eq}
 use Rattle.std.proofs.lemmas.List.{get_or-set_same, get_or-set_other}
@@ -28,10 +28,10 @@ or-either a b k =
       λ either. ⊎_elim (λ (one : HasBit a k). omega arith) (λ (one : HasBit b k). omega arith) either,
     )
 
-pub and-not : (a b k : ℕ) → b < 2 ^ 64 → k < 64 → HasBit (bit_and a (2 ^ 64 - 1 - b)) k ↔ (HasBit a k × (¬ HasBit b k))
+pub and-not : (a b k : ℕ) → b < 2 ^ 128 → k < 128 → HasBit (bit_and a (2 ^ 128 - 1 - b)) k ↔ (HasBit a k × (¬ HasBit b k))
 and-not a b k small below =
-    let both = and-both a (2 ^ 64 - 1 - b) k in
-    let not = bit_at_not w64 b k small below in
+    let both = and-both a (2 ^ 128 - 1 - b) k in
+    let not = bit_at_not w128 b k small below in
     let second = bit_at-lt b k in (
       (λ has. let two = both.0 has in let one = two.1 in (two.0, λ other. omega arith)),
       λ (one, none). both.1 (
@@ -46,22 +46,22 @@ and-not a b k small below =
 pub zero-none : (k : ℕ) → ¬ HasBit 0 k
 zero-none k has = let is = bit_at-zero k in omega arith
 
-pub some-bit : (a : ℕ) → a ≢ 0 → a < 2 ^ 64 → (k : ℕ) × (k < 64) × HasBit a k
-some-bit a apart small = let found = bit_at-trailing_zeros w64 a (omega arith) small in (_, found.0, found.1)
+pub some-bit : (a : ℕ) → a ≢ 0 → a < 2 ^ 128 → (k : ℕ) × (k < 128) × HasBit a k
+some-bit a apart small = let found = bit_at-trailing_zeros w128 a (omega arith) small in (_, found.0, found.1)
 
 pub not-zero : (a k : ℕ) → HasBit a k → a ≢ 0
 not-zero a k has same = zero-none k (subst (λ (n : ℕ). HasBit n k) same has)
 
-pub set-bit : (a j k : ℕ) → j < 64 → HasBit (bit_or a (1 * 2 ^ j % 2 ^ 64)) k ↔ (HasBit a k ⊎ (k ≡ j))
+pub set-bit : (a j k : ℕ) → j < 128 → HasBit (bit_or a (1 * 2 ^ j % 2 ^ 128)) k ↔ (HasBit a k ⊎ (k ≡ j))
 set-bit a j k below =
-    let same = bit_at_set_same w64 a j below in (
+    let same = bit_at_set_same w128 a j below in (
       (λ has. ⊎_elim
           (λ (here : k ≡ j). inr here)
-          (λ (apart : k ≢ j). let other = bit_at_set_other w64 a j below k apart in inl (omega arith))
+          (λ (apart : k ≢ j). let other = bit_at_set_other w128 a j below k apart in inl (omega arith))
           (cases_eq k j)),
       λ either. ⊎_elim
-          (λ (here : k ≡ j). subst (λ (i : ℕ). HasBit (bit_or a (1 * 2 ^ j % 2 ^ 64)) i) (sym here) same)
-          (λ (apart : k ≢ j). let other = bit_at_set_other w64 a j below k apart in ⊎_elim
+          (λ (here : k ≡ j). subst (λ (i : ℕ). HasBit (bit_or a (1 * 2 ^ j % 2 ^ 128)) i) (sym here) same)
+          (λ (apart : k ≢ j). let other = bit_at_set_other w128 a j below k apart in ⊎_elim
           (λ (had : HasBit a k). omega arith)
           (λ (here : k ≡ j). absurd (apart here))
           either)

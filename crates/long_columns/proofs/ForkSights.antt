@@ -74,14 +74,14 @@ module _ (h : MemoryHistory) (writes : List ℕ) (from : ℕ) where
     )
 
     abbrev Starts : OpId → Type 0
-    Starts q = (k : ℕ) × (k < 64) × ShowsStartOf h (is k) q
+    Starts q = (k : ℕ) × (k < 128) × ShowsStartOf h (is k) q
 
     abbrev Reading : OpId → Type 0
-    Reading q = (k : ℕ) × (k < 64) × ShowsReadOf h (is k) q
+    Reading q = (k : ℕ) × (k < 128) × ShowsReadOf h (is k) q
 
     module _ (start read : Bool) (late : List ℕ) (now : AreForksFound h writes from (number h r) start read late) where
       -- it shows nothing
-      pub found-none : ((k : ℕ) → k < 64 → (¬ ShowsStartOf h (is k) r) × (¬ ShowsReadOf h (is k) r) × ((s : OpId) → ¬ LeavesOf h (is k) r s))
+      pub found-none : ((k : ℕ) → k < 128 → (¬ ShowsStartOf h (is k) r) × (¬ ShowsReadOf h (is k) r) × ((s : OpId) → ¬ LeavesOf h (is k) r s))
           → AreForksFound h writes from (number h r + 1) start read late
       found-none none = record {
         starts = seen-same Starts (IsTrue start) now.starts (λ shows. (none shows.0 shows.1).0 shows.2);
@@ -106,7 +106,7 @@ module _ (h : MemoryHistory) (writes : List ℕ) (from : ℕ) where
 
       -- it read a written value
       pub found-read : (read_now : Bool) (late_now : List ℕ) → (s : OpId) → ReadsFrom h s r → IsTrue read_now ↔ (IsTrue read ⊎ Reading r)
-          → ((u : OpId) (k : ℕ) → IsOp h u → k < 64
+          → ((u : OpId) (k : ℕ) → IsOp h u → k < 128
           → HasBitAt late_now (number h u) k ↔ (HasBitAt late (number h u) k ⊎ LeavesOf h (is k) r u))
           → AreForksFound h writes from (number h r + 1) start read_now late_now
       found-read read_now late_now s found set added = record {
@@ -125,7 +125,7 @@ module _ (h : MemoryHistory) (writes : List ℕ) (from : ℕ) where
       (is_seen : (k : ℕ) → HasBit seen k
       ↔ (HasBitAt past (number h r) k × HasBitAt of_variable (slice_index_or variables (number h r) 0) k)) where
     -- the bits of the writes of its variable in its past
-    seen-exact : (x u : ℕ) → Reads h r x u → (k : ℕ) → k < 64 → HasBit seen k ↔ ((w : OpId) × is k w × WritesTo h x w × CO h w r)
+    seen-exact : (x u : ℕ) → Reads h r x u → (k : ℕ) → k < 128 → HasBit seen k ↔ ((w : OpId) × is k w × WritesTo h x w × CO h w r)
     seen-exact x u reads k below = (
       (λ had.
           let both = (is_seen k).0 had in
@@ -152,18 +152,18 @@ module _ (h : MemoryHistory) (writes : List ℕ) (from : ℕ) where
       ),
     )
 
-    start-seen : (k : ℕ) → k < 64 → ShowsStartOf h (is k) r → HasBit seen k
+    start-seen : (k : ℕ) → k < 128 → ShowsStartOf h (is k) r → HasBit seen k
     start-seen k below (w, x, is_w, wrote, reads, leads) = (seen-exact x (initial h x) reads k below).1 (w, is_w, wrote, leads)
 
-    read-seen : (k : ℕ) → k < 64 → ShowsReadOf h (is k) r → HasBit seen k
+    read-seen : (k : ℕ) → k < 128 → ShowsReadOf h (is k) r → HasBit seen k
     read-seen k below (s, w, is_w, found, wrote, first, leads) = (seen-exact found.0 found.1 found.3 k below).1 (w, is_w, wrote, leads)
 
-    leaves-seen : (s : OpId) (k : ℕ) → k < 64 → LeavesOf h (is k) r s → HasBit seen k
+    leaves-seen : (s : OpId) (k : ℕ) → k < 128 → LeavesOf h (is k) r s → HasBit seen k
     leaves-seen s k below (w, is_w, found, wrote, leads, apart) = (seen-exact found.0 found.1 found.3 k below).1 (w, is_w, wrote, leads)
 
     -- where no bit is seen, it shows nothing
-    pub nothing-seen : (¬ ((k : ℕ) × (k < 64) × HasBit seen k))
-        → (k : ℕ) → k < 64 → (¬ ShowsStartOf h (is k) r) × (¬ ShowsReadOf h (is k) r) × ((s : OpId) → ¬ LeavesOf h (is k) r s)
+    pub nothing-seen : (¬ ((k : ℕ) × (k < 128) × HasBit seen k))
+        → (k : ℕ) → k < 128 → (¬ ShowsStartOf h (is k) r) × (¬ ShowsReadOf h (is k) r) × ((s : OpId) → ¬ LeavesOf h (is k) r s)
     nothing-seen none k below = (
       (λ shows. none (k, below, start-seen k below shows)),
       (λ shows. none (k, below, read-seen k below shows)),
@@ -172,7 +172,7 @@ module _ (h : MemoryHistory) (writes : List ℕ) (from : ℕ) where
 
     -- of an initial value
     pub start-shown : (x : ℕ) → Reads h r x (initial h x)
-        → ((k : ℕ) × (k < 64) × HasBit seen k) ↔ ((k : ℕ) × (k < 64) × ShowsStartOf h (is k) r)
+        → ((k : ℕ) × (k < 128) × HasBit seen k) ↔ ((k : ℕ) × (k < 128) × ShowsStartOf h (is k) r)
     start-shown x reads = (
       (λ (k, below, had).
           let found = (seen-exact x (initial h x) reads k below).0 had in
@@ -185,7 +185,7 @@ module _ (h : MemoryHistory) (writes : List ℕ) (from : ℕ) where
       is_s : IsOp h s
       is_s = write-of_history h s found.0 found.1 found.2
 
-      leaves-exact : (k : ℕ) → k < 64 → (HasBit seen k × (¬ HasBitAt past (number h s) k)) ↔ LeavesOf h (is k) r s
+      leaves-exact : (k : ℕ) → k < 128 → (HasBit seen k × (¬ HasBitAt past (number h s) k)) ↔ LeavesOf h (is k) r s
       leaves-exact k below = (
         (λ parts.
             let w = (seen-exact found.0 found.1 found.3 k below).0 parts.0 in
@@ -198,8 +198,8 @@ module _ (h : MemoryHistory) (writes : List ℕ) (from : ℕ) where
         ),
       )
 
-      pub read-shown : ((k : ℕ) × (k < 64) × (HasBit seen k × (¬ HasBitAt past (number h s) k) × HasBitAt future (number h s) k))
-          ↔ ((k : ℕ) × (k < 64) × ShowsReadOf h (is k) r)
+      pub read-shown : ((k : ℕ) × (k < 128) × (HasBit seen k × (¬ HasBitAt past (number h s) k) × HasBitAt future (number h s) k))
+          ↔ ((k : ℕ) × (k < 128) × ShowsReadOf h (is k) r)
       read-shown = (
         (λ (k, below, had).
             let left = (leaves-exact k below).0 (had.0, had.1) in
@@ -243,9 +243,9 @@ module _ (h : MemoryHistory) (writes : List ℕ) (from : ℕ) where
       )
 
       pub left-added : (late made : List ℕ)
-          → ((n k : ℕ) → k < 64
+          → ((n k : ℕ) → k < 128
           → HasBitAt made n k ↔ (HasBitAt late n k ⊎ ((n ≡ number h s) × (HasBit seen k × (¬ HasBitAt past (number h s) k)))))
-          → (u : OpId) (k : ℕ) → IsOp h u → k < 64
+          → (u : OpId) (k : ℕ) → IsOp h u → k < 128
           → HasBitAt made (number h u) k ↔ (HasBitAt late (number h u) k ⊎ LeavesOf h (is k) r u)
       left-added late made added u k is_u below = (
         (λ had. ⊎_elim
@@ -282,7 +282,7 @@ module _ (h : MemoryHistory) (writes : List ℕ) (from : ℕ) where
   )
 
   pub quiet-none : (r : OpId) (p : Part) → IsPart h r p → p ≢ parts.InitialRead → ((n : ℕ) → p ≢ parts.SourcedRead n)
-      → (k : ℕ) → k < 64 → (¬ ShowsStartOf h (is k) r) × (¬ ShowsReadOf h (is k) r) × ((s : OpId) → ¬ LeavesOf h (is k) r s)
+      → (k : ℕ) → k < 128 → (¬ ShowsStartOf h (is k) r) × (¬ ShowsReadOf h (is k) r) × ((s : OpId) → ¬ LeavesOf h (is k) r s)
   quiet-none r p part first second k below =
       let none = quiet r p part first second in (
         (λ shows. none.0 shows.1 shows.4),

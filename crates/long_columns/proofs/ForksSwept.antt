@@ -1,4 +1,4 @@
--- What up to 64 writes that are the only ones of their sessions show, these sessions show.
+-- What up to 128 writes that are the only ones of their sessions show, these sessions show.
 use Rattle.std.specs.Prelude.{◌≡◌, ◌≢◌, ◌⊎◌, ◌↔◌, ℕ, ◌+◌, ◌-◌, ◌<◌, ◌≤◌, Bool, IsTrue, List, Some, length, slice_index_or}
 use Rattle.std.specs.Int.{bit_at}
 use Rattle.std.proofs.Common.{arith, ap, sym, ◌∙◌, refl, subst, inl, inr, ⊎_elim}
@@ -20,9 +20,9 @@ use Rattle.long_columns.proofs.Bits.{zero-none}
 use Rattle.long_columns.proofs.ForkSights.{marked-once}
 use Rattle.long_columns.proofs.Overwrites.{rival-writes, rivals-turned}
 
--- the first ones, and 64 more
+-- the first ones, and 128 more
 pub forks-more : (h : MemoryHistory) (writes : List ℕ) (from t : ℕ)
-    → IsForkBelow h writes (from + 64) t ↔ (IsForkBelow h writes from t ⊎ ((k : ℕ) × (k < 64) × IsForkAt h writes (from + k) t))
+    → IsForkBelow h writes (from + 128) t ↔ (IsForkBelow h writes from t ⊎ ((k : ℕ) × (k < 128) × IsForkAt h writes (from + k) t))
 forks-more h writes from t = (
   (λ (k, below, is). ⊎_elim
       (λ (before : k < from). inl (k, before, is))
@@ -32,7 +32,7 @@ forks-more h writes from t = (
       (cases_lt k from)),
   λ either. ⊎_elim
       (λ (before : IsForkBelow h writes from t). let below = before.1 in (before.0, omega arith, before.2))
-      (λ (more : (k : ℕ) × (k < 64) × IsForkAt h writes (from + k) t). let below = more.1 in (from + more.0, omega arith, more.2))
+      (λ (more : (k : ℕ) × (k < 128) × IsForkAt h writes (from + k) t). let below = more.1 in (from + more.0, omega arith, more.2))
       either,
 )
 
@@ -52,9 +52,9 @@ module _ (h : MemoryHistory) (straight : ¬ IsCyclic h) (writes : List ℕ) (fro
   is k = IsMarked h writes from k
 
   abbrev Group : ℕ → Type 0
-  Group t = (k : ℕ) × (k < 64) × IsForkAt h writes (from + k) t
+  Group t = (k : ℕ) × (k < 128) × IsForkAt h writes (from + k) t
 
-  of-group : (k : ℕ) (w : OpId) → k < 64 → is k w → Group w.session
+  of-group : (k : ℕ) (w : OpId) → k < 128 → is k w → Group w.session
   of-group k w below (is_op, at) = (k, below, (w, is_op, at, refl))
 
   -- a write of such a session is the one with the bit
@@ -68,7 +68,7 @@ module _ (h : MemoryHistory) (straight : ¬ IsCyclic h) (writes : List ℕ) (fro
 
   module _ (start read : Bool) (late : List ℕ) (now : AreForksFound h writes from (many h) start read late) where
     edge-left : (a w : OpId) → IsNumberedEdge h (IsLeftEdge writes from late) a w
-        → (k : ℕ) × (r : OpId) × (k < 64) × is k a × LeavesOf h (is k) r w
+        → (k : ℕ) × (r : OpId) × (k < 128) × is k a × LeavesOf h (is k) r w
     edge-left a w (is_a, is_w, (k, below, at, had)) =
         let found = (now.left w k is_w below).0 had in (k, found.0, below, (is_a, at), found.2)
 

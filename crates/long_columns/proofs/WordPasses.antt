@@ -216,3 +216,17 @@ module _ (h : MemoryHistory) (also : OpId → OpId → Type 0) (order : List ℕ
         inr (some.0, first.0, some.1, first.1, (place.0, omega arith, place.1), first.2))
         some.2),
   )
+
+  -- where nothing steps to such a write, only such writes are in the past of one
+  pub future-alone : ((w p : OpId) → is w → ¬ IsStep h p w) → (has : ℕ → Type 0)
+      → ((o : OpId) → IsOp h o → has (number h o) ↔ is o) → (o : OpId) → IsOp h o
+      → has (number h o) ↔ ((w : OpId) × is w × IsPast h w o)
+  future-alone alone has marked o is_op = (
+    (λ had. (o, (marked o is_op).0 had, inl refl)),
+    λ some. (marked o is_op).1 (⊎_elim
+        (λ (same : o ≡ some.0). subst is (sym same) some.1)
+        (λ (leads : CO h o some.0).
+        let last = last-step h o some.0 leads in
+        absurd (alone some.0 last.0 some.1 last.1))
+        some.2),
+  )

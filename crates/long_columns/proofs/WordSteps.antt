@@ -12,6 +12,12 @@ use Rattle.long_columns.specs.Words.{AreInFutureFrom, AreInPastBefore, HasBit, H
 use Rattle.long_columns.proofs.Visits.{one-next, one-source}
 use Rattle.long_columns.proofs.WordPasses.{future-next, past-next}
 
+-- nothing steps to an operation with nothing before it in its session and no source
+pub no-step : (h : MemoryHistory) (o : OpId) → IsNumberOf h (IsNext h) o None → IsNumberOf h (ReadsFrom h) o None
+    → (p : OpId) → ¬ IsStep h p o
+no-step h o before source p step =
+    ⊎_elim (λ (next : IsNext h p o). before p next) (λ (from : ReadsFrom h p o). source p from) step
+
 -- what holds at the number of the operation that is related to o
 by-related : (h : MemoryHistory) (o : OpId) (related : OpId → OpId → Type 0) → ((p q : OpId) → related p o → related q o → p ≡ q)
     → (P : ℕ → Type 0) (e : Option ℕ) → IsNumberOf h related o e → MatchOption e ⊥ P ↔ ((p : OpId) × related p o × P (number h p))
@@ -107,22 +113,22 @@ module _ (h : MemoryHistory) (also : OpId → OpId → Type 0) (order : List ℕ
 
   module _ (writes : List ℕ) (from : ℕ) (words made : List ℕ) where
     pub past-taken : ((o : OpId) → IsOp h o → number h o ≡ n → IsTaken h o words made)
-        → ((k : ℕ) → k < 64 → AreInPastBefore h order (IsMarked h writes from k) i (λ m. HasBitAt words m k))
-        → (k : ℕ) → k < 64 → AreInPastBefore h order (IsMarked h writes from k) (i + 1) (λ m. HasBitAt made m k)
+        → ((k : ℕ) → k < 128 → AreInPastBefore h order (IsMarked h writes from k) i (λ m. HasBitAt words m k))
+        → (k : ℕ) → k < 128 → AreInPastBefore h order (IsMarked h writes from k) (i + 1) (λ m. HasBitAt made m k)
     past-taken taken now k below =
         past-next h also order ordered (IsMarked h writes from k) i placed.0 placed.1 placed.3 (λ m. HasBitAt words m k)
         (λ m. HasBitAt made m k) (λ m. taken placed.0 placed.1 placed.2 m k) (now k below)
 
     pub future-given : ((o : OpId) → IsOp h o → number h o ≡ n → IsGiven h o words made)
-        → ((k : ℕ) → k < 64 → AreInFutureFrom h order (IsMarked h writes from k) (i + 1) (λ m. HasBitAt words m k))
-        → (k : ℕ) → k < 64 → AreInFutureFrom h order (IsMarked h writes from k) i (λ m. HasBitAt made m k)
+        → ((k : ℕ) → k < 128 → AreInFutureFrom h order (IsMarked h writes from k) (i + 1) (λ m. HasBitAt words m k))
+        → (k : ℕ) → k < 128 → AreInFutureFrom h order (IsMarked h writes from k) i (λ m. HasBitAt made m k)
     future-given given now k below =
         future-next h also order ordered (IsMarked h writes from k) i placed.0 placed.1 placed.3 (λ m. HasBitAt words m k)
         (λ m. HasBitAt made m k) (λ m. given placed.0 placed.1 placed.2 m k) (now k below)
 
 -- only the writes themselves are marked at first
 pub marked-first : (h : MemoryHistory) (writes : List ℕ) (from : ℕ) (words : List ℕ)
-    → ((n k : ℕ) → k < 64 → HasBitAt words n k ↔ (slice_get writes (from + k) ≡ Some n))
-    → (k : ℕ) → k < 64 → (o : OpId) → IsOp h o → HasBitAt words (number h o) k ↔ IsMarked h writes from k o
+    → ((n k : ℕ) → k < 128 → HasBitAt words n k ↔ (slice_get writes (from + k) ≡ Some n))
+    → (k : ℕ) → k < 128 → (o : OpId) → IsOp h o → HasBitAt words (number h o) k ↔ IsMarked h writes from k o
 marked-first h writes from words marked k below o is_op =
     let is = marked (number h o) k below in ((λ had. (is_op, is.0 had)), λ both. is.1 both.1)

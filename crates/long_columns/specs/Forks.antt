@@ -44,9 +44,9 @@ module _ (h : MemoryHistory) (is : OpId → Type 0) where
 -- what reads with numbers below n show of the writes that have a bit: start and read say whether one shows a pattern, and the words of
 -- late have, for each write s, the bits of those that a read of s leaves
 pub record AreForksFound (h : MemoryHistory) (writes : List ℕ) (from n : ℕ) (start read : Bool) (late : List ℕ) : Type 0 where
-  pub starts : IsTrue start ↔ ((r : OpId) × IsSeen h n r × ((k : ℕ) × (k < 64) × ShowsStartOf h (IsMarked h writes from k) r))
-  pub reads : IsTrue read ↔ ((r : OpId) × IsSeen h n r × ((k : ℕ) × (k < 64) × ShowsReadOf h (IsMarked h writes from k) r))
-  pub left : (s : OpId) (k : ℕ) → IsOp h s → k < 64
+  pub starts : IsTrue start ↔ ((r : OpId) × IsSeen h n r × ((k : ℕ) × (k < 128) × ShowsStartOf h (IsMarked h writes from k) r))
+  pub reads : IsTrue read ↔ ((r : OpId) × IsSeen h n r × ((k : ℕ) × (k < 128) × ShowsReadOf h (IsMarked h writes from k) r))
+  pub left : (s : OpId) (k : ℕ) → IsOp h s → k < 128
       → HasBitAt late (number h s) k ↔ ((r : OpId) × IsSeen h n r × LeavesOf h (IsMarked h writes from k) r s)
 
 -- the words are those of the writes
@@ -60,7 +60,7 @@ pub record AreForkWords (index : Indexed) (writes : List ℕ) (from : ℕ) (word
 
 -- an edge goes to the operation b from the write a whose bit b has
 abbrev pub IsLeftIn : List ℕ → ℕ → ℕ → ℕ → Type 0
-IsLeftIn writes from word a = (k : ℕ) × (k < 64) × (slice_get writes (from + k) ≡ Some a) × HasBit word k
+IsLeftIn writes from word a = (k : ℕ) × (k < 128) × (slice_get writes (from + k) ≡ Some a) × HasBit word k
 
 abbrev pub IsLeftEdge : List ℕ → ℕ → List ℕ → ℕ → ℕ → Type 0
 IsLeftEdge writes from late a b = IsLeftIn writes from (slice_index_or late b 0) a

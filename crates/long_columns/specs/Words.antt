@@ -1,4 +1,4 @@
--- Words of 64 bits in lists, by the numbers of operations or variables. The bit k stands for the write at the place from + k of a list.
+-- Words of 128 bits in lists, by the numbers of operations or variables. The bit k stands for the write at the place from + k of a list.
 use Rattle.std.specs.Prelude.{◌≡◌, ◌↔◌, ◌⊎◌, ℕ, ◌+◌, ◌<◌, List, Option, Some, MatchOption, slice_get, slice_index_or}
 use Rattle.std.specs.Int.{bit_at}
 use Rattle.history.specs.declared.op_id.OpId.{OpId}
@@ -30,6 +30,10 @@ module _ (h : MemoryHistory) (o : OpId) (words made : List ℕ) where
   IsGiven = (n k : ℕ)
       → HasBitAt made n k ↔ (HasBitAt words n k ⊎ ((b : OpId) × IsStep h b o × (n ≡ number h b) × HasBitAt words (number h o) k))
 
+-- nothing steps to the operation with the number n
+abbrev pub HasNoPast : MemoryHistory → ℕ → Type 0
+HasNoPast h n = (o p : OpId) → IsOp h o → number h o ≡ n → ¬ IsStep h p o
+
 module _ (h : MemoryHistory) (writes : List ℕ) (from : ℕ) where
   -- the bit k stands for w
   abbrev pub IsMarked : ℕ → OpId → Type 0
@@ -38,16 +42,16 @@ module _ (h : MemoryHistory) (writes : List ℕ) (from : ℕ) where
   -- the word of each operation has the bits of the writes in its past
   abbrev pub ArePastWords : List ℕ → Type 0
   ArePastWords words =
-      (k : ℕ) (o : OpId) → k < 64 → IsOp h o → HasBitAt words (number h o) k ↔ ((w : OpId) × IsMarked k w × IsPast h o w)
+      (k : ℕ) (o : OpId) → k < 128 → IsOp h o → HasBitAt words (number h o) k ↔ ((w : OpId) × IsMarked k w × IsPast h o w)
 
   -- the word of each operation has the bits of the writes that have it in their past
   abbrev pub AreFutureWords : List ℕ → Type 0
   AreFutureWords words =
-      (k : ℕ) (o : OpId) → k < 64 → IsOp h o → HasBitAt words (number h o) k ↔ ((w : OpId) × IsMarked k w × IsPast h w o)
+      (k : ℕ) (o : OpId) → k < 128 → IsOp h o → HasBitAt words (number h o) k ↔ ((w : OpId) × IsMarked k w × IsPast h w o)
 
   -- the word of each variable has the bits of its writes
   abbrev pub AreVariableWords : List ℕ → List ℕ → Type 0
-  AreVariableWords variables words = (k x : ℕ) → k < 64
+  AreVariableWords variables words = (k x : ℕ) → k < 128
       → HasBitAt words x k ↔ ((w : OpId) × IsMarked k w × (slice_index_or variables (number h w) 0 ≡ x))
 
 module _ (h : MemoryHistory) (order : List ℕ) (is : OpId → Type 0) (i : ℕ) where

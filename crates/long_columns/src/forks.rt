@@ -1,4 +1,4 @@
-//! The columns of sessions with one write each, 64 at once: a bit for each write in place of a number.
+//! The columns of sessions with one write each, 128 at once: a bit for each write in place of a number.
 
 ghost use Rattle.std.specs.Prelude.{◌≡◌, ◌↔◌, ◌⊎◌, ◌+◌, ◌*◌, ◌^◌, ◌<◌, ◌≤◌, ℕ, [], Some, length, slice_get, IfOk, IsTrue, OnOk};
 ghost use Rattle.memory_order.specs.SourceOrder.{IsCyclic};
@@ -17,15 +17,15 @@ use crate::words::{
 use long_index::{LongIndex, Part};
 use std::alloc::{AllocError, Global};
 
-/// What up to 64 writes are before and after.
+/// What up to 128 writes are before and after.
 #[derive(Drop)]
 pub(crate) struct ForkWords {
     /// By operation: the writes in its past.
-    pub(crate) past: Vec<u64>,
+    pub(crate) past: Vec<u128>,
     /// By operation: the writes that have it in their past.
-    pub(crate) future: Vec<u64>,
+    pub(crate) future: Vec<u128>,
     /// By variable: the writes of it.
-    pub(crate) of_variable: Vec<u64>,
+    pub(crate) of_variable: Vec<u128>,
 }
 
 /// Looks, for each known read, at those of the writes that are of its variable and in its past.
@@ -36,7 +36,7 @@ pub(crate) fn look_at_reads(
     writes: &[u32],
     from: usize,
     words: &ForkWords,
-    late: &mut Vec<u64>,
+    late: &mut Vec<u128>,
 ) -> Overwritten
     requires straight { ¬ IsCyclic index.now.history }
     requires only { AreOnlyWrites index.now.history writes.now }
@@ -72,7 +72,7 @@ fn look_at(
     words: &ForkWords,
     operation: u32,
     overwritten: &mut Overwritten,
-    late: &mut Vec<u64>,
+    late: &mut Vec<u128>,
 )
     requires straight { ¬ IsCyclic index.now.history }
     requires only { AreOnlyWrites index.now.history _writes.now }
@@ -100,18 +100,18 @@ fn look_at(
 fn leave(
     words: &ForkWords,
     source: u32,
-    seen: u64,
+    seen: u128,
     overwritten: &mut Overwritten,
-    late: &mut Vec<u64>,
+    late: &mut Vec<u128>,
 )
     requires past { source < length words.now.past.items }
     requires future { source < length words.now.future.items }
     requires late { source < length late.old.items }
     ensures size { length late.new.items ≡ length late.old.items }
     ensures start { overwritten.new.start ≡ overwritten.old.start }
-    ensures read { IsTrue overwritten.new.read ↔ (IsTrue overwritten.old.read ⊎ ((k : ℕ) × (k < 64)
+    ensures read { IsTrue overwritten.new.read ↔ (IsTrue overwritten.old.read ⊎ ((k : ℕ) × (k < 128)
         × (HasBit seen k × (¬ HasBitAt words.now.past.items source k) × HasBitAt words.now.future.items source k))) }
-    ensures left { (n k : ℕ) → k < 64 → HasBitAt late.new.items n k
+    ensures left { (n k : ℕ) → k < 128 → HasBitAt late.new.items n k
         ↔ (HasBitAt late.old.items n k ⊎ ((n ≡ source) × (HasBit seen k × (¬ HasBitAt words.now.past.items source k)))) }
 {
     if has_some(seen) {
@@ -121,14 +121,14 @@ fn leave(
     }
 }
 
-/// What up to 64 of the sessions show: those of the writes at the place `from` of a list and after it.
+/// What up to 128 of the sessions show: those of the writes at the place `from` of a list and after it.
 fn sweep_group(
     index: &LongIndex,
     order: &[u32],
     writes: &[u32],
     from: usize,
     words: &mut ForkWords,
-    late: &mut Vec<u64>,
+    late: &mut Vec<u128>,
     swept: &mut Swept,
 ) -> Result<(), AllocError>
     requires order { IsOrderBy index.now.history [] order.now }
@@ -139,7 +139,7 @@ fn sweep_group(
     ensures sizes { HasForkSizes index.now words.new }
     ensures late { length late.new.items ≡ many index.now.history }
     ensures swept { OnOk result (IsSweptOver index.now.history (IsForkBelow index.now.history writes.now from) swept.old
-        → IsSweptOver index.now.history (IsForkBelow index.now.history writes.now (from + 64)) swept.new) }
+        → IsSweptOver index.now.history (IsForkBelow index.now.history writes.now (from + 128)) swept.new) }
 {
     find_words(index, order, writes, from, words);
     clear(late);
@@ -165,7 +165,7 @@ fn find_words(index: &LongIndex, order: &[u32], writes: &[u32], from: usize, wor
 }
 
 /// Gives each variable the bits of those of the writes that are of it.
-fn mark_variables(index: &LongIndex, writes: &[u32], from: usize, words: &mut Vec<u64>)
+fn mark_variables(index: &LongIndex, writes: &[u32], from: usize, words: &mut Vec<u128>)
     requires only { AreOnlyWrites index.now.history writes.now }
     requires from { from ≤ length writes.now }
     requires size { length words.old.items ≡ index.now.bound }
@@ -173,7 +173,7 @@ fn mark_variables(index: &LongIndex, writes: &[u32], from: usize, words: &mut Ve
     ensures words { AreVariableWords index.now.history writes.now from index.now.variables words.new.items }
 {
     clear(words);
-    for bit in 0..64 {
+    for bit in 0..128 {
         let place = from + bit as usize;
         if place < writes.len() {
             set_bit(words, index.variable(writes[place]), bit);
@@ -186,7 +186,7 @@ fn push_left(
     index: &LongIndex,
     writes: &[u32],
     from: usize,
-    late: &[u64],
+    late: &[u128],
     edges: &mut Vec<(u32, u32)>,
 ) -> Result<(), AllocError>
     requires from { from ≤ length writes.now }
@@ -204,7 +204,7 @@ fn push_left(
 fn push_word(
     writes: &[u32],
     from: usize,
-    word: u64,
+    word: u128,
     to: u32,
     edges: &mut Vec<(u32, u32)>,
 ) -> Result<(), AllocError>
@@ -215,7 +215,7 @@ fn push_word(
     if word == 0 {
         return Ok(());
     }
-    for bit in 0..64 {
+    for bit in 0..128 {
         if has_bit(word, bit) {
             push_from(writes, from + bit as usize, to, edges)?;
         }
@@ -241,7 +241,7 @@ fn push_from(
 
 /// What sessions with one write each show, by the numbers of these writes.
 ///
-/// Fails for want of memory alone. O(n m / 64) for n operations and m sessions. It takes 24 bytes an operation and 8 a variable.
+/// Fails for want of memory alone. O(n m / 128) for n operations and m sessions. It takes 48 bytes an operation and 16 a variable.
 pub(crate) fn sweep_forks(
     alloc: Global,
     index: &LongIndex,
@@ -273,7 +273,7 @@ pub(crate) fn sweep_forks(
             index,
             order,
             writes,
-            group * 64,
+            group * 128,
             &mut words,
             &mut late,
             &mut swept,
@@ -282,15 +282,15 @@ pub(crate) fn sweep_forks(
     Ok(swept)
 }
 
-/// How many groups of 64 it takes for so many.
+/// How many groups of 128 it takes for so many.
 fn groups(count: usize) -> usize
-    ensures each { (g : ℕ) → g < result → g * 64 < count }
-    ensures fits { (g : ℕ) → g < result → g * 64 < 2 ^ 64 }
-    ensures enough { count ≤ result * 64 }
+    ensures each { (g : ℕ) → g < result → g * 128 < count }
+    ensures fits { (g : ℕ) → g < result → g * 128 < 2 ^ 64 }
+    ensures enough { count ≤ result * 128 }
 {
-    if count % 64 == 0 {
-        count / 64
+    if count % 128 == 0 {
+        count / 128
     } else {
-        count / 64 + 1
+        count / 128 + 1
     }
 }

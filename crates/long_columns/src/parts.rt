@@ -17,8 +17,8 @@ use std::thread::Threads;
 /// Finds whether writes overwrote what reads after them returned, and edges that represent all conflicts of writes.
 ///
 /// The order is one that [`long_order::causal_order`] gives. No thread is started. Fails for want of memory alone. O(n k) for n operations
-/// and k sessions that write, where 64 sessions with one write each count as one. It takes 44 bytes an operation and 4 a variable, or 24
-/// and 8 for sessions with one write, and 8 an edge. There is at most one edge for each write that is read and each session that
+/// and k sessions that write, where 128 sessions with one write each count as one. It takes 44 bytes an operation and 4 a variable, or 48
+/// and 16 for sessions with one write, and 8 an edge. There is at most one edge for each write that is read and each session that
 /// writes.
 pub fn sweep(alloc: Global, index: &LongIndex, order: &[u32]) -> Result<Swept, AllocError>
     requires { IsOrderBy index.now.history [] order.now }
@@ -36,7 +36,7 @@ pub fn sweep(alloc: Global, index: &LongIndex, order: &[u32]) -> Result<Swept, A
 
 /// The same, by threads of a runtime: the sessions are shared by so many workers, of which the calling thread is one.
 ///
-/// With one worker no thread is started. Each worker takes 44 bytes an operation and 4 a variable, or 24 and 8 where sessions have one
+/// With one worker no thread is started. Each worker takes 44 bytes an operation and 4 a variable, or 48 and 16 where sessions have one
 /// write each.
 pub fn sweep_in_threads<T: Threads + Wait + Sync>(
     rt: &T,

@@ -57,7 +57,7 @@ fn add_session(sessions: &mut Vec<u32>, session: u32) -> Result<(), AllocError>
 
 /// What the sessions of a part show: those at the places `part`, `part + parts` and so on of a list.
 ///
-/// Fails for want of memory alone. O(n k / p) for n operations, k sessions in the list and p parts, where 64 sessions with one write each
+/// Fails for want of memory alone. O(n k / p) for n operations, k sessions in the list and p parts, where 128 sessions with one write each
 /// count as one.
 // A function of its own keeps its loops in registers.
 #[inline(never)]

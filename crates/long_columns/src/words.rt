@@ -1,15 +1,15 @@
-//! Words of 64 bits, one for each operation: which of up to 64 writes are in its past, and which have it in theirs.
+//! Words of 128 bits, one for each operation: which of up to 128 writes are in its past, and which have it in theirs.
 
 ghost use Rattle.std.specs.Prelude.{◌≡◌, ◌↔◌, ◌⊎◌, ◌+◌, ◌<◌, ◌≤◌, [], length, slice_get, slice_index_or, Some};
 ghost use Rattle.std.specs.Prelude.{ℕ, IfSome, IsTrue, MatchOption};
 ghost use Rattle.history.specs.declared.op_id.OpId.{OpId as Operation};
 ghost use Rattle.history.specs.History.{IsOp, number};
 ghost use Rattle.long_history.specs.Steps.{IsOrderBy, many};
-ghost use Rattle.long_columns.specs.Words.{AreFutureWords, ArePastWords, HasBit, HasBitAt, IsAdded, IsGiven, IsTaken};
+ghost use Rattle.long_columns.specs.Words.{AreFutureWords, ArePastWords, HasBit, HasBitAt, HasNoPast, IsAdded, IsGiven, IsTaken};
 
 use long_index::LongIndex;
 
-/// Finds for each operation which of up to 64 writes are in its past: those at the place `from` of a list and after it, a bit each.
+/// Finds for each operation which of up to 128 writes are in its past: those at the place `from` of a list and after it, a bit each.
 ///
 /// The order is one that [`long_order::causal_order`] gives. O(n) for n operations.
 pub(crate) fn find_past_words(
@@ -17,7 +17,7 @@ pub(crate) fn find_past_words(
     order: &[u32],
     writes: &[u32],
     from: usize,
-    past: &mut Vec<u64>,
+    past: &mut Vec<u128>,
 )
     requires order { IsOrderBy index.now.history [] order.now }
     requires writes { (k n : ℕ) → slice_get writes.now k ≡ Some n → n < many index.now.history }
@@ -32,13 +32,62 @@ pub(crate) fn find_past_words(
     }
 }
 
-/// Finds for each operation which of those writes have it in their past.
+/// Finds for each operation which of those writes have it in their past: by one pass back along the order, or by none where nothing is in
+/// the past of any of them.
 pub(crate) fn find_future_words(
     index: &LongIndex,
     order: &[u32],
     writes: &[u32],
     from: usize,
-    future: &mut Vec<u64>,
+    future: &mut Vec<u128>,
+)
+    requires order { IsOrderBy index.now.history [] order.now }
+    requires writes { (k n : ℕ) → slice_get writes.now k ≡ Some n → n < many index.now.history }
+    requires from { from ≤ length writes.now }
+    requires size { length future.old.items ≡ many index.now.history }
+    ensures size { length future.new.items ≡ many index.now.history }
+    ensures words { AreFutureWords index.now.history writes.now from future.new.items }
+{
+    if have_no_past(index, writes, from) {
+        mark(writes, from, future);
+    } else {
+        find_by_giving(index, order, writes, from, future);
+    }
+}
+
+/// Whether nothing is in the past of any of those writes.
+fn have_no_past(index: &LongIndex, writes: &[u32], from: usize) -> bool
+    requires writes { (k n : ℕ) → slice_get writes.now k ≡ Some n → n < many index.now.history }
+    requires from { from ≤ length writes.now }
+    ensures { IsTrue result → (k n : ℕ) → k < 128 → slice_get writes.now (from + k) ≡ Some n → HasNoPast index.now.history n }
+{
+    for bit in 0..128 {
+        let place = from + bit;
+        if place < writes.len() && !has_no_past(index, writes[place]) {
+            return false;
+        }
+    }
+    true
+}
+
+/// Whether nothing is in the past of an operation: it is the first of its session, and has no source.
+fn has_no_past(index: &LongIndex, operation: u32) -> bool
+    requires { operation < many index.now.history }
+    ensures { IsTrue result → HasNoPast index.now.history operation }
+{
+    match (index.before(operation), index.source(operation)) {
+        (None, None) => true,
+        _ => false,
+    }
+}
+
+/// Finds for each operation which of those writes have it in their past, by one pass back along the order.
+fn find_by_giving(
+    index: &LongIndex,
+    order: &[u32],
+    writes: &[u32],
+    from: usize,
+    future: &mut Vec<u128>,
 )
     requires order { IsOrderBy index.now.history [] order.now }
     requires writes { (k n : ℕ) → slice_get writes.now k ≡ Some n → n < many index.now.history }
@@ -54,7 +103,7 @@ pub(crate) fn find_future_words(
 }
 
 /// Gives an operation the bits of the one before it and of its source.
-fn take(index: &LongIndex, operation: u32, words: &mut Vec<u64>)
+fn take(index: &LongIndex, operation: u32, words: &mut Vec<u128>)
     requires operation { operation < many index.now.history }
     requires size { length words.old.items ≡ many index.now.history }
     ensures size { length words.new.items ≡ many index.now.history }
@@ -68,7 +117,7 @@ fn take(index: &LongIndex, operation: u32, words: &mut Vec<u64>)
 }
 
 /// Gives the bits of an operation to the one before it and to its source.
-fn give(index: &LongIndex, operation: u32, words: &mut Vec<u64>)
+fn give(index: &LongIndex, operation: u32, words: &mut Vec<u128>)
     requires operation { operation < many index.now.history }
     requires size { length words.old.items ≡ many index.now.history }
     ensures size { length words.new.items ≡ many index.now.history }
@@ -81,15 +130,15 @@ fn give(index: &LongIndex, operation: u32, words: &mut Vec<u64>)
     add_word(words, index.source(operation), word);
 }
 
-/// Gives each operation the bits of its places in a list, from the place `from` on and only 64; gives no other bits.
-fn mark(places: &[u32], from: usize, words: &mut Vec<u64>)
+/// Gives each operation the bits of its places in a list, from the place `from` on and only 128; gives no other bits.
+fn mark(places: &[u32], from: usize, words: &mut Vec<u128>)
     requires from { from ≤ length places.now }
     requires below { (k n : ℕ) → slice_get places.now k ≡ Some n → n < length words.old.items }
     ensures size { length words.new.items ≡ length words.old.items }
-    ensures marked { (n k : ℕ) → k < 64 → HasBitAt words.new.items n k ↔ (slice_get places.now (from + k) ≡ Some n) }
+    ensures marked { (n k : ℕ) → k < 128 → HasBitAt words.new.items n k ↔ (slice_get places.now (from + k) ≡ Some n) }
 {
     clear(words);
-    for bit in 0..64 {
+    for bit in 0..128 {
         let place = from + bit as usize;
         if place < places.len() {
             set_bit(words, places[place], bit);
@@ -98,7 +147,7 @@ fn mark(places: &[u32], from: usize, words: &mut Vec<u64>)
 }
 
 /// Gives no place a bit. O(n) for n places.
-pub(crate) fn clear(words: &mut Vec<u64>)
+pub(crate) fn clear(words: &mut Vec<u128>)
     ensures size { length words.new.items ≡ length words.old.items }
     ensures none { (n k : ℕ) → ¬ HasBitAt words.new.items n k }
 {
@@ -108,7 +157,7 @@ pub(crate) fn clear(words: &mut Vec<u64>)
 }
 
 /// The word at a place, or none of its bits.
-fn word_at(words: &[u64], place: Option<u32>) -> u64
+fn word_at(words: &[u128], place: Option<u32>) -> u128
     requires { IfSome place (λ n. n < length words.now) }
     ensures { (k : ℕ) → HasBit result k ↔ MatchOption place ⊥ (λ n. HasBitAt words.now n k) }
 {
@@ -119,7 +168,7 @@ fn word_at(words: &[u64], place: Option<u32>) -> u64
 }
 
 /// Gives a place the bits of a word, if it is named.
-pub(crate) fn add_word(words: &mut Vec<u64>, place: Option<u32>, word: u64)
+pub(crate) fn add_word(words: &mut Vec<u128>, place: Option<u32>, word: u128)
     requires { IfSome place (λ n. n < length words.old.items) }
     ensures size { length words.new.items ≡ length words.old.items }
     ensures added { IsAdded words.old.items place word words.new.items }
@@ -130,9 +179,9 @@ pub(crate) fn add_word(words: &mut Vec<u64>, place: Option<u32>, word: u64)
 }
 
 /// Gives a place a bit.
-pub(crate) fn set_bit(words: &mut Vec<u64>, place: u32, bit: u32)
+pub(crate) fn set_bit(words: &mut Vec<u128>, place: u32, bit: u32)
     requires place { place < length words.old.items }
-    requires bit { bit < 64 }
+    requires bit { bit < 128 }
     ensures size { length words.new.items ≡ length words.old.items }
     ensures set { (n k : ℕ) → HasBitAt words.new.items n k ↔ (HasBitAt words.old.items n k ⊎ ((n ≡ place) × (k ≡ bit))) }
 {
@@ -140,30 +189,30 @@ pub(crate) fn set_bit(words: &mut Vec<u64>, place: u32, bit: u32)
 }
 
 /// Whether a word has a bit.
-pub(crate) fn has_bit(word: u64, bit: u32) -> bool
-    requires { bit < 64 }
+pub(crate) fn has_bit(word: u128, bit: u32) -> bool
+    requires { bit < 128 }
     ensures { IsTrue result ↔ HasBit word bit }
 {
     (word >> bit) & 1 == 1
 }
 
 /// Whether a word has some bit.
-pub(crate) fn has_some(word: u64) -> bool
-    ensures { IsTrue result ↔ ((k : ℕ) × (k < 64) × HasBit word k) }
+pub(crate) fn has_some(word: u128) -> bool
+    ensures { IsTrue result ↔ ((k : ℕ) × (k < 128) × HasBit word k) }
 {
     if word == 0 { false } else { true }
 }
 
 /// The bits that two words share.
-pub(crate) fn shared(a: u64, b: u64) -> u64
+pub(crate) fn shared(a: u128, b: u128) -> u128
     ensures { (k : ℕ) → HasBit result k ↔ (HasBit a k × HasBit b k) }
 {
     a & b
 }
 
 /// The bits of a word that another one has not.
-pub(crate) fn without(a: u64, b: u64) -> u64
-    ensures { (k : ℕ) → k < 64 → HasBit result k ↔ (HasBit a k × (¬ HasBit b k)) }
+pub(crate) fn without(a: u128, b: u128) -> u128
+    ensures { (k : ℕ) → k < 128 → HasBit result k ↔ (HasBit a k × (¬ HasBit b k)) }
 {
     a & !b
 }

@@ -40,7 +40,7 @@ returns-in-InitialRead-clause-found c now =
     subst (λ (m : ℕ). AreForksFound h writes from (m + 1) (start || more) read late) a.2
     (found-start h writes from a.0 a.1 start read late (subst (λ (m : ℕ). AreForksFound h writes from m start read late) (sym a.2) now)
     (start || more) reads.0 reads.1
-    (set-or start more ((k : ℕ) × (k < 64) × HasBit seen k) ((k : ℕ) × (k < 64) × ShowsStartOf h (IsMarked h writes from k) a.0)
+    (set-or start more ((k : ℕ) × (k < 128) × HasBit seen k) ((k : ℕ) × (k < 128) × ShowsStartOf h (IsMarked h writes from k) a.0)
     c.has_some.ensures shown))
 
 pub returns-in-SourcedRead-clause-found : goal.returns-in-SourcedRead-clause-found
@@ -75,13 +75,13 @@ returns-in-SourcedRead-clause-found c now =
     c.value_is_indexed.ensures.variables ws.past ws.future ws.of_variable a.0 a.1 seen exact source.0 source.1 in
     let added = left-added h writes from c.requires.straight c.value_is_indexed.ensures.distinct c.requires.only variables past future of_variable
     c.value_is_indexed.ensures.variables ws.past ws.future ws.of_variable a.0 a.1 seen exact source.0 source.1 late late_now
-    (subst (λ (m : ℕ). (i k : ℕ) → k < 64
+    (subst (λ (m : ℕ). (i k : ℕ) → k < 128
     → HasBitAt late_now i k ↔ (HasBitAt late i k ⊎ ((i ≡ m) × (HasBit seen k × (¬ HasBitAt past m k))))) (sym source.2) c.leave.ensures.left) in
     let set = set-either (IsTrue read_now) (IsTrue read)
-    ((k : ℕ) × (k < 64) × (HasBit seen k × (¬ HasBitAt past (number h source.0) k) × HasBitAt future (number h source.0) k))
-    ((k : ℕ) × (k < 64) × ShowsReadOf h (IsMarked h writes from k) a.0)
+    ((k : ℕ) × (k < 128) × (HasBit seen k × (¬ HasBitAt past (number h source.0) k) × HasBitAt future (number h source.0) k))
+    ((k : ℕ) × (k < 128) × ShowsReadOf h (IsMarked h writes from k) a.0)
     (subst (λ (m : ℕ). IsTrue read_now
-    ↔ (IsTrue read ⊎ ((k : ℕ) × (k < 64) × (HasBit seen k × (¬ HasBitAt past m k) × HasBitAt future m k)))) (sym source.2) c.leave.ensures.read)
+    ↔ (IsTrue read ⊎ ((k : ℕ) × (k < 128) × (HasBit seen k × (¬ HasBitAt past m k) × HasBitAt future m k)))) (sym source.2) c.leave.ensures.read)
     shown in
     subst (λ (b : Bool). AreForksFound h writes from (n + 1) b read_now late_now) (sym c.leave.ensures.start)
     (subst (λ (m : ℕ). AreForksFound h writes from (m + 1) start read_now late_now) a.2

@@ -51,7 +51,7 @@ pub returns-clause-words : goal.returns-clause-words
 returns-clause-words c k x below =
     let h = c.args.index.now.history in
     let variables : List ℕ = c.args.index.now.variables in
-    let end : c.loop-bit.bit ≡ 64 = grind arith in
+    let end : c.loop-bit.bit ≡ 128 = grind arith in
     let now = c.loop-bit.invariant.marked x k in (
       (λ had.
           let both = now.0 had in

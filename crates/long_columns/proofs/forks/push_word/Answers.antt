@@ -35,7 +35,7 @@ loop-bit-preserved c a b =
 
 pub returns : goal.returns
 returns c a b =
-    let end : c.loop-bit.bit ≡ 64 = grind arith in
+    let end : c.loop-bit.bit ≡ 128 = grind arith in
     let now = c.loop-bit.invariant a b in (
       (λ has. ⊎_elim
           (λ (old : HasEdge c.args.edges.now.items a b). inl old)

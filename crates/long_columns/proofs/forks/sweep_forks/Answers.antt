@@ -20,6 +20,6 @@ returns c =
     let swept = c.loop-group.swept in
     let enough = c.groups-count.ensures.enough in
     let end : group ≡ c.groups-count.result = grind arith in
-    let whole : length writes ≤ group * 64 = omega arith in
-    swept-same h (IsForkBelow h writes (group * 64)) (IsForkBelow h writes (length writes)) (forks-whole h writes (group * 64) whole)
+    let whole : length writes ≤ group * 128 = omega arith in
+    swept-same h (IsForkBelow h writes (group * 128)) (IsForkBelow h writes (length writes)) (forks-whole h writes (group * 128) whole)
     swept.has_overwritten_start swept.has_overwritten_read (HasEdge swept.edges.items) c.loop-group.invariant.swept

@@ -8,5 +8,5 @@ abbrev pub invariant-loop-group : goal.invariant-loop-group
 invariant-loop-group l = record {
   sizes : HasForkSizes l.index l.words;
   late : length l.late.items ≡ many l.index.history;
-  swept : IsSweptOver l.index.history (IsForkBelow l.index.history l.writes (l.group * 64)) l.swept;
+  swept : IsSweptOver l.index.history (IsForkBelow l.index.history l.writes (l.group * 128)) l.swept;
 }

@@ -24,7 +24,7 @@ returns-clause-swept c was =
     let size = shows.size in
     let group = group-swept h (order_by-straight h [] c.args.order.now c.requires.order) writes from c.requires.only one.start one.read late
     shows.found c.find_words.new.words.past.items c.find_words.ensures.words.past (λ b past. get_or_past late b 0 (omega arith)) in
-    swept-both h (IsForkBelow h writes from) (λ t. (k : ℕ) × (k < 64) × IsForkAt h writes (from + k) t) (IsForkBelow h writes (from + 64))
+    swept-both h (IsForkBelow h writes from) (λ t. (k : ℕ) × (k < 128) × IsForkAt h writes (from + k) t) (IsForkBelow h writes (from + 128))
     (forks-more h writes from) old.has_overwritten_start old.has_overwritten_read (HasEdge old.edges.items) was one.start one.read
     (IsLeftEdge writes from late) group (old.has_overwritten_start || one.start) (old.has_overwritten_read || one.read) (HasEdge edges)
     (or-either old.has_overwritten_start one.start) (or-either old.has_overwritten_read one.read)

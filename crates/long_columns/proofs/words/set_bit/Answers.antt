@@ -12,6 +12,6 @@ returns-clause-set c =
     let was : ℕ = c.index_mut.result.now in
     let bit : ℕ = c.args.bit in
     let same = get_or_read items place was c.requires.place c.index_mut.ensures.value 0 in
-    at-place items place (bit_or was (1 * 2 ^ bit % 2 ^ 64)) (λ k. k ≡ bit) c.requires.place
-    (λ k. subst (λ (w : ℕ). HasBit (bit_or was (1 * 2 ^ bit % 2 ^ 64)) k ↔ (HasBit w k ⊎ (k ≡ bit))) same
+    at-place items place (bit_or was (1 * 2 ^ bit % 2 ^ 128)) (λ k. k ≡ bit) c.requires.place
+    (λ k. subst (λ (w : ℕ). HasBit (bit_or was (1 * 2 ^ bit % 2 ^ 128)) k ↔ (HasBit w k ⊎ (k ≡ bit))) same
     (set-bit was bit k c.requires.bit))
