@@ -1,6 +1,6 @@
 //! The report on a history, and its lines.
 
-ghost use Rattle.std.specs.Prelude.{◌≡◌, IfOk, string_bytes};
+ghost use Rattle.std.specs.Prelude.{◌≡◌, ◌++◌, codes, IfOk, string_bytes};
 ghost use Rattle.engine.specs.Report.{line_for, text_for};
 
 use cert_check::Criterion;
@@ -58,12 +58,27 @@ pub fn report_line(
 {
     let name = criterion.name();
     match answer {
-        Answer::Yes => [name, " yes\n"].concat(alloc),
-        Answer::No(kind) => [name, " no ", kind.name(), "\n"].concat(alloc),
-        Answer::Unknown(None) => [name, " unknown\n"].concat(alloc),
+        Answer::Yes => line_of(alloc, name, " yes", ""),
+        Answer::No(kind) => line_of(alloc, name, " no ", kind.name()),
+        Answer::Unknown(None) => line_of(alloc, name, " unknown", ""),
         Answer::Unknown(Some(OpId { session, index })) => {
             format!(in alloc; "{name} unknown {session}.{index}\n")
         }
         Answer::Open(rows) => format!(in alloc; "{name} open {rows}\n"),
     }
+}
+
+// Most lines have fewer bytes, so a line is allocated once.
+const USUAL_LINE_BYTES: usize = 32;
+
+// The line of a criterion of this name: an answer, and a kind of pattern or nothing.
+fn line_of(alloc: Global, name: &str, answer: &str, kind: &str) -> Result<String, AllocError>
+    ensures { IfOk result (λ line. string_bytes line ≡ name.now ++ (answer.now ++ (kind.now ++ codes "\n"))) }
+{
+    let mut line = String::with_capacity(alloc, USUAL_LINE_BYTES)?;
+    line.push_str(name)?;
+    line.push_str(answer)?;
+    line.push_str(kind)?;
+    line.push_str("\n")?;
+    Ok(line)
 }

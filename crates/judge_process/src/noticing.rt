@@ -63,7 +63,7 @@ impl Noticed {
     // What is said of the lines that were noticed, once the last one ended.
     fn remarks(&mut self, alloc: Global) -> Result<String, AllocError> {
         if self.line.is_begun {
-            self.end_line();
+            self.end_line(self.line);
         }
         let mut remarks = String::new(alloc);
         if let Some(line) = self.first_blank {
@@ -82,26 +82,28 @@ impl Noticed {
     }
 
     fn see_all(&mut self, bytes: &[u8]) {
+        let mut line = self.line;
         for byte in bytes {
             if *byte == b'\n' {
-                self.end_line();
+                self.end_line(line);
+                line = LineSoFar::nothing();
             } else {
-                self.line.see(*byte);
+                line.see(*byte);
             }
         }
+        self.line = line;
     }
 
-    // The line ends here: it is noticed where it is the first of its kind.
-    fn end_line(&mut self) {
+    // A line ends: it is noticed where it is the first of its kind.
+    fn end_line(&mut self, line: LineSoFar) {
         self.ended = self.ended.saturating_add(1);
-        if self.line.is_blank {
+        if line.is_blank {
             if self.blank == BlankLines::Refused && self.first_blank.is_none() {
                 self.first_blank = Some(self.ended);
             }
-        } else if self.line.is_broken() && self.first_broken.is_none() {
+        } else if line.is_broken() && self.first_broken.is_none() {
             self.first_broken = Some(self.ended);
         }
-        self.line = LineSoFar::nothing();
     }
 }
 
