@@ -3,6 +3,7 @@ ghost use Rattle.std.specs.Prelude.{◌≡◌, ◌++◌, OnErr, OnOk};
 ghost use Rattle.lines.specs.Lines.{ended};
 
 use crate::devices::Sink;
+use json::Scratch;
 use lines::{Clerk, Fault, Outcome};
 use memchr::memchr_iter;
 use std::alloc::Global;
@@ -35,7 +36,12 @@ impl Clerk for Echo {
         LIMIT
     }
 
-    fn answer(&self, line: &[u8], text: &mut Vec<u8>) -> Result<Outcome, Fault> {
+    fn answer(
+        &self,
+        _scratch: &mut Scratch<Global>,
+        line: &[u8],
+        text: &mut Vec<u8>,
+    ) -> Result<Outcome, Fault> {
         if line.len() > LIMIT {
             return self.answer_long(text);
         }

@@ -1,5 +1,5 @@
 -- What is true of a report on a history within the limits is true of it as one on a history of any length.
-use Rattle.std.proofs.Common.{◌≡◌, Result, Ok, Err, IfOk, arith, refl, subst}
+use Rattle.std.proofs.Common.{Result, Ok, Err, IfOk, arith, refl, subst}
 use Rattle.memory_order.specs.Memory.{MemoryHistory}
 use Rattle.bad_patterns.specs.Kinds.{IsFreeOf}
 use Rattle.bad_patterns.specs.declared.kind.Kind.{Kind}

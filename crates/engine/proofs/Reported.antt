@@ -1,5 +1,5 @@
 -- A report on the history in an input.
-use Rattle.std.proofs.Common.{◌≤◌, List, ℕ, refl, length, Result, Ok, Err, IfOk}
+use Rattle.std.proofs.Common.{◌≤◌, List, ℕ, refl, length, Option, None, Some, Result, Ok, Err, IfOk, IfSome}
 use Rattle.operations.specs.declared.any_history.AnyHistory.{AnyHistory}
 use Rattle.operations.specs.AnyForm.{form_of, IsAnyHistory, IsJson}
 use Rattle.operations.specs.declared.any_history.AnyHistory.TheVariants as histories
@@ -35,6 +35,13 @@ reported input history (Ok report) is read true_of unknown unexplained = (
   refl,
 )
 reported input history (Err e) is read true_of unknown unexplained = tt
+
+-- the same where it may be that nothing is known
+pub reported_known : (input : List ℕ) (history : AnyHistory) (known : Option Report) → IsAnyHistory history → IsJson input (form_of history)
+    → IfSome known (EachIsTrueOf history) → IfSome known (EachIsKnownOnDistinctValues history) → IfSome known (EachNamesUnexplained history)
+    → IfSome known (IsReportOnAt Limited input)
+reported_known input history (Some report) is read true_of unknown unexplained = reported input history (Ok report) is read true_of unknown unexplained
+reported_known input history None is read true_of unknown unexplained = tt
 
 -- the same of a history of any length
 pub reported_long : (input : List ℕ) (h : MemoryHistory) (r : Result Report RunError) → IsLongHistory h → IsJson input (form_of (histories.Memory h))

@@ -15,6 +15,7 @@ use crate::input::MAX_INPUT_BYTES;
 use crate::refuting::refute;
 use crate::report::{report_line, report_text};
 use command_line::{Length, Order};
+use json::Scratch;
 use operations::read_history;
 use std::alloc::Global;
 
@@ -87,7 +88,8 @@ fn report_of(alloc: Global, input: &[u8]) -> Result<String, RunError>
     ensures output { IfOk result (λ text. IsOutput (Order.Judge judging_alone) input.now (string_bytes text)) }
     ensures error { IfErr result (IsOutputError (Order.Judge judging_alone) input.now) }
 {
-    let report = report_on_input_alone(alloc, input, Length::Limited)?;
+    let mut scratch = Scratch::new(alloc);
+    let report = report_on_input_alone(alloc, &mut scratch, input, Length::Limited)?;
     Ok(report_text(alloc, &report)?)
 }
 

@@ -1,5 +1,5 @@
 //! Reports on inputs, and the outcome of a report where criteria are expected to be met.
-ghost use Rattle.std.specs.Prelude.{◌≡◌, IfErr, IfOk};
+ghost use Rattle.std.specs.Prelude.{◌≡◌, IfErr, IfOk, IfSome};
 ghost use Rattle.engine.specs.Expecting.{outcome_for, outcome_in};
 ghost use Rattle.engine.specs.Steps.ReportErrors.{IsReportError};
 ghost use Rattle.engine.specs.Report.{IsReportOnAt};
@@ -9,10 +9,12 @@ use crate::failure::RunError;
 use crate::judging::report_on;
 use crate::judging_alone::report_alone;
 use crate::long_judging::report_on_long_input;
-use crate::reading::read_within_limits;
+use crate::memory_judging::report_decided;
+use crate::reading::{read_short_memory, read_within_limits};
 use crate::report::Report;
 use collector::Answer;
 use command_line::{Expected, Judging, Length, Order};
+use json::Scratch;
 use lines::Outcome;
 use long_decision::{CallingThread, WorkerThreads};
 use std::alloc::Global;
@@ -49,6 +51,10 @@ fn report_on_limited_input<T: Threads + Wait + Sync>(
     ensures report { IfOk result (IsReportOnAt Length.Limited input.now) }
     ensures error { IfErr result (IsReportError Length.Limited input.now) }
 {
+    let mut scratch = Scratch::new(alloc);
+    if let Some(report) = report_decided_on(alloc, &mut scratch, input)? {
+        return Ok(report);
+    }
     let history = read_within_limits(alloc, input)?;
     report_on(rt, alloc, &history, &[], judging.workers)
 }
@@ -59,6 +65,7 @@ fn report_on_limited_input<T: Threads + Wait + Sync>(
 /// [`report_on_long`](crate::report_on_long).
 pub(crate) fn report_on_input_alone(
     alloc: Global,
+    scratch: &mut Scratch<Global>,
     input: &[u8],
     allowed: Length,
 ) -> Result<Report, RunError>
@@ -66,18 +73,41 @@ pub(crate) fn report_on_input_alone(
     ensures error { IfErr result (IsReportError allowed input.now) }
 {
     match allowed {
-        Length::Limited => report_on_limited_input_alone(alloc, input),
+        Length::Limited => report_on_limited_input_alone(alloc, scratch, input),
         Length::Any => report_on_long_input(&CallingThread, alloc, input),
     }
 }
 
 // The report on a history within the limits.
-fn report_on_limited_input_alone(alloc: Global, input: &[u8]) -> Result<Report, RunError>
+fn report_on_limited_input_alone(
+    alloc: Global,
+    scratch: &mut Scratch<Global>,
+    input: &[u8],
+) -> Result<Report, RunError>
     ensures report { IfOk result (IsReportOnAt Length.Limited input.now) }
     ensures error { IfErr result (IsReportError Length.Limited input.now) }
 {
+    if let Some(report) = report_decided_on(alloc, scratch, input)? {
+        return Ok(report);
+    }
     let history = read_within_limits(alloc, input)?;
     report_alone(alloc, &history)
+}
+
+// The report on a history of a memory within the limits, if what is decided of it says it of each criterion. Else none, and then the input
+// is read once more, whatever it holds.
+fn report_decided_on(
+    alloc: Global,
+    scratch: &mut Scratch<Global>,
+    input: &[u8],
+) -> Result<Option<Report>, RunError>
+    ensures report { IfOk result (λ known. IfSome known (IsReportOnAt Length.Limited input.now)) }
+    ensures error { IfErr result (IsReportError Length.Limited input.now) }
+{
+    match read_short_memory(alloc, scratch, input)? {
+        Some(history) => Ok(report_decided(alloc, &history)?),
+        None => Ok(None),
+    }
 }
 
 /// The outcome of a report if these criteria are expected to be met: [`Outcome::Met`] where each of them has a yes,

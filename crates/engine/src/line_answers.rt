@@ -12,6 +12,7 @@ use crate::input::MAX_INPUT_BYTES;
 use crate::report::{Report, report_line};
 use cert_check::Criterion;
 use command_line::{BlankLines, Judging, Length, LineJudging};
+use json::Scratch;
 use lines::{Fault, Outcome, is_blank};
 use std::alloc::{AllocError, Global};
 
@@ -24,6 +25,7 @@ const USUAL_BYTES: usize = 96;
 /// Fails for want of memory alone, and then the text is as it was. It starts no thread.
 pub(crate) fn append_answer(
     alloc: Global,
+    scratch: &mut Scratch<Global>,
     line: &[u8],
     judging: LineJudging,
     text: &mut Vec<u8>,
@@ -35,7 +37,7 @@ pub(crate) fn append_answer(
         text.extend_from_slice(b"\n")?;
         Ok(Outcome::Met)
     } else {
-        append_answer_on_history(alloc, line, judging.judging, text)
+        append_answer_on_history(alloc, scratch, line, judging.judging, text)
     }
 }
 
@@ -52,6 +54,7 @@ fn is_skipped(blank: BlankLines, line: &[u8]) -> bool
 // Appends the answer to a line that should hold a history, and a line feed.
 fn append_answer_on_history(
     alloc: Global,
+    scratch: &mut Scratch<Global>,
     line: &[u8],
     judging: Judging,
     text: &mut Vec<u8>,
@@ -60,7 +63,7 @@ fn append_answer_on_history(
         (AppendsAnswer (IsHistoryAnswer judging.length judging.expected line.now) text.old.items text.new.items) }
     ensures unchanged { OnErr result (text.new.items ≡ text.old.items) }
 {
-    match report_on_line(alloc, line, judging.length) {
+    match report_on_line(alloc, scratch, line, judging.length) {
         Ok(report) => {
             append_report(alloc, &report, text)?;
             Ok(outcome_of(&report, judging.expected))
@@ -71,7 +74,12 @@ fn append_answer_on_history(
 
 // The report on the history in a line.
 #[tactic(auto, using(crate::proofs::Reported::error_of_line))]
-fn report_on_line(alloc: Global, line: &[u8], allowed: Length) -> Result<Report, RunError>
+fn report_on_line(
+    alloc: Global,
+    scratch: &mut Scratch<Global>,
+    line: &[u8],
+    allowed: Length,
+) -> Result<Report, RunError>
     ensures within { OnOk result (length line.now ≤ MAX_INPUT_BYTES) }
     ensures report { IfOk result (IsReportOnAt allowed line.now) }
     ensures error { IfErr result (IsLineError allowed line.now) }
@@ -79,7 +87,7 @@ fn report_on_line(alloc: Global, line: &[u8], allowed: Length) -> Result<Report,
     if line.len() > MAX_INPUT_BYTES {
         return Err(RunError::TooLong);
     }
-    report_on_input_alone(alloc, line, allowed)
+    report_on_input_alone(alloc, scratch, line, allowed)
 }
 
 // Appends the lines of a report, joined to one, and a line feed.

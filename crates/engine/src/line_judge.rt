@@ -10,6 +10,7 @@ use crate::failure::RunError;
 use crate::input::MAX_INPUT_BYTES;
 use crate::line_answers::{append_answer, append_refusal};
 use command_line::{LineJudging, Order};
+use json::Scratch;
 use line_workers::answer_lines;
 use lines::{Clerk, Fault, Outcome, Source};
 use std::alloc::Global;
@@ -94,8 +95,13 @@ impl Clerk for LineJudge {
         MAX_INPUT_BYTES
     }
 
-    fn answer(&self, line: &[u8], text: &mut Vec<u8>) -> Result<Outcome, Fault> {
-        append_answer(self.alloc, line, self.judging, text)
+    fn answer(
+        &self,
+        scratch: &mut Scratch<Global>,
+        line: &[u8],
+        text: &mut Vec<u8>,
+    ) -> Result<Outcome, Fault> {
+        append_answer(self.alloc, scratch, line, self.judging, text)
     }
 
     fn answer_long(&self, text: &mut Vec<u8>) -> Result<Outcome, Fault> {

@@ -1,7 +1,7 @@
 //! What is known of a history of a memory, whether threads or the calling thread alone check the pieces of certificates.
 
 ghost use Rattle.std.specs.Prelude.{◌≡◌, IfErr, IfOk, IfSome};
-ghost use Rattle.memory_order.specs.Memory.{memory_answer};
+ghost use Rattle.memory_order.specs.Memory.{MemoryHistory, memory_answer};
 ghost use Rattle.decision.specs.Decisions.{IsDecided, decision_for};
 ghost use Rattle.long_decision.specs.LongDecisions.{AreDecided, IsLongDecided};
 ghost use Rattle.engine.specs.Report.{IsFirstNo, IsTrueOf, NamesUnexplained, IsKnownOnDistinctValues};
@@ -18,11 +18,26 @@ use cert_check::{CaseFile, Criterion};
 use collector::Answer;
 use decision::{Decision, Decisions, decide_kinds, decide_whether};
 use history::Advice;
-use long_decision::{LongDecision, LongDecisions};
+use long_decision::{CallingThread, LongDecision, LongDecisions, decide_long};
+use long_history::LongHistory;
 use memory_order::IndexedMemory;
 use objects::Memory;
 use operations::{AnyHistory, History};
-use std::alloc::Global;
+use std::alloc::{AllocError, Global};
+
+/// A type of histories of a memory.
+trait OfMemory {
+    // The history that a value is.
+    ghost history: { Self → MemoryHistory };
+}
+
+impl OfMemory for History<Memory> {
+    ghost history = { λ h. h };
+}
+
+impl OfMemory for LongHistory {
+    ghost history = { λ h. h };
+}
 
 /// What is known of a history of a memory, for each criterion. `check` returns what the certificate of a case file shows. What is known of
 /// its operations is gone into only where a criterion is not met, or nothing is decided.
@@ -50,13 +65,28 @@ pub(crate) fn report_by<F: Fn(CaseFile<Memory>) -> Result<Answer, RunError>>(
     report_of_decisions(alloc, &memory, advice, decisions, check)
 }
 
+/// What is known of a history of a memory within the limits, if what is decided says it of each criterion, and else none.
+///
+/// Fails for want of memory alone. O(n (k + log n)) for n operations of k sessions.
+pub(crate) fn report_decided(
+    alloc: Global,
+    history: &LongHistory,
+) -> Result<Option<Report>, AllocError>
+    ensures truth { IfOk result (λ known. IfSome known (EachIsTrueOf (AnyHistory.Memory history.now))) }
+    ensures unknown { IfOk result (λ known. IfSome known (EachIsKnownOnDistinctValues (AnyHistory.Memory history.now))) }
+    ensures unexplained { IfOk result (λ known. IfSome known (EachNamesUnexplained (AnyHistory.Memory history.now))) }
+{
+    let whether = decide_long(&CallingThread, alloc, history)?;
+    Ok(report_of_decided(history, whether))
+}
+
 // What is known of a history of a memory, if what is decided says it of each criterion. It is asked before anything else is made.
 #[tactic(auto, using(crate::proofs::EachAnswer::each_true, crate::proofs::EachAnswer::each_known, crate::proofs::EachAnswer::each_names))]
-fn report_of_decided(history: &History<Memory>, whether: LongDecisions) -> Option<Report>
-    requires { AreDecided history.now whether }
-    ensures truth { IfSome result (EachIsTrueOf (AnyHistory.Memory history.now)) }
-    ensures unknown { IfSome result (EachIsKnownOnDistinctValues (AnyHistory.Memory history.now)) }
-    ensures unexplained { IfSome result (EachNamesUnexplained (AnyHistory.Memory history.now)) }
+fn report_of_decided<H: OfMemory>(history: &H, whether: LongDecisions) -> Option<Report>
+    requires { AreDecided (H.history history.now) whether }
+    ensures truth { IfSome result (EachIsTrueOf (AnyHistory.Memory (H.history history.now))) }
+    ensures unknown { IfSome result (EachIsKnownOnDistinctValues (AnyHistory.Memory (H.history history.now))) }
+    ensures unexplained { IfSome result (EachNamesUnexplained (AnyHistory.Memory (H.history history.now))) }
 {
     Some(Report {
         cc: answer_of_decided(history, Criterion::Cc, whether.cc)?,
@@ -67,15 +97,15 @@ fn report_of_decided(history: &History<Memory>, whether: LongDecisions) -> Optio
 
 // What a decision says of a history of a memory and a criterion, if it says it for certain. Where it names CyclicHB, WriteHBInitRead may be
 // present too, and comes first.
-fn answer_of_decided(
-    _history: &History<Memory>,
+fn answer_of_decided<H: OfMemory>(
+    _history: &H,
     _criterion: Criterion,
     decision: LongDecision,
 ) -> Option<Answer>
-    requires { IsLongDecided _history.now _criterion decision }
-    ensures truth { IfSome result (IsTrueOf (AnyHistory.Memory _history.now) _criterion) }
-    ensures unknown { IfSome result (IsKnownOnDistinctValues (AnyHistory.Memory _history.now)) }
-    ensures unexplained { IfSome result (NamesUnexplained (AnyHistory.Memory _history.now) _criterion) }
+    requires { IsLongDecided (H.history _history.now) _criterion decision }
+    ensures truth { IfSome result (IsTrueOf (AnyHistory.Memory (H.history _history.now)) _criterion) }
+    ensures unknown { IfSome result (IsKnownOnDistinctValues (AnyHistory.Memory (H.history _history.now))) }
+    ensures unexplained { IfSome result (NamesUnexplained (AnyHistory.Memory (H.history _history.now)) _criterion) }
 {
     match decision {
         LongDecision::Meets => Some(Answer::Yes),

@@ -1,9 +1,11 @@
 //! Reading a history within the limits.
 
-ghost use Rattle.std.specs.Prelude.{IfErr, IfOk, IfSome};
+ghost use Rattle.std.specs.Prelude.{◌≡◌, IfErr, IfOk, IfSome};
 ghost use Rattle.operations.specs.AnyForm.{IsAnyHistory, IsJson, IsRefusedFor, form_of};
 
-use long_reader::{read_long, small};
+use json::Scratch;
+use long_history::LongHistory;
+use long_reader::{is_small, read_long_in, small};
 use objects::Memory;
 use operations::{AnyHistory, History, ReadError, read_history};
 use std::alloc::Global;
@@ -32,13 +34,42 @@ fn read_memory(alloc: Global, text: &[u8]) -> Result<Option<History<Memory>>, Re
     ensures form { IfOk result (λ found. IfSome found (λ h. IsJson text.now (form_of (AnyHistory.Memory h)))) }
     ensures refused { IfErr result (IsRefusedFor text.now) }
 {
+    let mut scratch = Scratch::new(alloc);
+    match read_short_memory(alloc, &mut scratch, text)? {
+        Some(history) => small(alloc, &history).map_err(|_| ReadError::Memory),
+        None => Ok(None),
+    }
+}
+
+/// The same history without a copy: of a type that has no limits, though the history is within them.
+pub(crate) fn read_short_memory(
+    alloc: Global,
+    scratch: &mut Scratch<Global>,
+    text: &[u8],
+) -> Result<Option<LongHistory>, ReadError>
+    ensures is_history { IfOk result (λ found. IfSome found (λ h. IsAnyHistory (AnyHistory.Memory h))) }
+    ensures form { IfOk result (λ found. IfSome found (λ h. IsJson text.now (form_of (AnyHistory.Memory h)))) }
+    ensures refused { IfErr result (IsRefusedFor text.now) }
+{
     if text.len() > MAX_TOKEN_BYTES || !begins_as_memory(text) {
         return Ok(None);
     }
-    match read_long(alloc, text) {
-        Ok(history) => small(alloc, &history).map_err(|_| ReadError::Memory),
+    match read_long_in(alloc, scratch, text) {
+        Ok(history) => Ok(within_limits(history)),
         Err(ReadError::Memory) => Err(ReadError::Memory),
         Err(_) => Ok(None),
+    }
+}
+
+// A history, if it is within the limits.
+fn within_limits(history: LongHistory) -> Option<LongHistory>
+    ensures same { IfSome result (λ h. h ≡ history) }
+    ensures is_history { IfSome result (λ h. IsAnyHistory (AnyHistory.Memory h)) }
+{
+    if is_small(&history) {
+        Some(history)
+    } else {
+        None
     }
 }
 

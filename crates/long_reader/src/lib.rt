@@ -19,5 +19,5 @@ mod start;
 
 pub use digits::whole_number;
 pub use first::read_long_first;
-pub use limits::small;
-pub use reader::read_long;
+pub use limits::{is_small, small};
+pub use reader::{read_long, read_long_in};

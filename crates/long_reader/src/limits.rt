@@ -1,6 +1,6 @@
 //! Long histories that fit the limits of `History`.
 
-ghost use Rattle.std.specs.Prelude.{◌≡◌, ◌<◌, ◌≤◌, ℕ, length, map, IfOk, IfSome, MatchOption};
+ghost use Rattle.std.specs.Prelude.{◌≡◌, ◌↔◌, ◌≤◌, ℕ, length, map, IfOk, IfSome, IsTrue, MatchOption};
 ghost use Rattle.history.specs.History.{session as operations_of};
 ghost use Rattle.operations.specs.AnyForm.{IsAnyHistory};
 ghost use Rattle.long_reader.specs.Small.{IsSmall};
@@ -22,28 +22,41 @@ fn copy_of_start(alloc: Global, start: &Table<u64>) -> Result<Table<u64>, AllocE
     Ok(copy)
 }
 
-/// A copy of the sessions, or none where one has more than 256 operations. Fails for want of memory alone.
-fn copy_of_sessions(
-    alloc: Global,
-    history: &LongHistory,
-) -> Result<Option<Vec<Vec<LongEntry>>>, AllocError>
-    ensures copied { IfOk result (λ o. IfSome o (λ copy. map (λ s. s.items) copy.items ≡ history.now.1)) }
-    ensures short { IfOk result (λ o. MatchOption o ((s : ℕ) × (MAX_OPERATIONS < length (operations_of history.now s)))
-        (λ _. (s : ℕ) → length (operations_of history.now s) ≤ MAX_OPERATIONS)) }
+/// A copy of the sessions. Fails for want of memory alone.
+fn copy_of_sessions(alloc: Global, history: &LongHistory) -> Result<Vec<Vec<LongEntry>>, AllocError>
+    ensures { IfOk result (λ copy. map (λ s. s.items) copy.items ≡ history.now.1) }
 {
     let mut copy = Vec::new(alloc);
     for s in 0..history.sessions() {
-        let operations = history.session(s);
-        if operations.len() > MAX_OPERATIONS {
-            return Ok(None);
-        }
-        copy.push(Vec::from_slice(alloc, operations)?)?;
+        copy.push(Vec::from_slice(alloc, history.session(s))?)?;
     }
-    Ok(Some(copy))
+    Ok(copy)
 }
 
-/// The same history as a `History`, or none where it is over one of the limits of that type: 16 sessions, 256 operations in each, and
-/// 4,096 initial values.
+/// Whether no session has more than 256 operations.
+fn are_short(history: &LongHistory) -> bool
+    ensures { IsTrue result ↔ ((s : ℕ) → length (operations_of history.now s) ≤ MAX_OPERATIONS) }
+{
+    for s in 0..history.sessions() {
+        if history.session(s).len() > MAX_OPERATIONS {
+            return false;
+        }
+    }
+    true
+}
+
+/// Whether a history is within the limits of `History`: 16 sessions, 256 operations in each, and 4,096 initial values.
+///
+/// It looks at most at 16 sessions.
+pub fn is_small(history: &LongHistory) -> bool
+    ensures small { IsTrue result ↔ IsSmall history.now }
+    ensures is_history { IsTrue result → IsAnyHistory (AnyHistory.Memory history.now) }
+{
+    history.value_is_history();
+    history.sessions() <= MAX_SESSIONS && history.start().len() <= MAX_ENTRIES && are_short(history)
+}
+
+/// The same history as a `History`, or none where it is not within the limits of that type, as [`is_small`] has them.
 ///
 /// Fails for want of memory alone. It takes O(n) for n operations of a history that fits, and never more than these limits.
 pub fn small(alloc: Global, history: &LongHistory) -> Result<Option<History<Memory>>, AllocError>
@@ -51,12 +64,10 @@ pub fn small(alloc: Global, history: &LongHistory) -> Result<Option<History<Memo
     ensures is_history { IfOk result (λ o. IfSome o (λ h. IsAnyHistory (AnyHistory.Memory h))) }
 {
     history.value_is_history();
-    if history.sessions() > MAX_SESSIONS || history.start().len() > MAX_ENTRIES {
+    if !is_small(history) {
         return Ok(None);
     }
-    let Some(sessions) = copy_of_sessions(alloc, history)? else {
-        return Ok(None);
-    };
+    let sessions = copy_of_sessions(alloc, history)?;
     let start = copy_of_start(alloc, history.start())?;
     Ok(Some(History::of(start, sessions)))
 }

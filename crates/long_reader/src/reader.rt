@@ -17,12 +17,15 @@ use operations::{AnyHistory, ReadError};
 use std::alloc::Global;
 
 /// The parts of the history that the text is, or their first refusal.
-fn read_text(alloc: Global, text: &str) -> Result<Result<Parts, ReadError>, TextError>
+fn read_text(
+    alloc: Global,
+    scratch: &mut Scratch<Global>,
+    text: &str,
+) -> Result<Result<Parts, ReadError>, TextError>
     ensures read { IfOk result (IsWhole text.now) }
     ensures refused { IfErr result (IsWholeRefused text.now) }
 {
-    let mut scratch = Scratch::new(alloc);
-    let mut reader = Reader::new(text, &mut scratch)?;
+    let mut reader = Reader::new(text, scratch)?;
     let token = next_token(&mut reader)?;
     let parts = read_history(alloc, token, &mut reader, MAX_DEPTH)?;
     if reader.next().is_some() {
@@ -32,14 +35,14 @@ fn read_text(alloc: Global, text: &str) -> Result<Result<Parts, ReadError>, Text
 }
 
 /// The parts of the history that the bytes are, or why they are none.
-fn read_bytes(alloc: Global, text: &[u8]) -> Result<Parts, ReadError>
+fn read_bytes(alloc: Global, scratch: &mut Scratch<Global>, text: &[u8]) -> Result<Parts, ReadError>
     ensures read { IfOk result (IsJsonOf text.now) }
     ensures refused { IfErr result (IsRefusedLong text.now) }
 {
     let Ok(text) = simdutf8::compat::from_utf8(text) else {
         return Err(ReadError::NotJson);
     };
-    match read_text(alloc, text) {
+    match read_text(alloc, scratch, text) {
         Ok(parts) => parts,
         Err(TextError::NotJson) => Err(ReadError::NotJson),
         Err(TextError::Memory) => Err(ReadError::Memory),
@@ -60,6 +63,24 @@ pub fn read_long(alloc: Global, text: &[u8]) -> Result<LongHistory, ReadError>
         → MatchResult result (λ g. g ≡ h) (λ e. e ≡ ReadError.Memory) }
     ensures refused { IfErr result (IsRefusedLong text.now) }
 {
-    let (start, sessions) = read_bytes(alloc, text)?;
+    let mut scratch = Scratch::new(alloc);
+    read_long_in(alloc, &mut scratch, text)
+}
+
+/// The same, with a scratch that one text after the other may use: making one takes as long as reading some hundred bytes.
+pub fn read_long_in(
+    alloc: Global,
+    scratch: &mut Scratch<Global>,
+    text: &[u8],
+) -> Result<LongHistory, ReadError>
+    ensures is_history { IfOk result IsLongHistory }
+    ensures form { IfOk result (λ h. IsJson text.now (form_of (AnyHistory.Memory h))) }
+
+    // A text of the form of a long history is read as that history, unless memory runs out.
+    ensures only { (h : MemoryHistory) → IsLongHistory h → IsJson text.now (form_of (AnyHistory.Memory h))
+        → MatchResult result (λ g. g ≡ h) (λ e. e ≡ ReadError.Memory) }
+    ensures refused { IfErr result (IsRefusedLong text.now) }
+{
+    let (start, sessions) = read_bytes(alloc, scratch, text)?;
     Ok(LongHistory::of(start, sessions)?)
 }

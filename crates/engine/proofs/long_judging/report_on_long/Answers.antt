@@ -1,4 +1,4 @@
-use Rattle.std.proofs.Common.{◌≡◌, IfOk, subst}
+use Rattle.std.proofs.Common.{IfOk, subst}
 use Rattle.memory_order.specs.Memory.{MemoryHistory}
 use Rattle.command_line.specs.declared.length.Length.TheVariants.{Any}
 use Rattle.operations.specs.declared.any_history.AnyHistory.TheVariants as histories

@@ -1,5 +1,4 @@
 use Rattle.std.specs.Prelude.{◌≢◌, get_or}
-use Rattle.std.proofs.Common.{arith}
 use Rattle.long_reader.proofs.WholeNumbers.{number_parsed}
 use Rattle.long_reader.proofs.digits.whole_number.Goals as goal
 

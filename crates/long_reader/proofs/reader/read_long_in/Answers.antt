@@ -1,7 +1,7 @@
 use Rattle.std.proofs.Common.{◌∙◌}
 use Rattle.std.proofs.lemmas.Result.{err_from_is_err_and}
 use Rattle.long_reader.proofs.LongForms.{json_form, only_history, only_memory, parts_are_history}
-use Rattle.long_reader.proofs.reader.read_long.Goals as goal
+use Rattle.long_reader.proofs.reader.read_long_in.Goals as goal
 
 pub returns-in_err-start-clause-only : goal.returns-in_err-start-clause-only
 returns-in_err-start-clause-only c = λ h is json.
