@@ -17,9 +17,9 @@ so that no two neighbours begin alike. Of those in OUTDIR/turned-SESSIONSxOPERAT
 session, so that of any so many schedules of a session in a row as there are sessions no two begin alike, whichever workers take them.
 """
 
+import argparse
 import json
 import random
-import sys
 from pathlib import Path
 from typing import NamedTuple
 
@@ -144,9 +144,9 @@ def write(folder, name, sessions, operations, made):
 
 
 def main():
-    if len(sys.argv) != 2:
-        sys.exit("usage: certificates.py OUTDIR")
-    folder = Path(sys.argv[1])
+    parser = argparse.ArgumentParser(description=__doc__, formatter_class=argparse.RawDescriptionHelpFormatter)
+    parser.add_argument("folder", metavar="OUTDIR", type=Path)
+    folder = parser.parse_args().folder
     folder.mkdir(parents=True, exist_ok=True)
     for sessions, operations in SIZES:
         write(folder, "memory", sessions, operations, inputs(sessions, operations))

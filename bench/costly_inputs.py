@@ -7,6 +7,7 @@ Each input is what is thought to take longest in one way: INPUTS names them, wit
 files are named NAME.json. costliest.py runs a program on them.
 """
 
+import argparse
 import json
 import pathlib
 import random
@@ -458,13 +459,14 @@ def write(costly, folder):
 
 
 def main():
-    if len(sys.argv) < 2:
-        raise SystemExit("usage: costly_inputs.py OUTDIR [NAME..]")
-    folder = pathlib.Path(sys.argv[1])
-    folder.mkdir(parents=True, exist_ok=True)
+    parser = argparse.ArgumentParser(description=__doc__, formatter_class=argparse.RawDescriptionHelpFormatter)
+    parser.add_argument("folder", metavar="OUTDIR", type=pathlib.Path)
+    parser.add_argument("names", metavar="NAME", nargs="*")
+    given = parser.parse_args()
+    given.folder.mkdir(parents=True, exist_ok=True)
     for costly in INPUTS:
-        if costly.name in (sys.argv[2:] or [costly.name]):
-            print(f"{write(costly, folder).stat().st_size:10} bytes {costly.name}", flush=True)
+        if costly.name in (given.names or [costly.name]):
+            print(f"{write(costly, given.folder).stat().st_size:10} bytes {costly.name}", flush=True)
 
 
 if __name__ == "__main__":

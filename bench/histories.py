@@ -8,6 +8,7 @@ SIZE-SHAPE-STATE.json, such as 16x256-keys64-healthy.json. The shapes are keys1,
 stale, thin, init and swap.
 """
 
+import argparse
 import pathlib
 import sys
 
@@ -16,9 +17,9 @@ from short_runs import SESSIONS, SHAPES, SIZES, histories_of, text_of  # noqa: E
 
 
 def main():
-    if len(sys.argv) != 2:
-        raise SystemExit(__doc__)
-    folder = pathlib.Path(sys.argv[1])
+    parser = argparse.ArgumentParser(description=__doc__, formatter_class=argparse.RawDescriptionHelpFormatter)
+    parser.add_argument("folder", metavar="OUTDIR", type=pathlib.Path)
+    folder = parser.parse_args().folder
     folder.mkdir(parents=True, exist_ok=True)
     for operations in SIZES:
         for shape in SHAPES:
