@@ -1,7 +1,6 @@
 -- Lines of the common forms, token by token.
 use Rattle.std.proofs.Common.{◌≡◌, ◌<◌, ◌≤◌, ◌-◌, ℕ, Bool, true, false, List, [], ◌∷◌, length, slice_index, Option, Some, refl, sym, ap, subst, ◌∙◌, arith}
-use Rattle.std.specs.Prelude.{codes, nat_eq, option_and_then, option_map}
-use Rattle.std.specs.Cmp.Lexicographic.{bytes_decides, pointwise}
+use Rattle.std.specs.Prelude.{codes, option_and_then, option_map}
 use Rattle.std.specs.Str.{IsUtf8}
 use Rattle.json.specs.Json as json
 use Rattle.json.specs.Json.{after_end_array, items, parse_map, value}
@@ -90,21 +89,17 @@ list_next depth some ds old first mid new is more bracket =
 
 -- ---- calls
 
-same_word : (word known : List ℕ) → pointwise nat_eq word known ≡ true → word ≡ known
-same_word word known is = (bytes_decides word known).0 is
-
 module _ (word : List ℕ) (key : Name) (old new : List Token) where
-  pub rest_write : (value : Name) → pointwise nat_eq word (codes "w") ≡ true → IsNextWith (λ d. value_name d ≡ Some value) old new
+  pub rest_write : (value : Name) → word ≡ codes "w" → IsNextWith (λ d. value_name d ≡ Some value) old new
       → AreCallRest word key old new (write key value)
   rest_write value is (d, next, named) =
-      let word_is = same_word word (codes "w") is in
-      (d ∷ [], (new, next 125, refl), λ k known. rw (word_is, known, named) refl)
+      (d ∷ [], (new, next 125, refl), λ k known. rw (is, known, named) refl)
 
-  pub rest_read : pointwise nat_eq word (codes "r") ≡ true → new ≡ old → AreCallRest word key old new (read_of key)
-  rest_read is same = let word_is = same_word word (codes "r") is in ([], same, λ k known. rw (word_is, known) refl)
+  pub rest_read : word ≡ codes "r" → new ≡ old → AreCallRest word key old new (read_of key)
+  rest_read is same = ([], same, λ k known. rw (is, known) refl)
 
-  pub rest_delete : pointwise nat_eq word (codes "d") ≡ true → new ≡ old → AreCallRest word key old new (delete key)
-  rest_delete is same = let word_is = same_word word (codes "d") is in ([], same, λ k known. rw (word_is, known) refl)
+  pub rest_delete : word ≡ codes "d" → new ≡ old → AreCallRest word key old new (delete key)
+  rest_delete is same = ([], same, λ k known. rw (is, known) refl)
 
 list_elements : (ds : List Data) → elements (array (items_of ds)) ≡ Some ds
 list_elements ds = ap (λ (es : List Data). Some es) (listed-items_of ds)
@@ -119,28 +114,25 @@ call_next old a b c d new word key call is (w, word_next, word_is) (k, key_next,
 -- ---- events
 
 module _ (word : List ℕ) (name : Name) (old new : List Token) where
-  pub rest_begin : (call : SaidCall) → pointwise nat_eq word (codes "begin") ≡ true → IsNextCall old new call → AreRest word name old new (begin name call)
+  pub rest_begin : (call : SaidCall) → word ≡ codes "begin" → IsNextCall old new call → AreRest word name old new (begin name call)
   rest_begin call is (d, next, called) =
-      let word_is = same_word word (codes "begin") is in
-      (d ∷ [], (new, next, refl), λ c known. rw (word_is, known, called) refl)
+      (d ∷ [], (new, next, refl), λ c known. rw (is, known, called) refl)
 
-  pub rest_end : (ending : SaidEnding) → pointwise nat_eq word (codes "end") ≡ true → IsNextWith (λ d. answer_at d ≡ Some ending) old new
+  pub rest_end : (ending : SaidEnding) → word ≡ codes "end" → IsNextWith (λ d. answer_at d ≡ Some ending) old new
       → AreRest word name old new (end name ending)
   rest_end ending is (d, next, answered) =
-      let word_is = same_word word (codes "end") is in
-      (d ∷ [], (new, next 126, refl), λ c known. rw (word_is, known, answered) refl)
+      (d ∷ [], (new, next 126, refl), λ c known. rw (is, known, answered) refl)
 
-  pub rest_start : (value : Name) → pointwise nat_eq word (codes "start") ≡ true → IsNextWith (λ d. value_name d ≡ Some value) old new
+  pub rest_start : (value : Name) → word ≡ codes "start" → IsNextWith (λ d. value_name d ≡ Some value) old new
       → AreRest word name old new (start name value)
   rest_start value is (d, next, named) =
-      let word_is = same_word word (codes "start") is in
-      (d ∷ [], (new, next 126, refl), λ c known. rw (word_is, known, named) refl)
+      (d ∷ [], (new, next 126, refl), λ c known. rw (is, known, named) refl)
 
-  pub rest_fail : pointwise nat_eq word (codes "fail") ≡ true → new ≡ old → AreRest word name old new (end name failed)
-  rest_fail is same = let word_is = same_word word (codes "fail") is in ([], same, λ c known. rw (word_is, known) refl)
+  pub rest_fail : word ≡ codes "fail" → new ≡ old → AreRest word name old new (end name failed)
+  rest_fail is same = ([], same, λ c known. rw (is, known) refl)
 
-  pub rest_lost : pointwise nat_eq word (codes "lost") ≡ true → new ≡ old → AreRest word name old new (end name lost)
-  rest_lost is same = let word_is = same_word word (codes "lost") is in ([], same, λ c known. rw (word_is, known) refl)
+  pub rest_lost : word ≡ codes "lost" → new ≡ old → AreRest word name old new (end name lost)
+  rest_lost is same = ([], same, λ c known. rw (is, known) refl)
 
 pub all_said : (old a b c d new : List Token) (word : List ℕ) (name : Name) (said : Said) → old ≡ Token.begin_array ∷ a → IsNextWith (λ e. e ≡ string word) a b
     → IsNextWith (λ e. name_of e ≡ Some name) b c → AreRest word name c d said → after_end_array d ≡ Some new → new ≡ [] → AreSaid old said

@@ -1,5 +1,5 @@
 -- What the functions that read a line of a common form say to one another: no promise to a reader rests on it.
-use Rattle.std.specs.Prelude.{◌≡◌, ℕ, List, [], ◌∷◌, Some, None}
+use Rattle.std.specs.Prelude.{◌≡◌, ℕ, List, [], ◌∷◌, Some, None, codes}
 use Rattle.json.specs.Json.{after_end_array, value}
 use Rattle.json.specs.Token.{Token}
 use Rattle.serde_json.specs.Data.{Data, string}
@@ -8,6 +8,20 @@ use Rattle.bounded_json.specs.Text.{IsJson}
 use Rattle.event_reader.specs.Forms.{Said, SaidCall, call_at, call_in, said_at, said_in}
 use Rattle.event_reader.specs.Logs.{IsFull}
 use Rattle.event_reader.specs.Names.{Name, name_of}
+use Rattle.event_reader.specs.declared.word.Word.{Word}
+use Rattle.event_reader.specs.declared.word.Word.TheVariants as words
+
+-- the text of a word; of any other text nothing is said
+abbrev pub IsWord : Word → List ℕ → Type 0
+IsWord words.Begin text = text ≡ codes "begin"
+IsWord words.End text = text ≡ codes "end"
+IsWord words.Start text = text ≡ codes "start"
+IsWord words.Fail text = text ≡ codes "fail"
+IsWord words.Lost text = text ≡ codes "lost"
+IsWord words.Write text = text ≡ codes "w"
+IsWord words.Read text = text ≡ codes "r"
+IsWord words.Delete text = text ≡ codes "d"
+IsWord words.Other text = Unit {0}
 
 -- a value comes next, which nests no deeper than that
 abbrev pub IsNext : ℕ → Data → List Token → List Token → Type 0

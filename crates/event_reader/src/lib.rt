@@ -20,6 +20,7 @@ mod refusal;
 mod said;
 mod shown;
 mod taking;
+mod word;
 
 pub use event_reader::EventReader;
 pub use laws::{names_tell_values, texts_have_one_log};

@@ -11,6 +11,7 @@ ghost use Rattle.event_reader.specs.Steps.{call_view, ending_view, name_in, said
 use crate::limits::MAX_LINE_BYTES;
 use crate::name_value::NameValue;
 use crate::said::{Said, SaidCall, SaidEnding};
+use crate::word::{Word, word_of};
 use json::{Reader, Scratch, Token};
 use long_reader::whole_number;
 use std::alloc::{AllocError, Global};
@@ -77,14 +78,11 @@ fn next_answer<'a>(reader: &mut Reader<'a>) -> Option<SaidEnding<'a>>
 fn rest_of_call<'a>(reader: &mut Reader<'a>, word: &str, key: NameValue<'a>) -> Option<SaidCall<'a>>
     ensures { IfSome result (λ call. AreCallRest word.now (name_in key.entry) reader.old reader.new (call_view call)) }
 {
-    if word == "w" {
-        Some(SaidCall::Write(key, next_value(reader)?))
-    } else if word == "r" {
-        Some(SaidCall::Read(key))
-    } else if word == "d" {
-        Some(SaidCall::Delete(key))
-    } else {
-        None
+    match word_of(word) {
+        Word::Write => Some(SaidCall::Write(key, next_value(reader)?)),
+        Word::Read => Some(SaidCall::Read(key)),
+        Word::Delete => Some(SaidCall::Delete(key)),
+        _ => None,
     }
 }
 
@@ -108,18 +106,13 @@ fn next_call<'a>(reader: &mut Reader<'a>) -> Option<SaidCall<'a>>
 fn rest_of_said<'a>(reader: &mut Reader<'a>, word: &str, name: NameValue<'a>) -> Option<Said<'a>>
     ensures { IfSome result (λ said. AreRest word.now (name_in name.entry) reader.old reader.new (said_view said)) }
 {
-    if word == "begin" {
-        Some(Said::Begin(name, next_call(reader)?))
-    } else if word == "end" {
-        Some(Said::End(name, next_answer(reader)?))
-    } else if word == "start" {
-        Some(Said::Start(name, next_value(reader)?))
-    } else if word == "fail" {
-        Some(Said::End(name, SaidEnding::Failed))
-    } else if word == "lost" {
-        Some(Said::End(name, SaidEnding::Lost))
-    } else {
-        None
+    match word_of(word) {
+        Word::Begin => Some(Said::Begin(name, next_call(reader)?)),
+        Word::End => Some(Said::End(name, next_answer(reader)?)),
+        Word::Start => Some(Said::Start(name, next_value(reader)?)),
+        Word::Fail => Some(Said::End(name, SaidEnding::Failed)),
+        Word::Lost => Some(Said::End(name, SaidEnding::Lost)),
+        _ => None,
     }
 }
 
