@@ -7,10 +7,10 @@ The logs are those of RUNS below, or N percent of them: runs of the stores of te
 next turn. A log with lost writes is the one before it, in which so many writes, each of them read, end as `lost`. The logs and their
 histories are kept in the folder that is named, and made where they are not there.
 
-Of each log the table has its lines and megabytes; the processor time of the whole process, user and system, by one worker, the least of N
-rounds (2 unless given), for the log and for its history, and by how many times the log takes longer; and the most memory that was resident,
-in megabytes. The lines below it say what lost writes add. The status is 1 where a run does not keep to the bounds of `faults`, which
-tests/events.py asks for too.
+Of each log the table has its lines and megabytes; the processor time of the whole process, user and system, by one worker, for the log
+and for its history, the least of N rounds (4 unless given) in which the two take turns, and by how many times the log takes longer; and
+the most memory that was resident, in megabytes. The lines below it say what lost writes add. The status is 1 where a run does not keep to
+the bounds of `faults`, which tests/events.py asks for too.
 """
 
 import argparse
@@ -29,7 +29,7 @@ from long_speed import run  # noqa: E402
 from running import made, print_table  # noqa: E402
 
 MOST_TIMES, MOST_TIMES_OF_LOST, MOST_BYTES = 1.5, 2, 200_000_000
-ROUNDS = 2
+ROUNDS = 4
 
 
 class Log(NamedTuple):
@@ -106,18 +106,20 @@ def files_of(program, log, folder):
         return text, made(folder / f"{name}.json", write)
 
 
-def least_of(command, path, output, rounds):
-    """The processor seconds of a command over a file, the least of some rounds, the most memory, and the lines that it writes."""
-    found = [(*run(command, path, output), lines_of(output)) for _ in range(rounds)]
-    return min(one[0] for one in found), max(one[1] for one in found), found[-1][3] if all(one[2] for one in found) else {}
+def in_turn(runs, output, rounds):
+    """What each of some commands over a file takes, run in turn: its processor seconds, the least of some rounds, the most memory, and the
+    lines that it writes."""
+    turns = [[(*run(command, path, output), lines_of(output)) for command, path in runs] for _ in range(rounds)]
+    for found in zip(*turns):
+        yield min(one[0] for one in found), max(one[1] for one in found), found[-1][3] if all(one[2] for one in found) else {}
 
 
 def measured(program, log, folder, rounds):
     """What a log takes."""
     text, history = files_of(program, log, folder)
     words, output = [*program, "judge", "--long", "--workers", "1"], folder / "output"
-    seconds, most, report = least_of([*words, "--events"], text, output, rounds)
-    history_seconds, _, lines_of_history = least_of(words, history, output, rounds)
+    runs = ([*words, "--events"], text), (words, history)
+    (seconds, most, report), (history_seconds, _, lines_of_history) = in_turn(runs, output, rounds)
     many = sum(1 for _ in open(text, "rb"))
     return Taken(many, text.stat().st_size, seconds, history_seconds, most, report if report == lines_of_history else {})
 
