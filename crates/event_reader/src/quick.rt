@@ -13,8 +13,8 @@ use crate::name_value::NameValue;
 use crate::said::{Said, SaidCall, SaidEnding};
 use crate::word::{Word, word_of};
 use json::{Reader, Scratch, Token};
-use long_reader::whole_number;
 use std::alloc::{AllocError, Global};
+use token_reader::whole_number;
 
 #[inline]
 fn begin_list(reader: &mut Reader<'_>) -> Option<()>

@@ -1,5 +1,4 @@
 mod CutEntries
-mod Elements
 mod FirstForms
 pub mod LongForms
 mod LongTables
@@ -10,5 +9,3 @@ mod ScalarsRead
 mod SessionsRead
 mod SpelledScalars
 mod TableRead
-mod Values
-mod WholeNumbers

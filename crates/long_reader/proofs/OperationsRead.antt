@@ -17,8 +17,9 @@ use Rattle.operations.specs.declared.read_error.ReadError.TheVariants.{ReturnAft
 use Rattle.operations.proofs.FirstRefusal.{first_among_none}
 use Rattle.operations.proofs.SessionReading.{IsReadUpTo, form_at, or_true, reads_nothing, reads_on, refused_here, unknown_among}
 use Rattle.long_reader.specs.LongRefusals.{operation_at, operations_refusal}
-use Rattle.long_reader.specs.Steps.Reading.{AreOperations, Entry, IsOperation, IsRest, IsSessionOfMemory, IsValue}
-use Rattle.long_reader.proofs.Elements.{HasRead, read_none, read_one_more, read_all, rest_passed}
+use Rattle.long_reader.specs.Steps.Reading.{AreOperations, Entry, IsOperation, IsSessionOfMemory}
+use Rattle.token_reader.specs.Tokens.{IsRest, IsValue}
+use Rattle.token_reader.proofs.Elements.{HasRead, read_none, read_one_more, read_all, rest_passed}
 
 -- the element after the first ones
 pub next_element : (ds : List Data) (d : Data) (more : List Data) → slice_get (ds ++ d ∷ more) (length ds) ≡ Some d

@@ -8,7 +8,7 @@ use Rattle.bounded_json.proofs.Tokens.{at_number, at_string}
 use Rattle.operations.specs.Places.{inside_of, limit_of}
 use Rattle.operations.specs.declared.history_place.HistoryPlace.TheVariants as places
 use Rattle.long_reader.specs.Steps.Scalars.{IsAlone, scalar_of, text_scalar}
-use Rattle.long_reader.specs.Steps.Reading.{IsValue}
+use Rattle.token_reader.specs.Tokens.{IsValue}
 use Rattle.long_reader.specs.declared.scalar.Scalar.{Scalar}
 use Rattle.long_reader.specs.declared.scalar.Scalar.TheVariants as scalars
 

@@ -3,9 +3,10 @@ use Rattle.std.proofs.Common.{◌≡◌, ℕ, ◌<◌, List, [], ◌∷◌, ◌+
 use Rattle.json.specs.Token.{Token}
 use Rattle.serde_json.specs.Data.{Data}
 use Rattle.long_reader.specs.Steps.Scalars.{IsNextScalar, operation_in, scalar_of}
-use Rattle.long_reader.specs.Steps.Reading.{Entry, IsRest}
+use Rattle.long_reader.specs.Steps.Reading.{Entry}
+use Rattle.token_reader.specs.Tokens.{IsRest}
 use Rattle.long_reader.specs.declared.scalar.Scalar.{Scalar}
-use Rattle.long_reader.proofs.Elements.{HasRead, read_all, read_one_more}
+use Rattle.token_reader.proofs.Elements.{HasRead, read_all, read_one_more}
 
 module _ (depth : ℕ) (old now r : List Token) (elements : List Data) (so_far : HasRead depth old now elements) where
   one_more : (s : Scalar) → IsNextScalar depth now r (Some s) → length r < length now → (d : Data) × HasRead depth old r (elements ++ d ∷ []) × (scalar_of d ≡ s)

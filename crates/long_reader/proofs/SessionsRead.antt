@@ -12,8 +12,9 @@ use Rattle.operations.specs.Reading.{first_among}
 use Rattle.operations.specs.declared.read_error.ReadError.{ReadError}
 use Rattle.operations.proofs.FirstRefusal.{first_among_more, first_among_some}
 use Rattle.long_reader.specs.LongRefusals.{operation_at, session_refusal, sessions_refusal}
-use Rattle.long_reader.specs.Steps.Reading.{AreOperations, AreSessions, AreSessionsOf, Entry, IsList, IsRest, IsSessionOfMemory}
-use Rattle.long_reader.proofs.Elements.{HasRead, read_none, read_one_more, read_all, rest_passed}
+use Rattle.long_reader.specs.Steps.Reading.{AreOperations, AreSessions, AreSessionsOf, Entry, IsSessionOfMemory}
+use Rattle.token_reader.specs.Tokens.{IsList, IsRest}
+use Rattle.token_reader.proofs.Elements.{HasRead, read_none, read_one_more, read_all, rest_passed}
 use Rattle.long_reader.proofs.OperationsRead.{next_element, one_then_more}
 
 empty_session : IsSessionOfMemory []

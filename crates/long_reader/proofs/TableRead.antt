@@ -12,8 +12,9 @@ use Rattle.operations.specs.RegisterForm as register
 use Rattle.operations.specs.Spelling.{entries_at, entry_at, is_above}
 use Rattle.operations.proofs.ListLaws.{then_more}
 use Rattle.long_reader.specs.LongRefusals.{table_of}
-use Rattle.long_reader.specs.Steps.Reading.{IsRest, IsValue, entry_above}
-use Rattle.long_reader.proofs.Elements.{HasRead, read_none, read_one_more, read_all, rest_passed}
+use Rattle.long_reader.specs.Steps.Reading.{entry_above}
+use Rattle.token_reader.specs.Tokens.{IsRest, IsValue}
+use Rattle.token_reader.proofs.Elements.{HasRead, read_none, read_one_more, read_all, rest_passed}
 use Rattle.long_reader.proofs.OperationsRead.{one_then_more}
 
 abbrev entries : Option ℕ → List Data → Option (List (ℕ × ℕ))

@@ -5,15 +5,16 @@ ghost use Rattle.json.specs.Reads.{token_of};
 ghost use Rattle.bounded_json.specs.Steps.Reading.{AreRefused, IsRefused, IsWholeRefused};
 ghost use Rattle.long_history.specs.LongHistories.{IsLongHistory};
 ghost use Rattle.long_reader.specs.FirstOfList.{BeginsWith, IsRefusedFirst};
-ghost use Rattle.long_reader.specs.Steps.Reading.{AreParts, IsFirst, IsFirstIn, IsJsonList, IsList, IsRest, IsWholeList, parts_in};
+ghost use Rattle.long_reader.specs.Steps.Reading.{AreParts, IsFirst, IsFirstIn, IsJsonList, IsWholeList, parts_in};
+ghost use Rattle.token_reader.specs.Tokens.{IsList, IsRest};
 
 use crate::parts::{Parts, read_history};
-use crate::passing::{next_token, pass_no_list};
 use bounded_json::{MAX_DEPTH, TextError, walk_items};
 use json::{Reader, Scratch, Token};
 use long_history::LongHistory;
 use operations::ReadError;
 use std::alloc::Global;
+use token_reader::{next_token, pass_no_list};
 
 /// The parts of the history that comes next, or their first refusal.
 fn next_history(

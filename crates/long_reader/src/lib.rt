@@ -2,22 +2,19 @@
 //!
 //! [`read_long`] reads the text of a memory history with any number of sessions and operations, once and token by token, and keeps the
 //! operations alone; [`read_long_first`] reads the history that is the first element of a list. [`small`] copies a long history into a
-//! `History`, where it fits the limits of that type. [`whole_number`] reads a number of digits alone, for readers of other texts.
+//! `History`, where it fits the limits of that type.
 #![tactic(auto)]
 
-mod digits;
 mod first;
 mod limits;
 mod operation;
 mod parts;
-mod passing;
 mod reader;
 mod scalar;
 mod session;
 mod sessions;
 mod start;
 
-pub use digits::whole_number;
 pub use first::read_long_first;
 pub use limits::{is_small, small};
 pub use reader::{read_long, read_long_in};

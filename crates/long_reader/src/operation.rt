@@ -5,15 +5,15 @@ ghost use Rattle.json.specs.Reads.{token_of};
 ghost use Rattle.bounded_json.specs.Steps.Reading.{AreRefused, IsRefused};
 ghost use Rattle.long_reader.specs.LongRefusals.{operation_at};
 ghost use Rattle.long_reader.specs.Steps.Scalars.{entry_of as spelled_entry, key_in, operation_in, spelled_by};
-ghost use Rattle.long_reader.specs.Steps.Reading.{IsRest, IsValue};
+ghost use Rattle.token_reader.specs.Tokens.{IsRest, IsValue};
 
-use crate::passing::{next_token, pass_no_list};
 use crate::scalar::{Scalar, expected_scalar, next_scalar};
 use bounded_json::{TextError, walk_items};
 use json::{Reader, Token};
 use long_history::LongEntry;
 use objects::{KeyedCall, RegisterCall, RegisterRet};
 use std::alloc::Global;
+use token_reader::{next_token, pass_no_list};
 
 /// The key that an element says.
 fn key_of(scalar: Scalar) -> Option<u32>

@@ -4,9 +4,9 @@ ghost use Rattle.std.specs.Prelude.{◌≡◌, ◌∷◌, ◌<◌, ◌≤◌, le
 ghost use Rattle.json.specs.Reads.{token_of};
 ghost use Rattle.serde_json.specs.View.{view};
 ghost use Rattle.bounded_json.specs.Steps.Reading.{AreRefused, IsRefused};
-ghost use Rattle.long_reader.specs.Steps.Reading.{AreParts, IsList, IsRest, IsValue, joined_of, name_read, parts_in};
+ghost use Rattle.long_reader.specs.Steps.Reading.{AreParts, joined_of, name_read, parts_in};
+ghost use Rattle.token_reader.specs.Tokens.{IsList, IsRest, IsValue};
 
-use crate::passing::{next_value, pass_no_list};
 use crate::sessions::read_session_list;
 use crate::start::read_start;
 use bounded_json::TextError;
@@ -17,6 +17,7 @@ use objects::Table;
 use operations::{HistoryPlace, ReadError};
 use serde_json::Value;
 use std::alloc::Global;
+use token_reader::{next_value, pass_no_list};
 
 /// A part of a history as it was read, or its refusal, or none where the value doesn't have the shape of that part.
 type Part<T> = Option<Result<T, ReadError>>;

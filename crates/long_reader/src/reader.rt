@@ -9,12 +9,12 @@ ghost use Rattle.long_reader.specs.LongRefusals.{IsRefusedLong};
 ghost use Rattle.long_reader.specs.Steps.Reading.{IsJsonOf, IsWhole};
 
 use crate::parts::{Parts, read_history};
-use crate::passing::next_token;
 use bounded_json::{MAX_DEPTH, TextError};
 use json::{Reader, Scratch};
 use long_history::LongHistory;
 use operations::{AnyHistory, ReadError};
 use std::alloc::Global;
+use token_reader::next_token;
 
 /// The parts of the history that the text is, or their first refusal.
 fn read_text(

@@ -5,15 +5,14 @@ ghost use Rattle.json.specs.Reads.{token_of};
 ghost use Rattle.serde_json.specs.View.{view};
 ghost use Rattle.bounded_json.specs.Steps.Reading.{AreRefused, IsRefused};
 ghost use Rattle.long_reader.specs.Steps.Scalars.{IsAlone, IsNextScalar, scalar_of as said_in, text_scalar};
-ghost use Rattle.long_reader.specs.Steps.Reading.{IsValue};
+ghost use Rattle.token_reader.specs.Tokens.{IsValue};
 
-use crate::digits::whole_number;
-use crate::passing::next_token;
 use bounded_json::{TextError, read_value};
 use json::{Reader, Token};
 use operations::HistoryPlace;
 use serde_json::Value;
 use std::alloc::Global;
+use token_reader::{next_token, whole_number};
 
 /// What an element of an operation says.
 #[derive(Clone, Copy)]

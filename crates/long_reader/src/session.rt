@@ -2,7 +2,8 @@
 
 ghost use Rattle.std.specs.Prelude.{◌≡◌, ◌<◌, ◌≤◌, length, IfOk, IfErr, OnOk, Some};
 ghost use Rattle.bounded_json.specs.Steps.Reading.{AreRefused, IsRefused};
-ghost use Rattle.long_reader.specs.Steps.Reading.{AreOperations, IsOperation, IsRest, IsValue};
+ghost use Rattle.long_reader.specs.Steps.Reading.{AreOperations, IsOperation};
+ghost use Rattle.token_reader.specs.Tokens.{IsRest, IsValue};
 
 use crate::operation::read_entry;
 use bounded_json::{TextError, walk_items};

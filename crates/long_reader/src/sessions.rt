@@ -2,9 +2,9 @@
 
 ghost use Rattle.std.specs.Prelude.{◌≡◌, ◌<◌, ◌≤◌, length, IfOk, IfErr, OnOk, None};
 ghost use Rattle.bounded_json.specs.Steps.Reading.{AreRefused, IsRefused};
-ghost use Rattle.long_reader.specs.Steps.Reading.{AreOperations, AreSessions, IsList, IsRest, IsSessionList};
+ghost use Rattle.long_reader.specs.Steps.Reading.{AreOperations, AreSessions, IsSessionList};
+ghost use Rattle.token_reader.specs.Tokens.{IsList, IsRest};
 
-use crate::passing::{next_token, pass_no_list};
 use crate::session::read_operations;
 use bounded_json::{TextError, walk_items};
 use causal_order::Rows;
@@ -12,6 +12,7 @@ use json::{Reader, Token};
 use long_history::LongEntry;
 use operations::ReadError;
 use std::alloc::Global;
+use token_reader::{next_token, pass_no_list};
 
 /// Reads the value that comes next, as the session numbered `s`, into `entries`, and gives its first refusal, if there is one.
 fn read_session(

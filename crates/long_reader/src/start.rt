@@ -4,14 +4,15 @@ ghost use Rattle.std.specs.Prelude.{◌≡◌, ◌<◌, ◌≤◌, length, IfOk,
 ghost use Rattle.bounded_json.specs.Steps.Reading.{AreRefused, IsRefused};
 ghost use Rattle.operations.specs.Spelling.{is_above as is_above_before};
 ghost use Rattle.long_reader.specs.LongRefusals.{table_of};
-ghost use Rattle.long_reader.specs.Steps.Reading.{IsList, IsRest, IsValue, entry_above, start_read, table_or};
+ghost use Rattle.long_reader.specs.Steps.Reading.{entry_above, start_read, table_or};
+ghost use Rattle.token_reader.specs.Tokens.{IsList, IsRest, IsValue};
 
-use crate::passing::{next_token, next_value, pass_no_list, pass_value};
 use bounded_json::{TextError, walk_items};
 use json::{Reader, Token};
 use objects::Table;
 use operations::{HistoryPlace, ReadError, SpelledStart};
 use std::alloc::Global;
+use token_reader::{next_token, next_value, pass_no_list, pass_value};
 
 /// Whether the key is above the one before it, if there is one.
 fn is_above(before: Option<u32>, key: u32) -> bool

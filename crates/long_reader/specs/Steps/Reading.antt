@@ -1,12 +1,10 @@
 -- What is read of the tokens of a text, and of its values.
-use Rattle.std.specs.Prelude.{◌≡◌, ℕ, List, [], ◌∷◌, length, map, Bool, Option, Some, None, Result, Ok, Err, MatchOption, MatchResult, nat_eq, option_map, option_and_then, slice_index_or, if◌then◌else◌}
+use Rattle.std.specs.Prelude.{◌≡◌, ℕ, List, [], ◌∷◌, map, Bool, Option, Some, None, Result, Ok, Err, MatchOption, MatchResult, nat_eq, option_map, option_and_then, slice_index_or, if◌then◌else◌}
 use Rattle.std.specs.Cmp.Lexicographic.{pointwise}
 use Rattle.std.specs.Option.{ok_or}
-use Rattle.json.specs.Json.{items, value}
-use Rattle.json.specs.Token.{Token}
-use Rattle.serde_json.specs.Data.{Data, Items}
+use Rattle.serde_json.specs.Data.{Data}
 use Rattle.serde_json.specs.Find.{as_str}
-use Rattle.serde_json.specs.Read.{of_json, of_items, converted, read}
+use Rattle.serde_json.specs.Read.{read}
 use Rattle.bounded_json.specs.Text.{IsJson}
 use Rattle.history.specs.declared.op_id.OpId.{OpId}
 use Rattle.long_history.specs.LongHistories.{IsLongSession}
@@ -14,7 +12,7 @@ use Rattle.memory_order.specs.Memory.{MemoryCall}
 use Rattle.objects.specs.Register.{matches}
 use Rattle.objects.specs.declared.register.RegisterRet.{RegisterRet}
 use Rattle.operations.specs.Form.{ReadAs}
-use Rattle.operations.specs.Json.{elements, listed}
+use Rattle.operations.specs.Json.{elements}
 use Rattle.operations.specs.ObjectNames.{text_of}
 use Rattle.operations.specs.Reading.{entry_refusal, parts_among, parts_of}
 use Rattle.operations.specs.RegisterForm as register
@@ -23,20 +21,6 @@ use Rattle.operations.specs.declared.object_name.ObjectName.TheVariants.{Memory 
 use Rattle.operations.specs.declared.read_error.ReadError.{ReadError}
 use Rattle.operations.specs.declared.read_error.ReadError.TheVariants.{BadShape, UnknownObject, BadInitial}
 use Rattle.long_reader.specs.LongRefusals.{operation_at, operations_refusal, parts_refusal, sessions_refusal, start_of, table_of}
-
--- ---- tokens
-
--- one value is passed, of which this holds
-abbrev pub IsValue : (Data → Type 0) → ℕ → List Token → List Token → Type 0
-IsValue P depth old new = (d : Data) × (converted of_json (value depth old) ≡ Some (d, new)) × P d
-
--- one value is passed, and this holds of its elements, where it is a list
-abbrev pub IsList : (Option (List Data) → Type 0) → ℕ → List Token → List Token → Type 0
-IsList P depth old new = (d : Data) × (converted of_json (value depth old) ≡ Some (d, new)) × P (elements d)
-
--- the rest of a list is passed, of whose elements this holds
-abbrev pub IsRest : (List Data → Type 0) → ℕ → List Token → List Token → Type 0
-IsRest P depth old new = (ds : Items) × (converted of_items (items (value depth) (length old) old) ≡ Some (ds, new)) × P (listed ds)
 
 -- ---- operations and sessions
 

@@ -13,7 +13,8 @@ use Rattle.objects.specs.declared.register.RegisterRet.TheVariants.{Done, Value}
 use Rattle.operations.specs.Json.{whole_number}
 use Rattle.operations.specs.RegisterForm as register
 use Rattle.operations.specs.Spelling.{keyed_parts_at, word_key_rest}
-use Rattle.long_reader.specs.Steps.Reading.{Entry, IsValue}
+use Rattle.long_reader.specs.Steps.Reading.{Entry}
+use Rattle.token_reader.specs.Tokens.{IsValue}
 use Rattle.long_reader.specs.declared.scalar.Scalar.{Scalar}
 use Rattle.long_reader.specs.declared.scalar.Scalar.TheVariants as scalars
 

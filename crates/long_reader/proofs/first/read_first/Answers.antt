@@ -3,8 +3,8 @@ use Rattle.std.proofs.lemmas.Result.{err_from_is_err_and}
 use Rattle.json.specs.Json.{after_end_array}
 use Rattle.long_reader.specs.Steps.Reading.{IsFirst}
 use Rattle.operations.specs.declared.read_error.ReadError.TheVariants.{BadShape}
-use Rattle.std.proofs.Common.{Result, Err}
-use Rattle.long_reader.proofs.Elements.{element_refused, no_rest_after, read_all, read_none, read_one_more, rest_passed}
+use Rattle.std.proofs.Common.{Err}
+use Rattle.token_reader.proofs.Elements.{element_refused, no_rest_after, read_all, read_none, read_one_more, rest_passed}
 use Rattle.long_reader.proofs.first.read_first.Goals as goal
 
 pub returns-then-take_end_array-clause-read : goal.returns-then-take_end_array-clause-read

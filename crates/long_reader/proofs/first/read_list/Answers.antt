@@ -2,7 +2,7 @@ use Rattle.std.proofs.Common.{◌≡◌, ◌<◌, ◌∷◌, ap, arith}
 use Rattle.json.specs.Reads.{token_of}
 use Rattle.json.specs.Token.{Token}
 use Rattle.long_reader.specs.Steps.Reading.{IsFirstIn}
-use Rattle.long_reader.proofs.Values.{list_if_read, list_if_refused}
+use Rattle.token_reader.proofs.Values.{list_if_read, list_if_refused}
 use Rattle.long_reader.proofs.first.read_list.Goals as goal
 
 pub returns-in-BeginArray-clause-read : goal.returns-in-BeginArray-clause-read

@@ -1,7 +1,7 @@
 use Rattle.std.proofs.Common.{[], ◌∷◌, ◌≡◌, Some, None, refl}
 use Rattle.std.proofs.lemmas.Result.{err_from_is_err_and}
 use Rattle.long_reader.specs.Steps.Scalars.{operation_in}
-use Rattle.long_reader.proofs.Elements.{no_rest, read_none, rest_passed, rest_refused}
+use Rattle.token_reader.proofs.Elements.{no_rest, read_none, rest_passed, rest_refused}
 use Rattle.long_reader.proofs.ScalarsRead.{scalar_more, scalars_over}
 use Rattle.long_reader.proofs.SpelledScalars.{four_read, three_read, too_few, too_many}
 use Rattle.long_reader.proofs.operation.read_elements.Goals as goal

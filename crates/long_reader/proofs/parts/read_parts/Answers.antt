@@ -5,7 +5,7 @@ use Rattle.operations.specs.Reading.{parts_among}
 use Rattle.operations.specs.declared.read_error.ReadError.TheVariants.{BadShape}
 use Rattle.long_reader.specs.LongRefusals.{parts_refusal}
 use Rattle.long_reader.specs.Steps.Reading.{AreParts, start_read}
-use Rattle.long_reader.proofs.Elements.{element_refused, read_all, read_none, read_one_more, rest_refused, then_rest}
+use Rattle.token_reader.proofs.Elements.{element_refused, read_all, read_none, read_one_more, rest_refused, then_rest}
 use Rattle.long_reader.proofs.PartsRead.{all_parts}
 use Rattle.long_reader.proofs.parts.read_parts.Goals as goal
 

@@ -1,7 +1,7 @@
 use Rattle.std.proofs.Common.{◌≡◌, [], None, arith, refl}
 use Rattle.std.proofs.lemmas.Result.{err_from_is_err_and}
 use Rattle.json.specs.Json.{after_end_array}
-use Rattle.long_reader.proofs.Elements.{element_refused, read_none}
+use Rattle.token_reader.proofs.Elements.{element_refused, read_none}
 use Rattle.long_reader.proofs.scalar.expected_scalar.Goals as goal
 
 pub returns-in_err-token-clause-refused : goal.returns-in_err-token-clause-refused

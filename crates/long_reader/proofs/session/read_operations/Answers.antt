@@ -1,7 +1,7 @@
 use Rattle.std.proofs.Common.{◌≡◌, length, None, ap, ◌∙◌, arith}
 use Rattle.std.proofs.lemmas.Result.{err_from_is_err_and}
 use Rattle.json.specs.Json.{after_end_array}
-use Rattle.long_reader.proofs.Elements.{element_refused, no_rest_after}
+use Rattle.token_reader.proofs.Elements.{element_refused, no_rest_after}
 use Rattle.long_reader.proofs.OperationsRead.{at_place, session_more, session_over, session_refused, unknown_is}
 use Rattle.long_reader.proofs.session.read_operations.Goals as goal
 

@@ -3,7 +3,7 @@ use Rattle.std.proofs.lemmas.Result.{err_from_is_err_and}
 use Rattle.json.specs.Reads.{token_of}
 use Rattle.json.specs.Token.{Token}
 use Rattle.long_reader.specs.Steps.Reading.{AreOperations}
-use Rattle.long_reader.proofs.Values.{list_if_read, list_if_refused}
+use Rattle.token_reader.proofs.Values.{list_if_read, list_if_refused}
 use Rattle.long_reader.proofs.sessions.read_session.Goals as goal
 
 pub returns-in_err-token-clause-refused : goal.returns-in_err-token-clause-refused

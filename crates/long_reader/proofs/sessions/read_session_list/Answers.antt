@@ -5,7 +5,7 @@ use Rattle.json.specs.Token.{Token}
 use Rattle.bounded_json.proofs.Stopping.{list_refused}
 use Rattle.operations.specs.Json.{listed}
 use Rattle.long_reader.specs.Steps.Reading.{IsSessionList}
-use Rattle.long_reader.proofs.Values.{list_there}
+use Rattle.token_reader.proofs.Values.{list_there}
 use Rattle.long_reader.proofs.sessions.read_session_list.Goals as goal
 
 pub returns-in_err-token-clause-refused : goal.returns-in_err-token-clause-refused

@@ -1,7 +1,7 @@
 use Rattle.std.proofs.Common.{◌≡◌, ◌++◌, ◌∷◌, [], None, ap, ◌∙◌, arith}
 use Rattle.std.proofs.lemmas.Result.{err_from_is_err_and}
 use Rattle.json.specs.Json.{after_end_array}
-use Rattle.long_reader.proofs.Elements.{element_refused, no_rest_after}
+use Rattle.token_reader.proofs.Elements.{element_refused, no_rest_after}
 use Rattle.long_reader.proofs.SessionsRead.{sessions_begun, sessions_more, sessions_over, sessions_refused}
 use Rattle.long_reader.proofs.sessions.read_sessions.Goals as goal
 

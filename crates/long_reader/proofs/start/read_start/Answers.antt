@@ -2,7 +2,7 @@ use Rattle.std.proofs.Common.{◌≡◌, [], ◌∷◌, Some, None, Ok, refl, ar
 use Rattle.std.proofs.lemmas.Result.{err_from_is_err_and}
 use Rattle.json.specs.Json.{after_end_array}
 use Rattle.long_reader.specs.Steps.Reading.{start_read}
-use Rattle.long_reader.proofs.Elements.{element_refused, no_rest, read_all, read_none, read_one_more, rest_passed}
+use Rattle.token_reader.proofs.Elements.{element_refused, no_rest, read_all, read_none, read_one_more, rest_passed}
 use Rattle.long_reader.proofs.start.read_start.Goals as goal
 
 pub returns-then-take_end_array-clause-read : goal.returns-then-take_end_array-clause-read

@@ -1,7 +1,7 @@
 use Rattle.std.proofs.Common.{◌≡◌, ◌≢◌, [], None, true, false, sym, ◌∙◌, arith}
 use Rattle.std.proofs.lemmas.Result.{err_from_is_err_and}
 use Rattle.json.specs.Json.{after_end_array}
-use Rattle.long_reader.proofs.Elements.{element_refused, no_rest_after}
+use Rattle.token_reader.proofs.Elements.{element_refused, no_rest_after}
 use Rattle.long_reader.proofs.TableRead.{table_begun, table_empty, table_more, table_over, table_refused}
 use Rattle.long_reader.proofs.start.read_table.Goals as goal
 

@@ -6,7 +6,7 @@ use Rattle.std.specs.Prelude.{option_map}
 use Rattle.bounded_json.proofs.Stopping.{list_refused}
 use Rattle.long_reader.specs.LongRefusals.{table_of}
 use Rattle.long_reader.specs.Steps.Reading.{table_or}
-use Rattle.long_reader.proofs.Values.{list_there}
+use Rattle.token_reader.proofs.Values.{list_there}
 use Rattle.long_reader.proofs.start.read_table_list.Goals as goal
 
 pub returns-in_err-token-clause-refused : goal.returns-in_err-token-clause-refused

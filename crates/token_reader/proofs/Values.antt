@@ -15,7 +15,7 @@ use Rattle.bounded_json.specs.declared.text_error.TextError.{TextError}
 use Rattle.bounded_json.proofs.Stopping.{list_refused}
 use Rattle.bounded_json.proofs.Tokens.{Read, next, at_null, at_boolean, at_string, at_number, at_begin_array, at_begin_object, no_object}
 use Rattle.operations.specs.Json.{elements}
-use Rattle.long_reader.specs.Steps.Reading.{IsList, IsRest}
+use Rattle.token_reader.specs.Tokens.{IsList, IsRest}
 
 -- a value, and what stands after it
 abbrev pub there : Data → List Token → Read

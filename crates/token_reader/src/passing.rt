@@ -5,7 +5,7 @@ ghost use Rattle.json.specs.Reads.{token_of};
 ghost use Rattle.serde_json.specs.View.{view};
 ghost use Rattle.bounded_json.specs.Steps.Reading.{IsCut, IsRefused};
 ghost use Rattle.operations.specs.Places.{inside_of, limit_of};
-ghost use Rattle.long_reader.specs.Steps.Reading.{IsList, IsValue};
+ghost use Rattle.token_reader.specs.Tokens.{IsList, IsValue};
 
 use bounded_json::{TextError, read_value};
 use json::{Reader, Token};
@@ -15,7 +15,7 @@ use std::alloc::Global;
 
 /// The next token, with which a value begins.
 #[inline(always)]
-pub(crate) fn next_token<'a>(reader: &mut Reader<'a>) -> Result<Token<'a>, TextError>
+pub fn next_token<'a>(reader: &mut Reader<'a>) -> Result<Token<'a>, TextError>
     ensures token { IfOk result (λ token. reader.old ≡ token_of token ∷ reader.new) }
     ensures none { OnErr result (reader.old ≡ []) }
     ensures refused { IfErr result (λ error. (depth : ℕ) → IsRefused depth reader.old error) }
@@ -27,7 +27,7 @@ pub(crate) fn next_token<'a>(reader: &mut Reader<'a>) -> Result<Token<'a>, TextE
 }
 
 /// The value that comes next, cut at its place.
-pub(crate) fn next_value(
+pub fn next_value(
     alloc: Global,
     reader: &mut Reader<'_>,
     place: HistoryPlace,
@@ -42,11 +42,7 @@ pub(crate) fn next_value(
 }
 
 /// Passes the value that comes next.
-pub(crate) fn pass_value(
-    alloc: Global,
-    reader: &mut Reader<'_>,
-    depth: usize,
-) -> Result<(), TextError>
+pub fn pass_value(alloc: Global, reader: &mut Reader<'_>, depth: usize) -> Result<(), TextError>
     ensures passed { OnOk result (IsValue (λ _. Unit {0}) depth reader.old reader.new) }
     ensures shorter { OnOk result (length reader.new < length reader.old) }
     ensures refused { IfErr result (IsRefused depth reader.old) }
@@ -56,7 +52,7 @@ pub(crate) fn pass_value(
 }
 
 /// Passes the value that begins with a token; the value is no list.
-pub(crate) fn pass_no_list(
+pub fn pass_no_list(
     alloc: Global,
     token: Token<'_>,
     reader: &mut Reader<'_>,

@@ -1,6 +1,6 @@
 use Rattle.std.proofs.Common.{◌≡◌, [], ap, ◌∙◌, arith}
 use Rattle.bounded_json.proofs.Tokens.{next, at_end}
-use Rattle.long_reader.proofs.passing.next_token.Goals as goal
+use Rattle.token_reader.proofs.passing.next_token.Goals as goal
 
 pub returns-in-None-clause-refused : goal.returns-in-None-clause-refused
 returns-in-None-clause-refused c = λ depth.

@@ -13,7 +13,7 @@ use Rattle.bounded_json.proofs.CutLists.{before, before_one_more}
 use Rattle.bounded_json.proofs.Stopping.{stops_too}
 use Rattle.bounded_json.proofs.Turns.{item_read, item_refused, items_over}
 use Rattle.operations.specs.Json.{listed}
-use Rattle.long_reader.specs.Steps.Reading.{IsRest}
+use Rattle.token_reader.specs.Tokens.{IsRest}
 
 -- ---- any number of turns that is large enough gives the same list
 

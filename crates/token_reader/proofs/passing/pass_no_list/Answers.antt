@@ -1,5 +1,5 @@
-use Rattle.long_reader.proofs.Values.{no_list_there}
-use Rattle.long_reader.proofs.passing.pass_no_list.Goals as goal
+use Rattle.token_reader.proofs.Values.{no_list_there}
+use Rattle.token_reader.proofs.passing.pass_no_list.Goals as goal
 
 pub returns-clause-passed : goal.returns-clause-passed
 returns-clause-passed c =

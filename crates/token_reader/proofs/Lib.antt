@@ -1,0 +1,4 @@
+pub mod Elements
+pub mod Gathering
+pub mod Values
+pub mod WholeNumbers

@@ -1,0 +1,51 @@
+//! Taking the elements of the list that a whole text is.
+
+ghost use Rattle.std.specs.Prelude.{◌≡◌, [], IfOk, IfErr, Some};
+ghost use Rattle.serde_json.specs.Data.{Data};
+ghost use Rattle.serde_json.specs.Read.{read};
+ghost use Rattle.bounded_json.specs.Steps.Reading.{IsWholeRefused};
+ghost use Rattle.bounded_json.specs.Text.{IsJson, IsTextRefused};
+ghost use Rattle.operations.specs.Json.{elements};
+ghost use Rattle.token_reader.specs.Gathers.{IsTakenList};
+
+use crate::gather::{Gather, gather_list};
+use crate::passing::next_token;
+use bounded_json::{MAX_DEPTH, TextError};
+use json::{Reader, Scratch};
+use std::alloc::Global;
+
+/// Takes the elements of the list that the text is, and returns whether it is a list, and its elements are wanted.
+fn gather_whole<G: Gather>(alloc: Global, text: &str, gathered: &mut G) -> Result<bool, TextError>
+    requires empty { G.is_of gathered.old [] }
+    ensures read { IfOk result
+        (λ taken. (d : Data) × (read text.now ≡ Some d) × IsTakenList G.is_of G.refuses gathered.new taken (elements d)) }
+    ensures refused { IfErr result (IsWholeRefused text.now) }
+{
+    let mut scratch = Scratch::new(alloc);
+    let mut reader = Reader::new(text, &mut scratch)?;
+    let token = next_token(&mut reader)?;
+    let taken = gather_list(alloc, token, &mut reader, MAX_DEPTH, gathered)?;
+    if reader.next().is_some() {
+        return Err(TextError::NotJson);
+    }
+    Ok(taken)
+}
+
+/// Takes the elements of the list that the bytes are as JSON, and returns whether they are a list, and its elements are wanted.
+///
+/// `NotJson` exactly where `serde_json` refuses the text, also for what is not wanted. `Memory` only where an allocation was refused.
+pub fn gather_text<G: Gather>(
+    alloc: Global,
+    text: &[u8],
+    gathered: &mut G,
+) -> Result<bool, TextError>
+    requires empty { G.is_of gathered.old [] }
+    ensures read { IfOk result
+        (λ taken. (d : Data) × IsJson text.now d × IsTakenList G.is_of G.refuses gathered.new taken (elements d)) }
+    ensures refused { IfErr result (IsTextRefused text.now) }
+{
+    match simdutf8::compat::from_utf8(text) {
+        Ok(text) => gather_whole(alloc, text, gathered),
+        Err(_) => Err(TextError::NotJson),
+    }
+}
