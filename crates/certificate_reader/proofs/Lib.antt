@@ -1,0 +1,6 @@
+mod CertificateParts
+mod Forms
+mod KeptLists
+mod NumberTokens
+mod PairReading
+pub mod TooLarge

@@ -1,0 +1,11 @@
+pub mod AfterWord
+pub mod ClaimHistories
+pub mod ClaimParts
+pub mod Claims
+pub mod Forms
+pub mod LineParts
+pub mod LinkParts
+pub mod OtherWords
+pub mod PatternParts
+pub mod Scalars
+pub mod Wholes

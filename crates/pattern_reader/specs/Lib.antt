@@ -1,0 +1,3 @@
+pub mod ClaimForm
+pub mod Steps
+pub mod Words

@@ -1,0 +1,7 @@
+-- What the functions say to one another: no statement of what is read names these.
+pub mod Alone
+pub mod ClaimHistories
+pub mod ClaimTaken
+pub mod PartWords
+pub mod PatternTaken
+pub mod Taken

@@ -1,0 +1,61 @@
+//! What is made of the first element of a claim, which is a history.
+
+ghost use Rattle.std.specs.Prelude.{◌<◌, length, IfOk, IfErr, OnOk};
+ghost use Rattle.serde_json.specs.Data.{Data};
+ghost use Rattle.bounded_json.specs.Steps.Reading.{IsRefused};
+ghost use Rattle.pattern_reader.specs.Steps.ClaimHistories.{IsHistoryOf};
+ghost use Rattle.token_reader.specs.Tokens.{IsValue};
+
+use bounded_json::TextError;
+use json::Reader;
+use operations::{AnyHistory, HistoryPlace, ReadError, history_of};
+use std::alloc::Global;
+use token_reader::{next_value, pass_value};
+
+/// What is made of the first element of a claim.
+pub(crate) trait ClaimHistory: Drop + Sized {
+    /// It is made of this value.
+    ghost made_of: { Self → Data → Type 0 };
+
+    /// What is made of the value that comes next. It passes the value in any case.
+    ///
+    /// `NotJson` exactly where no value comes next, and `Memory` only where an allocation was refused.
+    fn next(alloc: Global, reader: &mut Reader<'_>, depth: usize) -> Result<Self, TextError>
+        ensures read { IfOk result (λ history. IsValue (made_of history) depth reader.old reader.new) }
+        ensures shorter { OnOk result (length reader.new < length reader.old) }
+        ensures refused { IfErr result (IsRefused depth reader.old) };
+}
+
+/// The history, or its first refusal, which is kept until the rest of the text was read.
+#[derive(Drop)]
+pub(crate) struct ReadHistory(pub(crate) Result<AnyHistory, ReadError>);
+
+impl ClaimHistory for ReadHistory {
+    ghost made_of = { λ history d. IsHistoryOf d history.0 };
+
+    fn next(
+        alloc: Global,
+        reader: &mut Reader<'_>,
+        depth: usize,
+    ) -> Result<ReadHistory, TextError> {
+        let value = next_value(alloc, reader, HistoryPlace::Whole, depth)?;
+        Ok(ReadHistory(history_of(alloc, &value)))
+    }
+}
+
+/// A history that was passed.
+#[derive(Clone, Copy)]
+pub(crate) struct PassedHistory;
+
+impl ClaimHistory for PassedHistory {
+    ghost made_of = { λ _ _. Unit {0} };
+
+    fn next(
+        alloc: Global,
+        reader: &mut Reader<'_>,
+        depth: usize,
+    ) -> Result<PassedHistory, TextError> {
+        pass_value(alloc, reader, depth)?;
+        Ok(PassedHistory)
+    }
+}
