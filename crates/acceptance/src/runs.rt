@@ -2,7 +2,7 @@
 
 use crate::devices::{Device, Failing, NEVER, Sink};
 use crate::running::said_over;
-use engine::{Judging, MAX_INPUT_BYTES, MAX_READ_CALLS, Order, Workers, read_input};
+use engine::{Judging, Length, MAX_INPUT_BYTES, MAX_READ_CALLS, Order, Workers, read_input};
 use std::alloc::AllocError;
 use std::io::ErrorKind;
 use std::sync::Wait;
@@ -16,10 +16,21 @@ const LONGER_HISTORY: &[u8] = b"[\"memory\",[[[\"w\",0,1]],[[\"r\",0,1]]]]";
 /// What `judge` says over a device, and how many read calls it made.
 fn said_of_reads<P: Threads + Wait + Sync + AllocGlobal>(
     rt: &P,
+    device: Device<'_>,
+) -> Result<String, AllocError> {
+    said_of_reads_at(rt, Length::Limited, device)
+}
+
+/// The same of a history that may have this length.
+fn said_of_reads_at<P: Threads + Wait + Sync + AllocGlobal>(
+    rt: &P,
+    length: Length,
     mut device: Device<'_>,
 ) -> Result<String, AllocError> {
     let mut sink = Sink::new(rt.alloc(), 1, NEVER);
-    let order = Order::Judge(Judging::by(Workers::usual()));
+    let mut judging = Judging::by(Workers::usual());
+    judging.length = length;
+    let order = Order::Judge(judging);
     let said = said_over(rt, order, &mut device, &mut sink)?;
     let calls = device.calls;
     format!(in rt.alloc(); "{said} after {calls} reads")
@@ -55,6 +66,26 @@ fn an_interrupted_read_is_made_again_and_counted(rt: HostRuntime) -> Result<(), 
     assert_eq!(rt; answered.as_str(), wanted);
     let failed = said_of_reads(&rt, Device::new(HISTORY, 0, 1, INTERRUPTED_EVER_SINCE))?;
     assert_eq!(rt; failed.as_str(), "3 read fault after 1048576 reads");
+    Ok(())
+}
+
+#[test]
+fn of_a_long_input_calls_in_a_row_are_counted_that_bring_nothing(
+    rt: HostRuntime,
+) -> Result<(), Fail> {
+    let blanks = MAX_READ_CALLS as usize;
+    let answered = said_of_reads_at(&rt, Length::Any, Device::new(HISTORY, blanks, 1, NEVER))?;
+    let wanted = "0 cc no ThinAirRead%cm no ThinAirRead%ccv no ThinAirRead% after 1048601 reads";
+    assert_eq!(rt; answered.as_str(), wanted);
+    let interrupted = Device::new(HISTORY, 0, 1, INTERRUPTED_THREE_TIMES);
+    let answered = said_of_reads_at(&rt, Length::Any, interrupted)?;
+    let wanted = "0 cc no ThinAirRead%cm no ThinAirRead%ccv no ThinAirRead% after 28 reads";
+    assert_eq!(rt; answered.as_str(), wanted);
+    let interrupted = Device::new(HISTORY, 0, 1, INTERRUPTED_EVER_SINCE);
+    let failed = said_of_reads_at(&rt, Length::Any, interrupted)?;
+    assert_eq!(rt; failed.as_str(), "3 read fault after 1048577 reads");
+    let failed = said_of_reads_at(&rt, Length::Any, Device::new(HISTORY, 0, 1, failing_at(9)))?;
+    assert_eq!(rt; failed.as_str(), "3 read fault after 9 reads");
     Ok(())
 }
 

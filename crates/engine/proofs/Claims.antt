@@ -1,57 +1,70 @@
 -- Why a claim is refused.
-use Rattle.std.proofs.Common.{◌≡◌, ◌≤◌, ◌<◌, ◌∙◌, ℕ, ap, sym, subst, refl, arith, List, [], ◌∷◌, length, get_or, map, Option, Some}
+use Rattle.std.proofs.Common.{◌≡◌, ◌∙◌, ℕ, ap, sym, subst, refl, List, [], ◌∷◌, Option, Some, None, inl, inr}
 use Rattle.std.specs.Prelude.{◌≢◌}
 use Rattle.serde_json.specs.Data.{Data, string}
 use Rattle.operations.specs.declared.read_error.ReadError.{ReadError}
 use Rattle.operations.specs.declared.read_error.ReadError.TheVariants as errors
 use Rattle.operations.specs.declared.any_history.AnyHistory.{AnyHistory}
-use Rattle.operations.specs.AnyForm.{first_refusal, form_of, IsAnyHistory}
+use Rattle.operations.specs.AnyForm.{form_of, IsAnyHistory, IsJson}
 use Rattle.operations.specs.Json.{elements, list}
-use Rattle.operations.specs.Laws.Json.{list_from_elements}
-use Rattle.operations.specs.Refusals.{IsFirst}
 use Rattle.cert_check.specs.declared.criterion.Criterion.{Criterion}
 use Rattle.cert_check.specs.CriterionNames.{name_of}
 use Rattle.bad_patterns.specs.declared.pattern.Pattern.{Pattern}
 use Rattle.bad_patterns.specs.PatternForm.{form_of as pattern_form}
+use Rattle.pattern_reader.specs.ClaimForm.{claim_refusal as refusal_read, IsClaimRefused}
 use Rattle.cert_check.proofs.CriterionNames.{one_name}
 use Rattle.engine.proofs.PatternForms.{one_pattern}
 use Rattle.engine.specs.Failure.{failure_of}
+use Rattle.engine.specs.declared.failure.RunError.TheVariants.{NotThatPattern}
 use Rattle.command_line.specs.declared.length.Length.{Length}
 use Rattle.command_line.specs.declared.length.Length.TheVariants.{Limited}
 use Rattle.engine.specs.Lengths.{IsHistoryOf, first_refusal_of}
-use Rattle.engine.specs.Refuting.{claim_form, claim_refusal, claim_refusal_at, first_of_claim, HasNoSuchPattern, HasNoSuchPatternAt, IsClaimErrorOf, IsPatternOf}
+use Rattle.engine.specs.Refuting.{claim_form, claim_refusal, claim_refusal_at, HasNoSuchPatternAt, IsClaimError, IsPatternOf}
 
 -- the first refusal of a list of three is that of its history
 pub refusal-claim : (long : Length) (d h c p : Data) → d ≡ list (h ∷ c ∷ p ∷ []) → claim_refusal_at long (elements d) ≡ first_refusal_of long h
 refusal-claim long d h c p is = ap (λ (x : Data). claim_refusal_at long (elements x)) is
 
-first-of_claim : (d h c p : Data) (e : ReadError) → d ≡ list (h ∷ c ∷ p ∷ []) → IsFirst (first_refusal h) e → IsFirst (claim_refusal (elements d)) e
-first-of_claim d h c p e is first = subst (λ (o : Option ReadError). IsFirst o e) (sym (refusal-claim Limited d h c p is)) first
+-- ---- the reader refuses what is refused as a claim
 
-pub claim_refused : (d h c p : Data) (e : ReadError) → d ≡ list (h ∷ c ∷ p ∷ []) → IsFirst (first_refusal h) e → IsClaimErrorOf d (failure_of e)
-claim_refused d h c p errors.NotJson is first = absurd first
-claim_refused d h c p errors.BadShape is first = first-of_claim d h c p errors.BadShape is first
-claim_refused d h c p errors.UnknownObject is first = first-of_claim d h c p errors.UnknownObject is first
-claim_refused d h c p (errors.BadOp op) is first = first-of_claim d h c p (errors.BadOp op) is first
-claim_refused d h c p (errors.ReturnAfterUnknown op) is first = first-of_claim d h c p (errors.ReturnAfterUnknown op) is first
-claim_refused d h c p errors.TooManySessions is first = first-of_claim d h c p errors.TooManySessions is first
-claim_refused d h c p errors.TooManyOps is first = first-of_claim d h c p errors.TooManyOps is first
-claim_refused d h c p errors.Memory is first = tt
-claim_refused d h c p errors.BadInitial is first = first-of_claim d h c p errors.BadInitial is first
+same_refusal : (ds : Option (List Data)) → claim_refusal ds ≡ refusal_read ds
+same_refusal None = refl
+same_refusal (Some []) = refl
+same_refusal (Some (h ∷ [])) = refl
+same_refusal (Some (h ∷ c ∷ [])) = refl
+same_refusal (Some (h ∷ c ∷ p ∷ [])) = refl
+same_refusal (Some (h ∷ c ∷ p ∷ d ∷ ds)) = refl
 
-module _ (d h c p : Data) (history : AnyHistory) (is : d ≡ list (h ∷ c ∷ p ∷ [])) (good : IsAnyHistory history) (same : h ≡ form_of history) where
-  -- behind the history stands no name of a criterion
-  pub claim_without_criterion : ((criterion : Criterion) → c ≢ string (name_of criterion)) → HasNoSuchPattern d
+refused_as : (text : List ℕ) (e : ReadError) → (d : Data) × IsJson text d × (refusal_read (elements d) ≡ Some e) → (d : Data) × IsJson text d × (claim_refusal (elements d) ≡ Some e)
+refused_as text e refused = (refused.0, refused.1, same_refusal (elements refused.0) ∙ refused.2)
+
+pub claim_unread : (text : List ℕ) (e : ReadError) → IsClaimRefused text e → IsClaimError text (failure_of e)
+claim_unread text errors.NotJson none = inl (refl, none)
+claim_unread text errors.BadShape refused = inr (refused_as text errors.BadShape refused)
+claim_unread text errors.UnknownObject refused = inr (refused_as text errors.UnknownObject refused)
+claim_unread text (errors.BadOp op) refused = inr (refused_as text (errors.BadOp op) refused)
+claim_unread text (errors.ReturnAfterUnknown op) refused = inr (refused_as text (errors.ReturnAfterUnknown op) refused)
+claim_unread text errors.TooManySessions refused = inr (refused_as text errors.TooManySessions refused)
+claim_unread text errors.TooManyOps refused = inr (refused_as text errors.TooManyOps refused)
+claim_unread text errors.Memory refused = tt
+claim_unread text errors.BadInitial refused = inr (refused_as text errors.BadInitial refused)
+
+module _ (text : List ℕ) (h : AnyHistory) (good : IsAnyHistory h) (c p : Data) (json : IsJson text (list (form_of h ∷ c ∷ p ∷ []))) where
+  -- after the history comes no name of a criterion
+  pub claim_without_criterion : ((criterion : Criterion) → c ≢ string (name_of criterion)) → IsClaimError text NotThatPattern
   claim_without_criterion none =
-      (history, c, p, good, is ∙ ap (λ (x : Data). list (x ∷ c ∷ p ∷ [])) same, λ criterion pattern name form shown. none criterion name)
+      (list (form_of h ∷ c ∷ p ∷ []), json, (h, c, p, good, refl, λ criterion pattern name form shown. none criterion name))
 
-  -- or behind that no form of a pattern
-  pub claim_without_pattern : ((pattern : Pattern) → p ≢ pattern_form pattern) → HasNoSuchPattern d
+  -- or after that no form of a pattern
+  pub claim_without_pattern : ((pattern : Pattern) → p ≢ pattern_form pattern) → IsClaimError text NotThatPattern
   claim_without_pattern none =
-      (history, c, p, good, is ∙ ap (λ (x : Data). list (x ∷ c ∷ p ∷ [])) same, λ criterion pattern name form shown. none pattern form)
+      (list (form_of h ∷ c ∷ p ∷ []), json, (h, c, p, good, refl, λ criterion pattern name form shown. none pattern form))
 
--- why a claim of three elements is refused, by which of them it is
-pub ruleset refused_claims = (claim_refused, claim_without_criterion, claim_without_pattern)
+  pub claim_read : (criterion : Criterion) (pattern : Pattern) → c ≡ string (name_of criterion) → p ≡ pattern_form pattern → IsJson text (claim_form h criterion pattern)
+  claim_read criterion pattern name form = subst (IsJson text) (λ i. list (form_of h ∷ name i ∷ form i ∷ [])) json
+
+-- how the text of a claim is read, or why it is refused
+pub ruleset refused_claims = (claim_unread, claim_without_criterion, claim_without_pattern, claim_read)
 
 -- or the pattern does not show it: a name is that of one criterion, and a value the form of one pattern
 pub claim_not_shown : (long : Length) (h : AnyHistory) (criterion : Criterion) (pattern : Pattern) → IsHistoryOf long h
@@ -69,21 +82,3 @@ claim_not_shown long h criterion pattern good refused = (
   where
     one_text : (v w : List ℕ) → string v ≡ string w → v ≡ w
     one_text v w same = cc
-
--- a list of another length than three
-pub other_length : (ds : List Data) → (length ds ≡ 3 → ⊥) → first_of_claim ds ≡ Some errors.BadShape
-other_length [] other = refl
-other_length (h ∷ []) other = refl
-other_length (h ∷ c ∷ []) other = refl
-other_length (h ∷ c ∷ p ∷ []) other = absurd (other refl)
-other_length (h ∷ c ∷ p ∷ d ∷ ds) other = refl
-
--- the list of three elements
-pub list_of-three : {A : Type 0} (f : A → Data) (d : Data) (xs : List A) (h c p : A) → Some (map f xs) ≡ elements d → 3 ≤ length xs → length xs < 4
-    → h ≡ get_or xs 0 h → c ≡ get_or xs 1 c → p ≡ get_or xs 2 p → d ≡ list (f h ∷ f c ∷ f p ∷ [])
-list_of-three f d [] h c p is least most first second third = absurd (omega arith)
-list_of-three f d (a ∷ []) h c p is least most first second third = absurd (omega arith)
-list_of-three f d (a ∷ b ∷ []) h c p is least most first second third = absurd (omega arith)
-list_of-three f d (a ∷ b ∷ x ∷ []) h c p is least most first second third =
-    list_from_elements d (f a ∷ f b ∷ f x ∷ []) (sym is) ∙ (λ i. list (f (sym first i) ∷ f (sym second i) ∷ f (sym third i) ∷ []))
-list_of-three f d (a ∷ b ∷ x ∷ y ∷ xs) h c p is least most first second third = absurd (omega arith)

@@ -1,9 +1,7 @@
 pub mod Pairs
 pub mod PatternForms
 pub mod Claims
-pub mod CutClaims
-pub mod CutLongClaims
-pub mod CutPairs
+pub mod LongClaims
 pub mod Founded
 pub mod EachAnswer
 pub mod JudgeErrors

@@ -39,8 +39,9 @@ use Rattle.command_line.specs.Expected.{expecting_nothing}
 use Rattle.engine.specs.Driving.{IsDriveError, IsDriveReport, IsUndriven, sessions_in}
 use Rattle.engine.specs.declared.failure.RunError.{RunError}
 use Rattle.engine.specs.declared.failure.RunError.TheVariants.{History, Script, BadCertificate, ShapeMismatch, NotThatPattern, BadLimits, NoSuch, TooLong, Memory, ReadFault, WriteFault}
-use Rattle.engine.specs.declared.input.TheConstants.{MAX_INPUT_BYTES}
-use Rattle.engine.specs.Checking.{HasOtherShape, HasShape, IsCheckReport, IsPair, IsPairError, pair_form, pair_refusal}
+use Rattle.engine.specs.InputLengths.{length_for, most_bytes}
+use Rattle.certificate_reader.specs.Pairs.{pair_form, pair_refusal}
+use Rattle.engine.specs.Checking.{HasOtherShape, HasShape, IsCheckReport, IsPair, IsPairError}
 use Rattle.engine.specs.ListingFaults.{IsListedAs}
 use Rattle.engine.specs.Refuting.{claim_form, claim_refusal_at, IsClaimErrorAt, IsPatternOf, IsRefutationAt}
 use Rattle.engine.specs.Failure.{failure_status, refusal_status, script_status}
@@ -589,18 +590,18 @@ pub reported_long : (text answer : List ℕ) (h : MemoryHistory) → IsLongHisto
 reported_long text answer h is json report = one_long text report.history h report.is_history is report.read json
 
 -- what is too long is not answered, and refused for that alone
-pub too_long-not_answered : (order : Order) (bytes : List ℕ) (before after : Option (List ℕ)) (outcome : Outcome) → MAX_INPUT_BYTES < length bytes → Completes order (Some bytes) before after outcome → ⊥
-too_long-not_answered order bytes before after outcome long answers = let same : length answers.input ≡ length bytes = ap length answers.whole in let within = answers.within in omega arith
+pub too_long-not_answered : (order : Order) (bytes : List ℕ) (before after : Option (List ℕ)) (outcome : Outcome) → most_bytes (length_for order) < length bytes → Completes order (Some bytes) before after outcome → ⊥
+too_long-not_answered order bytes before after outcome long answers = let same : length answers.input ≡ length bytes = ap length answers.whole in let within : length answers.input ≤ most_bytes (length_for order) = answers.within in omega (arith, long)
 
-pub too_long-fails : (order : Order) (bytes : List ℕ) (e : RunError) → MAX_INPUT_BYTES < length bytes → Fails order (Some bytes) e → (e ≡ TooLong) ⊎ ((e ≡ Memory) ⊎ (e ≡ ReadFault))
-too_long-fails order bytes (History p) long fails = let same : length fails.0 ≡ length bytes = ap length fails.1 in let within = fails.2 in absurd (omega arith)
-too_long-fails order bytes (Script p) long fails = let same : length fails.0 ≡ length bytes = ap length fails.1 in let within = fails.2 in absurd (omega arith)
-too_long-fails order bytes BadCertificate long fails = let same : length fails.0 ≡ length bytes = ap length fails.1 in let within = fails.2 in absurd (omega arith)
-too_long-fails order bytes ShapeMismatch long fails = let same : length fails.0 ≡ length bytes = ap length fails.1 in let within = fails.2 in absurd (omega arith)
-too_long-fails order bytes NotThatPattern long fails = let same : length fails.0 ≡ length bytes = ap length fails.1 in let within = fails.2 in absurd (omega arith)
-too_long-fails order bytes BadLimits long fails = let same : length fails.0 ≡ length bytes = ap length fails.1 in let within = fails.2 in absurd (omega arith)
-too_long-fails order bytes NoSuch long fails = let same : length fails.0 ≡ length bytes = ap length fails.1 in let within = fails.2 in absurd (omega arith)
+pub too_long-fails : (order : Order) (bytes : List ℕ) (e : RunError) → most_bytes (length_for order) < length bytes → Fails order (Some bytes) e → (e ≡ TooLong) ⊎ ((e ≡ Memory) ⊎ (e ≡ ReadFault))
+too_long-fails order bytes (History p) long fails = let same : length fails.0 ≡ length bytes = ap length fails.1 in let within : length fails.0 ≤ most_bytes (length_for order) = fails.2 in absurd (omega (arith, long))
+too_long-fails order bytes (Script p) long fails = let same : length fails.0 ≡ length bytes = ap length fails.1 in let within : length fails.0 ≤ most_bytes (length_for order) = fails.2 in absurd (omega (arith, long))
+too_long-fails order bytes BadCertificate long fails = let same : length fails.0 ≡ length bytes = ap length fails.1 in let within : length fails.0 ≤ most_bytes (length_for order) = fails.2 in absurd (omega (arith, long))
+too_long-fails order bytes ShapeMismatch long fails = let same : length fails.0 ≡ length bytes = ap length fails.1 in let within : length fails.0 ≤ most_bytes (length_for order) = fails.2 in absurd (omega (arith, long))
+too_long-fails order bytes NotThatPattern long fails = let same : length fails.0 ≡ length bytes = ap length fails.1 in let within : length fails.0 ≤ most_bytes (length_for order) = fails.2 in absurd (omega (arith, long))
+too_long-fails order bytes BadLimits long fails = let same : length fails.0 ≡ length bytes = ap length fails.1 in let within : length fails.0 ≤ most_bytes (length_for order) = fails.2 in absurd (omega (arith, long))
+too_long-fails order bytes NoSuch long fails = let same : length fails.0 ≡ length bytes = ap length fails.1 in let within : length fails.0 ≤ most_bytes (length_for order) = fails.2 in absurd (omega (arith, long))
 too_long-fails order bytes TooLong long fails = inl refl
 too_long-fails order bytes Memory long fails = inr (inl refl)
 too_long-fails order bytes ReadFault long fails = inr (inr refl)
-too_long-fails order bytes WriteFault long fails = let same : length fails.0 ≡ length bytes = ap length fails.1 in let within = fails.2 in absurd (omega arith)
+too_long-fails order bytes WriteFault long fails = let same : length fails.0 ≡ length bytes = ap length fails.1 in let within : length fails.0 ≤ most_bytes (length_for order) = fails.2 in absurd (omega (arith, long))

@@ -9,6 +9,7 @@ use Rattle.operations.specs.AnyForm.{first_refusal, form_of, IsAnyHistory, IsJso
 use Rattle.cert_check.specs.declared.certificate.Certificate.{Certificate}
 use Rattle.cert_check.specs.Certificates.{HasShapeOf, criterion_of}
 use Rattle.cert_check.specs.CertificateForm.{form_of as certificate_form, IsCertificate}
+use Rattle.certificate_reader.specs.Pairs.{pair_form, pair_refusal}
 use Rattle.engine.specs.declared.failure.RunError.{RunError}
 use Rattle.engine.specs.declared.failure.RunError.TheVariants.{BadCertificate, ShapeMismatch, Memory}
 use Rattle.engine.specs.InputErrors.{IsErrorOf, IsTextError}
@@ -16,30 +17,16 @@ use Rattle.engine.specs.Report.{HoldsOf, IsTrueOf, line_for}
 use Rattle.board.specs.declared.answer.Answer.{Answer}
 use Rattle.collector.specs.Judgements.{IsSaidOf}
 
--- a history's form and another value in one JSON list, and a text of it
-abbrev pub pair_form : Data → Data → Data
-pair_form history certificate = list (history ∷ certificate ∷ [])
-
+-- a text of a pair of a history's form and another value
 abbrev pub IsPair : List ℕ → Data → Data → Type 0
 IsPair text history certificate = IsJson text (pair_form history certificate)
-
--- the first refusal of a pair: it is no list of two elements, or its history has this first refusal
-abbrev pub first_of_pair : List Data → Option ReadError
-first_of_pair [] = Some errors.BadShape
-first_of_pair (h ∷ []) = Some errors.BadShape
-first_of_pair (h ∷ c ∷ []) = first_refusal h
-first_of_pair (h ∷ c ∷ d ∷ ds) = Some errors.BadShape
-
-abbrev pub pair_refusal : Option (List Data) → Option ReadError
-pair_refusal None = Some errors.BadShape
-pair_refusal (Some ds) = first_of_pair ds
 
 -- the first element of a pair is the form of a history, and the second no form of a certificate
 abbrev pub HasBadCertificate : Data → Type 0
 HasBadCertificate pair =
     (h : AnyHistory) × (d : Data) × IsAnyHistory h × (pair ≡ pair_form (form_of h) d) × ((c : Certificate) → IsCertificate c → d ≢ certificate_form c)
 
--- behind the history of a pair stands no certificate
+-- after the history of a pair comes no certificate
 abbrev pub IsWrongPair : RunError → Data → Type 0
 IsWrongPair BadCertificate pair = HasBadCertificate pair
 IsWrongPair _ pair = ⊥
@@ -63,6 +50,11 @@ IsShown history certificate said = HoldsOf (λ S C R answer h. IsSaidOf answer h
 abbrev pub HasOtherShape : List ℕ → Type 0
 HasOtherShape text =
     (h : AnyHistory) × (c : Certificate) × IsAnyHistory h × IsCertificate c × IsPair text (form_of h) (certificate_form c) × ¬ HasShape h c
+
+-- why there is no pair to check: the text is refused as one, or its certificate has the shape of no such history
+abbrev pub IsUnread : List ℕ → RunError → Type 0
+IsUnread text ShapeMismatch = HasOtherShape text
+IsUnread text error = IsPairError text error
 
 -- why a certificate with a form is not checked: it does not have the shape of the history, or memory ran out
 abbrev pub IsCheckError : Type 0 → RunError → Type 0

@@ -1,9 +1,8 @@
 pub mod Failure
 pub mod Report
 pub mod InputErrors
-pub mod CheckPlaces
+pub mod InputLengths
 pub mod Checking
-pub mod ClaimPlaces
 pub mod Refuting
 pub mod Explaining
 pub mod Certifying

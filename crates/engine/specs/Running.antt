@@ -24,7 +24,7 @@ use Rattle.engine.specs.ListingFaults.{IsFaultReport}
 use Rattle.engine.specs.ExplainingInWords.{IsWorded, IsWordedAt}
 use Rattle.engine.specs.Picturing.{IsPicture, IsPictureAt}
 use Rattle.engine.specs.Driving.{IsDriveReport, IsUndriven}
-use Rattle.engine.specs.declared.input.TheConstants.{MAX_INPUT_BYTES}
+use Rattle.engine.specs.InputLengths.{length_for, most_bytes}
 use Rattle.script.specs.declared.any_script.AnyScript.{AnyScript}
 use Rattle.script.specs.AnyScriptForm.{IsAnyScript, IsRefusedFor as IsScriptRefusedFor, form_of as script_form}
 use Rattle.script.specs.Replays.{IsReplay}
@@ -83,26 +83,30 @@ pub record Completes (order : Order) (reader writer_before writer_after : Option
   pub input : List ℕ
   pub text : List ℕ
   pub whole : IfSome reader (λ bytes. input ≡ bytes)
-  pub within : length input ≤ MAX_INPUT_BYTES
+  pub within : length input ≤ most_bytes (length_for order)
   pub output : IsOutput order input text
   pub written : Appends writer_before writer_after text
   pub comes : HasOutcome order input text outcome
 
--- it is so of the input, which is not too long: where the reader tells its bytes, of these bytes
-abbrev pub IsOfInput : Option (List ℕ) → (List ℕ → Type 0) → Type 0
-IsOfInput reader IsSo = (input : List ℕ) × IfSome reader (λ bytes. input ≡ bytes) × (length input ≤ MAX_INPUT_BYTES) × IsSo input
+-- it is so of the input, which has no more than so many bytes: where the reader tells its bytes, of these bytes
+abbrev pub IsOfInput : ℕ → Option (List ℕ) → (List ℕ → Type 0) → Type 0
+IsOfInput most reader IsSo = (input : List ℕ) × IfSome reader (λ bytes. input ≡ bytes) × (length input ≤ most) × IsSo input
+
+-- the same of the input of an order
+abbrev pub IsOfInputFor : Order → Option (List ℕ) → (List ℕ → Type 0) → Type 0
+IsOfInputFor order = IsOfInput (most_bytes (length_for order))
 
 -- why a run failed: the input is too long, or it is refused; or its output could not be written; or memory or the reader
 -- failed, which can be at any time
 abbrev pub Fails : Order → Option (List ℕ) → RunError → Type 0
-Fails order reader TooLong = IfSome reader (λ bytes. MAX_INPUT_BYTES < length bytes)
-Fails order reader (History refusal) = IsOfInput reader (λ input. IsOutputError order input (History refusal))
-Fails order reader (Script refusal) = IsOfInput reader (λ input. IsOutputError order input (Script refusal))
-Fails order reader BadCertificate = IsOfInput reader (λ input. IsOutputError order input BadCertificate)
-Fails order reader ShapeMismatch = IsOfInput reader (λ input. IsOutputError order input ShapeMismatch)
-Fails order reader NotThatPattern = IsOfInput reader (λ input. IsOutputError order input NotThatPattern)
-Fails order reader BadLimits = IsOfInput reader (λ input. IsOutputError order input BadLimits)
-Fails order reader NoSuch = IsOfInput reader (λ input. IsOutputError order input NoSuch)
-Fails order reader WriteFault = IsOfInput reader (λ input. (text : List ℕ) × IsOutput order input text)
+Fails order reader TooLong = IfSome reader (λ bytes. most_bytes (length_for order) < length bytes)
+Fails order reader (History refusal) = IsOfInputFor order reader (λ input. IsOutputError order input (History refusal))
+Fails order reader (Script refusal) = IsOfInputFor order reader (λ input. IsOutputError order input (Script refusal))
+Fails order reader BadCertificate = IsOfInputFor order reader (λ input. IsOutputError order input BadCertificate)
+Fails order reader ShapeMismatch = IsOfInputFor order reader (λ input. IsOutputError order input ShapeMismatch)
+Fails order reader NotThatPattern = IsOfInputFor order reader (λ input. IsOutputError order input NotThatPattern)
+Fails order reader BadLimits = IsOfInputFor order reader (λ input. IsOutputError order input BadLimits)
+Fails order reader NoSuch = IsOfInputFor order reader (λ input. IsOutputError order input NoSuch)
+Fails order reader WriteFault = IsOfInputFor order reader (λ input. (text : List ℕ) × IsOutput order input text)
 Fails order reader Memory = Unit {0}
 Fails order reader ReadFault = Unit {0}

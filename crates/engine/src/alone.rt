@@ -5,7 +5,7 @@ ghost use Rattle.command_line.specs.declared.form.Form.TheVariants.{Json};
 ghost use Rattle.engine.specs.Alone.{judging_alone};
 ghost use Rattle.engine.specs.Running.{Fails, IsOutput, IsOutputError};
 
-use crate::checking::read_pair;
+use crate::checking::pair_in;
 use crate::checking_alone::answer_of_certificate_alone;
 use crate::expecting::report_on_input_alone;
 use crate::explaining::explanation_text;
@@ -98,7 +98,7 @@ fn line_of(alloc: Global, input: &[u8]) -> Result<String, RunError>
     ensures output { IfOk result (λ text. IsOutput (Order.Check 1) input.now (string_bytes text)) }
     ensures error { IfErr result (IsOutputError (Order.Check 1) input.now) }
 {
-    let (history, certificate) = read_pair(alloc, input)?;
+    let (history, certificate) = pair_in(alloc, input)?;
     let criterion = certificate.criterion();
     let answer = answer_of_certificate_alone(alloc, history, certificate)?;
     Ok(report_line(alloc, criterion, answer)?)

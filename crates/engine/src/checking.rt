@@ -1,25 +1,22 @@
 //! The answer on a history and a certificate of it.
 
-ghost use Rattle.std.specs.Prelude.{◌≡◌, IfErr, IfOk, MatchOption, Some, map, string_bytes};
-ghost use Rattle.bounded_json.specs.Compact.{compact_view};
+ghost use Rattle.std.specs.Prelude.{◌≡◌, IfErr, IfOk, string_bytes};
 ghost use Rattle.cert_check.specs.Certificates.{HasShapeOf, criterion_of};
 ghost use Rattle.cert_check.specs.Criteria.{Meets};
 ghost use Rattle.cert_check.specs.CertificateForm.{form_of as certificate_form, IsCertificate};
 ghost use Rattle.operations.specs.AnyForm.{form_of, IsAnyHistory};
-ghost use Rattle.operations.specs.Json.{elements, list};
 ghost use Rattle.engine.specs.Report.{IsTrueOf};
 ghost use Rattle.engine.specs.Running.{IsOutput, IsOutputError};
 ghost use Rattle.collector.specs.Judgements.{IsSaidOf, IsSaidOfFile};
-ghost use Rattle.engine.specs.Checking.{HasShape, IsCheckError, IsPair, IsPairError, IsPairErrorOf, IsShown, pair_form, pair_refusal};
+ghost use Rattle.engine.specs.Checking.{HasShape, IsCheckError, IsPair, IsShown, IsUnread};
 
-use crate::check_place::CheckPlace;
 use crate::failure::RunError;
 use crate::report::report_line;
-use bounded_json::{Compact, TextError, read_compact};
-use cert_check::{CaseFile, Certificate, DeskError, read_compact_certificate};
+use cert_check::{CaseFile, Certificate, DeskError};
+use certificate_reader::{FoundCertificate, read_pair};
 use collector::{Answer, Judged, OpenGate, judge_with};
 use command_line::{Order, Workers};
-use operations::{AnyHistory, History, ReadError, history_of};
+use operations::{AnyHistory, History};
 use std::alloc::Global;
 use std::sync::Wait;
 use std::thread::Threads;
@@ -34,7 +31,7 @@ pub fn check<T: Threads + Wait + Sync>(
     ensures output { IfOk result (λ text. IsOutput (Order.Check workers) input.now (string_bytes text)) }
     ensures error { IfErr result (IsOutputError (Order.Check workers) input.now) }
 {
-    let (history, certificate) = read_pair(alloc, input)?;
+    let (history, certificate) = pair_in(alloc, input)?;
     let criterion = certificate.criterion();
     let answer = answer_of_certificate(rt, alloc, history, certificate, workers)?;
     Ok(report_line(alloc, criterion, answer)?)
@@ -120,55 +117,17 @@ pub fn answer_of_file<O: Judged + Send + Sync, T: Threads + Wait + Sync>(
 }
 
 // The history and the certificate of an input.
-pub(crate) fn read_pair(alloc: Global, input: &[u8]) -> Result<(AnyHistory, Certificate), RunError>
+#[tactic(auto, using(crate::proofs::Pairs::unread_pairs))]
+pub(crate) fn pair_in(alloc: Global, input: &[u8]) -> Result<(AnyHistory, Certificate), RunError>
     ensures history { IfOk result (λ pair. IsAnyHistory pair.0) }
     ensures certificate { IfOk result (λ pair. IsCertificate pair.1) }
     ensures read { IfOk result (λ pair. IsPair input.now (form_of pair.0) (certificate_form pair.1)) }
-    ensures error { IfErr result (IsPairError input.now) }
+    ensures error { IfErr result (IsUnread input.now) }
 {
-    match read_compact(alloc, input, CheckPlace::Pair) {
-        Ok(value) => pair_of(alloc, &value),
-        Err(TextError::NotJson) => Err(RunError::History(ReadError::NotJson)),
-        Err(TextError::Memory) => Err(RunError::Memory),
-    }
-}
-
-// The history and the certificate of a value.
-#[tactic(auto, using(crate::proofs::Pairs::pair_refused, crate::proofs::Pairs::pair_without_certificate))]
-fn pair_of(alloc: Global, value: &Compact) -> Result<(AnyHistory, Certificate), RunError>
-    ensures history { IfOk result (λ pair. IsAnyHistory pair.0) }
-    ensures certificate { IfOk result (λ pair. IsCertificate pair.1) }
-    ensures read { IfOk result (λ pair. compact_view value.now ≡ pair_form (form_of pair.0) (certificate_form pair.1)) }
-    ensures error { IfErr result (IsPairErrorOf (compact_view value.now)) }
-{
-    let Some(parts) = parts_of(value) else {
-        return Err(RunError::History(ReadError::BadShape));
-    };
-    let history = parts.0.to_value(alloc)?;
-    let history = history_of(alloc, &history)?;
-    let certificate = read_compact_certificate(alloc, parts.1)?;
-    Ok((history, certificate))
-}
-
-// The two elements of a list of two values that are not both numbers.
-fn parts_of(value: &Compact) -> Option<(&Compact, &Compact)>
-    ensures { MatchOption result (pair_refusal (elements (compact_view value.now)) ≡ Some ReadError.BadShape)
-        (λ parts. compact_view value.now ≡ pair_form (compact_view parts.0.now) (compact_view parts.1.now)) }
-{
-    match value {
-        Compact::Leaf(_) => None,
-        Compact::List(values) => two_of(values.as_slice()),
-        Compact::Numbers(_) => None,
-    }
-}
-
-// The two values, where there are two.
-fn two_of(values: &[Compact]) -> Option<(&Compact, &Compact)>
-    ensures { MatchOption result (pair_refusal (elements (list (map compact_view values.now))) ≡ Some ReadError.BadShape)
-        (λ parts. list (map compact_view values.now) ≡ pair_form (compact_view parts.0.now) (compact_view parts.1.now)) }
-{
-    match values {
-        [history, certificate] => Some((history, certificate)),
-        _ => None,
+    let (history, found) = read_pair(alloc, input)?;
+    match found {
+        FoundCertificate::Certificate(certificate) => Ok((history, certificate)),
+        FoundCertificate::TooLarge => Err(RunError::ShapeMismatch),
+        FoundCertificate::NoForm => Err(RunError::BadCertificate),
     }
 }

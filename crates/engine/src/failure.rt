@@ -36,7 +36,7 @@ pub enum RunError {
     #[error("the history does not have the session that is to stop")]
     NoSuch,
     /// The input has more bytes than a run reads.
-    #[error("the input has more than {most} bytes", most = crate::input::MAX_INPUT_BYTES)]
+    #[error("the input has too many bytes")]
     TooLong,
     /// An allocation was refused.
     #[error("no memory")]

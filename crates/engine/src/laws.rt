@@ -5,6 +5,7 @@ ghost use Rattle.memory_order.specs.Memory.{IsDifferentiated, MemoryHistory, mem
 ghost use Rattle.cert_check.specs.Criteria.{Meets};
 ghost use Rattle.operations.specs.AnyForm.{form_of, IsAnyHistory, IsJson};
 ghost use Rattle.engine.specs.Failure.{failure_status};
+ghost use Rattle.engine.specs.InputLengths.{length_for, most_bytes};
 ghost use Rattle.lines.specs.ReadCalls.{CallOutcome, CallsAtMost};
 ghost use Rattle.engine.specs.Report.{answer_for};
 ghost use Rattle.engine.specs.Running.{Completes, Fails, IsOutput, IsOutputError};
@@ -13,7 +14,6 @@ ghost use Rattle.long_history.specs.LongHistories.{IsLongHistory};
 ghost use Rattle.engine.specs.Report.{IsReport, IsReportAt};
 
 use crate::failure::RunError;
-use crate::input::MAX_INPUT_BYTES;
 use bad_patterns::Kind;
 use cert_check::Criterion;
 use collector::Answer;
@@ -71,8 +71,9 @@ pub fn input_is_refused_in_one_way()
 /// in its place.
 pub fn too_long_input_is_refused_as_such()
     ensures output { (order : Order) (bytes : List ℕ) (before after : Option (List ℕ)) (outcome : Outcome)
-        → MAX_INPUT_BYTES < length bytes → ¬ Completes order (Some bytes) before after outcome }
-    ensures failure { (order : Order) (bytes : List ℕ) (error : RunError) → MAX_INPUT_BYTES < length bytes
+        → most_bytes (length_for order) < length bytes → ¬ Completes order (Some bytes) before after outcome }
+    ensures failure { (order : Order) (bytes : List ℕ) (error : RunError)
+        → most_bytes (length_for order) < length bytes
         → Fails order (Some bytes) error → (error ≡ RunError.TooLong) ⊎ ((error ≡ RunError.Memory) ⊎ (error ≡ RunError.ReadFault)) }
 {}
 

@@ -1,30 +1,25 @@
 //! The answer on a memory history of any length and a pattern of it.
 
-ghost use Rattle.std.specs.Prelude.{◌≡◌, ◌≢◌, ◌∷◌, [], IfErr, IfOk, MatchOption, string_bytes};
-ghost use Rattle.serde_json.specs.Data.{Data};
-ghost use Rattle.serde_json.specs.View.{view};
-ghost use Rattle.operations.specs.Json.{list};
-ghost use Rattle.engine.specs.Steps.LongClaims.{IsSeenOf};
+ghost use Rattle.std.specs.Prelude.{IfErr, IfOk, string_bytes};
+ghost use Rattle.engine.specs.Steps.LongClaims.{IsShownBy};
 ghost use Rattle.command_line.specs.declared.length.Length.TheVariants.{Any};
 ghost use Rattle.long_history.specs.LongHistories.{IsLongHistory};
 ghost use Rattle.operations.specs.AnyForm.{IsJson};
 ghost use Rattle.engine.specs.Refuting.{IsClaimErrorAt, claim_form};
 ghost use Rattle.engine.specs.Running.{IsOutput, IsOutputError};
 
-use crate::claim_place::ClaimPlace;
 use crate::failure::RunError;
-use crate::refuting::criterion_in;
 use crate::report::report_line;
-use bad_patterns::{Pattern, read_pattern};
-use bounded_json::{TextError, read_bounded};
+use bad_patterns::Pattern;
+use bounded_json::TextError;
 use cert_check::Criterion;
 use collector::Answer;
 use command_line::{Length, Order};
 use long_history::LongHistory;
 use long_patterns::check_long_pattern;
 use long_reader::read_long_first;
-use operations::{AnyHistory, ReadError, elements_of};
-use serde_json::Value;
+use operations::{AnyHistory, ReadError};
+use pattern_reader::{Violation, read_violation};
 use std::alloc::Global;
 
 /// A claim: that the pattern shows that the history does not meet the criterion.
@@ -40,7 +35,7 @@ pub(crate) fn refute_long(alloc: Global, input: &[u8]) -> Result<String, RunErro
     ensures output { IfOk result (λ text. IsOutput (Order.Refute Length.Any) input.now (string_bytes text)) }
     ensures error { IfErr result (IsOutputError (Order.Refute Length.Any) input.now) }
 {
-    let claim = read_long_claim(alloc, input)?;
+    let claim = long_claim_in(alloc, input)?;
     if check_long_pattern(alloc, &claim.history, claim.criterion, &claim.pattern)? {
         let answer = Answer::No(claim.pattern.kind());
         Ok(report_line(alloc, claim.criterion, answer)?)
@@ -50,34 +45,32 @@ pub(crate) fn refute_long(alloc: Global, input: &[u8]) -> Result<String, RunErro
 }
 
 // The claim of an input. The text is read twice: once for what comes after the history, and once for the history.
-fn read_long_claim(alloc: Global, input: &[u8]) -> Result<LongClaim, RunError>
+fn long_claim_in(alloc: Global, input: &[u8]) -> Result<LongClaim, RunError>
     ensures history { IfOk result (λ claim. IsLongHistory claim.history) }
     ensures read { IfOk result (λ claim. IsJson input.now (claim_form (AnyHistory.Memory claim.history) claim.criterion claim.pattern)) }
     ensures error { IfErr result (IsClaimErrorAt Any input.now) }
 {
-    match read_bounded(alloc, input, ClaimPlace::LongClaim) {
-        Ok(value) => claim_after_history(alloc, input, &value),
+    match read_violation(alloc, input) {
+        Ok(Some(violation)) => claim_of(alloc, input, violation),
+        Ok(None) => Err(RunError::History(ReadError::BadShape)),
         Err(TextError::NotJson) => Err(RunError::History(ReadError::NotJson)),
         Err(TextError::Memory) => Err(RunError::Memory),
     }
 }
 
-// The claim of an input, from the part of its value that was seen.
-
-fn claim_after_history(alloc: Global, input: &[u8], seen: &Value) -> Result<LongClaim, RunError>
-    requires { IsSeenOf input.now (view seen.now) }
+// The claim of an input, from what comes in it after the history.
+fn claim_of(alloc: Global, input: &[u8], violation: Violation) -> Result<LongClaim, RunError>
+    requires { IsShownBy input.now violation }
     ensures history { IfOk result (λ claim. IsLongHistory claim.history) }
     ensures read { IfOk result (λ claim. IsJson input.now (claim_form (AnyHistory.Memory claim.history) claim.criterion claim.pattern)) }
     ensures error { IfErr result (IsClaimErrorAt Any input.now) }
 {
-    let Some((criterion, pattern)) = after_history(seen) else {
-        return Err(RunError::History(ReadError::BadShape));
-    };
     let history = read_long_first(alloc, input)?;
-    let Some(criterion) = criterion_in(criterion) else {
+    let Violation { criterion, pattern } = violation;
+    let Some(criterion) = criterion else {
         return Err(RunError::NotThatPattern);
     };
-    let Some(pattern) = read_pattern(alloc, pattern)? else {
+    let Some(pattern) = pattern else {
         return Err(RunError::NotThatPattern);
     };
     Ok(LongClaim {
@@ -85,15 +78,4 @@ fn claim_after_history(alloc: Global, input: &[u8], seen: &Value) -> Result<Long
         criterion,
         pattern,
     })
-}
-
-// The second and the third element of a list of three.
-fn after_history(value: &Value) -> Option<(&Value, &Value)>
-    ensures { MatchOption result ((h c p : Data) → view value.now ≢ list (h ∷ c ∷ p ∷ []))
-        (λ rest. (h : Data) × (view value.now ≡ list (h ∷ view rest.0.now ∷ view rest.1.now ∷ []))) }
-{
-    match elements_of(value)? {
-        [_history, criterion, pattern] => Some((criterion, pattern)),
-        _ => None,
-    }
 }

@@ -1,8 +1,7 @@
 //! One run of the program: from the bytes of its input to the bytes of its answer.
-ghost use Rattle.std.specs.Prelude.{◌≡◌, ◌≢◌, Err, IfErr, IfOk, OnOk, string_bytes};
+ghost use Rattle.std.specs.Prelude.{◌≡◌, ◌≢◌, ◌⊎◌, Err, IfErr, IfOk, IfSome, OnOk, string_bytes};
 ghost use Rattle.std.specs.Io.KnownBytes.{IsAtEnd};
-ghost use Rattle.lines.specs.ReadCalls.{CallsAtMost};
-ghost use Rattle.engine.specs.ReadCalls.{FindsNoEnd};
+ghost use Rattle.engine.specs.InputLengths.{CallsFor, FindsNoEndFor, length_for};
 ghost use Rattle.engine.specs.Running.{Completes, Fails, HasOutcome, IsOutput, IsOutputError};
 
 use crate::answered::Answered;
@@ -11,7 +10,7 @@ use crate::driving::drive_input;
 use crate::expecting::{outcome_of, report_on_input};
 use crate::explaining_forms::explain_as;
 use crate::failure::RunError;
-use crate::input::read_input;
+use crate::input::read_input_for;
 use crate::line_judge::judge_each;
 use crate::listing_faults::list_faults;
 use crate::long_forms::explain_long;
@@ -31,7 +30,7 @@ use std::thread::Threads;
 /// criteria are expected to be met, whether they are, and else [`Outcome::Met`].
 ///
 /// It writes nothing before the answer is made: after every error but a write fault the writer is as it was. The contract does
-/// not say how much was written before a write fault, nor how much was read before an error. [`read_input`] says how many read
+/// not say how much was written before a write fault, nor how much was read before an error. [`read_input_for`] says how many read
 /// calls are made. It costs O(n log n) for an input of n bytes, and what [`report_on`](crate::report_on) or
 /// [`answer_of_certificate`](crate::answer_of_certificate) takes for its history, or [`script::replay`] for its script.
 pub fn run<P: Threads + Wait + Sync + AllocGlobal, R: Source, W: Write>(
@@ -47,13 +46,53 @@ pub fn run<P: Threads + Wait + Sync + AllocGlobal, R: Source, W: Write>(
     ensures failed { IfErr result (Fails order.now (R.remaining reader.old)) }
     ensures unwritten { IfErr result (λ e. e ≢ RunError.WriteFault → writer.new ≡ writer.old) }
 
-    ensures calls { CallsAtMost R.called MAX_READ_CALLS reader.old reader.new }
-    ensures fault { result ≡ Err RunError.ReadFault → FindsNoEnd R.called MAX_READ_CALLS reader.old reader.new }
+    ensures calls { CallsFor R.called (length_for order.now) MAX_READ_CALLS reader.old reader.new }
+    ensures fault { result ≡ Err RunError.ReadFault → FindsNoEndFor R.called (length_for order.now) MAX_READ_CALLS reader.old reader.new }
 {
-    let input = read_input(rt.alloc(), reader)?;
+    let mut input = Vec::new(rt.alloc());
+    run_keeping(rt, reader, writer, order, &mut input)
+}
+
+/// The same, and the input is kept for the caller, who may say what is wrong with it. Where it could not be read, what was kept before stays.
+pub fn run_keeping<P: Threads + Wait + Sync + AllocGlobal, R: Source, W: Write>(
+    rt: &P,
+    reader: &mut R,
+    writer: &mut W,
+    order: &Order,
+    input: &mut Vec<u8>,
+) -> Result<Outcome, RunError>
+    ensures answered { IfOk result (Completes order.now (R.remaining reader.old)
+        (W.contents writer.old) (W.contents writer.new)) }
+    ensures end { OnOk result (IsAtEnd (R.remaining reader.new)) }
+
+    ensures failed { IfErr result (Fails order.now (R.remaining reader.old)) }
+    ensures unwritten { IfErr result (λ e. e ≢ RunError.WriteFault → writer.new ≡ writer.old) }
+    ensures kept { (input.new ≡ input.old) ⊎ IfSome (R.remaining reader.old) (λ bytes. input.new.items ≡ bytes) }
+
+    ensures calls { CallsFor R.called (length_for order.now) MAX_READ_CALLS reader.old reader.new }
+    ensures fault { result ≡ Err RunError.ReadFault → FindsNoEndFor R.called (length_for order.now) MAX_READ_CALLS reader.old reader.new }
+{
+    *input = read_input_for(rt.alloc(), reader, length_of(order))?;
     let answered = answer_and_outcome(rt, rt.alloc(), input.as_slice(), order)?;
     write_output(writer, answered.text.as_bytes())?;
     Ok(answered.outcome)
+}
+
+/// How long the history of an order may be.
+pub fn length_of(order: &Order) -> Length
+    ensures { result ≡ length_for order.now }
+{
+    match order {
+        Order::Judge(judging) => judging.length,
+        Order::ExplainLong(_) => Length::Any,
+        Order::ListFaults(listing) => listing.length,
+        Order::Refute(length) => *length,
+        Order::JudgeLines(_)
+        | Order::Check(_)
+        | Order::Explain(_)
+        | Order::Replay
+        | Order::Drive(_) => Length::Limited,
+    }
 }
 
 /// The whole answer to an input, as the order asks.

@@ -3,7 +3,6 @@
 //! It gives [`status_of_process`], which does what the words order, over the engine for inputs and the engine for logs of events.
 #![tactic(auto)]
 
-mod keeping;
 mod line_process;
 mod log_process;
 mod noticing;

@@ -2,7 +2,6 @@
 
 ghost use Rattle.std.specs.Prelude.{◌≤◌};
 
-use crate::keeping::Keeping;
 use crate::log_process::{report_error, report_followed};
 use crate::program::report_refused;
 use crate::refused::history_form;
@@ -37,10 +36,18 @@ fn write_page_of_history<P: Threads + Wait + Sync + AllocGlobal + Input + Print 
 ) -> u8
     ensures { result ≤ 4 }
 {
-    let mut reader = Keeping::of(rt.alloc(), detail, Waiting::by(rt, rt.reader()));
-    match page_of_input(rt, &mut reader, &mut io::writer(rt), most, length) {
+    let mut reader = Waiting::by(rt, rt.reader());
+    let mut input = Vec::new(rt.alloc());
+    match page_of_input(
+        rt,
+        &mut reader,
+        &mut io::writer(rt),
+        most,
+        length,
+        &mut input,
+    ) {
         Ok(()) => 0,
-        Err(error) => report_refused(rt, &error, detail, history_form(length), reader.text()),
+        Err(error) => report_refused(rt, &error, detail, history_form(length), Some(&input)),
     }
 }
 

@@ -3,14 +3,13 @@ ghost use Rattle.std.specs.Prelude.{◌≡◌, ◌≤◌, ◌⊎◌};
 ghost use Rattle.engine.specs.Failure.{status_for};
 ghost use Rattle.command_line.specs.CommandLine.{IsUsageStatus};
 
-use crate::keeping::Keeping;
 use crate::line_process::judge_lines_of_process;
 use crate::log_process::follow_log_of_process;
 use crate::page_process::write_page_of_process;
 use crate::refused::{form_of, reason_of};
 use crate::waiting::Waiting;
 use command_line::{Detail, Order, Task, Usage, command_of, fault_with};
-use engine::{RunError, fault_line, run, status_of};
+use engine::{RunError, fault_line, run_keeping, status_of};
 use refusal_words::InputForm;
 use std::rt::Env;
 use std::sync::Wait;
@@ -53,10 +52,11 @@ where
     match order {
         Order::JudgeLines(judging) => judge_lines_of_process(rt, *judging),
         _ => {
-            let mut reader = Keeping::of(rt.alloc(), detail, Waiting::by(rt, rt.reader()));
-            match run(rt, &mut reader, &mut io::writer(rt), order) {
+            let mut reader = Waiting::by(rt, rt.reader());
+            let mut input = Vec::new(rt.alloc());
+            match run_keeping(rt, &mut reader, &mut io::writer(rt), order, &mut input) {
                 Ok(outcome) => outcome.status(),
-                Err(error) => report_refused(rt, &error, detail, form_of(order), reader.text()),
+                Err(error) => report_refused(rt, &error, detail, form_of(order), Some(&input)),
             }
         }
     }

@@ -14,7 +14,7 @@ pub(crate) fn reason_of(
     form: InputForm,
     error: &RunError,
 ) -> Result<Option<String>, AllocError> {
-    match refusal_of(error) {
+    match refusal_of(form, error) {
         Some(refusal) => Ok(Some(reason_for(alloc, input, form, refusal)?)),
         None => Ok(None),
     }
@@ -42,8 +42,8 @@ pub(crate) fn history_form(length: Length) -> InputForm {
     }
 }
 
-// Why the input was refused, where that is why a run failed.
-fn refusal_of(error: &RunError) -> Option<Refusal> {
+// Why the input of this form was refused, where that is why a run failed.
+fn refusal_of(form: InputForm, error: &RunError) -> Option<Refusal> {
     match error {
         RunError::History(refused) => Some(Refusal::Read(*refused)),
         RunError::Script(refused) => refusal_of_script(refused),
@@ -52,7 +52,10 @@ fn refusal_of(error: &RunError) -> Option<Refusal> {
         RunError::NotThatPattern => Some(Refusal::NotThatPattern),
         RunError::BadLimits => Some(Refusal::NoSession),
         RunError::NoSuch => Some(Refusal::NoSuchSession),
-        RunError::TooLong => Some(Refusal::TooLong),
+        RunError::TooLong => match form {
+            InputForm::LongHistory | InputForm::LongClaim => Some(Refusal::OverLong),
+            _ => Some(Refusal::TooLong),
+        },
         RunError::Memory | RunError::ReadFault | RunError::WriteFault => None,
     }
 }

@@ -39,13 +39,13 @@ pub record IsPageOfLog (most : ℕ) (torn : Bool) (bytes text : List ℕ) : Type
   pub are_names : IsLogAnswer logs.WriteNames log names Met
   pub is_page : text ≡ page history report names lines
 
--- an input was read whole, and a page of it was written whole: what the reader had, where it tells its bytes, and what the writer holds
--- after what it held, where it tells its bytes
-pub record WritesPage (IsPage : List ℕ → List ℕ → Type 0) (reader writer_before writer_after : Option (List ℕ)) : Type 0 where
+-- an input of no more than so many bytes was read whole, and a page of it was written whole: what the reader had, where it tells its
+-- bytes, and what the writer holds after what it held, where it tells its bytes
+pub record WritesPage (most_bytes : ℕ) (IsPage : List ℕ → List ℕ → Type 0) (reader writer_before writer_after : Option (List ℕ)) : Type 0 where
   pub input : List ℕ
   pub text : List ℕ
   pub whole : IfSome reader (λ bytes. input ≡ bytes)
-  pub within : length input ≤ MAX_INPUT_BYTES
+  pub within : length input ≤ most_bytes
   pub is_page : IsPage input text
   pub written : Appends writer_before writer_after text
 
@@ -53,7 +53,7 @@ pub record WritesPage (IsPage : List ℕ → List ℕ → Type 0) (reader writer
 -- which can be at any time
 abbrev pub FailsToWrite : ℕ → Option (List ℕ) → PageError → Type 0
 FailsToWrite most reader TooLong = IfSome reader (λ bytes. MAX_INPUT_BYTES < length bytes)
-FailsToWrite most reader (Log (Refused refusal)) = IsOfInput reader (λ bytes. IsRefusedLog bytes refusal)
-FailsToWrite most reader (Log WriteFault) = IsOfInput reader (λ bytes. (torn : Bool) × (text : List ℕ) × IsPageOfLog most torn bytes text)
+FailsToWrite most reader (Log (Refused refusal)) = IsOfInput MAX_INPUT_BYTES reader (λ bytes. IsRefusedLog bytes refusal)
+FailsToWrite most reader (Log WriteFault) = IsOfInput MAX_INPUT_BYTES reader (λ bytes. (torn : Bool) × (text : List ℕ) × IsPageOfLog most torn bytes text)
 FailsToWrite most reader (Log Memory) = ⊤
 FailsToWrite most reader (Log ReadFault) = ⊤

@@ -4,6 +4,7 @@ ghost use Rattle.std.specs.Prelude.{◌≡◌, ◌≢◌, Err, IfErr, IfOk, OnOk
 ghost use Rattle.std.specs.Io.KnownBytes.{IsAtEnd};
 ghost use Rattle.lines.specs.ReadCalls.{CallsAtMost};
 ghost use Rattle.engine.specs.ReadCalls.{FindsNoEnd};
+ghost use Rattle.engine.specs.declared.input.TheConstants.{MAX_INPUT_BYTES};
 ghost use Rattle.page_engine.specs.Writing.{FailsToWrite, IsPageOfLog, WritesPage};
 ghost use Rattle.page_engine.specs.Steps.Answers.{IsAnswerError};
 
@@ -30,7 +31,7 @@ pub fn page_of_log<P: Threads + Wait + Sync + AllocGlobal, R: Source, W: Write>(
     writer: &mut W,
     most: u32,
 ) -> Result<Followed, PageError>
-    ensures written { IfOk result (λ followed. WritesPage (IsPageOfLog most followed.torn) (R.remaining reader.old)
+    ensures written { IfOk result (λ followed. WritesPage MAX_INPUT_BYTES (IsPageOfLog most followed.torn) (R.remaining reader.old)
         (W.contents writer.old) (W.contents writer.new)) }
     ensures met { IfOk result (λ followed. followed.outcome ≡ Outcome.Met) }
     ensures end { OnOk result (IsAtEnd (R.remaining reader.new)) }

@@ -4,7 +4,7 @@ use Rattle.history.specs.declared.op_id.OpId.{OpId}
 use Rattle.operations.specs.declared.read_error.ReadError.{ReadError}
 use Rattle.operations.specs.declared.read_error.ReadError.TheVariants as reads
 use Rattle.refusal_words.specs.declared.refusal.Refusal.{Refusal}
-use Rattle.refusal_words.specs.declared.refusal.Refusal.TheVariants.{Read, BadSessions, BadStep, TooManySteps, BadCertificate, ShapeMismatch, NotThatPattern, NoSession, NoSuchSession, TooLong}
+use Rattle.refusal_words.specs.declared.refusal.Refusal.TheVariants.{Read, BadSessions, BadStep, TooManySteps, BadCertificate, ShapeMismatch, NotThatPattern, NoSession, NoSuchSession, TooLong, OverLong}
 
 abbrev pub place_front : OpId → List ℕ
 place_front op = codes "session " ++ (decimal op.session ++ (codes ", operation " ++ decimal op.index))
@@ -31,3 +31,4 @@ front_for NotThatPattern = codes "what comes after the history does not show tha
 front_for NoSession = codes "the history has no session, so there is no client to drive"
 front_for NoSuchSession = codes "the history does not have the session that is to stop"
 front_for TooLong = codes "the input has more than 67108864 bytes"
+front_for OverLong = codes "the input has more than 1073741824 bytes"

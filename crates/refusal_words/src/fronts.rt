@@ -40,6 +40,7 @@ pub(crate) fn front(alloc: Global, refusal: Refusal) -> Result<String, AllocErro
             "the history does not have the session that is to stop",
         ),
         Refusal::TooLong => words(alloc, "the input has more than 67108864 bytes"),
+        Refusal::OverLong => words(alloc, "the input has more than 1073741824 bytes"),
     }
 }
 

@@ -63,6 +63,8 @@ fn rest_for(
         }
         Refusal::NotThatPattern => claim_rest(alloc, input),
         Refusal::NoSuchSession => stop_rest(alloc, input),
-        Refusal::TooManySteps | Refusal::NoSession | Refusal::TooLong => Ok(String::new(alloc)),
+        Refusal::TooManySteps | Refusal::NoSession | Refusal::TooLong | Refusal::OverLong => Ok(
+            String::new(alloc),
+        ),
     }
 }

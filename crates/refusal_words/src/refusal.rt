@@ -42,4 +42,6 @@ pub enum Refusal {
     NoSuchSession,
     /// The input has too many bytes.
     TooLong,
+    /// The input has too many bytes even for a history of any length.
+    OverLong,
 }

@@ -1,11 +1,19 @@
--- What is seen of the text of a claim whose history is read by itself.
-use Rattle.std.specs.Prelude.{◌≡◌, ℕ, List}
+-- What is read of the text of a claim after its history, which is read by itself.
+use Rattle.std.specs.Prelude.{ℕ, List, [], ◌∷◌}
 use Rattle.serde_json.specs.Data.{Data}
-use Rattle.bounded_json.specs.Cut.{cut}
+use Rattle.bad_patterns.specs.PatternForm.{form_of as pattern_form}
+use Rattle.cert_check.specs.CriterionNames.{name_of}
 use Rattle.operations.specs.AnyForm.{IsJson}
-use Rattle.engine.specs.ClaimPlaces.{inside_of, limit_of}
-use Rattle.engine.specs.declared.claim_place.ClaimPlace.TheVariants.{LongClaim}
+use Rattle.operations.specs.Json.{list}
+use Rattle.operations.specs.Reads.{IsRead}
+use Rattle.pattern_reader.specs.Words.{word_form}
+use Rattle.pattern_reader.specs.declared.violation.Violation.{Violation}
 
--- the text is JSON of a value, of which this is kept
-abbrev pub IsSeenOf : List ℕ → Data → Type 0
-IsSeenOf text seen = (d : Data) × IsJson text d × (seen ≡ cut limit_of inside_of LongClaim d)
+-- the text is JSON of a list of three, of which the last two are read as these
+pub record IsShownBy (text : List ℕ) (violation : Violation) : Type 0 where
+  pub history : Data
+  pub criterion : Data
+  pub pattern : Data
+  pub json : IsJson text (list (history ∷ criterion ∷ pattern ∷ []))
+  pub is_criterion : IsRead (word_form name_of) criterion violation.criterion
+  pub is_pattern : IsRead pattern_form pattern violation.pattern

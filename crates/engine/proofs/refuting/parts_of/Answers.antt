@@ -1,8 +1,0 @@
-use Rattle.serde_json.specs.View.{view}
-use Rattle.engine.proofs.Claims.{list_of-three}
-use Rattle.engine.proofs.refuting.parts_of.Goals as goal
-
-pub returns-in-len3 : goal.returns-in-len3
-returns-in-len3 c =
-    list_of-three view _ c.in_ok-elements_of.field-0.now c.history-item.result c.criterion-item.result c.pattern-item.result c.in_ok-elements_of.ensures
-    c.in-len3.len_at_least c.in-len3.len_below c.history-item.is c.criterion-item.is c.pattern-item.is
