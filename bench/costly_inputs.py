@@ -380,9 +380,18 @@ def longest_vector():
     return filled('[["memory",[[["w",0,1]]]],["cc",[[[', "0", "]]],[[[0]]]]]")
 
 
-def most_lists():
-    """A certificate with as many sessions as a text can have, each of no operation."""
-    return filled('[["memory",[]],["cc",[', "[]", "],[]]]")
+def vectors(session):
+    """A certificate with as many sessions as a text can have, each with this list of vectors."""
+    return filled('[["memory",[]],["cc",[', session, "],[]]]")
+
+
+def shown_by(before, part, after):
+    """A claim that a history of nothing is no causal memory, by a pattern with as many of these parts as a text can have."""
+    return filled(f'[["memory",[]],"cm",[{before}[', part, f"]{after}]]")
+
+
+def lines(line):
+    return shown_by('"CyclicHB",[0,0],', line, "")
 
 
 class Costly(NamedTuple):
@@ -393,7 +402,7 @@ class Costly(NamedTuple):
     make: Callable
 
 
-JUDGE, CHECK, REPLAY = ["judge", "--workers", "1"], ["check", "--workers", "1"], ["replay"]
+JUDGE, CHECK, REFUTE, REPLAY = ["judge", "--workers", "1"], ["check", "--workers", "1"], ["refute"], ["replay"]
 
 
 def drive(*words):
@@ -429,7 +438,16 @@ INPUTS = (
     Costly("check-sets", CHECK, certified_sets),
     Costly("check-longest-schedule", CHECK, longest_schedule),
     Costly("check-longest-vector", CHECK, longest_vector),
-    Costly("check-most-lists", CHECK, most_lists),
+    Costly("check-most-lists", CHECK, lambda: vectors("[]")),
+    Costly("check-empty-vectors", CHECK, lambda: vectors("[[]]")),
+    Costly("check-short-vectors", CHECK, lambda: vectors("[[1]]")),
+    Costly("check-nested-vectors", CHECK, lambda: vectors("[[[]]]")),
+    Costly("refute-empty-lines", REFUTE, lambda: lines("[]")),
+    Costly("refute-lines-of-paths", REFUTE, lambda: lines('["co",[[0,0]],[[0,0]]]')),
+    Costly("refute-lines-of-numbers", REFUTE, lambda: lines('["tr",0,0]')),
+    Costly("refute-path", REFUTE, lambda: shown_by('"CyclicCO",', "[0,0]", "")),
+    Costly("refute-links", REFUTE, lambda: shown_by('"CyclicCF",', '["cf",[[0,0]],[0,0]]', "")),
+    Costly("refute-links-of-empty-paths", REFUTE, lambda: shown_by('"CyclicCF",', '["cf",[],[0,0]]', "")),
     Costly("replay-shows-1000", REPLAY, lambda: shows(1_000)),
     Costly("replay-shows-10000", REPLAY, lambda: shows(10_000)),
     Costly("replay-shows", REPLAY, shows),

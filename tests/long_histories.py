@@ -358,8 +358,8 @@ NO_COMMAND_LINE = (
 )
 
 
-def refused_inputs():
-    """Each refused input with what its line says, and one that is a byte too long."""
+def refused_as_lines():
+    """Each refused input with what its line says, and one that is a byte too long for a line."""
     yield from REFUSED
     yield text_of(["memory", many([])]).ljust(reading.MOST_BYTES + 1), "9"
 
@@ -367,7 +367,7 @@ def refused_inputs():
 def single(program):
     """Refusals, long tables, statuses, and words that are no command line."""
     words = ["judge", "--long"]
-    for data, place in refused_inputs():
+    for data, place in REFUSED:
         yield Case(words, data, outcome(program, words, data), (1, "", f"refused {place}\n"))
     for form in TABLES:
         yield Case(words, text_of(form), outcome(program, words, text_of(form)), due_by_plain(text_of(form)))
@@ -383,7 +383,7 @@ def together(program):
     """Lines of all lengths, answered and refused, with the status that follows from them."""
     long_line = text_of(["memory", [[["w", key, 1] for key in range(LONG_LINE)]]])
     answered_lines = [(text_of(form), answered(text)) for form, _, _, text in STATUSES] + [(long_line, answered(MET))]
-    refused_lines = [(data, (1, "", f"refused {place}\n")) for data, place in refused_inputs()] + [(b"", (1, "", "refused 1\n"))]
+    refused_lines = [(data, (1, "", f"refused {place}\n")) for data, place in refused_as_lines()] + [(b"", (1, "", "refused 1\n"))]
     for lines, is_refused in ((answered_lines, False), (answered_lines + refused_lines, True)):
         data = b"".join(line + b"\n" for line, _ in lines)
         due = "".join(f"{joined(answer)}\n" for _, answer in lines)

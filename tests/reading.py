@@ -14,6 +14,8 @@ from objects import KEYED, MOST_ENTRIES, OBJECTS, UNKNOWN, State, is_call, is_re
 from patterns import AGAINST, CRITERIA, MemoryHistory, is_pattern, shows
 from replay import MOST_BYTES, PLACES, Refused, is_certificate, read_json
 
+MOST_LONG_BYTES = 1_073_741_824
+
 
 class Limits(NamedTuple):
     """How many sessions a history has at most, operations each of them, and entries its table."""
@@ -78,7 +80,7 @@ def read_history(value, objects=OBJECTS, limits=SMALL):
 
 def read_long(data):
     """The table of initial values and the sessions of a memory, as `--long` has it read."""
-    _, start, sessions = read_history(read_text(data), ("memory",), LONG)
+    _, start, sessions = read_history(read_text(data, MOST_LONG_BYTES), ("memory",), LONG)
     return start, sessions
 
 
@@ -88,8 +90,8 @@ def is_small(start, sessions):
     return len(sessions) <= SMALL.sessions and most <= SMALL.operations and len(start) <= SMALL.entries
 
 
-def read_text(data):
-    if len(data) > MOST_BYTES:
+def read_text(data, most=MOST_BYTES):
+    if len(data) > most:
         raise Refused(9)
     return read_json(data)
 
@@ -135,7 +137,7 @@ def line_of_check(data):
 
 def line_of_refute(data, is_long=False):
     """The line that `refute` has to write, or `refute --long`."""
-    value = read_text(data)
+    value = read_text(data, MOST_LONG_BYTES if is_long else MOST_BYTES)
     if type(value) is not list or len(value) != 3:
         raise Refused(2)
     name, start, sessions = read_history(value[0], *((("memory",), LONG) if is_long else ()))
