@@ -53,7 +53,8 @@ pub fn run<P: Threads + Wait + Sync + AllocGlobal, R: Source, W: Write>(
     run_keeping(rt, reader, writer, order, &mut input)
 }
 
-/// The same, and the input is kept for the caller, who may say what is wrong with it. Where it could not be read, what was kept before stays.
+/// The same, and the input is kept for the caller, who may say what is wrong with it. Where it could not be read, what was kept before
+/// stays.
 pub fn run_keeping<P: Threads + Wait + Sync + AllocGlobal, R: Source, W: Write>(
     rt: &P,
     reader: &mut R,

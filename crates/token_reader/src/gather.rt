@@ -85,8 +85,8 @@ pub(crate) fn gather_list<G: Gather>(
     Ok(false)
 }
 
-/// Takes the elements of the list that comes next, and returns whether a list comes, and its elements are wanted. It passes the value in any
-/// case.
+/// Takes the elements of the list that comes next, and returns whether a list comes, and its elements are wanted. It passes the value in
+/// any case.
 ///
 /// `NotJson` exactly where no value comes next, and `Memory` only where an allocation was refused.
 pub fn next_list<G: Gather>(

@@ -1,9 +1,9 @@
 //! Steps of readers that take a JSON text token by token, and keep no value of what they don't want.
 //!
-//! [`next_token`] and [`next_value`] take what comes next, and [`pass_value`] and [`pass_no_list`] pass it. [`gather_rest`] takes the elements
-//! of a list into whatever is [`Gather`]: numbers, rows, or the parts of a form one after the other; [`next_list`] does so with the
-//! list that comes next, and [`gather_text`] with the list that a whole text is. Of elements that are not wanted it only sees that they
-//! are JSON. [`whole_number`] reads a number of digits alone.
+//! [`next_token`] and [`next_value`] take what comes next, and [`pass_value`] and [`pass_no_list`] pass it. [`gather_rest`] takes the
+//! elements of a list into whatever is [`Gather`]: numbers, rows, or the parts of a form one after the other; [`next_list`] does so with
+//! the list that comes next, and [`gather_text`] with the list that a whole text is. Of elements that are not wanted it only sees that
+//! they are JSON. [`whole_number`] reads a number of digits alone.
 //!
 //! It uses operations, bounded_json, json, serde_json and simdutf8. Callers rest on the contracts alone.
 #![tactic(auto)]
