@@ -1,6 +1,6 @@
 -- The parts of a certificate, one after the other.
 use Rattle.std.proofs.Common.{◌≡◌, ℕ, ◌^◌, ◌<◌, List, [], ◌∷◌, ◌++◌, All, length, true, Option, Some, None, refl, sym, ap, subst, ◌∙◌, arith, inl, inr}
-use Rattle.std.specs.Prelude.{◌≢◌}
+use Rattle.std.specs.Prelude.{◌≢◌, ◌⊎◌}
 use Rattle.std.proofs.lemmas.List.{length-append}
 use Rattle.std.proofs.lemmas.Option.{same_Some}
 use Rattle.serde_json.specs.Data.{Data, null, boolean, number, string, array, object}
@@ -101,26 +101,33 @@ module _ (v d : Data) where
   three : (criterion : Criterion) (a b : Data) → v ≡ a → d ≡ b → word_form criterion ∷ v ∷ d ∷ [] ≡ word_form criterion ∷ a ∷ b ∷ []
   three criterion a b first second = cc
 
+  -- neither of two is too large
+  neither : {P Q : Type 0} → ¬ P → ¬ Q → ¬ (P ⊎ Q)
+  neither no_p no_q (inl p) = no_p p
+  neither no_p no_q (inr q) = no_q q
+
   cc_parts : (vectors schedules : Kept (ByOperation ℕ)) → AreVectors vectors → Explains criteria.Cc d (explained.Cc schedules) → AreAll criteria.Cc (certificate_of vectors (explained.Cc schedules))
-  cc_parts (Whole vs) (Whole ss) are explains = (three criteria.Cc (lists_form vs) (lists_form ss) are.0 explains.0, (are.1, explains.1))
+  cc_parts (Whole vs) (Whole ss) are explains =
+      ((three criteria.Cc (lists_form vs) (lists_form ss) are.0.0 explains.0.0, (are.0.1, explains.0.1)), neither are.1 explains.1)
   cc_parts (Whole vs) TooLarge are explains =
-      (Cc vs explains.0, (three criteria.Cc (lists_form vs) (lists_form explains.0) are.0 explains.1.0, (are.1, explains.1.1)), inr explains.2)
+      (Cc vs explains.0, (three criteria.Cc (lists_form vs) (lists_form explains.0) are.0.0 explains.1.0, (are.0.1, explains.1.1)), inr explains.2)
   cc_parts TooLarge (Whole ss) are explains =
-      (Cc are.0 ss, (three criteria.Cc (lists_form are.0) (lists_form ss) are.1.0 explains.0, (are.1.1, explains.1)), inl are.2)
+      (Cc are.0 ss, (three criteria.Cc (lists_form are.0) (lists_form ss) are.1.0 explains.0.0, (are.1.1, explains.0.1)), inl are.2)
   cc_parts TooLarge TooLarge are explains =
       (Cc are.0 explains.0, (three criteria.Cc (lists_form are.0) (lists_form explains.0) are.1.0 explains.1.0, (are.1.1, explains.1.1)), inl are.2)
 
   cm_parts : (vectors schedules : Kept (ByOperation ℕ)) → AreVectors vectors → Explains criteria.Cm d (explained.Cm schedules) → AreAll criteria.Cm (certificate_of vectors (explained.Cm schedules))
-  cm_parts (Whole vs) (Whole ss) are explains = (three criteria.Cm (lists_form vs) (lists_form ss) are.0 explains.0, (are.1, explains.1))
+  cm_parts (Whole vs) (Whole ss) are explains =
+      ((three criteria.Cm (lists_form vs) (lists_form ss) are.0.0 explains.0.0, (are.0.1, explains.0.1)), neither are.1 explains.1)
   cm_parts (Whole vs) TooLarge are explains =
-      (Cm vs explains.0, (three criteria.Cm (lists_form vs) (lists_form explains.0) are.0 explains.1.0, (are.1, explains.1.1)), inr explains.2)
+      (Cm vs explains.0, (three criteria.Cm (lists_form vs) (lists_form explains.0) are.0.0 explains.1.0, (are.0.1, explains.1.1)), inr explains.2)
   cm_parts TooLarge (Whole ss) are explains =
-      (Cm are.0 ss, (three criteria.Cm (lists_form are.0) (lists_form ss) are.1.0 explains.0, (are.1.1, explains.1)), inl are.2)
+      (Cm are.0 ss, (three criteria.Cm (lists_form are.0) (lists_form ss) are.1.0 explains.0.0, (are.1.1, explains.0.1)), inl are.2)
   cm_parts TooLarge TooLarge are explains =
       (Cm are.0 explains.0, (three criteria.Cm (lists_form are.0) (lists_form explains.0) are.1.0 explains.1.0, (are.1.1, explains.1.1)), inl are.2)
 
   ccv_parts : (vectors : Kept (ByOperation ℕ)) (sessions : List ℕ) → AreVectors vectors → Explains criteria.Ccv d (explained.Ccv sessions) → AreAll criteria.Ccv (certificate_of vectors (explained.Ccv sessions))
-  ccv_parts (Whole vs) ss are explains = (three criteria.Ccv (lists_form vs) (list_form number_form ss) are.0 explains.0, (are.1, explains.1))
+  ccv_parts (Whole vs) ss are explains = ((three criteria.Ccv (lists_form vs) (list_form number_form ss) are.0.0 explains.0, (are.0.1, explains.1)), are.1)
   ccv_parts TooLarge ss are explains =
       (Ccv are.0 ss, (three criteria.Ccv (lists_form are.0) (list_form number_form ss) are.1.0 explains.0, (are.1.1, explains.1)), are.2)
 
@@ -143,7 +150,7 @@ explained_more criterion vectors e ds d so_far explains =
 -- ---- after the last part
 
 certificate_in : (kept : Kept Certificate) (ds : List Data) → IsKept IsTooLarge (AreCertificate ds) kept → (c : Certificate) × (ds ≡ parts_form c)
-certificate_in (Whole c) ds is = (c, is.0)
+certificate_in (Whole c) ds is = (c, is.0.0)
 certificate_in TooLarge ds is = (is.0, is.1.0)
 
 pub no_more_parts : (kept : Kept Certificate) (ds more : List Data) (d : Data) → ArePartsOf (parts.All kept) ds → (c : Certificate) → IsCertificate c → ds ++ d ∷ more ≢ parts_form c
@@ -172,7 +179,7 @@ module _ (d : Data) (ds : List Data) (has : elements d ≡ Some ds) where
   found parts.Begun are = no_form (λ c same. let no : [] ≡ parts_form c = sym are ∙ same in absurd cc)
   found (parts.Named criterion) are = no_form (λ c same. let no : word_form criterion ∷ [] ≡ parts_form c = sym are ∙ same in absurd cc)
   found (parts.Vectors criterion vectors) are = no_form (λ c same. let no : word_form criterion ∷ are.0 ∷ [] ≡ parts_form c = sym are.1 ∙ same in absurd cc)
-  found (parts.All (Whole c)) are = (of_parts c are.0, are.1)
+  found (parts.All (Whole c)) are = (of_parts c are.0.0, are.0.1, are.1)
   found (parts.All TooLarge) are = (are.0, of_parts are.0 are.1.0, are.1.1, are.2)
 
 pub found_there : (p : Parts) (d : Data) → IsTakenOf (ArePartsOf p) AreNoParts true (elements d) → IsFoundIn d (found_of p)

@@ -1,32 +1,20 @@
 -- The elements of a pair, one after the other.
-use Rattle.std.proofs.Common.{◌≡◌, ℕ, List, [], ◌∷◌, ◌++◌, true, Option, Some, Result, Ok, Err, sym, ap, subst, ◌∙◌}
-use Rattle.std.specs.Prelude.{IfErr, IfOk}
+use Rattle.std.proofs.Common.{◌≡◌, ℕ, List, [], ◌∷◌, ◌++◌, true, Some, Result, Ok, Err, ap, subst, ◌∙◌}
+use Rattle.std.specs.Prelude.{IfOk}
 use Rattle.serde_json.specs.Data.{Data}
-use Rattle.bounded_json.specs.Cut.{cut}
-use Rattle.bounded_json.proofs.CutLaws.{alone}
 use Rattle.operations.specs.declared.any_history.AnyHistory.{AnyHistory}
-use Rattle.operations.specs.declared.history_place.HistoryPlace.TheVariants.{Whole}
 use Rattle.operations.specs.declared.read_error.ReadError.{ReadError}
-use Rattle.operations.specs.AnyForm.{first_refusal, form_of, IsAnyHistory, IsJson}
+use Rattle.operations.specs.AnyForm.{form_of, IsJson}
 use Rattle.operations.specs.Json.{elements, list}
 use Rattle.operations.specs.Laws.Json.{list_from_elements}
-use Rattle.operations.specs.Places.{inside_of, limit_of}
-use Rattle.operations.specs.Refusals.{IsFirst}
-use Rattle.operations.proofs.CutRefusals.{same_refusal}
-use Rattle.operations.proofs.KeptForms.{any_form_is_kept}
+use Rattle.token_reader.specs.Histories.{IsHistoryIn}
 use Rattle.certificate_reader.specs.declared.certificate.FoundCertificate.{FoundCertificate}
 use Rattle.certificate_reader.specs.declared.pair.PairParts.{PairParts}
 use Rattle.certificate_reader.specs.declared.pair.PairParts.TheVariants.{Begun, History, Both}
 use Rattle.certificate_reader.specs.Found.{IsFoundIn}
 use Rattle.certificate_reader.specs.Pairs.{pair_form}
-use Rattle.certificate_reader.specs.Steps.PairParts.{AreNoPair, ArePair, ArePairParts, IsHistoryIn, joined_of, pair_by}
+use Rattle.certificate_reader.specs.Steps.PairParts.{AreNoPair, ArePair, ArePairParts, joined_of, pair_by}
 use Rattle.certificate_reader.proofs.Forms.{IsTakenOf, list_taken}
-
--- what is read of a value that is cut at the places of a history is what is read of the whole of it
-pub history_read : (d v : Data) (read : Result AnyHistory ReadError) → v ≡ cut limit_of inside_of Whole d → IfOk read IsAnyHistory → IfOk read (λ h. v ≡ form_of h)
-    → IfErr read (IsFirst (first_refusal v)) → IsHistoryIn d read
-history_read d v (Ok h) kept is form refused = (alone limit_of inside_of Whole d (form_of h) (any_form_is_kept h is) (sym kept ∙ form), is)
-history_read d v (Err e) kept is form refused = subst (λ (o : Option ReadError). IsFirst o e) (ap first_refusal kept ∙ same_refusal d) refused
 
 pub joined_pair : (x y : Data) (history : Result AnyHistory ReadError) (found : FoundCertificate) → IsHistoryIn x history → IsFoundIn y found → ArePair x y (joined_of history found)
 joined_pair x y (Ok h) found is there = (is, there)

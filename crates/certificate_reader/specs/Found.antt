@@ -14,8 +14,8 @@ IsTooLarge (Cc vectors schedules) = AreTooMany vectors ⊎ AreTooMany schedules
 IsTooLarge (Cm vectors schedules) = AreTooMany vectors ⊎ AreTooMany schedules
 IsTooLarge (Ccv vectors arbitration) = AreTooMany vectors
 
--- the certificate whose form the value is, or that it is the form of one that is too large, or the form of none
+-- the certificate whose form the value is, where it is not too large; or the value is the form of one that is; or the form of none
 abbrev pub IsFoundIn : Data → FoundCertificate → Type 0
-IsFoundIn d (found.Certificate c) = (d ≡ form_of c) × IsCertificate c
+IsFoundIn d (found.Certificate c) = (d ≡ form_of c) × IsCertificate c × ¬ IsTooLarge c
 IsFoundIn d found.TooLarge = (c : Certificate) × (d ≡ form_of c) × IsCertificate c × IsTooLarge c
 IsFoundIn d found.NoForm = (c : Certificate) → IsCertificate c → d ≢ form_of c

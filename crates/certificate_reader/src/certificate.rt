@@ -44,7 +44,7 @@ fn found_of(parts: Parts) -> FoundCertificate
 /// of no history.
 ///
 /// `NotJson` exactly where no value comes next, and `Memory` only where an allocation was refused. O(n) for n bytes of the value. It
-/// takes some bytes for each number that it keeps, and no more memory for what it does not keep.
+/// takes some bytes for each number that it keeps. Of what it does not keep it holds one row, or one text, at a time.
 pub fn next_certificate(
     alloc: Global,
     reader: &mut Reader<'_>,

@@ -1,19 +1,15 @@
 //! Numbers in the lists of a certificate: counts of vectors, and session numbers.
 
-ghost use Rattle.std.specs.Prelude.{◌≡◌, ◌<◌, ◌^◌, ℕ, length, IfOk, IfErr, IfSome, OnOk};
-ghost use Rattle.json.specs.Reads.{token_of};
-ghost use Rattle.bounded_json.specs.Steps.Elements.{Writes};
+ghost use Rattle.std.specs.Prelude.{◌<◌, ◌^◌, ℕ, length, IfOk, IfErr, OnOk};
 ghost use Rattle.bounded_json.specs.Steps.Reading.{IsRefused};
-ghost use Rattle.operations.specs.Json.{whole_number as whole_number_of};
 ghost use Rattle.operations.specs.Reads.{number_form, IsReadWithin};
 ghost use Rattle.token_reader.specs.Tokens.{IsValue};
 
-use bounded_json::{TextError, read_value};
+use bounded_json::TextError;
 use history::MAX_SESSIONS;
-use json::{Reader, Token};
-use operations::HistoryPlace;
+use json::Reader;
 use std::alloc::Global;
-use token_reader::{next_token, whole_number};
+use token_reader::next_whole_number;
 
 /// A number in the lists of a certificate: a count of a vector, or a session number.
 pub(crate) trait Number: Copy {
@@ -23,6 +19,7 @@ pub(crate) trait Number: Copy {
     /// It is in range.
     ghost fits: { Self → Type 0 };
 
+    /// The number, where it is in range.
     fn of(number: u64) -> Option<Self>
         ensures { IsReadWithin fits (λ n. number_form (Self.whole n)) (number_form number) result };
 }
@@ -54,36 +51,6 @@ impl Number for u8 {
             None
         }
     }
-}
-
-/// The number that a token writes with digits alone. None says nothing of the token.
-#[inline(always)]
-fn digits_of(token: &Token<'_>) -> Option<u64>
-    ensures { IfSome result (Writes (token_of token.now)) }
-{
-    match token {
-        Token::Number(text) => whole_number(text),
-        _ => None,
-    }
-}
-
-/// The whole number that comes next, or none where the next value is none. It passes the value.
-#[inline]
-fn next_whole_number(
-    alloc: Global,
-    reader: &mut Reader<'_>,
-    depth: usize,
-) -> Result<Option<u64>, TextError>
-    ensures read { IfOk result (λ number. IsValue (λ d. whole_number_of d ≡ number) depth reader.old reader.new) }
-    ensures shorter { OnOk result (length reader.new < length reader.old) }
-    ensures refused { IfErr result (IsRefused depth reader.old) }
-{
-    let token = next_token(reader)?;
-    if let Some(number) = digits_of(&token) {
-        return Ok(Some(number));
-    }
-    let value = read_value(alloc, token, reader, HistoryPlace::Scalar, depth)?;
-    Ok(value.as_u64())
 }
 
 /// The number that comes next, or none where the next value is the form of none in range. It passes the value.

@@ -6,16 +6,16 @@ ghost use Rattle.bounded_json.specs.Steps.Reading.{IsRefused};
 ghost use Rattle.operations.specs.AnyForm.{form_of, IsAnyHistory, IsJson};
 ghost use Rattle.certificate_reader.specs.Found.{IsFoundIn};
 ghost use Rattle.certificate_reader.specs.Pairs.{pair_form, IsPairRefused};
-ghost use Rattle.certificate_reader.specs.Steps.PairParts.{ArePairParts, IsHistoryIn, IsNextPairPart, joined_of, pair_by};
+ghost use Rattle.certificate_reader.specs.Steps.PairParts.{ArePairParts, IsNextPairPart, joined_of, pair_by};
 ghost use Rattle.token_reader.specs.Tokens.{IsValue};
 
 use crate::certificate::{FoundCertificate, next_certificate};
 use bounded_json::TextError;
 use json::Reader;
-use operations::{AnyHistory, HistoryPlace, ReadError, history_of};
+use operations::{AnyHistory, ReadError};
 use std::alloc::Global;
 use std::mem;
-use token_reader::{Gather, gather_text, next_value, pass_value};
+use token_reader::{Gather, gather_text, next_history, pass_value};
 
 /// A history with what was found after it, or the first refusal of the history.
 type Pair = Result<(AnyHistory, FoundCertificate), ReadError>;
@@ -29,20 +29,6 @@ enum PairParts {
     History(Result<AnyHistory, ReadError>),
     /// Both of them.
     Both(Pair),
-}
-
-/// The history that comes next, or its first refusal. It passes the value in any case.
-fn next_history(
-    alloc: Global,
-    reader: &mut Reader<'_>,
-    depth: usize,
-) -> Result<Result<AnyHistory, ReadError>, TextError>
-    ensures read { IfOk result (λ read. IsValue (λ d. IsHistoryIn d read) depth reader.old reader.new) }
-    ensures shorter { OnOk result (length reader.new < length reader.old) }
-    ensures refused { IfErr result (IsRefused depth reader.old) }
-{
-    let value = next_value(alloc, reader, HistoryPlace::Whole, depth)?;
-    Ok(history_of(alloc, &value))
 }
 
 /// The history with what was found after it, unless it is refused.

@@ -1,5 +1,4 @@
 pub mod AfterWord
-pub mod ClaimHistories
 pub mod ClaimParts
 pub mod Claims
 pub mod Forms

@@ -1,6 +1,4 @@
 -- What the functions say to one another: no statement of what is read names these.
-pub mod Alone
-pub mod ClaimHistories
 pub mod ClaimTaken
 pub mod PartWords
 pub mod PatternTaken

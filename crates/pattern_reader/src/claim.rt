@@ -56,8 +56,8 @@ pub fn read_claim(alloc: Global, text: &[u8]) -> Result<Claim, ReadError>
 
 /// The violation that a claim names, which comes after its history. It passes the history, which may be any value.
 ///
-/// None where the text is no list of three elements. `NotJson` where `serde_json` refuses the text, `Memory` only where an allocation was
-/// refused. O(n) for a text of n bytes, of which the pattern alone is kept.
+/// None where the text is no list of three elements. `NotJson` exactly where `serde_json` refuses the text, and `Memory` only where an
+/// allocation was refused. O(n) for a text of n bytes, of which the violation alone is kept.
 pub fn read_violation(alloc: Global, text: &[u8]) -> Result<Option<Violation>, TextError>
     ensures read { IfOk result
         (λ read. (d : Data) × IsJson text.now d × MatchOption read ((h c p : Data) → d ≢ list (h ∷ c ∷ p ∷ []))

@@ -3,14 +3,14 @@
 ghost use Rattle.std.specs.Prelude.{◌<◌, length, IfOk, IfErr, OnOk};
 ghost use Rattle.serde_json.specs.Data.{Data};
 ghost use Rattle.bounded_json.specs.Steps.Reading.{IsRefused};
-ghost use Rattle.pattern_reader.specs.Steps.ClaimHistories.{IsHistoryOf};
+ghost use Rattle.token_reader.specs.Histories.{IsHistoryIn};
 ghost use Rattle.token_reader.specs.Tokens.{IsValue};
 
 use bounded_json::TextError;
 use json::Reader;
-use operations::{AnyHistory, HistoryPlace, ReadError, history_of};
+use operations::{AnyHistory, ReadError};
 use std::alloc::Global;
-use token_reader::{next_value, pass_value};
+use token_reader::{next_history, pass_value};
 
 /// What is made of the first element of a claim.
 pub(crate) trait ClaimHistory: Drop + Sized {
@@ -19,7 +19,7 @@ pub(crate) trait ClaimHistory: Drop + Sized {
 
     /// What is made of the value that comes next. It passes the value in any case.
     ///
-    /// `NotJson` exactly where no value comes next, and `Memory` only where an allocation was refused.
+    /// `NotJson` exactly where no value comes next, and `Memory` only where an allocation was refused. O(n) for n bytes of the value.
     fn next(alloc: Global, reader: &mut Reader<'_>, depth: usize) -> Result<Self, TextError>
         ensures read { IfOk result (λ history. IsValue (made_of history) depth reader.old reader.new) }
         ensures shorter { OnOk result (length reader.new < length reader.old) }
@@ -31,15 +31,14 @@ pub(crate) trait ClaimHistory: Drop + Sized {
 pub(crate) struct ReadHistory(pub(crate) Result<AnyHistory, ReadError>);
 
 impl ClaimHistory for ReadHistory {
-    ghost made_of = { λ history d. IsHistoryOf d history.0 };
+    ghost made_of = { λ history d. IsHistoryIn d history.0 };
 
     fn next(
         alloc: Global,
         reader: &mut Reader<'_>,
         depth: usize,
     ) -> Result<ReadHistory, TextError> {
-        let value = next_value(alloc, reader, HistoryPlace::Whole, depth)?;
-        Ok(ReadHistory(history_of(alloc, &value)))
+        Ok(ReadHistory(next_history(alloc, reader, depth)?))
     }
 }
 

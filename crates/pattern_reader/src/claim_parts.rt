@@ -82,6 +82,8 @@ impl<H: ClaimHistory> ClaimParts<H> {
 }
 
 /// What is made of the three elements of the list that a text is, or none where it is no list of three.
+///
+/// `NotJson` exactly where `serde_json` refuses the text, and `Memory` only where an allocation was refused. O(n) for a text of n bytes.
 pub(crate) fn read_three<H: ClaimHistory>(
     alloc: Global,
     text: &[u8],

@@ -19,7 +19,7 @@ pub(crate) trait Formed: Drop + Sized {
 
     /// The item whose form the value that comes next is. It passes the value in any case.
     ///
-    /// `NotJson` exactly where no value comes next, and `Memory` only where an allocation was refused.
+    /// `NotJson` exactly where no value comes next, and `Memory` only where an allocation was refused. O(n) for n bytes of the value.
     fn next(alloc: Global, reader: &mut Reader<'_>, depth: usize) -> Result<Option<Self>, TextError>
         ensures read { IfOk result (λ item. IsValue (λ d. IsRead form d item) depth reader.old reader.new) }
         ensures shorter { OnOk result (length reader.new < length reader.old) }
@@ -47,7 +47,8 @@ pub(crate) trait Parts: Gather + Drop + Sized {
 
 /// The whole whose parts the elements of the value that comes next are, where this is a list. It passes the value in any case.
 ///
-/// `NotJson` exactly where no value comes next, and `Memory` only where an allocation was refused.
+/// `NotJson` exactly where no value comes next, and `Memory` only where an allocation was refused. O(n) for n bytes of the value, beside
+/// what `take_next` takes.
 pub(crate) fn next_whole<P: Parts>(
     alloc: Global,
     reader: &mut Reader<'_>,

@@ -3,8 +3,8 @@
 //! [`next_pattern`] reads the pattern that comes next. [`read_claim`] reads the text of a claim, which is a list of a history, the name of
 //! a criterion and a pattern, and [`read_violation`] reads what comes after the history in one.
 //!
-//! It uses operations, cert_check, bad_patterns, bounded_json, token_reader, json and serde_json. How a text is read may change: callers
-//! rest on the contracts alone.
+//! It uses history, operations, cert_check, bad_patterns, bounded_json, token_reader, json and serde_json. How a text is read may change:
+//! callers rest on the contracts alone.
 #![tactic(auto)]
 
 mod claim;

@@ -19,16 +19,24 @@ use json::Reader;
 use std::alloc::Global;
 use token_reader::Gather;
 
-/// What was taken of the parts of a pattern: nothing, or the name of its kind and what came after it.
+/// What was taken of the parts of a pattern. [`next_pattern`] takes the parts one after the other, and makes the pattern of them.
 #[derive(Drop)]
 pub(crate) enum PatternParts {
+    /// None of them.
     Nothing,
+    /// The name of this kind, and what was taken of the path.
     CyclicCO(Only<Path>),
+    /// The name of this kind, and what was taken of the read.
     ThinAirRead(Only<OpId>),
+    /// The name of this kind, and what was taken of the path.
     WriteCOInitRead(Only<Path>),
+    /// The name of this kind, and what was taken of the two paths.
     WriteCORead(Pair<Path, Path>),
+    /// The name of this kind, and what was taken of the operation and its derivation.
     WriteHBInitRead(Pair<OpId, Derivation>),
+    /// The name of this kind, and what was taken of the operation and its derivation.
     CyclicHB(Pair<OpId, Derivation>),
+    /// The name of this kind, and what was taken of the links.
     CyclicCF(Only<Links>),
 }
 
@@ -113,10 +121,13 @@ impl Parts for PatternParts {
     }
 }
 
-/// The pattern whose form the value that comes next is, if there is one. It passes the value in any case.
+/// The pattern that comes next, or none where the next value is the form of no pattern. It passes the value in any case.
 ///
-/// The form is that of `bad_patterns::read_pattern`. `NotJson` exactly where no value comes next, and `Memory` only where an allocation was
-/// refused. O(n) for n tokens of the value, of which the pattern alone is kept.
+/// It serves readers of a text that has a pattern in it, as a claim has. [`read_pattern`](bad_patterns::read_pattern) describes the form.
+/// `depth` is how much deeper the text may nest there.
+///
+/// `NotJson` exactly where no value comes next, and `Memory` only where an allocation was refused. O(n) for n bytes of the value, of which
+/// it keeps the pattern alone.
 pub fn next_pattern(
     alloc: Global,
     reader: &mut Reader<'_>,

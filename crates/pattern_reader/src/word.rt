@@ -26,7 +26,7 @@ pub(crate) trait Word: Copy {
 
 /// What the value that comes next names. It passes the value in any case.
 ///
-/// `NotJson` exactly where no value comes next, and `Memory` only where an allocation was refused.
+/// `NotJson` exactly where no value comes next, and `Memory` only where an allocation was refused. O(n) for n bytes of the value.
 pub(crate) fn next_word<W: Word>(
     alloc: Global,
     reader: &mut Reader<'_>,

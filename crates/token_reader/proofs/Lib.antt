@@ -1,4 +1,6 @@
+pub mod CutHistories
 pub mod Elements
 pub mod Gathering
+pub mod NumberTokens
 pub mod Values
 pub mod WholeNumbers

@@ -1,2 +1,4 @@
+pub mod Alone
 pub mod Gathers
+pub mod Histories
 pub mod Tokens

@@ -39,7 +39,8 @@ pub trait Gather {
 
 /// Takes the elements of the rest of a list, and returns whether they are wanted. It passes the whole list in any case.
 ///
-/// `NotJson` exactly where no rest of a list comes next, and `Memory` only where an allocation was refused.
+/// `NotJson` exactly where no rest of a list comes next, and `Memory` only where an allocation was refused. O(n) for n bytes of the list,
+/// beside what `take_next` takes.
 pub fn gather_rest<G: Gather>(
     alloc: Global,
     reader: &mut Reader<'_>,
@@ -88,7 +89,8 @@ pub(crate) fn gather_list<G: Gather>(
 /// Takes the elements of the list that comes next, and returns whether a list comes, and its elements are wanted. It passes the value in
 /// any case.
 ///
-/// `NotJson` exactly where no value comes next, and `Memory` only where an allocation was refused.
+/// `NotJson` exactly where no value comes next, and `Memory` only where an allocation was refused. O(n) for n bytes of the value, beside
+/// what `take_next` takes.
 pub fn next_list<G: Gather>(
     alloc: Global,
     reader: &mut Reader<'_>,

@@ -14,6 +14,8 @@ use serde_json::Value;
 use std::alloc::Global;
 
 /// The next token, with which a value begins.
+///
+/// `NotJson` exactly where no token comes next. O(1) for all but a text, and O(n) for n bytes of a text.
 #[inline(always)]
 pub fn next_token<'a>(reader: &mut Reader<'a>) -> Result<Token<'a>, TextError>
     ensures token { IfOk result (λ token. reader.old ≡ token_of token ∷ reader.new) }
@@ -27,6 +29,9 @@ pub fn next_token<'a>(reader: &mut Reader<'a>) -> Result<Token<'a>, TextError>
 }
 
 /// The value that comes next, cut at its place.
+///
+/// `depth` is how much deeper the text may nest there. `NotJson` exactly where no value comes next, and `Memory` only where an allocation
+/// was refused. O(n) for n bytes of the value, of which it keeps what the place asks for.
 pub fn next_value(
     alloc: Global,
     reader: &mut Reader<'_>,
@@ -42,6 +47,8 @@ pub fn next_value(
 }
 
 /// Passes the value that comes next.
+///
+/// `NotJson` exactly where no value comes next, and `Memory` only where an allocation was refused. O(n) for n bytes of the value.
 pub fn pass_value(alloc: Global, reader: &mut Reader<'_>, depth: usize) -> Result<(), TextError>
     ensures passed { OnOk result (IsValue (λ _. Unit {0}) depth reader.old reader.new) }
     ensures shorter { OnOk result (length reader.new < length reader.old) }
@@ -52,6 +59,8 @@ pub fn pass_value(alloc: Global, reader: &mut Reader<'_>, depth: usize) -> Resul
 }
 
 /// Passes the value that begins with a token; the value is no list.
+///
+/// `NotJson` exactly where the token begins no value, and `Memory` only where an allocation was refused. O(n) for n bytes of the value.
 pub fn pass_no_list(
     alloc: Global,
     token: Token<'_>,

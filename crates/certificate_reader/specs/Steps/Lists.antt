@@ -33,9 +33,9 @@ module _ {A : Type 0} (fits : A → Type 0) (form : A → Data) where
 
 -- ---- what is kept
 
--- this holds of what is kept, or of something large that is not kept
+-- this holds of what is kept, which is not large, or of something large that is not kept
 abbrev pub IsKept : {L : Type 0} → (L → Type 0) → (L → Type 0) → Kept L → Type 0
-IsKept {L} large holds (Whole lists) = holds lists
+IsKept {L} large holds (Whole lists) = holds lists × ¬ large lists
 IsKept {L} large holds TooLarge = (lists : L) × holds lists × large lists
 
 -- the value is the form of what is kept, or of nothing

@@ -6,15 +6,12 @@ use Rattle.operations.specs.declared.read_error.ReadError.{ReadError}
 use Rattle.operations.specs.declared.read_error.ReadError.TheVariants.{BadShape}
 use Rattle.operations.specs.AnyForm.{first_refusal, form_of, IsAnyHistory}
 use Rattle.operations.specs.Refusals.{IsFirst}
+use Rattle.token_reader.specs.Histories.{IsHistoryIn}
 use Rattle.certificate_reader.specs.declared.certificate.FoundCertificate.{FoundCertificate}
 use Rattle.certificate_reader.specs.declared.pair.PairParts.{PairParts}
 use Rattle.certificate_reader.specs.declared.pair.PairParts.TheVariants.{Begun, History, Both}
 use Rattle.certificate_reader.specs.Found.{IsFoundIn}
 use Rattle.certificate_reader.specs.Pairs.{first_of_pair}
-
--- the history whose form the value is, or its first refusal
-abbrev pub IsHistoryIn : Data → Result AnyHistory ReadError → Type 0
-IsHistoryIn d read = MatchResult read (λ h. (d ≡ form_of h) × IsAnyHistory h) (IsFirst (first_refusal d))
 
 -- the history and what was found after it, or the first refusal of the history
 abbrev pub ArePair : Data → Data → Result (AnyHistory × FoundCertificate) ReadError → Type 0

@@ -1,7 +1,7 @@
 use Rattle.std.proofs.lemmas.Result.{err_from_is_err_and}
 use Rattle.serde_json.specs.View.{view}
-use Rattle.pattern_reader.proofs.Scalars.{number_of_cut}
-use Rattle.pattern_reader.proofs.number.U64Formed.next.Goals as goal
+use Rattle.token_reader.proofs.NumberTokens.{number_of_cut}
+use Rattle.token_reader.proofs.number.next_whole_number.Goals as goal
 
 pub returns-in_err-token-clause-refused : goal.returns-in_err-token-clause-refused
 returns-in_err-token-clause-refused c =

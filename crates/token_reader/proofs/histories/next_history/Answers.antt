@@ -1,6 +1,6 @@
 use Rattle.serde_json.specs.View.{view}
-use Rattle.certificate_reader.proofs.PairReading.{history_read}
-use Rattle.certificate_reader.proofs.pair.next_history.Goals as goal
+use Rattle.token_reader.proofs.CutHistories.{history_read}
+use Rattle.token_reader.proofs.histories.next_history.Goals as goal
 
 pub returns-clause-read : goal.returns-clause-read
 returns-clause-read c =
