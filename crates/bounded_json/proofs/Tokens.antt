@@ -1,14 +1,30 @@
 -- What the first token says of the value that comes next.
-use Rattle.std.proofs.Common.{◌≡◌, ℕ, ◌-◌, ◌<◌, List, [], ◌∷◌, length, Bool, Option, Some, None, option_map, refl, ap, ◌∙◌}
-use Rattle.json.specs.Json.{items, members, parse_map, value}
+use Rattle.std.proofs.Common.{◌≡◌, ◌≢◌, ℕ, ◌-◌, ◌<◌, List, [], ◌∷◌, length, Bool, Option, Some, None, option_map, refl, ap, ◌∙◌}
+use Rattle.json.specs.Json.{after_end_array, items, members, parse_map, value}
+use Rattle.json.specs.Reads.{token_of}
 use Rattle.json.specs.Token.{Token}
+use Rattle.json.specs.declared.token.Token as tokens
+use Rattle.json.specs.declared.token.Token.TheVariants as kinds
 use Rattle.json.proofs.Grammar.{left, left-parse_map, value_is, value-begin_array, value-begin_object}
 use Rattle.serde_json.specs.Data.{Data, Num, null, boolean, number, string, array, object, no_members}
 use Rattle.serde_json.specs.Read.{number_of, of_json, of_items, of_members, converted}
 use Rattle.bounded_json.specs.Steps.Behind.{behind_value, behind_items, behind_members}
 use Rattle.bounded_json.proofs.Turns.{converted-array, converted-object}
 
--- a value, and what stands behind it
+-- a list goes on where no bracket closes it
+pub goes_on : (t : tokens.Token) (ts : List Token) → t ≢ kinds.EndArray → after_end_array (token_of t ∷ ts) ≡ None
+goes_on kinds.BeginObject ts other = refl
+goes_on kinds.EndObject ts other = refl
+goes_on kinds.BeginArray ts other = refl
+goes_on kinds.EndArray ts other = absurd (other refl)
+goes_on (kinds.Key s) ts other = refl
+goes_on (kinds.String s) ts other = refl
+goes_on (kinds.Number s) ts other = refl
+goes_on (kinds.Bool b) ts other = refl
+goes_on kinds.Null ts other = refl
+goes_on kinds.Bad ts other = refl
+
+-- a value, and what comes after it
 abbrev pub Read : Type 0
 Read = Option (Data × List Token)
 

@@ -1,4 +1,3 @@
-pub mod Compact
 pub mod Cut
 pub mod Steps
 pub mod Text

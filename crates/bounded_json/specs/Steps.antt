@@ -1,4 +1,3 @@
 -- What the functions say to one another: no statement of what is read names these.
 pub mod Behind
-pub mod Elements
 pub mod Reading

@@ -21,4 +21,3 @@ pub mod CriterionNames
 pub mod ConvergentLaws
 pub mod FilteredLaws
 pub mod CutCertificates
-pub mod CompactWords

@@ -32,7 +32,6 @@ mod replay;
 mod schedule_walk;
 mod scheduled;
 mod shape;
-mod source;
 
 pub use arbitration::Arbitration;
 pub use case_file::CaseFile;
@@ -44,6 +43,6 @@ pub use criterion::Criterion;
 pub use desk_error::DeskError;
 pub use kept::Kept;
 pub use piece_checker::PieceChecker;
-pub use reading::{read_certificate, read_compact_certificate};
+pub use reading::read_certificate;
 pub use scheduled::is_scheduled_piece;
 pub use shape::{names_all, shape_ok};

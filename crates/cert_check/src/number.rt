@@ -1,10 +1,11 @@
 //! Numbers in the lists of a certificate, and how they are read: counts of vectors, and session numbers.
 
 ghost use Rattle.std.specs.Prelude.{ℕ, ◌<◌, ◌^◌};
+ghost use Rattle.serde_json.specs.View.{view};
 ghost use Rattle.operations.specs.Reads.{number_form, IsReadWithin};
 
-use crate::source::Source;
 use history::MAX_SESSIONS;
+use serde_json::Value;
 
 /// A number in the lists of a certificate: a count of a vector, or a session number.
 pub(crate) trait Number: Copy {
@@ -48,10 +49,10 @@ impl Number for u8 {
 }
 
 /// The number whose form a value is.
-pub(crate) fn read_number<T: Number, S: Source>(value: &S) -> Option<T>
-    ensures { IsReadWithin T.fits (λ n. number_form (T.whole n)) (S.stands_for value.now) result }
+pub(crate) fn read_number<T: Number>(value: &Value) -> Option<T>
+    ensures { IsReadWithin T.fits (λ n. number_form (T.whole n)) (view value.now) result }
 {
-    match value.whole_number() {
+    match value.as_u64() {
         Some(number) => T::of(number),
         None => None,
     }

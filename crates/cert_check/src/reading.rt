@@ -2,7 +2,6 @@
 
 ghost use Rattle.std.specs.Prelude.{◌∷◌, [], map, IfOk};
 ghost use Rattle.serde_json.specs.View.{view};
-ghost use Rattle.bounded_json.specs.Compact.{compact_view};
 ghost use Rattle.operations.specs.Reads.{worded, IsReadWithin};
 ghost use Rattle.cert_check.specs.CriterionNames.{name_of};
 ghost use Rattle.cert_check.specs.CertificateForm.{form_of, IsCertificate, IsReadAs};
@@ -12,8 +11,7 @@ use crate::cert_error::CertError;
 use crate::certificate::Certificate;
 use crate::criterion::Criterion;
 use crate::reading_lists::{read_lists, read_numbers};
-use crate::source::Source;
-use bounded_json::Compact;
+use operations::word_and_rest;
 use serde_json::Value;
 use std::alloc::{AllocError, Global};
 
@@ -30,21 +28,11 @@ pub fn read_certificate(alloc: Global, value: &Value) -> Result<Certificate, Cer
     read_form(alloc, value)?.ok_or(CertError::BadCertificate)
 }
 
-/// The certificate whose form a compact value is; [`read_certificate`] describes the form.
-///
-/// `BadCertificate` for every value that is the form of none, `Memory` only where an allocation was refused. O(n) for n
-/// numbers.
-pub fn read_compact_certificate(alloc: Global, value: &Compact) -> Result<Certificate, CertError>
-    ensures { IsReadAs (compact_view value.now) result }
-{
-    read_form(alloc, value)?.ok_or(CertError::BadCertificate)
-}
-
 /// The certificate that a value is the form of.
-fn read_form<S: Source>(alloc: Global, value: &S) -> Result<Option<Certificate>, AllocError>
-    ensures { IfOk result (IsReadWithin IsCertificate form_of (S.stands_for value.now)) }
+fn read_form(alloc: Global, value: &Value) -> Result<Option<Certificate>, AllocError>
+    ensures { IfOk result (IsReadWithin IsCertificate form_of (view value.now)) }
 {
-    let Some((word, rest)) = value.word_and_rest() else {
+    let Some((word, rest)) = word_and_rest(value) else {
         return Ok(None);
     };
     match Criterion::named(word) {
@@ -54,12 +42,12 @@ fn read_form<S: Source>(alloc: Global, value: &S) -> Result<Option<Certificate>,
 }
 
 /// The certificate for a criterion, read from the elements after its name.
-fn read_parts<S: Source>(
+fn read_parts(
     alloc: Global,
     criterion: Criterion,
-    rest: &[S],
+    rest: &[Value],
 ) -> Result<Option<Certificate>, AllocError>
-    ensures { IfOk result (IsReadWithin IsCertificate form_of (worded (name_of criterion) (map S.stands_for rest.now))) }
+    ensures { IfOk result (IsReadWithin IsCertificate form_of (worded (name_of criterion) (map view rest.now))) }
 {
     match rest {
         [vectors, explained] => read_vectors(alloc, criterion, vectors, explained),
@@ -68,28 +56,28 @@ fn read_parts<S: Source>(
 }
 
 /// The certificate for a criterion, read from the vectors and the elements after them.
-fn read_vectors<S: Source>(
+fn read_vectors(
     alloc: Global,
     criterion: Criterion,
-    vectors: &S,
-    explained: &S,
+    vectors: &Value,
+    explained: &Value,
 ) -> Result<Option<Certificate>, AllocError>
     ensures { IfOk result (IsReadWithin IsCertificate form_of (worded (name_of criterion)
-        (S.stands_for vectors.now ∷ S.stands_for explained.now ∷ []))) }
+        (view vectors.now ∷ view explained.now ∷ []))) }
 {
-    let Some(vectors) = read_lists::<u16, S>(alloc, vectors)? else {
+    let Some(vectors) = read_lists::<u16>(alloc, vectors)? else {
         return Ok(None);
     };
     match criterion {
-        Criterion::Cc => match read_lists::<u8, S>(alloc, explained)? {
+        Criterion::Cc => match read_lists::<u8>(alloc, explained)? {
             Some(schedules) => Ok(Some(Certificate::Cc(vectors, schedules))),
             None => Ok(None),
         },
-        Criterion::Cm => match read_lists::<u8, S>(alloc, explained)? {
+        Criterion::Cm => match read_lists::<u8>(alloc, explained)? {
             Some(schedules) => Ok(Some(Certificate::Cm(vectors, schedules))),
             None => Ok(None),
         },
-        Criterion::Ccv => match read_numbers::<u8, S>(alloc, explained)? {
+        Criterion::Ccv => match read_numbers::<u8>(alloc, explained)? {
             Some(sessions) => Ok(Some(Certificate::Ccv(vectors, Arbitration::of(sessions)))),
             None => Ok(None),
         },

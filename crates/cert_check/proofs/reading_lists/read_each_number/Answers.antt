@@ -1,16 +1,18 @@
-use Rattle.std.proofs.Common.{arith, ◌≤◌, length, map, refl}
+use Rattle.std.proofs.Common.{arith, ◌≤◌, length, map, sym}
+use Rattle.serde_json.specs.View.{view}
 use Rattle.operations.specs.Reads.{number_form}
 use Rattle.operations.specs.Json.{list}
+use Rattle.operations.specs.Laws.Json.{elements-list}
 use Rattle.cert_check.proofs.ListReading.{all_read, none_fits}
 use Rattle.cert_check.proofs.reading_lists.read_each_number.Goals as goal
 
 pub returns-in_default : goal.returns-in_default
 returns-in_default g c =
-    none_fits g.S.Source.stands_for g.T.Number.fits (λ n. number_form (g.T.Number.whole n)) c.args.values.now (list (map g.S.Source.stands_for c.args.values.now)) refl c.loop-element.element-index c.element-item.result c.element-item.is
+    none_fits view g.T.Number.fits (λ n. number_form (g.T.Number.whole n)) c.args.values.now (list (map view c.args.values.now)) (sym (elements-list (map view c.args.values.now))) c.loop-element.element-index c.element-item.result c.element-item.is
     c.loop-element-test.true c.in_default.ensures
 
 pub returns : goal.returns
 returns g c =
     let ended : length c.args.values.now ≤ c.loop-element.element-index = omega arith in
-    all_read g.S.Source.stands_for g.T.Number.fits (λ n. number_form (g.T.Number.whole n)) c.args.values.now (list (map g.S.Source.stands_for c.args.values.now)) refl c.loop-element.element-index c.loop-element.numbers.items ended
+    all_read view g.T.Number.fits (λ n. number_form (g.T.Number.whole n)) c.args.values.now (list (map view c.args.values.now)) (sym (elements-list (map view c.args.values.now))) c.loop-element.element-index c.loop-element.numbers.items ended
     c.loop-element.invariant

@@ -1,25 +1,26 @@
-use Rattle.std.proofs.Common.{arith, ◌≤◌, length, map, All}
+use Rattle.std.proofs.Common.{arith, ◌≤◌, length, All}
+use Rattle.serde_json.specs.View.{view}
 use Rattle.operations.specs.Reads.{list_form, number_form}
-use Rattle.cert_check.proofs.ListReading.{all_read, no_lists, none_fits, one_more_read}
+use Rattle.cert_check.proofs.ListReading.{all_read, no_list, none_fits, one_more_read}
 use Rattle.cert_check.proofs.reading_lists.read_rows.Goals as goal
 
 pub returns-in_default-2 : goal.returns-in_default-2
 returns-in_default-2 g c =
     let none = rw c.in_default-2.is at c.in_ok-numbers.ensures in
-    none_fits g.S.Source.stands_for (All g.T.Number.fits) (list_form (λ n. number_form (g.T.Number.whole n))) c.in-Some.values.now (g.S.Source.stands_for c.args.value.now) c.in-Some.ensures c.loop-element.element-index c.element-item.result c.element-item.is
+    none_fits view (All g.T.Number.fits) (list_form (λ n. number_form (g.T.Number.whole n))) c.in-Some.values.now (view c.args.value.now) c.in-Some.ensures c.loop-element.element-index c.element-item.result c.element-item.is
     c.loop-element-test.true none
 
 pub loop-element-preserved : goal.loop-element-preserved
 loop-element-preserved g c =
     let read = rw c.in-Some-2.is at c.in_ok-numbers.ensures in
-    rw (c.in_ok-push.ensures.ok, c.as_slice.ensures.value) (one_more_read g.S.Source.stands_for (All g.T.Number.fits) (list_form (λ n. number_form (g.T.Number.whole n))) c.in-Some.values.now c.loop-element.element-index
+    rw (c.in_ok-push.ensures.ok, c.as_slice.ensures.value) (one_more_read view (All g.T.Number.fits) (list_form (λ n. number_form (g.T.Number.whole n))) c.in-Some.values.now c.loop-element.element-index
     c.element-item.result c.loop-element.rows c.in-Some-2.numbers.items c.element-item.is c.loop-element-test.true read c.loop-element.invariant)
 
 pub returns : goal.returns
 returns g c =
     let ended : length c.in-Some.values.now ≤ c.loop-element.element-index = omega arith in
-    all_read g.S.Source.stands_for (All g.T.Number.fits) (list_form (λ n. number_form (g.T.Number.whole n))) c.in-Some.values.now (g.S.Source.stands_for c.args.value.now) c.in-Some.ensures c.loop-element.element-index c.loop-element.rows ended
+    all_read view (All g.T.Number.fits) (list_form (λ n. number_form (g.T.Number.whole n))) c.in-Some.values.now (view c.args.value.now) c.in-Some.ensures c.loop-element.element-index c.loop-element.rows ended
     c.loop-element.invariant
 
 pub returns-in_default : goal.returns-in_default
-returns-in_default g c = λ lists good. no_lists (map (λ n. number_form (g.T.Number.whole n))) (g.S.Source.stands_for c.args.value.now) c.in_default.ensures lists
+returns-in_default g c = λ lists good. no_list (list_form (λ n. number_form (g.T.Number.whole n))) (view c.args.value.now) c.in_default.ensures lists

@@ -1,7 +1,6 @@
-use Rattle.std.proofs.Common.{arith, ◌≤◌, ◌≡◌, length, map, sym}
+use Rattle.std.proofs.Common.{arith, ◌≤◌, ◌≡◌, length}
 use Rattle.serde_json.specs.View.{view}
 use Rattle.history.specs.declared.limits.TheConstants.{MAX_OPERATIONS}
-use Rattle.operations.specs.Laws.Json.{list_from_elements}
 use Rattle.operations.specs.Reads.{number_form}
 use Rattle.cert_check.proofs.ListReading.{all_read, none_fits}
 use Rattle.script.proofs.StepForms.{counted}
@@ -15,15 +14,13 @@ returns-then-values-k c = λ told good same.
 
 pub returns-in_default-read_count : goal.returns-in_default-read_count
 returns-in_default-read_count c = λ told good.
-    none_fits view (λ n. n ≤ MAX_OPERATIONS) number_form c.in-Some.values.now (view c.args.value.now)
-    (list_from_elements (view c.args.value.now) (map view c.in-Some.values.now) (sym c.in-Some.ensures)) c.loop-element.element-index
+    none_fits view (λ n. n ≤ MAX_OPERATIONS) number_form c.in-Some.values.now (view c.args.value.now) c.in-Some.ensures c.loop-element.element-index
     c.element-item.result c.element-item.is c.loop-element-test.true c.in_default-read_count.ensures told good.1
 
 pub returns : goal.returns
 returns c =
     let ended : length c.in-Some.values.now ≤ c.loop-element.element-index = omega arith in
-    let all = all_read view (λ n. n ≤ MAX_OPERATIONS) number_form c.in-Some.values.now (view c.args.value.now)
-    (list_from_elements (view c.args.value.now) (map view c.in-Some.values.now) (sym c.in-Some.ensures)) c.loop-element.element-index
+    let all = all_read view (λ n. n ≤ MAX_OPERATIONS) number_form c.in-Some.values.now (view c.args.value.now) c.in-Some.ensures c.loop-element.element-index
     c.loop-element.counts.items ended c.loop-element.invariant in
     let many : length c.loop-element.counts.items ≡ length c.in-Some.values.now =
     counted view (view c.args.value.now) c.in-Some.values.now c.in-Some.ensures c.loop-element.counts.items all.0 in

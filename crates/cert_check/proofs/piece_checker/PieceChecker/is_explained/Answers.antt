@@ -1,10 +1,9 @@
-use Rattle.std.proofs.Common.{Bool, ◌≡◌, ℕ, List, sym, ap, ap₂, subst, ◌∙◌}
+use Rattle.std.proofs.Common.{Bool, ◌≡◌, ℕ, List, sym, ap, subst, ◌∙◌}
 use Rattle.std.specs.Prelude.{IsTrue, ◌↔◌}
 use Rattle.std.proofs.lemmas.Result.{IfOk-weaker}
 use Rattle.history.specs.History.{HistoryValue}
 use Rattle.causal_order.specs.Orders.{only, program_past}
-use Rattle.causal_order.specs.Vectors.{Counts}
-use Rattle.cert_check.specs.Certificates.{IsArbitratedPiece, IsScheduledPiece, vectors_of}
+use Rattle.cert_check.specs.Certificates.{IsArbitratedPiece, IsScheduledPiece}
 use Rattle.cert_check.specs.declared.certificate.Certificate.TheVariants.{Cc, Cm, Ccv}
 use Rattle.cert_check.proofs.PieceCheckers.{decided_as, held_is}
 use Rattle.cert_check.proofs.piece_checker.PieceChecker.is_explained.Goals as goal
