@@ -3,6 +3,7 @@ mod FirstForms
 pub mod LongForms
 mod LongTables
 mod OperationsRead
+mod OperationsTaken
 mod PartsRead
 mod ScalarTokens
 mod ScalarsRead

@@ -1,6 +1,6 @@
 -- Reading the operations of one session, one after the other.
-use Rattle.std.proofs.Common.{◌≡◌, ◌⊎◌, inl, inr, ℕ, zero, suc, ◌+◌, ◌<◌, Bool, true, false, ◌||◌, List, [], ◌∷◌, ◌++◌, length, map, take, Option, Some, None, refl, sym, ap, subst, ◌∙◌, arith, append_assoc}
-use Rattle.std.specs.Prelude.{Result, Ok, Err, not, slice_get, is_some}
+use Rattle.std.proofs.Common.{◌≡◌, ℕ, zero, suc, ◌+◌, ◌<◌, Bool, true, false, ◌||◌, List, [], ◌∷◌, ◌++◌, length, map, take, Option, Some, None, refl, sym, ap, subst, ◌∙◌, arith, append_assoc}
+use Rattle.std.specs.Prelude.{slice_get}
 use Rattle.std.proofs.lemmas.List.{append-nil, length_push, take_all}
 use Rattle.std.proofs.lemmas.Option.{slice_get_within}
 use Rattle.json.specs.Json.{after_end_array}
@@ -17,9 +17,12 @@ use Rattle.operations.specs.declared.read_error.ReadError.TheVariants.{ReturnAft
 use Rattle.operations.proofs.FirstRefusal.{first_among_none}
 use Rattle.operations.proofs.SessionReading.{IsReadUpTo, form_at, or_true, reads_nothing, reads_on, refused_here, unknown_among}
 use Rattle.long_reader.specs.LongRefusals.{operation_at, operations_refusal}
-use Rattle.long_reader.specs.Steps.Reading.{AreOperations, Entry, IsOperation, IsSessionOfMemory}
+use Rattle.long_reader.specs.Steps.Reading.{AreOperations, Entry, IsSessionOfMemory}
+use Rattle.long_reader.specs.Steps.Taking.{IsTaken, is_unknown, refusal_as}
+use Rattle.long_reader.specs.declared.taken.Taken.{Taken}
 use Rattle.token_reader.specs.Tokens.{IsRest, IsValue}
 use Rattle.token_reader.proofs.Elements.{HasRead, read_none, read_one_more, read_all, rest_passed}
+use Rattle.long_reader.proofs.OperationsTaken.{pushed_as_read, refused_as_read}
 
 -- the element after the first ones
 pub next_element : (ds : List Data) (d : Data) (more : List Data) → slice_get (ds ++ d ∷ more) (length ds) ≡ Some d
@@ -89,29 +92,6 @@ all_operations s ds es seen read =
 pub refused_operations : (s : ℕ) (ds : Option (List Data)) (es : List Entry) (error : ReadError) → operations_refusal s ds ≡ Some error → AreOperations s ds es (Some error)
 refused_operations s ds es error refused = record { refused = refused; read = λ none. absurd cc; is_session = λ none. absurd cc }
 
--- a known return may not stand after an unknown one, and all else may
-pub return_refused : (e : Entry) (op : OpId) → is_some e.1 ≡ true → entry_refusal (Some e) true op ≡ Some (ReturnAfterUnknown op)
-return_refused (c, None) op known = absurd cc
-return_refused (c, Some r) op known = refl
-
-pub may_follow : (e : Entry) (seen : Bool) (op : OpId) → (seen ≡ false) ⊎ (is_some e.1 ≡ false) → entry_refusal (Some e) seen op ≡ None
-may_follow (c, None) seen op either = refl
-may_follow (c, Some r) seen op (inl none_seen) = rw none_seen refl
-may_follow (c, Some r) seen op (inr unknown) = absurd cc
-
--- whether the return of an operation that may stand there is not known is whether one so far is not
-unknown_after : (e : Entry) (seen : Bool) (op : OpId) → entry_refusal (Some e) seen op ≡ None → is_unknown_return (Some e) ≡ (seen || is_unknown_return (Some e))
-unknown_after (c, None) true op fine = refl
-unknown_after (c, None) false op fine = refl
-unknown_after (c, Some r) true op fine = absurd cc
-unknown_after (c, Some r) false op fine = refl
-
-pub unknown_is : (e : Entry) (b : Bool) → is_some e.1 ≡ not b → b ≡ is_unknown_return (Some e)
-unknown_is (c, None) true is = refl
-unknown_is (c, None) false is = absurd cc
-unknown_is (c, Some r) true is = absurd cc
-unknown_is (c, Some r) false is = refl
-
 -- ---- the loop over them
 
 module _ (depth s : ℕ) where
@@ -125,34 +105,33 @@ module _ (depth s : ℕ) where
   session_begun ts = record { elements = []; so_far = read_none depth ts; are_read = reads_nothing operation_at s; count = refl }
 
   module _ (old now : List Token) (es : List Entry) (seen : Bool) (inv : IsReadingSession old now es seen) where
-    here : (op : OpId) (result expected : Result Entry ReadError) (r : List Token) → op ≡ at_place s (length es) → result ≡ expected → IsValue (λ d. IsOperation seen op d result) depth now r
-        → IsValue (λ d. IsOperation seen (at_place s (length es)) d expected) depth now r
-    here op result expected r at is one =
-        subst (λ (x : OpId). IsValue (λ d. IsOperation seen x d expected) depth now r) at (subst (λ (x : Result Entry ReadError). IsValue (λ d. IsOperation seen op d x) depth now r) is one)
+    module _ (r : List Token) (after : List Entry) (t : Taken) (going : after_end_array now ≡ None)
+        (one : IsValue (λ d. IsTaken seen (operation_at d) es after t) depth now r) (less : length r < length now) where
+      read_so_far : HasRead depth old r (inv.elements ++ one.0 ∷ [])
+      read_so_far = read_one_more depth old now inv.elements inv.so_far r one.0 going one.1 less
 
-    pub session_more : (r : List Token) (e : Entry) (op : OpId) (result : Result Entry ReadError) → op ≡ at_place s (length es) → result ≡ Ok e → after_end_array now ≡ None
-        → IsValue (λ d. IsOperation seen op d result) depth now r → length r < length now → IsReadingSession old r (es ++ e ∷ []) (is_unknown_return (Some e))
-    session_more r e op result at is going found less =
-        let one = here op result (Ok e) r at is found in
-        let d = one.0 in
-        let fine : entry_refusal (Some e) seen (at_place s (length inv.elements)) ≡ None = rw (← inv.count) one.2.1 in
-        record {
-          elements = inv.elements ++ d ∷ [];
-          so_far = read_one_more depth old now inv.elements inv.so_far r d going one.1 less;
-          are_read = are_read-more s inv.elements es seen inv.are_read d e (is_unknown_return (Some e)) one.2.0 fine (unknown_after e seen _ fine);
-          count = length_push es e ∙ ap (λ n. n + 1) inv.count ∙ sym (length_push inv.elements d);
-        }
+      pub session_more : refusal_as t (at_place s (length es)) ≡ None → IsReadingSession old r after (is_unknown t)
+      session_more none =
+          let d = one.0 in
+          let e = pushed_as_read seen (operation_at d) es after t one.2 (at_place s (length es)) none in
+          let fine : entry_refusal (Some e.entry) seen (at_place s (length inv.elements)) ≡ None = rw (← inv.count) e.fine in
+          let more : IsReadingSession old r (es ++ e.entry ∷ []) (is_unknown t) = record {
+            elements = inv.elements ++ d ∷ [];
+            so_far = read_so_far;
+            are_read = are_read-more s inv.elements es seen inv.are_read d e.entry (is_unknown t) e.read fine e.unknown;
+            count = length_push es e.entry ∙ ap (λ n. n + 1) inv.count ∙ sym (length_push inv.elements d);
+          } in
+          subst (λ (x : List Entry). IsReadingSession old r x (is_unknown t)) (sym e.behind) more
 
-    pub session_refused : (r q : List Token) (left : List Entry) (error : ReadError) (op : OpId) (result : Result Entry ReadError) → op ≡ at_place s (length es) → result ≡ Err error
-        → after_end_array now ≡ None → IsValue (λ d. IsOperation seen op d result) depth now r → length r < length now
-        → behind_items depth r ≡ Some q → IsRest (λ ds. AreOperations s (Some ds) left (Some error)) depth old q
-    session_refused r q left error op result at is going found less passed =
-        let one = here op result (Err error) r at is found in
-        let d = one.0 in
-        let bad : entry_refusal (operation_at d) seen (at_place s (length inv.elements)) ≡ Some error = rw (← inv.count) one.2 in
-        rest_passed depth old r (inv.elements ++ d ∷ []) (read_one_more depth old now inv.elements inv.so_far r d going one.1 less)
-        (λ ds. AreOperations s (Some ds) left (Some error)) q passed
-        (λ more. refused_operations s (Some ((inv.elements ++ d ∷ []) ++ more)) left error (are_read-refused s inv.elements es seen inv.are_read d error bad more))
+      pub session_refused : (q : List Token) (left : List Entry) (error : ReadError) → refusal_as t (at_place s (length es)) ≡ Some error
+          → behind_items depth r ≡ Some q → IsRest (λ ds. AreOperations s (Some ds) left (Some error)) depth old q
+      session_refused q left error refused passed =
+          let d = one.0 in
+          let there : entry_refusal (operation_at d) seen (at_place s (length es)) ≡ Some error =
+          sym (refused_as_read seen (operation_at d) es after t one.2 (at_place s (length es))) ∙ refused in
+          let bad : entry_refusal (operation_at d) seen (at_place s (length inv.elements)) ≡ Some error = rw (← inv.count) there in
+          rest_passed depth old r (inv.elements ++ d ∷ []) read_so_far (λ ds. AreOperations s (Some ds) left (Some error)) q passed
+          (λ more. refused_operations s (Some ((inv.elements ++ d ∷ []) ++ more)) left error (are_read-refused s inv.elements es seen inv.are_read d error bad more))
 
     pub session_over : (r : List Token) → after_end_array now ≡ Some r → IsRest (λ ds. AreOperations s (Some ds) es None) depth old r
     session_over r end = read_all depth old now inv.elements inv.so_far (λ ds. AreOperations s (Some ds) es None) r end (all_operations s inv.elements es seen inv.are_read)

@@ -1,3 +1,4 @@
 -- What the functions say to one another: no statement of what is read names these.
 pub mod Reading
 pub mod Scalars
+pub mod Taking

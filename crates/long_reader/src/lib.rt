@@ -14,6 +14,7 @@ mod scalar;
 mod session;
 mod sessions;
 mod start;
+mod taken;
 
 pub use first::read_long_first;
 pub use limits::{is_small, small};

@@ -1,13 +1,15 @@
 //! Reading one operation.
 
-ghost use Rattle.std.specs.Prelude.{◌≡◌, ◌∷◌, ◌<◌, ◌≤◌, length, IfOk, IfErr, OnOk, Some};
+ghost use Rattle.std.specs.Prelude.{◌≡◌, ◌∷◌, ◌<◌, ◌≤◌, length, IfOk, IfErr, OnOk, Some, None};
 ghost use Rattle.json.specs.Reads.{token_of};
 ghost use Rattle.bounded_json.specs.Steps.Reading.{AreRefused, IsRefused};
 ghost use Rattle.long_reader.specs.LongRefusals.{operation_at};
-ghost use Rattle.long_reader.specs.Steps.Scalars.{entry_of as spelled_entry, key_in, operation_in, spelled_by};
+ghost use Rattle.long_reader.specs.Steps.Scalars.{entry_of, key_in, operation_in, under};
+ghost use Rattle.long_reader.specs.Steps.Taking.{IsTaken};
 ghost use Rattle.token_reader.specs.Tokens.{IsRest, IsValue};
 
 use crate::scalar::{Scalar, expected_scalar, next_scalar};
+use crate::taken::Taken;
 use bounded_json::{TextError, walk_items};
 use json::{Reader, Token};
 use long_history::LongEntry;
@@ -25,83 +27,139 @@ fn key_of(scalar: Scalar) -> Option<u32>
     }
 }
 
-/// The call and the return that a word and one or two more elements spell.
-fn spelled(
+/// Pushes a call under a key with its return, unless an earlier return is not known.
+#[inline(always)]
+fn push_known(
+    key: u32,
+    call: RegisterCall,
+    ret: RegisterRet,
+    unknown_seen: bool,
+    entries: &mut Vec<LongEntry>,
+) -> Result<Taken, TextError>
+    ensures taken { IfOk result (λ t. IsTaken unknown_seen (Some (under key (call, Some ret))) entries.old.items entries.new.items t) }
+    ensures refused { IfErr result (λ e. e ≡ TextError.Memory) }
+{
+    if unknown_seen {
+        return Ok(Taken::Late);
+    }
+    entries.push((KeyedCall { key, call }, Some(ret)))?;
+    Ok(Taken::Known)
+}
+
+/// Pushes a call under a key whose return is not known.
+#[inline(always)]
+fn push_unknown(
+    key: u32,
+    call: RegisterCall,
+    unknown_seen: bool,
+    entries: &mut Vec<LongEntry>,
+) -> Result<Taken, TextError>
+    ensures taken { IfOk result (λ t. IsTaken unknown_seen (Some (under key (call, None))) entries.old.items entries.new.items t) }
+    ensures refused { IfErr result (λ e. e ≡ TextError.Memory) }
+{
+    entries.push((KeyedCall { key, call }, None))?;
+    Ok(Taken::Unknown)
+}
+
+/// Pushes the operation that a word, a key and one or two more elements spell, unless it is refused.
+///
+/// Each kind of operation is pushed where its parts are known, so that no whole entry is moved through an option or a result first.
+#[inline(always)]
+fn push_spelled(
     word: Scalar,
+    key: Scalar,
     first: Scalar,
     second: Option<Scalar>,
-) -> Option<(RegisterCall, Option<RegisterRet>)>
-    ensures { result ≡ spelled_by word first second }
+    unknown_seen: bool,
+    entries: &mut Vec<LongEntry>,
+) -> Result<Taken, TextError>
+    ensures taken { IfOk result (λ t. IsTaken unknown_seen (entry_of word key first second) entries.old.items entries.new.items t) }
+    ensures refused { IfErr result (λ e. e ≡ TextError.Memory) }
 {
+    let Some(key) = key_of(key) else {
+        return Ok(Taken::NoForm);
+    };
     match (word, first, second) {
         (Scalar::Write, Scalar::Number(value), None) => {
-            Some((RegisterCall::Write(value), Some(RegisterRet::Done)))
+            push_known(
+                key,
+                RegisterCall::Write(value),
+                RegisterRet::Done,
+                unknown_seen,
+                entries,
+            )
         }
         (Scalar::Write, Scalar::Number(value), Some(Scalar::Unknown)) => {
-            Some((RegisterCall::Write(value), None))
+            push_unknown(key, RegisterCall::Write(value), unknown_seen, entries)
         }
         (Scalar::Read, Scalar::Number(value), None) => {
-            Some((RegisterCall::Read, Some(RegisterRet::Value(value))))
+            push_known(
+                key,
+                RegisterCall::Read,
+                RegisterRet::Value(value),
+                unknown_seen,
+                entries,
+            )
         }
-        (Scalar::Read, Scalar::Unknown, None) => Some((RegisterCall::Read, None)),
-        _ => None,
+        (Scalar::Read, Scalar::Unknown, None) => {
+            push_unknown(key, RegisterCall::Read, unknown_seen, entries)
+        }
+        _ => Ok(Taken::NoForm),
     }
 }
 
-/// The operation that a word, a key and one or two more elements spell.
-#[inline]
-fn entry_of(word: Scalar, key: Scalar, first: Scalar, second: Option<Scalar>) -> Option<LongEntry>
-    ensures { result ≡ spelled_entry word key first second }
-{
-    let key = key_of(key)?;
-    let (call, ret) = spelled(word, first, second)?;
-    Some((KeyedCall { key, call }, ret))
-}
-
-/// The operation whose elements are the rest of a list, if there is one. It passes the whole list in any case.
-fn read_elements(
+/// Pushes the operation whose elements are the rest of a list, unless it is refused. It passes the whole list in any case.
+fn push_elements(
     alloc: Global,
     reader: &mut Reader<'_>,
     depth: usize,
-) -> Result<Option<LongEntry>, TextError>
-    ensures read { IfOk result (λ o. IsRest (λ ds. operation_in (Some ds) ≡ o) depth reader.old reader.new) }
+    unknown_seen: bool,
+    entries: &mut Vec<LongEntry>,
+) -> Result<Taken, TextError>
+    ensures read { IfOk result
+        (λ t. IsRest (λ ds. IsTaken unknown_seen (operation_in (Some ds)) entries.old.items entries.new.items t)
+        depth reader.old reader.new) }
     ensures shorter { OnOk result (length reader.new ≤ length reader.old) }
     ensures refused { IfErr result (AreRefused depth reader.old) }
 {
     let Some(word) = expected_scalar(alloc, reader, depth)? else {
-        return Ok(None);
+        return Ok(Taken::NoForm);
     };
     let Some(key) = expected_scalar(alloc, reader, depth)? else {
-        return Ok(None);
+        return Ok(Taken::NoForm);
     };
     let Some(first) = expected_scalar(alloc, reader, depth)? else {
-        return Ok(None);
+        return Ok(Taken::NoForm);
     };
     let Some(second) = next_scalar(alloc, reader, depth)? else {
-        return Ok(entry_of(word, key, first, None));
+        return push_spelled(word, key, first, None, unknown_seen, entries);
     };
     let Some(_third) = next_scalar(alloc, reader, depth)? else {
-        return Ok(entry_of(word, key, first, Some(second)));
+        return push_spelled(word, key, first, Some(second), unknown_seen, entries);
     };
     walk_items(reader, depth)?;
-    Ok(None)
+    Ok(Taken::NoForm)
 }
 
-/// The operation that comes next, if the next value is one. It passes the value in any case.
-pub(crate) fn read_entry(
+/// Pushes the operation that comes next, unless the next value is no operation, or one with a known return after an unknown one. It passes
+/// the value in any case.
+pub(crate) fn push_operation(
     alloc: Global,
     reader: &mut Reader<'_>,
     depth: usize,
-) -> Result<Option<LongEntry>, TextError>
+    unknown_seen: bool,
+    entries: &mut Vec<LongEntry>,
+) -> Result<Taken, TextError>
     requires { 0 < depth }
-    ensures read { IfOk result (λ o. IsValue (λ d. operation_at d ≡ o) depth reader.old reader.new) }
+    ensures read { IfOk result
+        (λ t. IsValue (λ d. IsTaken unknown_seen (operation_at d) entries.old.items entries.new.items t) depth reader.old reader.new) }
     ensures shorter { OnOk result (length reader.new < length reader.old) }
     ensures refused { IfErr result (IsRefused depth reader.old) }
 {
     let token = next_token(reader)?;
     if let Token::BeginArray = token {
-        return read_elements(alloc, reader, depth - 1);
+        return push_elements(alloc, reader, depth - 1, unknown_seen, entries);
     }
     pass_no_list(alloc, token, reader, depth)?;
-    Ok(None)
+    Ok(Taken::NoForm)
 }

@@ -1,12 +1,11 @@
 -- What is read of the tokens of a text, and of its values.
-use Rattle.std.specs.Prelude.{◌≡◌, ℕ, List, [], ◌∷◌, map, Bool, Option, Some, None, Result, Ok, Err, MatchOption, MatchResult, nat_eq, option_map, option_and_then, slice_index_or, if◌then◌else◌}
+use Rattle.std.specs.Prelude.{◌≡◌, ℕ, List, [], ◌∷◌, map, Option, Some, None, Result, Ok, Err, MatchOption, MatchResult, nat_eq, option_map, option_and_then, slice_index_or, if◌then◌else◌}
 use Rattle.std.specs.Cmp.Lexicographic.{pointwise}
 use Rattle.std.specs.Option.{ok_or}
 use Rattle.serde_json.specs.Data.{Data}
 use Rattle.serde_json.specs.Find.{as_str}
 use Rattle.serde_json.specs.Read.{read}
 use Rattle.bounded_json.specs.Text.{IsJson}
-use Rattle.history.specs.declared.op_id.OpId.{OpId}
 use Rattle.long_history.specs.LongHistories.{IsLongSession}
 use Rattle.memory_order.specs.Memory.{MemoryCall}
 use Rattle.objects.specs.Register.{matches}
@@ -14,7 +13,7 @@ use Rattle.objects.specs.declared.register.RegisterRet.{RegisterRet}
 use Rattle.operations.specs.Form.{ReadAs}
 use Rattle.operations.specs.Json.{elements}
 use Rattle.operations.specs.ObjectNames.{text_of}
-use Rattle.operations.specs.Reading.{entry_refusal, parts_among, parts_of}
+use Rattle.operations.specs.Reading.{parts_among, parts_of}
 use Rattle.operations.specs.RegisterForm as register
 use Rattle.operations.specs.Spelling.{entry_at, is_above}
 use Rattle.operations.specs.declared.object_name.ObjectName.TheVariants.{Memory as MemoryName}
@@ -26,11 +25,6 @@ use Rattle.long_reader.specs.LongRefusals.{operation_at, operations_refusal, par
 
 abbrev pub Entry : Type 0
 Entry = MemoryCall × Option RegisterRet
-
--- an operation that may stand there, or its refusal
-abbrev pub IsOperation : Bool → OpId → Data → Result Entry ReadError → Type 0
-IsOperation unknown_seen op d result =
-    MatchResult result (λ e. (operation_at d ≡ Some e) × (entry_refusal (Some e) unknown_seen op ≡ None)) (λ error. entry_refusal (operation_at d) unknown_seen op ≡ Some error)
 
 abbrev pub IsSessionOfMemory : List Entry → Type 0
 IsSessionOfMemory es = IsLongSession (λ c. matches c.call) es

@@ -1,10 +1,13 @@
-use Rattle.std.proofs.Common.{[], ◌∷◌, ◌≡◌, Some, None, refl}
+use Rattle.std.proofs.Common.{[], ◌∷◌, Some, None, refl}
 use Rattle.std.proofs.lemmas.Result.{err_from_is_err_and}
-use Rattle.long_reader.specs.Steps.Scalars.{operation_in}
+use Rattle.long_reader.specs.Steps.Scalars.{entry_of, operation_in}
+use Rattle.long_reader.specs.Steps.Taking.{IsTaken}
+use Rattle.long_reader.specs.declared.taken.Taken.TheVariants.{NoForm}
 use Rattle.token_reader.proofs.Elements.{no_rest, read_none, rest_passed, rest_refused}
-use Rattle.long_reader.proofs.ScalarsRead.{scalar_more, scalars_over}
+use Rattle.long_reader.proofs.OperationsTaken.{no_form, only_memory}
+use Rattle.long_reader.proofs.ScalarsRead.{no_form_over, pushed_over, scalar_more}
 use Rattle.long_reader.proofs.SpelledScalars.{four_read, three_read, too_few, too_many}
-use Rattle.long_reader.proofs.operation.read_elements.Goals as goal
+use Rattle.long_reader.proofs.operation.push_elements.Goals as goal
 
 pub returns-in_err-key-clause-refused : goal.returns-in_err-key-clause-refused
 returns-in_err-key-clause-refused c =
@@ -48,14 +51,14 @@ pub returns-in_default-clause-read : goal.returns-in_default-clause-read
 returns-in_default-clause-read c =
     let depth = c.args.depth in
     let old = c.args.reader.now in
-    scalars_over depth old old c.expected_scalar.new.reader [] (read_none depth old) c.in_ok-word.field-0 c.in_ok-word.ensures.read c.in_default.is None refl
+    no_form_over depth old old c.expected_scalar.new.reader [] (read_none depth old) c.in_ok-word.field-0 c.in_ok-word.ensures.read c.in_default.is c.args.unknown_seen c.args.entries.now.items refl
 
 pub returns-in_default-2-clause-read : goal.returns-in_default-2-clause-read
 returns-in_default-2-clause-read c =
     let depth = c.args.depth in
     let old = c.args.reader.now in
     let w = scalar_more depth old old c.expected_scalar.new.reader [] (read_none depth old) c.in_ok-word.field-0 c.in_ok-word.ensures.read c.in-Some.word c.in-Some.is c.in_ok-word.ensures.shorter in
-    scalars_over depth old c.expected_scalar.new.reader c.expected_scalar-2.new.reader (w.0 ∷ []) w.1 c.in_ok-key.field-0 c.in_ok-key.ensures.read c.in_default-2.is None refl
+    no_form_over depth old c.expected_scalar.new.reader c.expected_scalar-2.new.reader (w.0 ∷ []) w.1 c.in_ok-key.field-0 c.in_ok-key.ensures.read c.in_default-2.is c.args.unknown_seen c.args.entries.now.items refl
 
 pub returns-in_default-3-clause-read : goal.returns-in_default-3-clause-read
 returns-in_default-3-clause-read c =
@@ -63,7 +66,7 @@ returns-in_default-3-clause-read c =
     let old = c.args.reader.now in
     let w = scalar_more depth old old c.expected_scalar.new.reader [] (read_none depth old) c.in_ok-word.field-0 c.in_ok-word.ensures.read c.in-Some.word c.in-Some.is c.in_ok-word.ensures.shorter in
     let k = scalar_more depth old c.expected_scalar.new.reader c.expected_scalar-2.new.reader (w.0 ∷ []) w.1 c.in_ok-key.field-0 c.in_ok-key.ensures.read c.in-Some-2.key c.in-Some-2.is c.in_ok-key.ensures.shorter in
-    scalars_over depth old c.expected_scalar-2.new.reader c.expected_scalar-3.new.reader (w.0 ∷ k.0 ∷ []) k.1 c.in_ok-first.field-0 c.in_ok-first.ensures.read c.in_default-3.is None (too_few w.0 k.0)
+    no_form_over depth old c.expected_scalar-2.new.reader c.expected_scalar-3.new.reader (w.0 ∷ k.0 ∷ []) k.1 c.in_ok-first.field-0 c.in_ok-first.ensures.read c.in_default-3.is c.args.unknown_seen c.args.entries.now.items (too_few w.0 k.0)
 
 pub returns-in_default-4-clause-read : goal.returns-in_default-4-clause-read
 returns-in_default-4-clause-read c =
@@ -72,7 +75,11 @@ returns-in_default-4-clause-read c =
     let w = scalar_more depth old old c.expected_scalar.new.reader [] (read_none depth old) c.in_ok-word.field-0 c.in_ok-word.ensures.read c.in-Some.word c.in-Some.is c.in_ok-word.ensures.shorter in
     let k = scalar_more depth old c.expected_scalar.new.reader c.expected_scalar-2.new.reader (w.0 ∷ []) w.1 c.in_ok-key.field-0 c.in_ok-key.ensures.read c.in-Some-2.key c.in-Some-2.is c.in_ok-key.ensures.shorter in
     let f = scalar_more depth old c.expected_scalar-2.new.reader c.expected_scalar-3.new.reader (w.0 ∷ k.0 ∷ []) k.1 c.in_ok-first.field-0 c.in_ok-first.ensures.read c.in-Some-3.first c.in-Some-3.is c.in_ok-first.ensures.shorter in
-    scalars_over depth old c.expected_scalar-3.new.reader c.next_scalar.new.reader (w.0 ∷ k.0 ∷ f.0 ∷ []) f.1 c.in_ok-second.field-0 c.in_ok-second.ensures.read c.in_default-4.is c.entry_of.result (three_read w.0 k.0 f.0 c.in-Some.word c.in-Some-2.key c.in-Some-3.first w.2 k.2 f.2 c.entry_of.result c.entry_of.ensures)
+    pushed_over depth old c.expected_scalar-3.new.reader c.next_scalar.new.reader (w.0 ∷ k.0 ∷ f.0 ∷ []) f.1 c.in_ok-second.field-0 c.in_ok-second.ensures.read c.in_default-4.is c.args.unknown_seen c.args.entries.now.items c.push_spelled.new.entries.items
+    (entry_of c.in-Some.word c.in-Some-2.key c.in-Some-3.first None) c.push_spelled.result (three_read w.0 k.0 f.0 c.in-Some.word c.in-Some-2.key c.in-Some-3.first w.2 k.2 f.2 (entry_of c.in-Some.word c.in-Some-2.key c.in-Some-3.first None) refl) c.push_spelled.ensures.taken
+
+pub returns-in_default-4-clause-refused : goal.returns-in_default-4-clause-refused
+returns-in_default-4-clause-refused c = only_memory c.push_spelled.result _ c.push_spelled.ensures.refused
 
 pub returns-in_default-5-clause-read : goal.returns-in_default-5-clause-read
 returns-in_default-5-clause-read c =
@@ -82,7 +89,11 @@ returns-in_default-5-clause-read c =
     let k = scalar_more depth old c.expected_scalar.new.reader c.expected_scalar-2.new.reader (w.0 ∷ []) w.1 c.in_ok-key.field-0 c.in_ok-key.ensures.read c.in-Some-2.key c.in-Some-2.is c.in_ok-key.ensures.shorter in
     let f = scalar_more depth old c.expected_scalar-2.new.reader c.expected_scalar-3.new.reader (w.0 ∷ k.0 ∷ []) k.1 c.in_ok-first.field-0 c.in_ok-first.ensures.read c.in-Some-3.first c.in-Some-3.is c.in_ok-first.ensures.shorter in
     let g = scalar_more depth old c.expected_scalar-3.new.reader c.next_scalar.new.reader (w.0 ∷ k.0 ∷ f.0 ∷ []) f.1 c.in_ok-second.field-0 c.in_ok-second.ensures.read c.in-Some-4.second c.in-Some-4.is c.in_ok-second.ensures.shorter in
-    scalars_over depth old c.next_scalar.new.reader c.next_scalar-2.new.reader (w.0 ∷ k.0 ∷ f.0 ∷ g.0 ∷ []) g.1 c.in_ok-_third.field-0 c.in_ok-_third.ensures.read c.in_default-5.is c.entry_of-in_default-5.result (four_read w.0 k.0 f.0 c.in-Some.word c.in-Some-2.key c.in-Some-3.first w.2 k.2 f.2 c.entry_of-in_default-5.result g.0 c.in-Some-4.second g.2 c.entry_of-in_default-5.ensures)
+    pushed_over depth old c.next_scalar.new.reader c.next_scalar-2.new.reader (w.0 ∷ k.0 ∷ f.0 ∷ g.0 ∷ []) g.1 c.in_ok-_third.field-0 c.in_ok-_third.ensures.read c.in_default-5.is c.args.unknown_seen c.args.entries.now.items c.push_spelled-in_default-5.new.entries.items
+    (entry_of c.in-Some.word c.in-Some-2.key c.in-Some-3.first (Some c.in-Some-4.second)) c.push_spelled-in_default-5.result (four_read w.0 k.0 f.0 c.in-Some.word c.in-Some-2.key c.in-Some-3.first w.2 k.2 f.2 (entry_of c.in-Some.word c.in-Some-2.key c.in-Some-3.first (Some c.in-Some-4.second)) g.0 c.in-Some-4.second g.2 refl) c.push_spelled-in_default-5.ensures.taken
+
+pub returns-in_default-5-clause-refused : goal.returns-in_default-5-clause-refused
+returns-in_default-5-clause-refused c = only_memory c.push_spelled-in_default-5.result _ c.push_spelled-in_default-5.ensures.refused
 
 pub returns-in_err-walk_items-clause-refused : goal.returns-in_err-walk_items-clause-refused
 returns-in_err-walk_items-clause-refused c =
@@ -105,4 +116,5 @@ returns-clause-read c =
     let f = scalar_more depth old c.expected_scalar-2.new.reader c.expected_scalar-3.new.reader (w.0 ∷ k.0 ∷ []) k.1 c.in_ok-first.field-0 c.in_ok-first.ensures.read c.in-Some-3.first c.in-Some-3.is c.in_ok-first.ensures.shorter in
     let g = scalar_more depth old c.expected_scalar-3.new.reader c.next_scalar.new.reader (w.0 ∷ k.0 ∷ f.0 ∷ []) f.1 c.in_ok-second.field-0 c.in_ok-second.ensures.read c.in-Some-4.second c.in-Some-4.is c.in_ok-second.ensures.shorter in
     let h = scalar_more depth old c.next_scalar.new.reader c.next_scalar-2.new.reader (w.0 ∷ k.0 ∷ f.0 ∷ g.0 ∷ []) g.1 c.in_ok-_third.field-0 c.in_ok-_third.ensures.read c.in-Some-5._third c.in-Some-5.is c.in_ok-_third.ensures.shorter in
-    rest_passed depth old c.next_scalar-2.new.reader (w.0 ∷ k.0 ∷ f.0 ∷ g.0 ∷ h.0 ∷ []) h.1 (λ ds. operation_in (Some ds) ≡ None) c.walk_items.new.reader c.in_ok-walk_items.ensures.value (λ more. too_many g.0 h.0 more w.0 k.0 f.0)
+    rest_passed depth old c.next_scalar-2.new.reader (w.0 ∷ k.0 ∷ f.0 ∷ g.0 ∷ h.0 ∷ []) h.1 (λ ds. IsTaken c.args.unknown_seen (operation_in (Some ds)) c.args.entries.now.items c.args.entries.now.items NoForm) c.walk_items.new.reader c.in_ok-walk_items.ensures.value
+    (λ more. no_form c.args.unknown_seen c.args.entries.now.items (operation_in (Some (w.0 ∷ k.0 ∷ f.0 ∷ g.0 ∷ h.0 ∷ more))) (too_many g.0 h.0 more w.0 k.0 f.0))

@@ -3,8 +3,9 @@ use Rattle.std.proofs.lemmas.Result.{err_from_is_err_and}
 use Rattle.json.specs.Reads.{token_of}
 use Rattle.json.specs.Token.{Token}
 use Rattle.long_reader.specs.Steps.Scalars.{operation_in}
+use Rattle.long_reader.specs.Steps.Taking.{IsTaken}
 use Rattle.token_reader.proofs.Values.{list_if_read, list_if_refused}
-use Rattle.long_reader.proofs.operation.read_entry.Goals as goal
+use Rattle.long_reader.proofs.operation.push_operation.Goals as goal
 
 pub returns-in_err-token-clause-refused : goal.returns-in_err-token-clause-refused
 returns-in_err-token-clause-refused c =
@@ -15,10 +16,10 @@ pub returns-in-BeginArray-clause-read : goal.returns-in-BeginArray-clause-read
 returns-in-BeginArray-clause-read c =
     let rest = c.next_token.new.reader in
     let first : c.args.reader.now ≡ Token.begin_array ∷ rest = c.in_ok-token.ensures.token ∙ ap (λ t. token_of t ∷ rest) c.in-BeginArray.is in
-    list_if_read c.read_elements.result c.args.depth c.args.reader.now rest c.read_elements.new.reader first c.requires (λ o ds. operation_in ds ≡ o) c.read_elements.ensures.read
+    list_if_read c.push_elements.result c.args.depth c.args.reader.now rest c.push_elements.new.reader first c.requires (λ t ds. IsTaken c.args.unknown_seen (operation_in ds) c.args.entries.now.items c.push_elements.new.entries.items t) c.push_elements.ensures.read
 
 pub returns-in-BeginArray-clause-refused : goal.returns-in-BeginArray-clause-refused
 returns-in-BeginArray-clause-refused c =
     let rest = c.next_token.new.reader in
     let first : c.args.reader.now ≡ Token.begin_array ∷ rest = c.in_ok-token.ensures.token ∙ ap (λ t. token_of t ∷ rest) c.in-BeginArray.is in
-    list_if_refused c.read_elements.result c.args.depth c.args.reader.now rest c.read_elements.new.reader first c.requires c.read_elements.ensures.refused
+    list_if_refused c.push_elements.result c.args.depth c.args.reader.now rest c.push_elements.new.reader first c.requires c.push_elements.ensures.refused
