@@ -19,7 +19,7 @@ use Rattle.engine.specs.declared.failure.RunError.TheVariants.{NotThatPattern}
 use Rattle.command_line.specs.declared.length.Length.{Length}
 use Rattle.command_line.specs.declared.length.Length.TheVariants.{Limited}
 use Rattle.engine.specs.Lengths.{IsHistoryOf, first_refusal_of}
-use Rattle.engine.specs.Refuting.{claim_form, claim_refusal, claim_refusal_at, HasNoSuchPatternAt, IsClaimError, IsPatternOf}
+use Rattle.engine.specs.Refuting.{claim_form, claim_refusal_at, HasNoSuchPatternAt, IsClaimError, IsPatternOf}
 
 -- the first refusal of a list of three is that of its history
 pub refusal-claim : (long : Length) (d h c p : Data) → d ≡ list (h ∷ c ∷ p ∷ []) → claim_refusal_at long (elements d) ≡ first_refusal_of long h
@@ -27,7 +27,7 @@ refusal-claim long d h c p is = ap (λ (x : Data). claim_refusal_at long (elemen
 
 -- ---- the reader refuses what is refused as a claim
 
-same_refusal : (ds : Option (List Data)) → claim_refusal ds ≡ refusal_read ds
+same_refusal : (ds : Option (List Data)) → claim_refusal_at Limited ds ≡ refusal_read ds
 same_refusal None = refl
 same_refusal (Some []) = refl
 same_refusal (Some (h ∷ [])) = refl
@@ -35,7 +35,7 @@ same_refusal (Some (h ∷ c ∷ [])) = refl
 same_refusal (Some (h ∷ c ∷ p ∷ [])) = refl
 same_refusal (Some (h ∷ c ∷ p ∷ d ∷ ds)) = refl
 
-refused_as : (text : List ℕ) (e : ReadError) → (d : Data) × IsJson text d × (refusal_read (elements d) ≡ Some e) → (d : Data) × IsJson text d × (claim_refusal (elements d) ≡ Some e)
+refused_as : (text : List ℕ) (e : ReadError) → (d : Data) × IsJson text d × (refusal_read (elements d) ≡ Some e) → (d : Data) × IsJson text d × (claim_refusal_at Limited (elements d) ≡ Some e)
 refused_as text e refused = (refused.0, refused.1, same_refusal (elements refused.0) ∙ refused.2)
 
 pub claim_unread : (text : List ℕ) (e : ReadError) → IsClaimRefused text e → IsClaimError text (failure_of e)

@@ -1,5 +1,6 @@
 pub mod Pairs
 pub mod PatternForms
+pub mod CallCounts
 pub mod Claims
 pub mod LongClaims
 pub mod Founded

@@ -12,7 +12,7 @@ use Rattle.cert_check.specs.CertificateForm.{form_of as certificate_form, IsCert
 use Rattle.certificate_reader.specs.Pairs.{pair_form, pair_refusal}
 use Rattle.engine.specs.declared.failure.RunError.{RunError}
 use Rattle.engine.specs.declared.failure.RunError.TheVariants.{BadCertificate, ShapeMismatch, Memory}
-use Rattle.engine.specs.InputErrors.{IsErrorOf, IsTextError}
+use Rattle.engine.specs.InputErrors.{IsTextError}
 use Rattle.engine.specs.Report.{HoldsOf, IsTrueOf, line_for}
 use Rattle.board.specs.declared.answer.Answer.{Answer}
 use Rattle.collector.specs.Judgements.{IsSaidOf}
@@ -31,10 +31,7 @@ abbrev pub IsWrongPair : RunError → Data → Type 0
 IsWrongPair BadCertificate pair = HasBadCertificate pair
 IsWrongPair _ pair = ⊥
 
--- why a value, or a text, is refused as a pair of a history and a certificate
-abbrev pub IsPairErrorOf : Data → RunError → Type 0
-IsPairErrorOf pair error = IsErrorOf pair_refusal IsWrongPair pair error
-
+-- why a text is refused as a pair of a history and a certificate
 abbrev pub IsPairError : List ℕ → RunError → Type 0
 IsPairError text error = IsTextError pair_refusal IsWrongPair text error
 

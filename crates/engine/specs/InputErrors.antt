@@ -10,13 +10,8 @@ use Rattle.engine.specs.declared.failure.RunError.{RunError}
 use Rattle.engine.specs.declared.failure.RunError.TheVariants.{History, Memory}
 
 module _ (refusal_of : Option (List Data) → Option ReadError) (IsWrong : RunError → Data → Type 0) where
-  -- why a value is refused: the first refusal is that of the list or of the history, or else what stands behind it is wrong
-  abbrev pub IsErrorOf : Data → RunError → Type 0
-  IsErrorOf value (History refusal) = IsFirst (refusal_of (elements value)) refusal
-  IsErrorOf value Memory = ⊤
-  IsErrorOf value error = IsWrong error value
-
-  -- why a text is refused: it is no JSON, or so is its value
+  -- why a text is refused: it is no JSON, or the first refusal of its value is that of the list or of the history, or else what comes
+  -- after the history is wrong
   abbrev pub IsTextError : List ℕ → RunError → Type 0
   IsTextError text (History refusal) =
       ((refusal ≡ errors.NotJson) × ((d : Data) → ¬ IsJson text d))

@@ -5,7 +5,7 @@ use Rattle.command_line.specs.declared.length.Length.TheVariants.{Limited, Any}
 use Rattle.command_line.specs.declared.order.Order.{Order}
 use Rattle.command_line.specs.declared.order.Order.TheVariants.{Judge, ExplainLong, ListFaults, Refute}
 use Rattle.lines.specs.ReadCalls.{CallOutcome, CallsAtMost}
-use Rattle.engine.specs.ReadCalls.{FindsNoEnd, FindsNoEndIdle, IdlesAtMost}
+use Rattle.engine.specs.ReadCalls.{EndsBy, EndsIdle, FindsNoEnd, FindsNoEndIdle, IdlesAtMost}
 use Rattle.engine.specs.declared.input.TheConstants.{MAX_INPUT_BYTES, MAX_LONG_INPUT_BYTES}
 
 -- how long the history of an order may be
@@ -26,6 +26,11 @@ module _ {S : Type 0} (called : S → CallOutcome → S → Type 0) where
   abbrev pub CallsFor : Length → ℕ → S → S → Type 0
   CallsFor Limited = CallsAtMost called
   CallsFor Any = IdlesAtMost called
+
+  -- these calls were made, and of the last one this holds
+  abbrev pub EndsFor : Length → ℕ → (CallOutcome → Type 0) → S → S → Type 0
+  EndsFor Limited = EndsBy called
+  EndsFor Any = EndsIdle called
 
   -- no end was found by these calls
   abbrev pub FindsNoEndFor : Length → ℕ → S → S → Type 0

@@ -17,7 +17,7 @@ use Rattle.engine.specs.declared.failure.RunError.{RunError}
 use Rattle.engine.specs.declared.failure.RunError.TheVariants.{NotThatPattern}
 use Rattle.command_line.specs.declared.length.Length.{Length}
 use Rattle.command_line.specs.declared.length.Length.TheVariants.{Limited}
-use Rattle.engine.specs.InputErrors.{IsErrorOf, IsTextError}
+use Rattle.engine.specs.InputErrors.{IsTextError}
 use Rattle.engine.specs.Lengths.{IsHistoryOf, first_refusal_of}
 use Rattle.engine.specs.Report.{IsExcluded, line_for}
 
@@ -37,12 +37,6 @@ abbrev pub claim_refusal_at : Length → Option (List Data) → Option ReadError
 claim_refusal_at long None = Some errors.BadShape
 claim_refusal_at long (Some ds) = first_of_claim_at long ds
 
-abbrev pub first_of_claim : List Data → Option ReadError
-first_of_claim = first_of_claim_at Limited
-
-abbrev pub claim_refusal : Option (List Data) → Option ReadError
-claim_refusal = claim_refusal_at Limited
-
 -- a pattern shows that a history does not meet a criterion: patterns are known for memories alone
 abbrev pub IsPatternOf : AnyHistory → Criterion → Pattern → Type 0
 IsPatternOf (histories.Memory h) criterion pattern = IsBadPattern h criterion pattern
@@ -55,23 +49,14 @@ HasNoSuchPatternAt long claim =
     (h : AnyHistory) × (c : Data) × (p : Data) × IsHistoryOf long h × (claim ≡ list (form_of h ∷ c ∷ p ∷ []))
     × ((criterion : Criterion) (pattern : Pattern) → c ≡ string (name_of criterion) → p ≡ pattern_form pattern → ¬ IsPatternOf h criterion pattern)
 
-abbrev pub HasNoSuchPattern : Data → Type 0
-HasNoSuchPattern = HasNoSuchPatternAt Limited
-
 -- after the history of a claim comes nothing that shows it
 abbrev pub IsWrongClaimAt : Length → RunError → Data → Type 0
 IsWrongClaimAt long NotThatPattern claim = HasNoSuchPatternAt long claim
 IsWrongClaimAt long _ claim = ⊥
 
--- why a value, or a text, is refused as a claim
-abbrev pub IsClaimErrorOfAt : Length → Data → RunError → Type 0
-IsClaimErrorOfAt long claim error = IsErrorOf (claim_refusal_at long) (IsWrongClaimAt long) claim error
-
+-- why a text is refused as a claim
 abbrev pub IsClaimErrorAt : Length → List ℕ → RunError → Type 0
 IsClaimErrorAt long text error = IsTextError (claim_refusal_at long) (IsWrongClaimAt long) text error
-
-abbrev pub IsClaimErrorOf : Data → RunError → Type 0
-IsClaimErrorOf = IsClaimErrorOfAt Limited
 
 abbrev pub IsClaimError : List ℕ → RunError → Type 0
 IsClaimError = IsClaimErrorAt Limited

@@ -77,6 +77,10 @@ IsOutputError (Drive drive) input BadLimits = IsUndriven drive input BadLimits
 IsOutputError (Drive drive) input NoSuch = IsUndriven drive input NoSuch
 IsOutputError order input _ = ⊥
 
+-- the output for an input was written whole: the writer holds it after what it held, where it tells its bytes
+abbrev pub WritesOutput : Order → List ℕ → Option (List ℕ) → Option (List ℕ) → Type 0
+WritesOutput order input before after = (text : List ℕ) × IsOutput order input text × Appends before after text
+
 -- an input was read whole, the output for it was written whole, and this comes of it: what the reader had, where it tells its
 -- bytes, and what the writer holds after what it held, where it tells its bytes
 pub record Completes (order : Order) (reader writer_before writer_after : Option (List ℕ)) (outcome : Outcome) : Type 0 where
@@ -88,9 +92,9 @@ pub record Completes (order : Order) (reader writer_before writer_after : Option
   pub written : Appends writer_before writer_after text
   pub comes : HasOutcome order input text outcome
 
--- it is so of the input, which has no more than so many bytes: where the reader tells its bytes, of these bytes
+-- this holds of the input, which has no more than so many bytes: where the reader tells its bytes, of these bytes
 abbrev pub IsOfInput : ℕ → Option (List ℕ) → (List ℕ → Type 0) → Type 0
-IsOfInput most reader IsSo = (input : List ℕ) × IfSome reader (λ bytes. input ≡ bytes) × (length input ≤ most) × IsSo input
+IsOfInput most reader Holds = (input : List ℕ) × IfSome reader (λ bytes. input ≡ bytes) × (length input ≤ most) × Holds input
 
 -- the same of the input of an order
 abbrev pub IsOfInputFor : Order → Option (List ℕ) → (List ℕ → Type 0) → Type 0

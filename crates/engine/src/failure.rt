@@ -41,7 +41,7 @@ pub enum RunError {
     /// An allocation was refused.
     #[error("no memory")]
     Memory,
-    /// The reader failed, or it did not reach its end in as many read calls as a run makes.
+    /// The reader failed, or the read calls that a run makes did not find its end.
     #[error("the input could not be read")]
     ReadFault,
     /// The writer failed, or took nothing.

@@ -2,7 +2,7 @@
 ghost use Rattle.std.specs.Prelude.{◌≡◌, ◌<◌, ◌≤◌, Err, IfErr, IfOk, IfSome, OnOk, length, vec_len};
 ghost use Rattle.std.specs.Io.KnownBytes.{IsAtEnd};
 ghost use Rattle.engine.specs.Failure.{IsInputError};
-ghost use Rattle.engine.specs.InputLengths.{CallsFor, FindsNoEndFor, most_bytes};
+ghost use Rattle.engine.specs.InputLengths.{CallsFor, EndsFor, FindsNoEndFor, most_bytes};
 ghost use Rattle.lines.specs.ReadCalls.{CallsAtMost};
 ghost use Rattle.engine.specs.ReadCalls.{EndsBy, EndsIdle, FindsNoEnd, FindsNoEndIdle, IdlesAtMost, IsEnd};
 ghost use Rattle.engine.specs.Steps.Transfer.{Gives};
@@ -87,7 +87,8 @@ pub fn read_long_input<R: Source>(alloc: Global, reader: &mut R) -> Result<Vec<u
     Err(RunError::ReadFault)
 }
 
-/// Reads all that the source has, where a history may have this length: as [`read_input`] or as [`read_long_input`] does.
+/// Reads all that the source has, where a history may have this length: as [`read_input`] or as [`read_long_input`] does,
+/// with their errors. O(n) for n bytes.
 pub fn read_input_for<R: Source>(
     alloc: Global,
     reader: &mut R,
@@ -100,8 +101,10 @@ pub fn read_input_for<R: Source>(
     ensures too_long { result ≡ Err RunError.TooLong
         → IfSome (R.remaining reader.old) (λ bytes. most_bytes long < length bytes) }
     ensures errors { IfErr result IsInputError }
+    ensures reader { Gives (R.remaining reader.old) (R.remaining reader.new) }
 
     ensures calls { CallsFor R.called long MAX_READ_CALLS reader.old reader.new }
+    ensures end_found { OnOk result (EndsFor R.called long MAX_READ_CALLS IsEnd reader.old reader.new) }
     ensures fault { result ≡ Err RunError.ReadFault → FindsNoEndFor R.called long MAX_READ_CALLS reader.old reader.new }
 {
     match long {

@@ -1,12 +1,13 @@
 //! Laws of runs: the contract of each function is the law, and the function does nothing.
 
-ghost use Rattle.std.specs.Prelude.{List, Option, Some, length, ◌+◌, ◌<◌, ◌≤◌, ◌≡◌, ◌↔◌, ◌⊎◌, ℕ};
+ghost use Rattle.std.specs.Prelude.{List, Option, Some, length, ◌+◌, ◌*◌, ◌<◌, ◌≤◌, ◌≡◌, ◌↔◌, ◌⊎◌, ℕ};
 ghost use Rattle.memory_order.specs.Memory.{IsDifferentiated, MemoryHistory, memory_answer};
 ghost use Rattle.cert_check.specs.Criteria.{Meets};
 ghost use Rattle.operations.specs.AnyForm.{form_of, IsAnyHistory, IsJson};
 ghost use Rattle.engine.specs.Failure.{failure_status};
 ghost use Rattle.engine.specs.InputLengths.{length_for, most_bytes};
 ghost use Rattle.lines.specs.ReadCalls.{CallOutcome, CallsAtMost};
+ghost use Rattle.engine.specs.ReadCalls.{GivesBytes, IdlesAtMost};
 ghost use Rattle.engine.specs.Report.{answer_for};
 ghost use Rattle.engine.specs.Running.{Completes, Fails, IsOutput, IsOutputError};
 ghost use Rattle.command_line.specs.declared.length.Length.TheVariants.{Any};
@@ -81,4 +82,14 @@ pub fn too_long_input_is_refused_as_such()
 pub fn calls_are_counted<S: Source>()
     ensures { (count : S → ℕ) → ((a : S) (outcome : CallOutcome) (b : S) → S.called a outcome b → count b ≤ count a + 1)
         → (most : ℕ) (old new : S) → CallsAtMost S.called most old new → count new ≤ count old + most }
+{}
+
+/// Where a count never falls, and grows with each call of a source that gives a byte, its growth bounds the calls that are made, as long as
+/// no more than `most` in a row give none. Such a count is that of the bytes: so an input of n bytes of any length is read in no more than
+/// (n + 1) times `most` calls.
+pub fn long_calls_are_bounded<S: Source>()
+    ensures { (count : S → ℕ) → ((a : S) (outcome : CallOutcome) (b : S) → S.called a outcome b → count a ≤ count b)
+        → ((a : S) (outcome : CallOutcome) (b : S) → S.called a outcome b → GivesBytes outcome → count a < count b)
+        → (most bytes : ℕ) (old new : S) → IdlesAtMost S.called most old new → count new ≤ count old + bytes
+        → CallsAtMost S.called ((bytes + 1) * most) old new }
 {}

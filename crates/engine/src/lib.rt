@@ -85,4 +85,4 @@ pub use output::write_output;
 pub use picturing::explain_as_picture;
 pub use reason::{Explanation, Reason};
 pub use report::{Report, report_line, report_text};
-pub use running::{answer_to, length_of, run, run_keeping};
+pub use running::{answer_to, run, run_keeping};

@@ -1,8 +1,9 @@
 //! One run of the program: from the bytes of its input to the bytes of its answer.
 ghost use Rattle.std.specs.Prelude.{◌≡◌, ◌≢◌, ◌⊎◌, Err, IfErr, IfOk, IfSome, OnOk, string_bytes};
 ghost use Rattle.std.specs.Io.KnownBytes.{IsAtEnd};
+ghost use Rattle.engine.specs.Failure.{failure_status};
 ghost use Rattle.engine.specs.InputLengths.{CallsFor, FindsNoEndFor, length_for};
-ghost use Rattle.engine.specs.Running.{Completes, Fails, HasOutcome, IsOutput, IsOutputError};
+ghost use Rattle.engine.specs.Running.{Completes, Fails, HasOutcome, IsOutput, IsOutputError, WritesOutput};
 
 use crate::answered::Answered;
 use crate::checking::check;
@@ -53,7 +54,9 @@ pub fn run<P: Threads + Wait + Sync + AllocGlobal, R: Source, W: Write>(
     run_keeping(rt, reader, writer, order, &mut input)
 }
 
-/// The same, and the input is kept for the caller, who may say what is wrong with it. Where it could not be read, what was kept before
+/// The same as [`run`], with its errors and its cost, and the input is kept for the caller, who may say what is wrong with it.
+///
+/// After an answer, a refusal or a write fault the whole input is kept. Where it is too long or could not be read, what was kept before
 /// stays.
 pub fn run_keeping<P: Threads + Wait + Sync + AllocGlobal, R: Source, W: Write>(
     rt: &P,
@@ -69,6 +72,10 @@ pub fn run_keeping<P: Threads + Wait + Sync + AllocGlobal, R: Source, W: Write>(
     ensures failed { IfErr result (Fails order.now (R.remaining reader.old)) }
     ensures unwritten { IfErr result (λ e. e ≢ RunError.WriteFault → writer.new ≡ writer.old) }
     ensures kept { (input.new ≡ input.old) ⊎ IfSome (R.remaining reader.old) (λ bytes. input.new.items ≡ bytes) }
+    ensures whole { OnOk result (IfSome (R.remaining reader.old) (λ bytes. input.new.items ≡ bytes)) }
+    ensures output { OnOk result (WritesOutput order.now input.new.items (W.contents writer.old) (W.contents writer.new)) }
+    ensures refused { IfErr result (λ e. failure_status e ≡ 1 → e ≢ RunError.TooLong → IsOutputError order.now input.new.items e) }
+    ensures unread { IfErr result (λ e. (e ≡ RunError.TooLong) ⊎ (e ≡ RunError.ReadFault) → input.new ≡ input.old) }
 
     ensures calls { CallsFor R.called (length_for order.now) MAX_READ_CALLS reader.old reader.new }
     ensures fault { result ≡ Err RunError.ReadFault → FindsNoEndFor R.called (length_for order.now) MAX_READ_CALLS reader.old reader.new }
@@ -80,7 +87,7 @@ pub fn run_keeping<P: Threads + Wait + Sync + AllocGlobal, R: Source, W: Write>(
 }
 
 /// How long the history of an order may be.
-pub fn length_of(order: &Order) -> Length
+fn length_of(order: &Order) -> Length
     ensures { result ≡ length_for order.now }
 {
     match order {

@@ -23,7 +23,7 @@ const USAGE_STATUS: u8 = 2;
 ///
 /// An answer or the help goes to standard output. What is wrong goes to standard error: the text of a usage fault,
 /// with status 2, or the line of a run that failed. If standard input has nothing yet and does not wait for it, like a
-/// pipe that must not block, it is read again a millisecond later, and each time counts as a read call.
+/// pipe that must not block, it is read again a millisecond later, and each time counts as a read call that gave no byte.
 pub fn status_of_process<
     P: Env + Threads + Wait + Sync + AllocGlobal + Input + Print + Eprint + Clock,
 >(rt: &P) -> u8

@@ -49,6 +49,10 @@ pub record WritesPage (most_bytes : ℕ) (IsPage : List ℕ → List ℕ → Typ
   pub is_page : IsPage input text
   pub written : Appends writer_before writer_after text
 
+-- the page of an input was written whole: the writer holds it after what it held, where it tells its bytes
+abbrev pub WritesPageOf : ℕ → Length → List ℕ → Option (List ℕ) → Option (List ℕ) → Type 0
+WritesPageOf most long input before after = (text : List ℕ) × IsPageOfInput most long input text × Appends before after text
+
 -- why a log has no page: it is too long, or a line of it is refused; or its page could not be written; or memory or the reader failed,
 -- which can be at any time
 abbrev pub FailsToWrite : ℕ → Option (List ℕ) → PageError → Type 0

@@ -2,9 +2,10 @@
 
 ghost use Rattle.std.specs.Prelude.{◌≡◌, ◌≢◌, ◌⊎◌, Err, IfErr, IfSome, OnOk};
 ghost use Rattle.std.specs.Io.KnownBytes.{IsAtEnd};
+ghost use Rattle.engine.specs.Failure.{failure_status};
 ghost use Rattle.engine.specs.InputLengths.{CallsFor, FindsNoEndFor, most_bytes};
-ghost use Rattle.engine.specs.Running.{Fails};
-ghost use Rattle.page_engine.specs.Writing.{IsPageOfInput, WritesPage, listing_order};
+ghost use Rattle.engine.specs.Running.{Fails, IsOutputError};
+ghost use Rattle.page_engine.specs.Writing.{IsPageOfInput, WritesPage, WritesPageOf, listing_order};
 
 use command_line::{Length, ListForm, Listing, Order};
 use engine::{MAX_READ_CALLS, RunError, answer_to, read_input_for, write_output};
@@ -17,7 +18,7 @@ use std::thread::Threads;
 /// Reads the whole input, lists its faults as JSON, and writes the page of the input and of that list, without names and lines.
 ///
 /// At most `most` faults are listed, of a history that may be of that length. The input is kept for the caller, who may say what is wrong
-/// with it; where it could not be read, what was kept before stays. Nothing is written before the page is made: after every
+/// with it; where it is too long or could not be read, what was kept before stays. Nothing is written before the page is made: after every
 /// error but a write fault the writer is as it was. No contract says how much was written before a write fault, or how much was read
 /// before an error. O(n log n) for an input of n bytes, and what [`run`](engine::run) takes for its list.
 pub fn page_of_input<P: Threads + Wait + Sync + AllocGlobal, R: Source, W: Write>(
@@ -36,6 +37,11 @@ pub fn page_of_input<P: Threads + Wait + Sync + AllocGlobal, R: Source, W: Write
     ensures unwritten { IfErr result (λ e. e ≢ RunError.WriteFault → writer.new ≡ writer.old) }
 
     ensures kept { (input.new ≡ input.old) ⊎ IfSome (R.remaining reader.old) (λ bytes. input.new.items ≡ bytes) }
+    ensures whole { OnOk result (IfSome (R.remaining reader.old) (λ bytes. input.new.items ≡ bytes)) }
+    ensures page { OnOk result (WritesPageOf most length input.new.items (W.contents writer.old) (W.contents writer.new)) }
+    ensures refused { IfErr result (λ e. failure_status e ≡ 1 → e ≢ RunError.TooLong
+        → IsOutputError (listing_order most length) input.new.items e) }
+    ensures unread { IfErr result (λ e. (e ≡ RunError.TooLong) ⊎ (e ≡ RunError.ReadFault) → input.new ≡ input.old) }
 
     ensures calls { CallsFor R.called length MAX_READ_CALLS reader.old reader.new }
     ensures fault { result ≡ Err RunError.ReadFault → FindsNoEndFor R.called length MAX_READ_CALLS reader.old reader.new }
