@@ -32,6 +32,14 @@ impl<T> Rows<T> {
         }
     }
 
+    /// The lists that these items make, one after the other, where each ends at the place that is given for it. O(1).
+    pub fn of(items: Vec<T>, ends: Vec<usize>) -> Rows<T>
+        requires rises { RisesTo 0 ends.items (length items.items) }
+        ensures { result ≡ cut items.items 0 ends.items }
+    {
+        Rows { items, ends }
+    }
+
     /// How many lists there are.
     pub fn len(&self) -> usize
         ensures { result ≡ length self.now }

@@ -1,5 +1,5 @@
 -- Reading the operations of one session, one after the other.
-use Rattle.std.proofs.Common.{◌≡◌, ℕ, zero, suc, ◌+◌, ◌<◌, Bool, true, false, ◌||◌, List, [], ◌∷◌, ◌++◌, length, map, take, Option, Some, None, refl, sym, ap, subst, ◌∙◌, arith, append_assoc}
+use Rattle.std.proofs.Common.{◌≡◌, ℕ, zero, suc, ◌+◌, ◌-◌, ◌<◌, ◌≤◌, Bool, true, false, ◌||◌, List, [], ◌∷◌, ◌++◌, length, length-append, map, take, Some, None, refl, sym, ap, ◌∙◌, arith, append_assoc}
 use Rattle.std.specs.Prelude.{slice_get}
 use Rattle.std.proofs.lemmas.List.{append-nil, length_push, take_all}
 use Rattle.std.proofs.lemmas.Option.{slice_get_within}
@@ -17,7 +17,7 @@ use Rattle.operations.specs.declared.read_error.ReadError.TheVariants.{ReturnAft
 use Rattle.operations.proofs.FirstRefusal.{first_among_none}
 use Rattle.operations.proofs.SessionReading.{IsReadUpTo, form_at, or_true, reads_nothing, reads_on, refused_here, unknown_among}
 use Rattle.long_reader.specs.LongRefusals.{operation_at, operations_refusal}
-use Rattle.long_reader.specs.Steps.Reading.{AreOperations, Entry, IsSessionOfMemory}
+use Rattle.long_reader.specs.Steps.Reading.{AreOperations, Entry, IsSessionOfMemory, IsSessionRead}
 use Rattle.long_reader.specs.Steps.Taking.{IsTaken, is_unknown, refusal_as}
 use Rattle.long_reader.specs.declared.taken.Taken.{Taken}
 use Rattle.token_reader.specs.Tokens.{IsRest, IsValue}
@@ -83,55 +83,80 @@ module _ (s : ℕ) (ds : List Data) (es : List Entry) (same : map operation_at d
         absurd cc;
   }
 
-pub all_operations : (s : ℕ) (ds : List Data) (es : List Entry) (seen : Bool) → AreRead s ds es seen → AreOperations s (Some ds) es None
+pub all_operations : (s : ℕ) (ds : List Data) (es : List Entry) (seen : Bool) → AreRead s ds es seen → AreOperations s (Some ds) es
 all_operations s ds es seen read =
     let so_far : IsReadUpTo operation_at s ds es seen (length ds) = rw (append-nil ds) at (read []) in
     let same : map operation_at ds ≡ map (λ e. Some e) es = ap (map operation_at) (sym (take_all (length ds) ds (omega arith))) ∙ so_far.entries in
-    record { refused = so_far.none; read = λ _. ap (λ x. Some x) same; is_session = λ _. session_of s ds es same so_far.none }
-
-pub refused_operations : (s : ℕ) (ds : Option (List Data)) (es : List Entry) (error : ReadError) → operations_refusal s ds ≡ Some error → AreOperations s ds es (Some error)
-refused_operations s ds es error refused = record { refused = refused; read = λ none. absurd cc; is_session = λ none. absurd cc }
+    record { none_refused = so_far.none; read = ap (λ x. Some x) same; is_session = session_of s ds es same so_far.none }
 
 -- ---- the loop over them
 
-module _ (depth s : ℕ) where
-  pub record IsReadingSession (old now : List Token) (es : List Entry) (seen : Bool) : Type 0 where
+one_longer : (before es entries after : List Entry) (e : Entry) → entries ≡ before ++ es → after ≡ entries ++ e ∷ [] → after ≡ before ++ (es ++ e ∷ [])
+one_longer before es entries after e whole longer = longer ∙ ap (λ (xs : List Entry). xs ++ e ∷ []) whole ∙ append_assoc before es (e ∷ [])
+
+-- the operations so far come after the entries before
+module _ (depth s : ℕ) (before : List Entry) where
+  pub record IsReadingSession (old now : List Token) (entries : List Entry) (seen : Bool) : Type 0 where
     pub elements : List Data
+    pub operations : List Entry
+    pub whole : entries ≡ before ++ operations
     pub so_far : HasRead depth old now elements
-    pub are_read : AreRead s elements es seen
-    pub count : length es ≡ length elements
+    pub are_read : AreRead s elements operations seen
+    pub count : length operations ≡ length elements
 
-  pub session_begun : (ts : List Token) → IsReadingSession ts ts [] false
-  session_begun ts = record { elements = []; so_far = read_none depth ts; are_read = reads_nothing operation_at s; count = refl }
+  pub session_begun : (ts : List Token) → IsReadingSession ts ts before false
+  session_begun ts = record {
+    elements = [];
+    operations = [];
+    whole = sym (append-nil before);
+    so_far = read_none depth ts;
+    are_read = reads_nothing operation_at s;
+    count = refl;
+  }
 
-  module _ (old now : List Token) (es : List Entry) (seen : Bool) (inv : IsReadingSession old now es seen) where
+  module _ (old now : List Token) (entries : List Entry) (seen : Bool) (inv : IsReadingSession old now entries seen) where
+    parts : length entries ≡ length before + length inv.operations
+    parts = ap (λ (xs : List Entry). length xs) inv.whole ∙ length-append before inv.operations
+
+    pub no_fewer : length before ≤ length entries
+    no_fewer = let sum = parts in omega arith
+
+    -- the place of the next operation
+    abbrev pub next_place : OpId
+    next_place = at_place s (length entries - length before)
+
+    place_is : next_place ≡ at_place s (length inv.elements)
+    place_is = let sum = parts in let count = inv.count in let index : length entries - length before ≡ length inv.elements = omega arith in ap (at_place s) index
+
     module _ (r : List Token) (after : List Entry) (t : Taken) (going : after_end_array now ≡ None)
-        (one : IsValue (λ d. IsTaken seen (operation_at d) es after t) depth now r) (less : length r < length now) where
+        (one : IsValue (λ d. IsTaken seen (operation_at d) entries after t) depth now r) (less : length r < length now) where
       read_so_far : HasRead depth old r (inv.elements ++ one.0 ∷ [])
       read_so_far = read_one_more depth old now inv.elements inv.so_far r one.0 going one.1 less
 
-      pub session_more : refusal_as t (at_place s (length es)) ≡ None → IsReadingSession old r after (is_unknown t)
+      pub session_more : refusal_as t next_place ≡ None → IsReadingSession old r after (is_unknown t)
       session_more none =
           let d = one.0 in
-          let e = pushed_as_read seen (operation_at d) es after t one.2 (at_place s (length es)) none in
-          let fine : entry_refusal (Some e.entry) seen (at_place s (length inv.elements)) ≡ None = rw (← inv.count) e.fine in
-          let more : IsReadingSession old r (es ++ e.entry ∷ []) (is_unknown t) = record {
+          let e = pushed_as_read seen (operation_at d) entries after t one.2 next_place none in
+          let fine : entry_refusal (Some e.entry) seen (at_place s (length inv.elements)) ≡ None = ap (entry_refusal (Some e.entry) seen) (sym place_is) ∙ e.fine in
+          record {
             elements = inv.elements ++ d ∷ [];
+            operations = inv.operations ++ e.entry ∷ [];
+            whole = one_longer before inv.operations entries after e.entry inv.whole e.behind;
             so_far = read_so_far;
-            are_read = are_read-more s inv.elements es seen inv.are_read d e.entry (is_unknown t) e.read fine e.unknown;
-            count = length_push es e.entry ∙ ap (λ n. n + 1) inv.count ∙ sym (length_push inv.elements d);
-          } in
-          subst (λ (x : List Entry). IsReadingSession old r x (is_unknown t)) (sym e.behind) more
+            are_read = are_read-more s inv.elements inv.operations seen inv.are_read d e.entry (is_unknown t) e.read fine e.unknown;
+            count = length_push inv.operations e.entry ∙ ap (λ n. n + 1) inv.count ∙ sym (length_push inv.elements d);
+          }
 
-      pub session_refused : (q : List Token) (left : List Entry) (error : ReadError) → refusal_as t (at_place s (length es)) ≡ Some error
-          → behind_items depth r ≡ Some q → IsRest (λ ds. AreOperations s (Some ds) left (Some error)) depth old q
+      pub session_refused : (q : List Token) (left : List Entry) (error : ReadError) → refusal_as t next_place ≡ Some error
+          → behind_items depth r ≡ Some q → IsRest (λ ds. IsSessionRead s (Some ds) before left (Some error)) depth old q
       session_refused q left error refused passed =
           let d = one.0 in
-          let there : entry_refusal (operation_at d) seen (at_place s (length es)) ≡ Some error =
-          sym (refused_as_read seen (operation_at d) es after t one.2 (at_place s (length es))) ∙ refused in
-          let bad : entry_refusal (operation_at d) seen (at_place s (length inv.elements)) ≡ Some error = rw (← inv.count) there in
-          rest_passed depth old r (inv.elements ++ d ∷ []) read_so_far (λ ds. AreOperations s (Some ds) left (Some error)) q passed
-          (λ more. refused_operations s (Some ((inv.elements ++ d ∷ []) ++ more)) left error (are_read-refused s inv.elements es seen inv.are_read d error bad more))
+          let bad : entry_refusal (operation_at d) seen (at_place s (length inv.elements)) ≡ Some error =
+          ap (entry_refusal (operation_at d) seen) (sym place_is) ∙ sym (refused_as_read seen (operation_at d) entries after t one.2 next_place) ∙ refused in
+          rest_passed depth old r (inv.elements ++ d ∷ []) read_so_far (λ ds. IsSessionRead s (Some ds) before left (Some error)) q passed
+          (are_read-refused s inv.elements inv.operations seen inv.are_read d error bad)
 
-    pub session_over : (r : List Token) → after_end_array now ≡ Some r → IsRest (λ ds. AreOperations s (Some ds) es None) depth old r
-    session_over r end = read_all depth old now inv.elements inv.so_far (λ ds. AreOperations s (Some ds) es None) r end (all_operations s inv.elements es seen inv.are_read)
+    pub session_over : (r : List Token) → after_end_array now ≡ Some r → IsRest (λ ds. IsSessionRead s (Some ds) before entries None) depth old r
+    session_over r end =
+        read_all depth old now inv.elements inv.so_far (λ ds. IsSessionRead s (Some ds) before entries None) r end
+        (inv.operations, inv.whole, all_operations s inv.elements inv.operations seen inv.are_read)

@@ -2,7 +2,7 @@
 
 ghost use Rattle.std.specs.Prelude.{◌<◌, ◌≤◌, length, IfOk, IfErr, OnOk, Some};
 ghost use Rattle.bounded_json.specs.Steps.Reading.{AreRefused};
-ghost use Rattle.long_reader.specs.Steps.Reading.{AreOperations};
+ghost use Rattle.long_reader.specs.Steps.Reading.{IsSessionRead};
 ghost use Rattle.token_reader.specs.Tokens.{IsRest};
 
 use crate::operation::push_operation;
@@ -12,8 +12,8 @@ use long_history::LongEntry;
 use operations::{OpId, ReadError};
 use std::alloc::Global;
 
-/// Reads the rest of the list that is the session numbered `s` into `entries`, and gives the first refusal, if there is one. It passes
-/// the whole list in any case.
+/// Pushes the operations of the session numbered `s`, which is the rest of a list, after `entries`, and gives the first refusal, if there
+/// is one. It passes the whole list in any case.
 pub(crate) fn read_operations(
     alloc: Global,
     reader: &mut Reader<'_>,
@@ -23,14 +23,14 @@ pub(crate) fn read_operations(
 ) -> Result<Option<ReadError>, TextError>
     requires { 0 < depth }
     ensures read { IfOk result
-        (λ refusal. IsRest (λ ds. AreOperations s (Some ds) entries.new.items refusal) depth reader.old reader.new) }
+        (λ refusal. IsRest (λ ds. IsSessionRead s (Some ds) entries.old.items entries.new.items refusal) depth reader.old reader.new) }
     ensures shorter { OnOk result (length reader.new ≤ length reader.old) }
     ensures refused { IfErr result (AreRefused depth reader.old) }
 {
-    entries.clear();
+    let before = entries.len();
     let mut unknown_seen = false;
     'operations: while !reader.take_end_array() {
-        let op = OpId::at(s, entries.len());
+        let op = OpId::at(s, entries.len() - before);
         let taken = push_operation(alloc, reader, depth, unknown_seen, entries)?;
         match taken.refusal(op) {
             None => unknown_seen = taken.is_unknown(),

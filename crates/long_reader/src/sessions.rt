@@ -2,7 +2,7 @@
 
 ghost use Rattle.std.specs.Prelude.{◌≡◌, ◌<◌, ◌≤◌, length, IfOk, IfErr, OnOk, None};
 ghost use Rattle.bounded_json.specs.Steps.Reading.{AreRefused, IsRefused};
-ghost use Rattle.long_reader.specs.Steps.Reading.{AreOperations, AreSessions, IsSessionList};
+ghost use Rattle.long_reader.specs.Steps.Reading.{AreSessions, IsSessionList, IsSessionRead};
 ghost use Rattle.token_reader.specs.Tokens.{IsList, IsRest};
 
 use crate::session::read_operations;
@@ -14,7 +14,8 @@ use operations::ReadError;
 use std::alloc::Global;
 use token_reader::{next_token, pass_no_list};
 
-/// Reads the value that comes next, as the session numbered `s`, into `entries`, and gives its first refusal, if there is one.
+/// Pushes the operations of the value that comes next, as the session numbered `s`, after `entries`, and gives the first refusal, if there
+/// is one.
 fn read_session(
     alloc: Global,
     reader: &mut Reader<'_>,
@@ -24,7 +25,7 @@ fn read_session(
 ) -> Result<Option<ReadError>, TextError>
     requires { 1 < depth }
     ensures read { IfOk result
-        (λ refusal. IsList (λ ds. AreOperations s ds entries.new.items refusal) depth reader.old reader.new) }
+        (λ refusal. IsList (λ ds. IsSessionRead s ds entries.old.items entries.new.items refusal) depth reader.old reader.new) }
     ensures shorter { OnOk result (length reader.new < length reader.old) }
     ensures refused { IfErr result (IsRefused depth reader.old) }
 {
@@ -47,18 +48,18 @@ fn read_sessions(
     ensures shorter { OnOk result (length reader.new ≤ length reader.old) }
     ensures refused { IfErr result (AreRefused depth reader.old) }
 {
-    let mut sessions = Rows::new(alloc);
     let mut entries = Vec::new(alloc);
+    let mut ends = Vec::new(alloc);
     'sessions: while !reader.take_end_array() {
-        match read_session(alloc, reader, depth, sessions.len(), &mut entries)? {
-            None => sessions.push(&entries)?,
+        match read_session(alloc, reader, depth, ends.len(), &mut entries)? {
+            None => ends.push(entries.len())?,
             Some(refusal) => {
                 walk_items(reader, depth)?;
                 return Ok(Err(refusal));
             }
         }
     }
-    Ok(Ok(sessions))
+    Ok(Ok(Rows::of(entries, ends)))
 }
 
 /// The sessions in the list that comes next, or their first refusal, or none if the next value is no list.

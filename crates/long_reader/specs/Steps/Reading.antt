@@ -1,5 +1,5 @@
 -- What is read of the tokens of a text, and of its values.
-use Rattle.std.specs.Prelude.{◌≡◌, ℕ, List, [], ◌∷◌, map, Option, Some, None, Result, Ok, Err, MatchOption, MatchResult, nat_eq, option_map, option_and_then, slice_index_or, if◌then◌else◌}
+use Rattle.std.specs.Prelude.{◌≡◌, ℕ, List, [], ◌∷◌, ◌++◌, map, Option, Some, None, Result, Ok, Err, MatchOption, MatchResult, nat_eq, option_map, option_and_then, slice_index_or, if◌then◌else◌}
 use Rattle.std.specs.Cmp.Lexicographic.{pointwise}
 use Rattle.std.specs.Option.{ok_or}
 use Rattle.serde_json.specs.Data.{Data}
@@ -29,11 +29,16 @@ Entry = MemoryCall × Option RegisterRet
 abbrev pub IsSessionOfMemory : List Entry → Type 0
 IsSessionOfMemory es = IsLongSession (λ c. matches c.call) es
 
--- these elements have this first refusal, or are these operations, which are a session
-pub record AreOperations (s : ℕ) (ds : Option (List Data)) (es : List Entry) (refusal : Option ReadError) : Type 0 where
-  pub refused : operations_refusal s ds ≡ refusal
-  pub read : refusal ≡ None → option_map (map operation_at) ds ≡ Some (map (λ e. Some e) es)
-  pub is_session : refusal ≡ None → IsSessionOfMemory es
+-- these elements are these operations, which are a session, and none is refused
+pub record AreOperations (s : ℕ) (ds : Option (List Data)) (es : List Entry) : Type 0 where
+  pub none_refused : operations_refusal s ds ≡ None
+  pub read : option_map (map operation_at) ds ≡ Some (map (λ e. Some e) es)
+  pub is_session : IsSessionOfMemory es
+
+-- these elements have this first refusal, or they are the operations that come after the entries before
+abbrev pub IsSessionRead : ℕ → Option (List Data) → List Entry → List Entry → Option ReadError → Type 0
+IsSessionRead s ds before after refusal =
+    MatchOption refusal ((es : List Entry) × (after ≡ before ++ es) × AreOperations s ds es) (λ error. operations_refusal s ds ≡ Some error)
 
 -- these forms are read as these sessions, and none is refused
 pub record AreSessionsOf (ds : List Data) (ss : List (List Entry)) : Type 0 where

@@ -2,7 +2,7 @@ use Rattle.std.proofs.Common.{◌≡◌, ◌∷◌, ap, ◌∙◌, arith}
 use Rattle.std.proofs.lemmas.Result.{err_from_is_err_and}
 use Rattle.json.specs.Reads.{token_of}
 use Rattle.json.specs.Token.{Token}
-use Rattle.long_reader.specs.Steps.Reading.{AreOperations}
+use Rattle.long_reader.specs.Steps.Reading.{IsSessionRead}
 use Rattle.token_reader.proofs.Values.{list_if_read, list_if_refused}
 use Rattle.long_reader.proofs.sessions.read_session.Goals as goal
 
@@ -16,7 +16,7 @@ returns-in-BeginArray-clause-read c =
     let rest = c.next_token.new.reader in
     let first : c.args.reader.now ≡ Token.begin_array ∷ rest = c.in_ok-token.ensures.token ∙ ap (λ t. token_of t ∷ rest) c.in-BeginArray.is in
     list_if_read c.read_operations.result c.args.depth c.args.reader.now rest c.read_operations.new.reader first (omega (arith, c.requires))
-    (λ refusal ds. AreOperations c.args.s ds c.read_operations.new.entries.items refusal) c.read_operations.ensures.read
+    (λ refusal ds. IsSessionRead c.args.s ds c.args.entries.now.items c.read_operations.new.entries.items refusal) c.read_operations.ensures.read
 
 pub returns-in-BeginArray-clause-refused : goal.returns-in-BeginArray-clause-refused
 returns-in-BeginArray-clause-refused c =
