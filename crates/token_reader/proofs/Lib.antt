@@ -1,5 +1,6 @@
 pub mod CutHistories
 pub mod Elements
+pub mod FewDigits
 pub mod Gathering
 pub mod NumberTokens
 pub mod Values

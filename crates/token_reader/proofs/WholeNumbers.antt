@@ -30,7 +30,7 @@ no_minus (c ∷ cs) digits = let range = digit_from_value c digits.0 in grind ar
 from_digits : (s : List ℕ) → 0 < length s → digits_value 10 (s ++ []) < 2 ^ 64 → number_from false (digits_alone s) ≡ Some (unsigned (digits_value 10 (s ++ [])))
 from_digits s some fits = rw (lt-ltb 0 (length s) some, lt-ltb (digits_value 10 (s ++ [])) (2 ^ 64) fits)
 
-number_of_numeral : (s : List ℕ) → IsNumeral 10 s → digits_value 10 s < 2 ^ 64 → number_of s ≡ Some (unsigned (digits_value 10 s))
+pub number_of_numeral : (s : List ℕ) → IsNumeral 10 s → digits_value 10 s < 2 ^ 64 → number_of s ≡ Some (unsigned (digits_value 10 s))
 unfolding number_of
 number_of_numeral s is small =
     let fits : digits_value 10 (s ++ []) < 2 ^ 64 = rw (append-nil s) small in

@@ -1,6 +1,6 @@
 use Rattle.std.specs.Prelude.{◌≢◌, get_or}
 use Rattle.token_reader.proofs.WholeNumbers.{number_parsed}
-use Rattle.token_reader.proofs.digits.whole_number.Goals as goal
+use Rattle.token_reader.proofs.digits.number_of_many.Goals as goal
 
 pub returns-in-Ok : goal.returns-in-Ok
 returns-in-Ok c =
