@@ -8,15 +8,14 @@ use Rattle.history.specs.History.{IsOp, entry, many_before, number}
 use Rattle.causal_order.proofs.OrdersLaws.{session-of_history}
 use Rattle.memory_order.specs.declared.writes.Write.{Write as WriteEntry}
 use Rattle.memory_order.specs.Memory.{MemoryCall, MemoryHistory, initial, Reads}
-use Rattle.memory_order.specs.Steps.Written.{IsLeastWrite, LacksWrite}
-use Rattle.memory_order.proofs.FirstWrites.{source-written}
+use Rattle.memory_order.specs.Steps.Written.{LacksWrite}
 use Rattle.memory_order.proofs.MemoryLaws.{write-of_history}
 use Rattle.long_history.specs.Steps.{many}
 use Rattle.long_history.proofs.Numbers.{number-all, number-below}
 use Rattle.long_index.specs.declared.part.Part.TheVariants as parts
 use Rattle.long_index.specs.Lists.{ListsStarts}
 use Rattle.long_index.specs.Parts.{IsPart}
-use Rattle.long_index.specs.Writes.{ListsSortedWrites}
+use Rattle.long_index.specs.Writes.{IsWriter, ListsSortedWrites}
 
 module _ (h : MemoryHistory) (o : OpId) where
   pub part-write : (c : MemoryCall) (r : Option RegisterRet) → entry h o ≡ Some (c, r) → (v : ℕ) → c.call ≡ Write v → IsPart h o parts.Write
@@ -32,8 +31,8 @@ module _ (h : MemoryHistory) (o : OpId) where
     part-thin_air none =
         (x, v, reads, apart, λ w wrote. none (record { op = w; key = x; value = v }) (lists.lists.each w x v wrote) refl refl)
 
-    pub part-sourced : (w : OpId) (n : ℕ) → IsLeastWrite writes x v w → number h w ≡ n → IsPart h o (parts.SourcedRead n)
-    part-sourced w n least at = (w, (source-written h writes lists.lists o x v reads apart w least).0, at)
+    pub part-sourced : (w : OpId) (n : ℕ) → IsWriter writes x v w → number h w ≡ n → IsPart h o (parts.SourcedRead n)
+    part-sourced w n written at = (w, (x, v, lists.lists.no_other _ written, reads, apart), at)
 
   -- a source has the number of an operation
   pub source-below : (n : ℕ) → IsPart h o (parts.SourcedRead n) → n < many h
@@ -42,31 +41,31 @@ module _ (h : MemoryHistory) (o : OpId) where
       omega arith
 
 module _ (h : MemoryHistory) (writes : List WriteEntry) (lists : ListsSortedWrites h writes) (x v : ℕ) (w : OpId)
-    (least : IsLeastWrite writes x v w) where
-  -- the least write is an operation of the history
-  pub least-of_history : IsOp h w
-  least-of_history = write-of_history h w x v (lists.lists.no_other _ least.writes_it)
+    (written : IsWriter writes x v w) where
+  -- the writer is an operation of the history
+  pub writer-of_history : IsOp h w
+  writer-of_history = write-of_history h w x v (lists.lists.no_other _ written)
 
   module _ (starts : List ℕ) (numbers : ListsStarts h (length h.1) starts) (s i : ℕ) (of_session : s ≡ w.session) (at : i ≡ w.index) where
-    pub least-session : s + 1 < length starts
-    least-session =
-        let below = session-of_history h w least-of_history in
+    pub writer-session : s + 1 < length starts
+    writer-session =
+        let below = session-of_history h w writer-of_history in
         let count = numbers.count in
         omega arith
 
     -- its number is that of the first operation of its session and its index
-    pub least-number : number h w ≡ slice_index_or starts s 0 + i
-    least-number =
-        let below = session-of_history h w least-of_history in
+    pub writer-number : number h w ≡ slice_index_or starts s 0 + i
+    writer-number =
+        let below = session-of_history h w writer-of_history in
         let same = ap (many_before h) of_session in
         let start = numbers.start s (omega arith) in
         omega arith
 
-    pub least-below : slice_index_or starts s 0 + i < slice_index_or starts (s + 1) 0
-    least-below =
-        let below = session-of_history h w least-of_history in
-        let inside = number-below h w least-of_history in
+    pub writer-below : slice_index_or starts s 0 + i < slice_index_or starts (s + 1) 0
+    writer-below =
+        let below = session-of_history h w writer-of_history in
+        let inside = number-below h w writer-of_history in
         let next = ap (λ (t : ℕ). many_before h (t + 1)) of_session in
         let end = numbers.start (s + 1) (omega arith) in
-        let number = least-number in
+        let number = writer-number in
         omega arith

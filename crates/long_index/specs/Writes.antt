@@ -1,5 +1,6 @@
 -- The writes of a history as they are searched.
-use Rattle.std.specs.Prelude.{List}
+use Rattle.std.specs.Prelude.{ℕ, List, Contains}
+use Rattle.history.specs.declared.op_id.OpId.{OpId}
 use Rattle.memory_order.specs.declared.writes.Write.{Write}
 use Rattle.memory_order.specs.Memory.{MemoryHistory}
 use Rattle.memory_order.specs.Steps.Written.{AreInOrder, IsSorted, ListsWrites}
@@ -9,3 +10,7 @@ pub record ListsSortedWrites (h : MemoryHistory) (writes : List Write) : Type 0 
   pub lists : ListsWrites h writes
   pub sorted : IsSorted writes
   pub in_order : AreInOrder writes
+
+-- the operation o is among the writes, with the value v of the variable x
+abbrev pub IsWriter : List Write → ℕ → ℕ → OpId → Type 0
+IsWriter writes x v o = Contains writes (record { op = o; key = x; value = v })

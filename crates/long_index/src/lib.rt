@@ -5,10 +5,12 @@
 //! may not change without asking above.
 #![tactic(auto)]
 
+mod guesses;
 mod long_index;
 mod part;
 mod reads;
 mod sessions;
+mod sources;
 mod variables;
 mod writes;
 

@@ -7,6 +7,7 @@ ghost use Rattle.memory_order.specs.Memory.{IsDifferentiated};
 ghost use Rattle.memory_order.specs.Relations.{ReadsFrom};
 ghost use Rattle.long_history.specs.LongHistories.{IsLongHistory};
 ghost use Rattle.long_history.specs.Steps.{IsNext, many};
+ghost use Rattle.long_index.specs.Lists.{ListsEach, ListsStarts};
 ghost use Rattle.long_index.specs.Parts.{AreVariables, IsNumberOf, IsPart};
 ghost use Rattle.long_index.specs.declared.part.Part.TheVariants.{SourcedRead};
 
@@ -46,6 +47,25 @@ impl<'a> Model for LongIndex<'a> {
         IsIndex index.history.now index.starts.items index.sessions.items index.variables.items index.parts.items index.bound };
 }
 
+/// What is known of each operation of a history, or none where its values are not distinct.
+///
+/// Fails for want of memory alone. Its writes are kept no longer than it runs.
+fn parts_if_distinct(
+    alloc: Global,
+    h: &LongHistory,
+    starts: &[u32],
+) -> Result<Option<Vec<Part>>, AllocError>
+    requires { ListsStarts h.now (length h.now.1) starts.now }
+    ensures distinct { IfOk result (λ found. MatchOption found (¬ IsDifferentiated h.now) (λ _. IsDifferentiated h.now)) }
+    ensures parts { IfOk result (λ found. IfSome found (λ parts. ListsEach h.now (IsPart h.now) (many h.now) parts.items)) }
+{
+    let writes = sorted_writes(alloc, h)?;
+    if !are_distinct(h, &writes) {
+        return Ok(None);
+    }
+    Ok(Some(parts(alloc, h, starts, &writes)?))
+}
+
 impl<'a> LongIndex<'a> {
     /// What is known of a history, or none where its values are not distinct.
     ///
@@ -58,12 +78,10 @@ impl<'a> LongIndex<'a> {
     {
         let variables = Variables::of(alloc, h)?;
         let starts = starts(alloc, h)?;
-        let sessions = sessions(alloc, h)?;
-        let writes = sorted_writes(alloc, h)?;
-        if !are_distinct(h, &writes) {
+        let Some(parts) = parts_if_distinct(alloc, h, &starts)? else {
             return Ok(None);
-        }
-        let parts = parts(alloc, h, &starts, &writes)?;
+        };
+        let sessions = sessions(alloc, h)?;
         Ok(Some(LongIndex {
             history: h,
             starts,

@@ -9,9 +9,11 @@ ghost use Rattle.long_index.specs.Lists.{ListsEach, ListsStarts};
 ghost use Rattle.long_index.specs.Parts.{IsPart};
 ghost use Rattle.long_index.specs.Writes.{ListsSortedWrites};
 
+use crate::guesses::NOWHERE;
 use crate::part::Part;
+use crate::sources::{guessed_places, writer};
 use long_history::{LongEntry, LongHistory};
-use memory_order::{Write, least_write};
+use memory_order::Write;
 use objects::{RegisterCall, RegisterRet};
 use std::alloc::{AllocError, Global};
 
@@ -36,9 +38,10 @@ pub(crate) fn parts(
     requires writes { ListsSortedWrites h.now writes.now }
     ensures { IfOk result (λ parts. ListsEach h.now (IsPart h.now) (many h.now) parts.items) }
 {
+    let guesses = guessed_places(alloc, h, writes)?;
     let mut parts = Vec::with_capacity(alloc, h.operations())?;
     for session in 0..h.sessions() {
-        push_parts(h, starts, writes, session, &mut parts)?;
+        push_parts(h, starts, writes, &guesses, session, &mut parts)?;
     }
     Ok(parts)
 }
@@ -48,6 +51,7 @@ fn push_parts(
     h: &LongHistory,
     starts: &[u32],
     writes: &[Write],
+    guesses: &[u32],
     session: usize,
     parts: &mut Vec<Part>,
 ) -> Result<(), AllocError>
@@ -58,13 +62,20 @@ fn push_parts(
     ensures { OnOk result (ListsEach h.now (IsPart h.now) (many_before h.now (session + 1)) parts.new.items) }
 {
     for operation in h.session(session) {
-        parts.push(part_of(h, starts, writes, operation))?;
+        let guess = guesses.get(parts.len()).copied().unwrap_or(NOWHERE);
+        parts.push(part_of(h, starts, writes, guess, operation))?;
     }
     Ok(())
 }
 
 /// What is known of an operation, by its call and its return. O(log n) for n operations.
-fn part_of(h: &LongHistory, starts: &[u32], writes: &[Write], operation: &LongEntry) -> Part
+fn part_of(
+    h: &LongHistory,
+    starts: &[u32],
+    writes: &[Write],
+    guess: u32,
+    operation: &LongEntry,
+) -> Part
     requires starts { ListsStarts h.now (length h.now.1) starts.now }
     requires writes { ListsSortedWrites h.now writes.now }
     ensures { (o : Operation) → entry h.now o ≡ Some operation.now → IsPart h.now o result }
@@ -73,14 +84,21 @@ fn part_of(h: &LongHistory, starts: &[u32], writes: &[Write], operation: &LongEn
     match (call.call, ret) {
         (RegisterCall::Write(_), _) => Part::Write,
         (RegisterCall::Read, Some(RegisterRet::Value(value))) => {
-            part_of_read(h, starts, writes, call.key, value)
+            part_of_read(h, starts, writes, guess, call.key, value)
         }
         (RegisterCall::Read, Some(RegisterRet::Done) | None) => Part::UnknownRead,
     }
 }
 
 /// What is known of a read of a variable that returned this value. O(log n) for n operations.
-fn part_of_read(h: &LongHistory, starts: &[u32], writes: &[Write], key: u32, value: u64) -> Part
+fn part_of_read(
+    h: &LongHistory,
+    starts: &[u32],
+    writes: &[Write],
+    guess: u32,
+    key: u32,
+    value: u64,
+) -> Part
     requires starts { ListsStarts h.now (length h.now.1) starts.now }
     requires writes { ListsSortedWrites h.now writes.now }
     ensures { (o : Operation) → Reads h.now o key value → IsPart h.now o result }
@@ -88,7 +106,7 @@ fn part_of_read(h: &LongHistory, starts: &[u32], writes: &[Write], key: u32, val
     if value == initial_value(h, key) {
         return Part::InitialRead;
     }
-    match least_write(writes, key, value) {
+    match writer(writes, guess, key, value) {
         Some(write) => Part::SourcedRead(starts[write.session_place()] + write.place() as u32),
         None => Part::ThinAirRead,
     }

@@ -8,6 +8,7 @@ ghost use Rattle.long_history.specs.Steps.{many};
 ghost use Rattle.long_index.specs.Lists.{ArePlaces, IsKeyOf, ListsEach};
 ghost use Rattle.long_index.specs.Parts.{AreVariables};
 
+use crate::guesses::{Guesses, hash};
 use long_history::{LongHistory, MAX_NUMBERS};
 use std::alloc::{AllocError, Global};
 
@@ -82,19 +83,36 @@ fn places(alloc: Global, distinct: &[u32], keys: &[u32]) -> Result<Vec<u32>, All
     requires each { All (Contains distinct.now) keys.now }
     ensures { IfOk result (λ places. ArePlaces distinct.now keys.now places.items) }
 {
+    let guesses = key_guesses(alloc, distinct, keys.len())?;
     let mut places = Vec::with_capacity(alloc, keys.len())?;
     for key in keys {
-        places.push(place_of(distinct, *key))?;
+        places.push(place_of(distinct, &guesses, *key))?;
     }
     Ok(places)
 }
 
-/// The place of a key among the distinct ones. O(log n) for n keys.
-fn place_of(distinct: &[u32], key: u32) -> u32
+/// Guesses of the places of the distinct keys, with room for no more than this.
+fn key_guesses(alloc: Global, distinct: &[u32], most: usize) -> Result<Guesses, AllocError> {
+    let room = distinct.len().saturating_mul(8).min(most);
+    let mut guesses = Guesses::new(alloc, room, distinct.len())?;
+    for (place, key) in distinct.iter().enumerate() {
+        guesses.put(hash(*key, 0), place);
+    }
+    Ok(guesses)
+}
+
+/// The place of a key among the distinct ones. O(log n) for n keys, or O(1) where the guess is right.
+fn place_of(distinct: &[u32], guesses: &Guesses, key: u32) -> u32
     requires few { length distinct.now ≤ MAX_NUMBERS }
     requires rising { IsStrictlyIncreasing distinct.now }
     requires listed { Contains distinct.now key }
     ensures { slice_get distinct.now result ≡ Some key }
 {
+    let place = guesses.place(hash(key, 0));
+    if let Some(other) = distinct.get(place as usize)
+        && *other == key
+    {
+        return place;
+    }
     distinct.partition_point(|other| *other < key) as u32
 }

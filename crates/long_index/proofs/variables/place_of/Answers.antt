@@ -3,8 +3,8 @@ use Rattle.std.proofs.lemmas.List.Sorted.{IsPartitionPoint-from_clause, IsPartit
 use Rattle.long_index.proofs.KeyPlaces.{rising-place, rising-up}
 use Rattle.long_index.proofs.variables.place_of.Goals as goal
 
-pub returns : goal.returns
-returns c =
+pub returns-2 : goal.returns-2
+returns-2 c =
     let split = IsPartitionPoint-from_clause (λ y. ltb y c.args.key) c.args.distinct.now
     c.partition_point.result c.partition_point.ensures.partitioned
     (IsPartitionedBy-ltb (λ x. x) c.args.distinct.now c.args.key (rising-up c.args.distinct.now c.requires.rising))
