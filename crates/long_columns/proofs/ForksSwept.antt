@@ -1,9 +1,8 @@
 -- What up to 128 writes that are the only ones of their sessions show, these sessions show.
-use Rattle.std.specs.Prelude.{◌≡◌, ◌≢◌, ◌⊎◌, ◌↔◌, ℕ, ◌+◌, ◌-◌, ◌<◌, ◌≤◌, Bool, IsTrue, List, Some, length, slice_index_or}
+use Rattle.std.specs.Prelude.{◌≡◌, ◌≢◌, ◌⊎◌, ◌↔◌, ℕ, ◌+◌, ◌<◌, ◌≤◌, Bool, IsTrue, List, Some, slice_index_or}
 use Rattle.std.specs.Int.{bit_at}
-use Rattle.std.proofs.Common.{arith, ap, sym, ◌∙◌, refl, subst, inl, inr, ⊎_elim}
+use Rattle.std.proofs.Common.{ap, sym, ◌∙◌, refl, subst, inl, inr, ⊎_elim}
 use Rattle.std.proofs.lemmas.Bool.{cases_eq, cases_lt}
-use Rattle.std.proofs.lemmas.Option.{slice_get_within}
 use Rattle.history.specs.declared.op_id.OpId.{OpId}
 use Rattle.history.specs.History.{Precedes, number}
 use Rattle.memory_order.specs.Memory.{MemoryHistory, Writes}
@@ -12,40 +11,13 @@ use Rattle.memory_order.specs.SourceOrder.{IsCyclic}
 use Rattle.memory_order.proofs.MemoryLaws.{read-of_history, write-of_history}
 use Rattle.long_history.specs.Steps.{many}
 use Rattle.long_history.proofs.Numbers.{number-all, number-once}
-use Rattle.long_columns.specs.Forks.{AreForksFound, AreOnlyWrites, IsForkAt, IsForkBelow, IsLeftEdge, LeavesOf}
+use Rattle.long_columns.specs.Forks.{AreForksFound, AreOnlyWrites, IsForkAt, IsLeftEdge, LeavesOf}
 use Rattle.long_columns.specs.LastWrites.{HasOverwrittenReadBy, HasOverwrittenStartFrom}
 use Rattle.long_columns.specs.Swept.{AreSwept, IsNumberedEdge}
 use Rattle.long_columns.specs.Words.{ArePastWords, HasBit, IsMarked}
 use Rattle.long_columns.proofs.Bits.{zero-none}
 use Rattle.long_columns.proofs.ForkSights.{marked-once}
 use Rattle.long_columns.proofs.Overwrites.{rival-writes, rivals-turned}
-
--- the first ones, and 128 more
-pub forks-more : (h : MemoryHistory) (writes : List ℕ) (from t : ℕ)
-    → IsForkBelow h writes (from + 128) t ↔ (IsForkBelow h writes from t ⊎ ((k : ℕ) × (k < 128) × IsForkAt h writes (from + k) t))
-forks-more h writes from t = (
-  (λ (k, below, is). ⊎_elim
-      (λ (before : k < from). inl (k, before, is))
-      (λ (more : from ≤ k).
-      let same : k ≡ from + (k - from) = omega arith in
-      inr (k - from, omega arith, subst (λ (j : ℕ). IsForkAt h writes j t) same is))
-      (cases_lt k from)),
-  λ either. ⊎_elim
-      (λ (before : IsForkBelow h writes from t). let below = before.1 in (before.0, omega arith, before.2))
-      (λ (more : (k : ℕ) × (k < 128) × IsForkAt h writes (from + k) t). let below = more.1 in (from + more.0, omega arith, more.2))
-      either,
-)
-
--- all of them
-pub forks-whole : (h : MemoryHistory) (writes : List ℕ) (m : ℕ) → length writes ≤ m → (t : ℕ)
-    → IsForkBelow h writes (length writes) t ↔ IsForkBelow h writes m t
-forks-whole h writes m whole t = (
-  (λ (k, below, is). (k, omega arith, is)),
-  λ (k, below, is). (k, slice_get_within writes k (number h is.0) is.2, is),
-)
-
-pub forks-none : (h : MemoryHistory) (writes : List ℕ) (m : ℕ) → m ≡ 0 → (t : ℕ) → ¬ IsForkBelow h writes m t
-forks-none h writes m none t (k, below, is) = omega arith
 
 module _ (h : MemoryHistory) (straight : ¬ IsCyclic h) (writes : List ℕ) (from : ℕ) (only : AreOnlyWrites h writes) where
   abbrev is : ℕ → OpId → Type 0

@@ -3,12 +3,13 @@ pub mod ByNumber
 pub mod ColumnSteps
 pub mod Columns
 pub mod Copies
-pub mod Dealt
 pub mod EdgeLists
 pub mod Firsts
 pub mod ForkSights
 pub mod ForksSwept
 pub mod FourLanes
+pub mod GroupLists
+pub mod GroupsSwept
 pub mod LastWrites
 pub mod LateWrites
 pub mod OneMore

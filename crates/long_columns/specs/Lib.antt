@@ -1,6 +1,7 @@
 pub mod Columns
 pub mod Conflicts
 pub mod Forks
+pub mod Groups
 pub mod Lanes
 pub mod LastWrites
 pub mod Parts

@@ -1,4 +1,4 @@
--- What of a list of sessions falls to a part.
+-- The sessions of a list: those that are swept alone, and those with one write each.
 use Rattle.std.specs.Prelude.{◌≡◌, ◌⊎◌, ℕ, ◌<◌, Some, length, slice_get}
 use Rattle.memory_order.specs.Memory.{MemoryHistory}
 use Rattle.long_columns.specs.Forks.{AreOnlyWrites, IsForkAt}

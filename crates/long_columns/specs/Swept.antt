@@ -1,5 +1,5 @@
 -- What the columns of sessions show together.
-use Rattle.std.specs.Prelude.{◌≡◌, ◌↔◌, ℕ, ◌%◌, ◌<◌, ◌≤◌, Bool, IsTrue, List, Some, slice_get}
+use Rattle.std.specs.Prelude.{◌≡◌, ◌↔◌, ℕ, ◌<◌, Bool, IsTrue, List, Some, slice_get}
 use Rattle.history.specs.declared.op_id.OpId.{OpId}
 use Rattle.history.specs.History.{IsOp, number}
 use Rattle.memory_order.specs.Memory.{MemoryHistory}
@@ -7,14 +7,6 @@ use Rattle.memory_order.specs.Relations.{CF}
 use Rattle.long_history.specs.Steps.{many}
 use Rattle.long_columns.specs.Conflicts.{IsReducedIn}
 use Rattle.long_columns.specs.LastWrites.{HasOverwrittenReadBy, HasOverwrittenStartFrom}
-
--- t stands at one of the first i places of the list, and that place is dealt to a part: each part has every so many-th place
-abbrev pub IsDealt : List ℕ → (parts part : ℕ) → ℕ → ℕ → Type 0
-IsDealt sessions parts part i t = (k : ℕ) × (k < i) × (k % parts ≡ part) × (slice_get sessions k ≡ Some t)
-
--- t stands at a place that is dealt to a part with the number p or a greater one
-abbrev pub IsDealtFrom : List ℕ → (parts p : ℕ) → ℕ → Type 0
-IsDealtFrom sessions parts p t = (k : ℕ) × (p ≤ k % parts) × (slice_get sessions k ≡ Some t)
 
 -- t stands at one of the first i places of the list
 abbrev pub IsListed : List ℕ → ℕ → ℕ → Type 0

@@ -1,9 +1,10 @@
 //! The columns of sessions with one write each, 128 at once: a bit for each write in place of a number.
 
-ghost use Rattle.std.specs.Prelude.{◌≡◌, ◌↔◌, ◌⊎◌, ◌+◌, ◌*◌, ◌^◌, ◌<◌, ◌≤◌, ℕ, [], Some, length, slice_get, IfOk, IsTrue, OnOk};
+ghost use Rattle.std.specs.Prelude.{◌≡◌, ◌↔◌, ◌⊎◌, ◌+◌, ◌*◌, ◌++◌, ◌∷◌, ◌<◌, ◌≤◌, ℕ, List, [], Some, length, slice_get, IfOk, IsTrue, OnOk};
 ghost use Rattle.memory_order.specs.SourceOrder.{IsCyclic};
 ghost use Rattle.long_history.specs.Steps.{IsOrderBy, many};
-ghost use Rattle.long_columns.specs.Forks.{AreForksFound, AreForkWords, AreOnlyWrites, HasForkSizes, IsForkBelow, IsLeftEdge, IsLeftIn};
+ghost use Rattle.long_columns.specs.Forks.{AreForksFound, AreForkWords, AreOnlyWrites, HasForkSizes, IsForkAt, IsLeftEdge, IsLeftIn};
+ghost use Rattle.long_columns.specs.Groups.{IsInGroups};
 ghost use Rattle.long_columns.specs.Parts.{IsSweptOver};
 ghost use Rattle.long_columns.specs.Swept.{HasEdge};
 ghost use Rattle.long_columns.specs.Words.{AreVariableWords, HasBit, HasBitAt};
@@ -121,26 +122,28 @@ fn leave(
     }
 }
 
-/// What up to 128 of the sessions show: those of the writes at the place `from` of a list and after it.
-fn sweep_group(
+/// Adds what the sessions of a group of 128 writes of a list show, or of fewer at the end of the list. O(n) for n operations.
+pub(crate) fn sweep_group(
     index: &LongIndex,
     order: &[u32],
     writes: &[u32],
-    from: usize,
+    group: usize,
     words: &mut ForkWords,
     late: &mut Vec<u128>,
     swept: &mut Swept,
 ) -> Result<(), AllocError>
     requires order { IsOrderBy index.now.history [] order.now }
     requires only { AreOnlyWrites index.now.history writes.now }
-    requires from { from ≤ length writes.now }
+    requires from { group * 128 < length writes.now }
     requires sizes { HasForkSizes index.now words.old }
     requires late { length late.old.items ≡ many index.now.history }
     ensures sizes { HasForkSizes index.now words.new }
     ensures late { length late.new.items ≡ many index.now.history }
-    ensures swept { OnOk result (IsSweptOver index.now.history (IsForkBelow index.now.history writes.now from) swept.old
-        → IsSweptOver index.now.history (IsForkBelow index.now.history writes.now (from + 128)) swept.new) }
+    ensures swept { OnOk result ((groups : List ℕ)
+        → IsSweptOver index.now.history (IsInGroups 128 (IsForkAt index.now.history writes.now) groups) swept.old
+        → IsSweptOver index.now.history (IsInGroups 128 (IsForkAt index.now.history writes.now) (groups ++ group ∷ [])) swept.new) }
 {
+    let from = group * 128;
     find_words(index, order, writes, from, words);
     clear(late);
     let overwritten = look_at_reads(index, writes, from, words, late);
@@ -239,53 +242,23 @@ fn push_from(
     Ok(())
 }
 
-/// What sessions with one write each show, by the numbers of these writes.
-///
-/// Fails for want of memory alone. O(n m / 128) for n operations and m sessions. It takes 48 bytes an operation and 16 a variable.
-pub(crate) fn sweep_forks(
-    alloc: Global,
-    index: &LongIndex,
-    order: &[u32],
-    writes: &[u32],
-) -> Result<Swept, AllocError>
-    requires order { IsOrderBy index.now.history [] order.now }
-    requires only { AreOnlyWrites index.now.history writes.now }
-    ensures { IfOk result (IsSweptOver index.now.history (IsForkBelow index.now.history writes.now (length writes.now))) }
-{
-    let mut swept = Swept {
-        has_overwritten_start: false,
-        has_overwritten_read: false,
-        edges: Vec::new(alloc),
-    };
-    if writes.len() == 0 {
-        return Ok(swept);
+impl ForkWords {
+    /// No writes. Fails for want of memory alone. It takes 32 bytes an operation and 16 a variable.
+    pub(crate) fn new(alloc: Global, index: &LongIndex) -> Result<ForkWords, AllocError>
+        ensures { IfOk result (HasForkSizes index.now) }
+    {
+        let operations = index.operations() as usize;
+        Ok(ForkWords {
+            past: vec![in alloc; 0; operations]?,
+            future: vec![in alloc; 0; operations]?,
+            of_variable: vec![in alloc; 0; index.variables() as usize]?,
+        })
     }
-    let operations = index.operations() as usize;
-    let mut words = ForkWords {
-        past: vec![in alloc; 0; operations]?,
-        future: vec![in alloc; 0; operations]?,
-        of_variable: vec![in alloc; 0; index.variables() as usize]?,
-    };
-    let mut late = vec![in alloc; 0; operations]?;
-    let count = groups(writes.len());
-    for group in 0..count {
-        sweep_group(
-            index,
-            order,
-            writes,
-            group * 128,
-            &mut words,
-            &mut late,
-            &mut swept,
-        )?;
-    }
-    Ok(swept)
 }
 
-/// How many groups of 128 it takes for so many.
-fn groups(count: usize) -> usize
+/// How many groups of 128 it takes for so many places.
+pub(crate) fn groups(count: usize) -> usize
     ensures each { (g : ℕ) → g < result → g * 128 < count }
-    ensures fits { (g : ℕ) → g < result → g * 128 < 2 ^ 64 }
     ensures enough { count ≤ result * 128 }
 {
     if count % 128 == 0 {

@@ -8,13 +8,16 @@
 #![tactic(auto)]
 
 mod convergence;
+mod fork_groups;
 mod forks;
+mod fours;
 mod lanes;
 mod parts;
 mod passes;
 mod rows;
 mod shares;
 mod sight;
+mod some;
 mod sweeping;
 mod swept;
 mod words;

@@ -1,18 +1,42 @@
-//! The columns of all sessions: in parts that threads sweep side by side, or as one part.
+//! The columns of all sessions: threads claim one piece after the other, or the calling thread sweeps all.
 
-ghost use Rattle.std.specs.Prelude.{◌≡◌, ◌↔◌, ◌<◌, ℕ, [], Some, length, slice_get, vec_len, IfOk, IsTrue};
+ghost use Rattle.std.specs.Prelude.{◌≡◌, ◌↔◌, ◌<◌, ◌≤◌, ℕ, [], Some, length, slice_get, slice_index_or, vec_len, IfOk, IsTrue, Result};
+ghost use Rattle.memory_order.specs.Memory.{MemoryHistory};
 ghost use Rattle.memory_order.specs.OverwrittenReads.{HasOverwrittenRead, HasOverwrittenStart};
 ghost use Rattle.long_history.specs.Steps.{IsListedEdge, IsOrderBy};
 ghost use Rattle.long_columns.specs.Conflicts.{IsReducedIn};
-ghost use Rattle.long_columns.specs.Parts.{AreSweptParts, HasWriters, IsSweptOver, IsSweptPart};
-ghost use Rattle.long_columns.specs.Swept.{AreEdgesOf, IsDealtFrom};
+ghost use Rattle.long_columns.specs.Groups.{AreClaimed, IsClaimed};
+ghost use Rattle.long_columns.specs.Parts.{HasWriters, IsSweptOver};
+ghost use Rattle.long_columns.specs.Shares.{IsShare, IsShared};
+ghost use Rattle.long_columns.specs.Swept.{AreEdgesOf, IsListed};
 
-use crate::swept::{Swept, join, sweep_part, writing_sessions};
+use crate::fork_groups::{sweep_claimed_forks, sweep_left_forks};
+use crate::fours::{sweep_claimed_sessions, sweep_left_sessions};
+use crate::shares::{Share, share_of};
+use crate::some::SweptSome;
+use crate::swept::{Swept, join, writing_sessions};
+use claims::Claims;
 use long_index::LongIndex;
 use std::alloc::{AllocError, Global};
 use std::sync::Wait;
 use std::thread;
 use std::thread::Threads;
+
+/// What threads claimed, and what it shows.
+#[derive(Drop)]
+pub(crate) struct Claimed {
+    /// Sessions that are swept alone.
+    sessions: SweptSome,
+    /// Groups of 128 sessions with one write each.
+    forks: SweptSome,
+}
+
+/// The counters from which threads claim.
+#[derive(Drop)]
+struct SweepClaims {
+    sessions: Claims,
+    forks: Claims,
+}
 
 /// Finds whether writes overwrote what reads after them returned, and edges that represent all conflicts of writes.
 ///
@@ -29,12 +53,12 @@ pub fn sweep(alloc: Global, index: &LongIndex, order: &[u32]) -> Result<Swept, A
     ensures below { IfOk result (λ s. AreEdgesOf index.now.history s.edges.items) }
 {
     let sessions = writing_sessions(alloc, index)?;
-    let mut swept = Vec::new(alloc);
-    swept.push(sweep_part(alloc, index, order, &sessions, 1, 0))?;
-    join_parts(alloc, index, &sessions, swept)
+    let share = share_of(alloc, index, &sessions)?;
+    let none = nothing_claimed(alloc);
+    sweep_left(alloc, index, order, &sessions, &share, none)
 }
 
-/// The same, by threads of a runtime: the sessions are shared by so many workers, of which the calling thread is one.
+/// The same, by threads of a runtime: so many workers, of which the calling thread is one, claim sessions until none is left.
 ///
 /// With one worker no thread is started. Each worker takes 44 bytes an operation and 4 a variable, or 48 and 16 where sessions have one
 /// write each.
@@ -53,60 +77,126 @@ pub fn sweep_in_threads<T: Threads + Wait + Sync>(
     ensures below { IfOk result (λ s. AreEdgesOf index.now.history s.edges.items) }
 {
     let sessions = writing_sessions(alloc, index)?;
+    let share = share_of(alloc, index, &sessions)?;
     let parts = workers.min(sessions.len()).max(1);
-    let swept = sweep_parts(rt, alloc, index, order, &sessions, parts)?;
-    join_parts(alloc, index, &sessions, swept)
+    let claimed = join_claimed(
+        alloc,
+        index,
+        &share,
+        sweep_claimed_in(rt, alloc, parts, index, order, &share)?,
+    )?;
+    sweep_left(alloc, index, order, &sessions, &share, claimed)
 }
 
-/// What each part shows, in order.
-fn sweep_parts<T: Threads + Wait + Sync>(
+/// Nothing.
+fn nothing_claimed(alloc: Global) -> Claimed
+    ensures { (h : MemoryHistory) (share : Share) → IsClaimed h share result }
+{
+    Claimed {
+        sessions: SweptSome::none(alloc),
+        forks: SweptSome::none(alloc),
+    }
+}
+
+/// What each of so many workers claims.
+fn sweep_claimed_in<T: Threads + Wait + Sync>(
     rt: &T,
+    alloc: Global,
+    workers: usize,
+    index: &LongIndex,
+    order: &[u32],
+    share: &Share,
+) -> Result<Vec<Result<Claimed, AllocError>>, AllocError>
+    requires order { IsOrderBy index.now.history [] order.now }
+    requires share { IsShare index.now.history share.now }
+    ensures { IfOk result (λ claimed. AreClaimed index.now.history share.now (vec_len claimed) claimed.items) }
+{
+    let claims = SweepClaims {
+        sessions: Claims::new(),
+        forks: Claims::new(),
+    };
+    thread::map_indices(
+        rt,
+        alloc,
+        workers,
+        &|_worker: usize| -> Result<Claimed, AllocError>
+            requires { IsOrderBy index.now.history [] order.now × IsShare index.now.history share.now }
+            ensures { IfOk result (IsClaimed index.entry.now.history share.entry.now) }
+        { sweep_claimed(alloc, index, order, share, workers, &claims) },
+    )
+}
+
+/// What the calling thread, one of so many, claims until nothing is left.
+///
+/// The edges of the sessions that are swept alone are sorted by where they lead, so that threads share most of this work.
+// A function of its own keeps its loops in registers.
+#[inline(never)]
+fn sweep_claimed(
+    alloc: Global,
+    index: &LongIndex,
+    order: &[u32],
+    share: &Share,
+    threads: usize,
+    claims: &SweepClaims,
+) -> Result<Claimed, AllocError>
+    requires order { IsOrderBy index.now.history [] order.now }
+    requires share { IsShare index.now.history share.now }
+    ensures { IfOk result (IsClaimed index.now.history share.now) }
+{
+    let mut sessions = sweep_claimed_sessions(
+        alloc,
+        index,
+        order,
+        &share.sessions,
+        threads,
+        &claims.sessions,
+    )?;
+    sessions.swept.edges.sort_by_key(|edge| edge.1)?;
+    let forks = sweep_claimed_forks(alloc, index, order, &share.forks, &claims.forks)?;
+    Ok(Claimed { sessions, forks })
+}
+
+/// What workers claimed.
+fn join_claimed(
+    alloc: Global,
+    _index: &LongIndex,
+    _share: &Share,
+    mut parts: Vec<Result<Claimed, AllocError>>,
+) -> Result<Claimed, AllocError>
+    requires each { AreClaimed _index.now.history _share.now (vec_len parts) parts.items }
+    ensures { IfOk result (IsClaimed _index.now.history _share.now) }
+{
+    let mut whole = nothing_claimed(alloc);
+    while let Some(part) = parts.pop() {
+        let Claimed { sessions, forks } = part?;
+        whole.sessions.join(sessions)?;
+        whole.forks.join(forks)?;
+    }
+    Ok(whole)
+}
+
+/// What all sessions of a list show, once those are swept that nobody claimed.
+fn sweep_left(
     alloc: Global,
     index: &LongIndex,
     order: &[u32],
     sessions: &[u32],
-    parts: usize,
-) -> Result<Vec<Result<Swept, AllocError>>, AllocError>
-    requires order { IsOrderBy index.now.history [] order.now }
-    requires below { (k t : ℕ) → slice_get sessions.now k ≡ Some t → t < length index.now.history.1 }
-    ensures size { IfOk result (λ swept. vec_len swept ≡ parts) }
-    ensures each { IfOk result (λ swept. AreSweptParts index.now.history sessions.now parts parts swept.items) }
-{
-    thread::map_indices(
-        rt,
-        alloc,
-        parts,
-        &|part: usize| -> Result<Swept, AllocError>
-            requires { (part < parts) × IsOrderBy index.now.history [] order.now
-                × ((k t : ℕ) → slice_get sessions.now k ≡ Some t → t < length index.now.history.1) }
-            ensures { IfOk result (IsSweptPart index.entry.now.history sessions.entry.now parts part) }
-        { sweep_part(alloc, index, order, sessions, parts, part) },
-    )
-}
-
-/// What all parts of the sessions that write show together.
-fn join_parts(
-    alloc: Global,
-    index: &LongIndex,
-    sessions: &[u32],
-    mut parts: Vec<Result<Swept, AllocError>>,
+    share: &Share,
+    claimed: Claimed,
 ) -> Result<Swept, AllocError>
-    requires some { 0 < vec_len parts }
+    requires order { IsOrderBy index.now.history [] order.now }
     requires writers { HasWriters index.now.history sessions.now }
-    requires each { AreSweptParts index.now.history sessions.now (vec_len parts) (vec_len parts) parts.items }
+    requires share { IsShare index.now.history share.now }
+    requires all { (t : ℕ) → IsShared index.now.history share.now t ↔ IsListed sessions.now (length sessions.now) t }
+    requires claimed { IsClaimed index.now.history share.now claimed }
     ensures start { IfOk result (λ s. IsTrue s.has_overwritten_start ↔ HasOverwrittenStart index.now.history) }
     ensures read { IfOk result (λ s. IsTrue s.has_overwritten_read ↔ HasOverwrittenRead index.now.history) }
     ensures edges { IfOk result (λ s. ¬ IsTrue s.has_overwritten_read
         → (t : ℕ) → IsReducedIn index.now.history t (IsListedEdge index.now.history s.edges.items)) }
     ensures below { IfOk result (λ s. AreEdgesOf index.now.history s.edges.items) }
 {
-    let mut whole = Swept {
-        has_overwritten_start: false,
-        has_overwritten_read: false,
-        edges: Vec::new(alloc),
-    };
-    while let Some(part) = parts.pop() {
-        join(&mut whole, part?)?;
-    }
-    Ok(whole)
+    let mut swept = sweep_left_sessions(alloc, index, order, &share.sessions, claimed.sessions)?;
+    let of_forks = sweep_left_forks(alloc, index, order, &share.forks, claimed.forks)?;
+    join(&mut swept, of_forks)?;
+    Ok(swept)
 }

@@ -1,17 +1,17 @@
-//! The share that a part has of a list of sessions: the sessions with one write each, and the others.
+//! The sessions of a list: those with one write each, and the others.
 
-ghost use Rattle.std.specs.Prelude.{◌≡◌, ◌↔◌, ◌⊎◌, ◌%◌, ◌<◌, ◌≤◌, ℕ, Some, length, slice_get, IfOk, IfSome, MatchOption, OnOk};
+ghost use Rattle.std.specs.Prelude.{◌≡◌, ◌↔◌, ◌⊎◌, ◌<◌, ◌≤◌, ℕ, Some, length, slice_get, IfOk, IfSome, MatchOption, OnOk};
 ghost use Rattle.history.specs.declared.op_id.OpId.{OpId as Operation};
 ghost use Rattle.history.specs.History.{IsOp, number};
 ghost use Rattle.long_history.specs.Steps.{many};
 ghost use Rattle.long_columns.specs.Forks.{AreNoWrites, IsFirstWrite, IsOnlyWrite};
 ghost use Rattle.long_columns.specs.Shares.{IsShare, IsShared};
-ghost use Rattle.long_columns.specs.Swept.{IsDealt};
+ghost use Rattle.long_columns.specs.Swept.{IsListed};
 
 use long_index::{LongIndex, Part};
 use std::alloc::{AllocError, Global};
 
-/// The sessions of a part.
+/// The sessions of a list.
 #[derive(Drop)]
 pub(crate) struct Share {
     /// Those that are swept alone.
@@ -20,31 +20,25 @@ pub(crate) struct Share {
     pub(crate) forks: Vec<u32>,
 }
 
-/// The sessions at the places `part`, `part + parts` and so on of a list.
+/// The sessions of a list.
 ///
 /// Fails for want of memory alone. O(n) for n operations.
 pub(crate) fn share_of(
     alloc: Global,
     index: &LongIndex,
     sessions: &[u32],
-    parts: usize,
-    part: usize,
 ) -> Result<Share, AllocError>
     requires below { (k t : ℕ) → slice_get sessions.now k ≡ Some t → t < length index.now.history.1 }
-    requires part { part < parts }
     ensures share { IfOk result (IsShare index.now.history) }
-    ensures dealt { IfOk result (λ share. (t : ℕ)
-        → IsShared index.now.history share t ↔ IsDealt sessions.now parts part (length sessions.now) t) }
+    ensures all { IfOk result (λ share. (t : ℕ)
+        → IsShared index.now.history share t ↔ IsListed sessions.now (length sessions.now) t) }
 {
     let mut share = Share {
         sessions: Vec::new(alloc),
         forks: Vec::new(alloc),
     };
     for i in 0..sessions.len() {
-        let session = sessions[i];
-        if i % parts == part {
-            add(index, session, &mut share)?;
-        }
+        add(index, sessions[i], &mut share)?;
     }
     Ok(share)
 }

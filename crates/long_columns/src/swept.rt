@@ -1,18 +1,19 @@
 //! The columns of some sessions, four at once, and what each shows.
 
-ghost use Rattle.std.specs.Prelude.{◌≡◌, ◌≢◌, ◌⊎◌, ◌↔◌, ◌+◌, ◌++◌, ◌<◌, ℕ, List, [], Some, length, slice_get, slice_index_or};
+ghost use Rattle.std.specs.Prelude.{◌≡◌, ◌≢◌, ◌⊎◌, ◌↔◌, ◌+◌, ◌++◌, ◌∷◌, ◌<◌, ◌≤◌, ℕ, List, [], Some, length, slice_get, slice_index_or};
 ghost use Rattle.std.specs.Prelude.{IfOk, IsTrue, OnOk};
+ghost use Rattle.claims.specs.Numbers.{HasNumber};
 ghost use Rattle.memory_order.specs.SourceOrder.{IsCyclic};
 ghost use Rattle.long_history.specs.Steps.{IsOrderBy, many};
 ghost use Rattle.long_columns.specs.Lanes.{HasNumbers, HasRows, IsClear, IsLane, in_lane};
-ghost use Rattle.long_columns.specs.Parts.{HasWriters, IsSweptOver, IsSweptPart};
+ghost use Rattle.long_columns.specs.Groups.{IsAmong, IsSweptSessions};
+ghost use Rattle.long_columns.specs.Parts.{HasWriters, IsSweptOver};
 ghost use Rattle.long_columns.specs.Swept.{HasEdge, IsListed};
 
-use crate::forks::sweep_forks;
 use crate::lanes::{Lanes, find_lanes, take_lanes};
 use crate::passes::fill;
 use crate::rows::Row;
-use crate::shares::share_of;
+use crate::some::SweptSome;
 use crate::sweeping::sweep_column;
 use long_index::{LongIndex, Part};
 use std::alloc::{AllocError, Global};
@@ -55,69 +56,6 @@ fn add_session(sessions: &mut Vec<u32>, session: u32) -> Result<(), AllocError>
     Ok(())
 }
 
-/// What the sessions of a part show: those at the places `part`, `part + parts` and so on of a list.
-///
-/// Fails for want of memory alone. O(n k / p) for n operations, k sessions in the list and p parts, where 128 sessions with one write each
-/// count as one.
-// A function of its own keeps its loops in registers.
-#[inline(never)]
-pub(crate) fn sweep_part(
-    alloc: Global,
-    index: &LongIndex,
-    order: &[u32],
-    sessions: &[u32],
-    parts: usize,
-    part: usize,
-) -> Result<Swept, AllocError>
-    requires order { IsOrderBy index.now.history [] order.now }
-    requires below { (k t : ℕ) → slice_get sessions.now k ≡ Some t → t < length index.now.history.1 }
-    requires part { part < parts }
-    ensures { IfOk result (IsSweptPart index.now.history sessions.now parts part) }
-{
-    let share = share_of(alloc, index, sessions, parts, part)?;
-    let mut swept = sweep_sessions(alloc, index, order, &share.sessions)?;
-    let of_forks = sweep_forks(alloc, index, order, &share.forks)?;
-    join(&mut swept, of_forks)?;
-    Ok(swept)
-}
-
-/// What the sessions of a list show, by a column each. It takes 44 bytes an operation and 4 a variable, or nothing for an empty list.
-fn sweep_sessions(
-    alloc: Global,
-    index: &LongIndex,
-    order: &[u32],
-    sessions: &[u32],
-) -> Result<Swept, AllocError>
-    requires order { IsOrderBy index.now.history [] order.now }
-    requires below { (k t : ℕ) → slice_get sessions.now k ≡ Some t → t < length index.now.history.1 }
-    ensures { IfOk result (IsSweptOver index.now.history (IsListed sessions.now (length sessions.now))) }
-{
-    let mut swept = Swept {
-        has_overwritten_start: false,
-        has_overwritten_read: false,
-        edges: Vec::new(alloc),
-    };
-    if sessions.len() == 0 {
-        return Ok(swept);
-    }
-    let mut lanes = Lanes::new(alloc, index)?;
-    let mut arrays = Arrays::new(alloc, index)?;
-    let mut from = 0;
-    'fours: while from < sessions.len() {
-        sweep_four(
-            index,
-            order,
-            sessions,
-            from,
-            &mut lanes,
-            &mut arrays,
-            &mut swept,
-        )?;
-        from += 4;
-    }
-    Ok(swept)
-}
-
 /// The numbers of one column and its sweep: the arrays are made once and used again for each session.
 #[derive(Drop)]
 pub(crate) struct Arrays {
@@ -132,7 +70,7 @@ pub(crate) struct Arrays {
 }
 
 impl Arrays {
-    fn new(alloc: Global, index: &LongIndex) -> Result<Arrays, AllocError>
+    pub(crate) fn new(alloc: Global, index: &LongIndex) -> Result<Arrays, AllocError>
         ensures { IfOk result (HasNumbers index.now) }
     {
         let operations = index.operations() as usize;
@@ -145,31 +83,43 @@ impl Arrays {
     }
 }
 
-/// Adds what the columns of the next four sessions of a list show, or of all that are left. O(n) for n operations, beside the sweeps.
-fn sweep_four(
+/// Adds what the columns of up to four sessions of a list show, from one place up to another. O(n) for n operations, beside the sweeps.
+pub(crate) fn sweep_four(
     index: &LongIndex,
     order: &[u32],
     sessions: &[u32],
-    from: usize,
+    range: (usize, usize),
     lanes: &mut Lanes,
     arrays: &mut Arrays,
-    swept: &mut Swept,
+    found: &mut SweptSome,
 ) -> Result<(), AllocError>
     requires order { IsOrderBy index.now.history [] order.now }
     requires below { (k t : ℕ) → slice_get sessions.now k ≡ Some t → t < length index.now.history.1 }
-    requires from { from < length sessions.now }
+    requires some { range.0 < range.1 }
+    requires below_end { range.1 ≤ length sessions.now }
+    requires few { range.1 ≤ range.0 + 4 }
     requires rows { HasRows index.now.history lanes.old }
     requires numbers { HasNumbers index.now arrays.old }
+    requires found { IsSweptSessions index.now.history sessions.now found.old }
     ensures rows { HasRows index.now.history lanes.new }
     ensures numbers { OnOk result (HasNumbers index.now arrays.new) }
-    ensures swept { OnOk result (IsSweptOver index.now.history (IsListed sessions.now from) swept.old
-        → IsSweptOver index.now.history (IsListed sessions.now (from + 4)) swept.new) }
+    ensures swept { OnOk result (IsSweptSessions index.now.history sessions.now found.new) }
+    ensures kept { OnOk result ((k : ℕ) → HasNumber found.old.numbers.items k → HasNumber found.new.numbers.items k) }
+    ensures added { OnOk result ((k : ℕ) → range.0 ≤ k → k < range.1 → HasNumber found.new.numbers.items k) }
 {
+    let (from, to) = range;
     find_lanes(index, order, four_from(sessions, from), lanes);
-    for lane in 0..4 {
-        if from + lane < sessions.len() {
-            sweep_session(index, sessions[from + lane], lanes, lane, arrays, swept)?;
-        }
+    for lane in 0..to - from {
+        let place = from + lane;
+        sweep_session(
+            index,
+            sessions[place],
+            lanes,
+            lane,
+            arrays,
+            &mut found.swept,
+        )?;
+        found.numbers.push(place)?;
     }
     Ok(())
 }
@@ -217,9 +167,9 @@ fn sweep_session(
     requires column { IsLane index.now.history lanes.now lane session }
     requires numbers { HasNumbers index.now arrays.old }
     ensures numbers { OnOk result (HasNumbers index.now arrays.new) }
-    ensures swept { OnOk result ((sessions : List ℕ) (i : ℕ) → slice_get sessions i ≡ Some session
-        → IsSweptOver index.now.history (IsListed sessions i) swept.old
-        → IsSweptOver index.now.history (IsListed sessions (i + 1)) swept.new) }
+    ensures swept { OnOk result ((sessions places : List ℕ) (k : ℕ) → slice_get sessions k ≡ Some session
+        → IsSweptOver index.now.history (IsAmong sessions places) swept.old
+        → IsSweptOver index.now.history (IsAmong sessions (places ++ k ∷ [])) swept.new) }
 {
     take_lanes(lanes, lane, &mut arrays.ends, &mut arrays.firsts);
     fill(&mut arrays.last, 0);
@@ -292,7 +242,10 @@ pub(crate) fn join(whole: &mut Swept, part: Swept) -> Result<(), AllocError>
 }
 
 /// Puts edges after others. Where there are no others, none is copied.
-fn append(edges: &mut Vec<(u32, u32)>, mut more: Vec<(u32, u32)>) -> Result<(), AllocError>
+pub(crate) fn append(
+    edges: &mut Vec<(u32, u32)>,
+    mut more: Vec<(u32, u32)>,
+) -> Result<(), AllocError>
     ensures { OnOk result (edges.new.items ≡ edges.old.items ++ more.items) }
 {
     if edges.is_empty() {

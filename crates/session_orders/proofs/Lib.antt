@@ -8,7 +8,7 @@ pub mod HappenedBeforeDecided
 pub mod LeftSums
 pub mod Locks
 pub mod LoneOrders
-pub mod OrderedParts
+pub mod OrderedSessions
 pub mod OutcomeLaws
 pub mod PartLaws
 pub mod PastLaws

@@ -3,7 +3,7 @@ pub mod BackwardOrder
 pub mod Beginnings
 pub mod LoneSources
 pub mod OnItsWay
-pub mod OrderedParts
+pub mod OrderedSessions
 pub mod Pasts
 pub mod SessionOrders
 pub mod SessionStates

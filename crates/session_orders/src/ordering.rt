@@ -1,6 +1,7 @@
 //! Orders of some sessions.
 
-ghost use Rattle.std.specs.Prelude.{◌≡◌, ◌<◌, ℕ, [], length, IfOk, IsTrue};
+ghost use Rattle.std.specs.Prelude.{◌≡◌, ◌⊎◌, ◌<◌, ℕ, [], None, length, IfOk, IsTrue};
+ghost use Rattle.claims.specs.Numbers.{HasNumber};
 ghost use Rattle.long_history.specs.Steps.{IsOrderBy, many};
 ghost use Rattle.memory_order.specs.SourceOrder.{LacksSource};
 ghost use Rattle.session_orders.specs.Backward.{IsOpen};
@@ -9,13 +10,14 @@ ghost use Rattle.session_orders.specs.declared.ordering.SessionOrder.TheVariants
 ghost use Rattle.session_orders.specs.LoneSources.{CountsWrites};
 ghost use Rattle.session_orders.specs.OnItsWay.{CanBePlaced, IsAwake, IsClear, IsKnown, IsOnItsWay, IsStopped, ListsSessions};
 ghost use Rattle.session_orders.specs.OnItsWay.{left_of, many_left};
-ghost use Rattle.session_orders.specs.OrderedParts.{IsOrderedPart};
-ghost use Rattle.session_orders.specs.SessionOrders.{IsOutcome};
+ghost use Rattle.session_orders.specs.OrderedSessions.{AreOrderedSessions, IsOrderedAt};
+ghost use Rattle.session_orders.specs.SessionOrders.{AreOrdered, IsOutcome};
 
 use crate::backward::Backward;
 use crate::beginning::Beginning;
 use crate::lone_sources::{count_writes, may_lack_order};
 use crate::turns::Turns;
+use claims::Claims;
 use long_index::LongIndex;
 use std::alloc::{AllocError, Global};
 
@@ -40,61 +42,129 @@ pub(crate) struct Unexplained {
     pub(crate) order: SessionOrder,
 }
 
-/// In a part, the first session that has no such order, if there is one. The part has the places `part`, `part + parts` and so on of the
-/// list.
+/// What some sessions of a list show.
+#[derive(Drop)]
+pub(crate) struct OrderedSessions {
+    /// The places of those that have such orders.
+    pub(crate) places: Vec<usize>,
+    /// A session that has none, if one was found.
+    pub(crate) unexplained: Option<Unexplained>,
+}
+
+impl OrderedSessions {
+    /// No sessions.
+    pub(crate) fn none(alloc: Global) -> OrderedSessions
+        ensures places { result.places.items ≡ [] }
+        ensures unexplained { result.unexplained ≡ None }
+    {
+        OrderedSessions {
+            places: Vec::new(alloc),
+            unexplained: None,
+        }
+    }
+}
+
+/// What the sessions show that the calling thread claims, until none is left or one has no such order.
 ///
-/// Fails for want of memory alone. O(n k / p) for n operations, k sessions with operations and p parts, and O(n + k) numbers of memory for
-/// k sessions in all, of which four are for each known read of a written value.
+/// Fails for want of memory alone. O(n) for n operations for each session that it claims, and O(n + k) numbers of memory for k sessions
+/// in all, of which four are for each known read of a written value.
 // A function of its own keeps its loops in registers.
 #[inline(never)]
-pub(crate) fn order_part(
+pub(crate) fn order_claimed(
     alloc: Global,
     index: &LongIndex,
     order: &[u32],
     sessions: &[u32],
-    parts: usize,
-    part: usize,
-) -> Result<Option<Unexplained>, AllocError>
+    claims: &Claims,
+) -> Result<OrderedSessions, AllocError>
     requires order { IsOrderBy index.now.history [] order.now }
     requires sources { ¬ LacksSource index.now.history }
     requires sessions { ListsSessions index.now.history (length index.now.history.1) sessions.now }
-    requires part { part < parts }
-    ensures { IfOk result (IsOrderedPart index.now.history sessions.now parts part) }
+    ensures { IfOk result (AreOrderedSessions index.now.history sessions.now) }
 {
+    index.value_is_indexed();
+    let mut found = OrderedSessions::none(alloc);
+    let mut beginning = Beginning::of(alloc, index, order)?;
+    let mut backward = Backward::clear(alloc, index)?;
+    let mut turns = Turns::of(alloc, index)?;
+    let counts = count_writes(alloc, index)?;
+    for _claim in 0..sessions.len() {
+        let Some(place) = claims.next_below(sessions.len()) else {
+            return Ok(found);
+        };
+        let own = sessions[place];
+        match order_where_needed(
+            index,
+            order,
+            &counts,
+            own,
+            &mut beginning,
+            &mut backward,
+            &mut turns,
+        )? {
+            SessionOrder::Explained => found.places.push(place)?,
+            SessionOrder::StartOverwritten => {
+                found.unexplained = Some(Unexplained {
+                    place,
+                    order: SessionOrder::StartOverwritten,
+                });
+                return Ok(found);
+            }
+            SessionOrder::Cyclic => {
+                found.unexplained = Some(Unexplained {
+                    place,
+                    order: SessionOrder::Cyclic,
+                });
+                return Ok(found);
+            }
+        }
+    }
+    Ok(found)
+}
+
+/// What all sessions of a list show, once those at some places are ordered too, in order, as far as the first that has no such order.
+///
+/// It costs what [`order_claimed`] does, or nothing where there are no such places.
+#[inline(never)]
+pub(crate) fn order_places(
+    alloc: Global,
+    index: &LongIndex,
+    order: &[u32],
+    sessions: &[u32],
+    places: &[usize],
+) -> Result<SessionOrder, AllocError>
+    requires order { IsOrderBy index.now.history [] order.now }
+    requires sources { ¬ LacksSource index.now.history }
+    requires sessions { ListsSessions index.now.history (length index.now.history.1) sessions.now }
+    requires below { (k : ℕ) → HasNumber places.now k → k < length sessions.now }
+    requires others { (k : ℕ) → k < length sessions.now → HasNumber places.now k ⊎ IsOrderedAt index.now.history sessions.now k }
+    ensures { IfOk result (AreOrdered index.now.history) }
+{
+    if places.is_empty() {
+        return Ok(SessionOrder::Explained);
+    }
     index.value_is_indexed();
     let mut beginning = Beginning::of(alloc, index, order)?;
     let mut backward = Backward::clear(alloc, index)?;
     let mut turns = Turns::of(alloc, index)?;
     let counts = count_writes(alloc, index)?;
-    for place in 0..sessions.len() {
-        let own = sessions[place];
-        if place % parts == part {
-            match order_where_needed(
-                index,
-                order,
-                &counts,
-                own,
-                &mut beginning,
-                &mut backward,
-                &mut turns,
-            )? {
-                SessionOrder::Explained => {}
-                SessionOrder::StartOverwritten => {
-                    return Ok(Some(Unexplained {
-                        place,
-                        order: SessionOrder::StartOverwritten,
-                    }));
-                }
-                SessionOrder::Cyclic => {
-                    return Ok(Some(Unexplained {
-                        place,
-                        order: SessionOrder::Cyclic,
-                    }));
-                }
-            }
+    for i in 0..places.len() {
+        let own = sessions[places[i]];
+        match order_where_needed(
+            index,
+            order,
+            &counts,
+            own,
+            &mut beginning,
+            &mut backward,
+            &mut turns,
+        )? {
+            SessionOrder::Explained => {}
+            SessionOrder::StartOverwritten => return Ok(SessionOrder::StartOverwritten),
+            SessionOrder::Cyclic => return Ok(SessionOrder::Cyclic),
         }
     }
-    Ok(None)
+    Ok(SessionOrder::Explained)
 }
 
 /// Orders one session, unless it has an order for certain. Nothing is left before, nor after if it is explained.

@@ -1,14 +1,15 @@
-//! Orders of all sessions: in parts that threads work on in parallel, or as one part.
+//! Orders of all sessions: threads claim one after the other, or the calling thread orders all.
 
 ghost use Rattle.std.specs.Prelude.{◌≡◌, ◌<◌, ℕ, [], length, vec_len, IfOk};
 ghost use Rattle.long_history.specs.Steps.{IsOrderBy};
 ghost use Rattle.memory_order.specs.SourceOrder.{LacksSource};
 ghost use Rattle.session_orders.specs.OnItsWay.{ListsSessions};
-ghost use Rattle.session_orders.specs.OrderedParts.{AreOrderedParts, IsEarlier, IsOrderedPart};
+ghost use Rattle.session_orders.specs.OrderedSessions.{AreClaimed, AreOrderedSessions, IsEarlier};
 ghost use Rattle.session_orders.specs.SessionOrders.{AreOrdered};
 
-use crate::ordering::{SessionOrder, Unexplained, order_part};
+use crate::ordering::{OrderedSessions, SessionOrder, Unexplained, order_claimed, order_places};
 use crate::turns::Turns;
+use claims::{Claims, unclaimed};
 use long_index::LongIndex;
 use std::alloc::{AllocError, Global};
 use std::sync::Wait;
@@ -31,12 +32,16 @@ pub fn order_sessions(
     ensures { IfOk result (AreOrdered index.now.history) }
 {
     let turns = Turns::of(alloc, index)?;
-    let mut found = Vec::new(alloc);
-    found.push(order_part(alloc, index, order, &turns.sessions, 1, 0))?;
-    join_parts(index, &turns.sessions, found)
+    order_left(
+        alloc,
+        index,
+        order,
+        &turns.sessions,
+        OrderedSessions::none(alloc),
+    )
 }
 
-/// The same, by threads of a runtime: so many workers share the sessions, and the calling thread is one of them.
+/// The same, by threads of a runtime: so many workers, of which the calling thread is one, claim the sessions until none is left.
 ///
 /// With one worker it starts no thread. Each worker takes O(n + k) numbers of memory.
 pub fn order_sessions_in_threads<T: Threads + Wait + Sync>(
@@ -51,57 +56,84 @@ pub fn order_sessions_in_threads<T: Threads + Wait + Sync>(
     ensures { IfOk result (AreOrdered index.now.history) }
 {
     let turns = Turns::of(alloc, index)?;
-    let parts = workers.min(turns.sessions.len()).max(1);
-    let found = order_parts(rt, alloc, index, order, &turns.sessions, parts)?;
-    join_parts(index, &turns.sessions, found)
+    let workers = workers.min(turns.sessions.len()).max(1);
+    let found = join_claimed(
+        alloc,
+        index,
+        &turns.sessions,
+        order_claimed_in(rt, alloc, workers, index, order, &turns.sessions)?,
+    )?;
+    order_left(alloc, index, order, &turns.sessions, found)
 }
 
-/// What each part shows, in order.
-fn order_parts<T: Threads + Wait + Sync>(
+/// What the sessions show that each of so many workers claims.
+fn order_claimed_in<T: Threads + Wait + Sync>(
     rt: &T,
+    alloc: Global,
+    workers: usize,
+    index: &LongIndex,
+    order: &[u32],
+    sessions: &[u32],
+) -> Result<Vec<Result<OrderedSessions, AllocError>>, AllocError>
+    requires order { IsOrderBy index.now.history [] order.now }
+    requires sources { ¬ LacksSource index.now.history }
+    requires sessions { ListsSessions index.now.history (length index.now.history.1) sessions.now }
+    ensures { IfOk result (λ found. AreClaimed index.now.history sessions.now (vec_len found) found.items) }
+{
+    let claims = Claims::new();
+    thread::map_indices(
+        rt,
+        alloc,
+        workers,
+        &|_worker: usize| -> Result<OrderedSessions, AllocError>
+            requires { IsOrderBy index.now.history [] order.now × (¬ LacksSource index.now.history)
+                × ListsSessions index.now.history (length index.now.history.1) sessions.now }
+            ensures { IfOk result (AreOrderedSessions index.entry.now.history sessions.entry.now) }
+        { order_claimed(alloc, index, order, sessions, &claims) },
+    )
+}
+
+/// What the sessions show that workers claimed. Of those without such an order the one at the least place is kept.
+fn join_claimed(
+    alloc: Global,
+    _index: &LongIndex,
+    _sessions: &[u32],
+    mut parts: Vec<Result<OrderedSessions, AllocError>>,
+) -> Result<OrderedSessions, AllocError>
+    requires each { AreClaimed _index.now.history _sessions.now (vec_len parts) parts.items }
+    ensures { IfOk result (AreOrderedSessions _index.now.history _sessions.now) }
+{
+    let mut whole = OrderedSessions::none(alloc);
+    while let Some(part) = parts.pop() {
+        let OrderedSessions {
+            mut places,
+            unexplained,
+        } = part?;
+        whole.places.append(&mut places)?;
+        whole.unexplained = earlier(unexplained, whole.unexplained);
+    }
+    Ok(whole)
+}
+
+/// What all sessions show, once those are ordered that nobody claimed.
+fn order_left(
     alloc: Global,
     index: &LongIndex,
     order: &[u32],
     sessions: &[u32],
-    parts: usize,
-) -> Result<Vec<Result<Option<Unexplained>, AllocError>>, AllocError>
+    found: OrderedSessions,
+) -> Result<SessionOrder, AllocError>
     requires order { IsOrderBy index.now.history [] order.now }
     requires sources { ¬ LacksSource index.now.history }
     requires sessions { ListsSessions index.now.history (length index.now.history.1) sessions.now }
-    ensures size { IfOk result (λ found. vec_len found ≡ parts) }
-    ensures each { IfOk result (λ found. AreOrderedParts index.now.history sessions.now parts parts found.items) }
+    requires found { AreOrderedSessions index.now.history sessions.now found }
+    ensures { IfOk result (AreOrdered index.now.history) }
 {
-    thread::map_indices(
-        rt,
-        alloc,
-        parts,
-        &|part: usize| -> Result<Option<Unexplained>, AllocError>
-            requires { (part < parts) × IsOrderBy index.now.history [] order.now × (¬ LacksSource index.now.history)
-                × ListsSessions index.now.history (length index.now.history.1) sessions.now }
-            ensures { IfOk result (IsOrderedPart index.entry.now.history sessions.entry.now parts part) }
-        { order_part(alloc, index, order, sessions, parts, part) },
-    )
-}
-
-/// What all parts show together.
-fn join_parts(
-    _index: &LongIndex,
-    _sessions: &[u32],
-    mut parts: Vec<Result<Option<Unexplained>, AllocError>>,
-) -> Result<SessionOrder, AllocError>
-    requires some { 0 < vec_len parts }
-    requires sessions { ListsSessions _index.now.history (length _index.now.history.1) _sessions.now }
-    requires each { AreOrderedParts _index.now.history _sessions.now (vec_len parts) (vec_len parts) parts.items }
-    ensures { IfOk result (AreOrdered _index.now.history) }
-{
-    let mut first = None;
-    while let Some(part) = parts.pop() {
-        first = earlier(part?, first);
+    if let Some(unexplained) = found.unexplained {
+        return Ok(unexplained.order);
     }
-    match first {
-        Some(unexplained) => Ok(unexplained.order),
-        None => Ok(SessionOrder::Explained),
-    }
+    let rest = unclaimed(alloc, &found.places, sessions.len())?;
+    order_places(alloc, index, order, sessions, &rest)
 }
 
 /// The one of two that is at the lesser place, if there is one.

@@ -1,10 +1,12 @@
-use Rattle.std.specs.Prelude.{◌⊎◌, ◌↔◌, ◌<◌, ℕ, ◌+◌, ◌||◌, List, []}
+use Rattle.std.specs.Prelude.{◌⊎◌, ◌↔◌, ◌++◌, ◌∷◌, ◌*◌, ℕ, ◌||◌, List, []}
 use Rattle.std.proofs.Common.{arith, subst}
 use Rattle.std.proofs.lemmas.List.{get_or_past}
 use Rattle.long_order.proofs.Orders.{order_by-straight}
-use Rattle.long_columns.specs.Forks.{IsForkAt, IsForkBelow, IsLeftEdge}
+use Rattle.long_columns.specs.Forks.{IsForkAt, IsLeftEdge}
+use Rattle.long_columns.specs.Groups.{IsFrom, IsInGroups}
 use Rattle.long_columns.specs.Swept.{HasEdge}
-use Rattle.long_columns.proofs.ForksSwept.{forks-more, group-swept}
+use Rattle.long_columns.proofs.ForksSwept.{group-swept}
+use Rattle.long_columns.proofs.GroupLists.{groups-more}
 use Rattle.long_columns.proofs.SessionsSwept.{or-either, swept-both}
 use Rattle.long_columns.proofs.forks.sweep_group.Goals as goal
 
@@ -12,10 +14,10 @@ pub look_at_reads-overwritten-requires-clause-straight : goal.look_at_reads-over
 look_at_reads-overwritten-requires-clause-straight c = order_by-straight c.args.index.now.history [] c.args.order.now c.requires.order
 
 pub returns-clause-swept : goal.returns-clause-swept
-returns-clause-swept c was =
+returns-clause-swept c groups was =
     let h = c.args.index.now.history in
     let writes : List ℕ = c.args.writes.now in
-    let from : ℕ = c.args.from in
+    let from : ℕ = c.args.group * 128 in
     let old = c.args.swept.now in
     let one = c.look_at_reads-overwritten.result in
     let shows = c.look_at_reads-overwritten.ensures in
@@ -24,8 +26,8 @@ returns-clause-swept c was =
     let size = shows.size in
     let group = group-swept h (order_by-straight h [] c.args.order.now c.requires.order) writes from c.requires.only one.start one.read late
     shows.found c.find_words.new.words.past.items c.find_words.ensures.words.past (λ b past. get_or_past late b 0 (omega arith)) in
-    swept-both h (IsForkBelow h writes from) (λ t. (k : ℕ) × (k < 128) × IsForkAt h writes (from + k) t) (IsForkBelow h writes (from + 128))
-    (forks-more h writes from) old.has_overwritten_start old.has_overwritten_read (HasEdge old.edges.items) was one.start one.read
+    swept-both h (IsInGroups 128 (IsForkAt h writes) groups) (IsFrom (IsForkAt h writes) from 128)
+    (IsInGroups 128 (IsForkAt h writes) (groups ++ c.args.group ∷ [])) (groups-more 128 (IsForkAt h writes) groups c.args.group) old.has_overwritten_start old.has_overwritten_read (HasEdge old.edges.items) was one.start one.read
     (IsLeftEdge writes from late) group (old.has_overwritten_start || one.start) (old.has_overwritten_read || one.read) (HasEdge edges)
     (or-either old.has_overwritten_start one.start) (or-either old.has_overwritten_read one.read)
     (subst (λ (xs : List ℕ). (a b : ℕ) → HasEdge edges a b ↔ (HasEdge old.edges.items a b ⊎ IsLeftEdge writes from xs a b))

@@ -1,10 +1,10 @@
 use Rattle.std.specs.Prelude.{◌↔◌, ℕ}
 use Rattle.long_columns.specs.Shares.{IsShare, IsShared}
-use Rattle.long_columns.specs.Swept.{IsDealt}
+use Rattle.long_columns.specs.Swept.{IsListed}
 use Rattle.long_columns.proofs.shares.share_of.Given as goal
 
 abbrev pub invariant-loop-i : goal.invariant-loop-i
 invariant-loop-i l = record {
   share : IsShare l.index.history l.share;
-  dealt : (t : ℕ) → IsShared l.index.history l.share t ↔ IsDealt l.sessions l.parts l.part l.i t;
+  all : (t : ℕ) → IsShared l.index.history l.share t ↔ IsListed l.sessions l.i t;
 }

@@ -1,14 +1,15 @@
-use Rattle.std.specs.Prelude.{◌≡◌, ◌+◌, ◌<◌, ◌≤◌, ℕ, List, [], length, slice_index_or}
+use Rattle.std.specs.Prelude.{◌≡◌, ◌+◌, ◌<◌, ◌≤◌, ◌++◌, ◌∷◌, ℕ, List, [], length, slice_index_or}
 use Rattle.std.proofs.Common.{arith, sym, ◌∙◌, subst}
 use Rattle.std.proofs.lemmas.Option.{same_Some, slice_get-get_or}
+use Rattle.claims.specs.Numbers.{HasNumber}
+use Rattle.claims.proofs.NumberLists.{has-first, range-more}
 use Rattle.long_order.proofs.Orders.{order_by-straight}
 use Rattle.long_columns.specs.Lanes.{IsLane}
-use Rattle.long_columns.specs.Parts.{IsSweptOver}
-use Rattle.long_columns.specs.Swept.{HasEdge, IsListed}
-use Rattle.long_columns.proofs.Dealt.{listed-past}
-use Rattle.long_columns.proofs.SessionsSwept.{swept-same}
 use Rattle.long_columns.proofs.swept.sweep_four.Goals as goal
-use Rattle.long_columns.proofs.swept.sweep_four.Goals.{then-from-lane+in_ok-sweep_session, else-from-lane}
+
+pub find_lanes-requires-clause-sessions : goal.find_lanes-requires-clause-sessions
+find_lanes-requires-clause-sessions c k below =
+    let listed = c.four_from.ensures.listed k below in c.requires.below listed.0 _ listed.1
 
 pub sweep_session-requires-clause-straight : goal.sweep_session-requires-clause-straight
 sweep_session-requires-clause-straight c = order_by-straight c.args.index.now.history [] c.args.order.now c.requires.order
@@ -16,7 +17,7 @@ sweep_session-requires-clause-straight c = order_by-straight c.args.index.now.hi
 pub sweep_session-requires-clause-session : goal.sweep_session-requires-clause-session
 sweep_session-requires-clause-session c =
     let list : List ℕ = c.args.sessions.now in
-    let place : ℕ = c.args.from + c.loop-lane.lane in
+    let place : ℕ = c.args.range.0 + c.loop-lane.lane in
     let inside : place < length list = grind arith in
     c.requires.below place (slice_index_or list place 0) (slice_get-get_or list place 0 inside)
 
@@ -24,7 +25,7 @@ pub sweep_session-requires-clause-column : goal.sweep_session-requires-clause-co
 sweep_session-requires-clause-column c =
     let list : List ℕ = c.args.sessions.now in
     let lane : ℕ = c.loop-lane.lane in
-    let place : ℕ = c.args.from + lane in
+    let place : ℕ = c.args.range.0 + lane in
     let inside : place < length list = grind arith in
     let below : lane < 4 = grind arith in
     subst (λ (t : ℕ). IsLane c.args.index.now.history c.find_lanes.new.lanes lane t)
@@ -33,26 +34,24 @@ sweep_session-requires-clause-column c =
 
 pub loop-lane-preserved : goal.loop-lane-preserved
 loop-lane-preserved c =
-    let h = c.args.index.now.history in
     let list : List ℕ = c.args.sessions.now in
-    let place : ℕ = c.args.from + c.loop-lane.lane in
+    let from : ℕ = c.args.range.0 in
+    let lane : ℕ = c.loop-lane.lane in
+    let place : ℕ = from + lane in
+    let old : List ℕ = c.loop-lane.found.numbers.items in
+    let now : List ℕ = c.push.new.self.items in
+    let grown : now ≡ old ++ place ∷ [] = c.in_ok-push.ensures.items in
     let was = c.loop-lane.invariant in
-    let next : place + 1 ≡ c.args.from + (c.loop-lane.lane + 1) = omega arith in
-    elim c.if-from-lane.branch [
-      | then-from-lane+in_ok-sweep_session w ↦
-          let inside : place < length list = w.if-from-lane.true in
-          rw (w.arrays-is, w.swept-is) (record {
-            numbers = w.in_ok-sweep_session.ensures.numbers;
-            swept = λ before. subst (λ (n : ℕ). IsSweptOver h (IsListed list n) w.sweep_session.new.swept) next
-                (w.in_ok-sweep_session.ensures.swept list place (slice_get-get_or list place 0 inside) (was.swept before));
-          })
-      | else-from-lane w ↦
-          let past : length list ≤ place = (let outside = w.if-from-lane.false in omega arith) in
-          let swept = c.loop-lane.swept in
-          rw (w.arrays-is, w.swept-is) (record {
-            numbers = was.numbers;
-            swept = λ before. subst (λ (n : ℕ). IsSweptOver h (IsListed list n) swept) next
-                (swept-same h (IsListed list place) (IsListed list (place + 1)) (listed-past list place past) swept.has_overwritten_start
-                swept.has_overwritten_read (HasEdge swept.edges.items) (was.swept before));
-          })
-    ]
+    let inside : place < length list = grind arith in
+    record {
+      numbers = c.in_ok-sweep_session.ensures.numbers;
+      swept = rw (grown) (c.in_ok-sweep_session.ensures.swept list old place (slice_get-get_or list place 0 inside) was.swept);
+      kept = λ k has. subst (λ (xs : List ℕ). HasNumber xs k) (sym grown) (has-first old (place ∷ []) k (was.kept k has));
+      added = subst (λ (xs : List ℕ). (k : ℕ) → from ≤ k → k < from + (lane + 1) → HasNumber xs k) (sym grown)
+          (range-more old from lane was.added);
+    }
+
+pub returns-clause-added : goal.returns-clause-added
+returns-clause-added c k low high =
+    let below : k < c.args.range.0 + c.loop-lane.lane = grind arith in
+    c.loop-lane.invariant.added k low below

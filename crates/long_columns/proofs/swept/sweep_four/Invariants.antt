@@ -1,12 +1,13 @@
-use Rattle.std.specs.Prelude.{◌+◌}
+use Rattle.std.specs.Prelude.{◌+◌, ◌<◌, ◌≤◌, ℕ}
+use Rattle.claims.specs.Numbers.{HasNumber}
+use Rattle.long_columns.specs.Groups.{IsSweptSessions}
 use Rattle.long_columns.specs.Lanes.{HasNumbers}
-use Rattle.long_columns.specs.Parts.{IsSweptOver}
-use Rattle.long_columns.specs.Swept.{IsListed}
 use Rattle.long_columns.proofs.swept.sweep_four.Given as goal
 
 abbrev pub invariant-loop-lane : goal.invariant-loop-lane
 invariant-loop-lane l = record {
   numbers : HasNumbers l.index l.arrays;
-  swept : IsSweptOver l.index.history (IsListed l.sessions l.from) l.initial.swept
-      → IsSweptOver l.index.history (IsListed l.sessions (l.from + l.lane)) l.swept;
+  swept : IsSweptSessions l.index.history l.sessions l.found;
+  kept : (k : ℕ) → HasNumber l.initial.found.numbers.items k → HasNumber l.found.numbers.items k;
+  added : (k : ℕ) → l.from ≤ k → k < l.from + l.lane → HasNumber l.found.numbers.items k;
 }

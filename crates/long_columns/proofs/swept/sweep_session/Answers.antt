@@ -1,11 +1,12 @@
-use Rattle.std.specs.Prelude.{◌≡◌, ℕ, ◌+◌, ◌||◌, List, slice_index_or}
+use Rattle.std.specs.Prelude.{◌≡◌, ◌++◌, ◌∷◌, [], ℕ, ◌+◌, ◌||◌, List, slice_index_or}
 use Rattle.std.proofs.Common.{arith}
 use Rattle.std.proofs.lemmas.List.{get_or_past}
 use Rattle.long_history.specs.Steps.{many}
 use Rattle.long_columns.specs.Lanes.{lane_of}
-use Rattle.long_columns.specs.Swept.{HasEdge, IsListed}
+use Rattle.long_columns.specs.Groups.{IsAmong}
+use Rattle.long_columns.specs.Swept.{HasEdge}
 use Rattle.long_columns.proofs.Copies.{ends-copied, firsts-copied, lane-copied, within-copied}
-use Rattle.long_columns.proofs.Dealt.{listed-more}
+use Rattle.long_columns.proofs.GroupLists.{among-more}
 use Rattle.long_columns.proofs.SessionsSwept.{or-either, swept-both, swept-column}
 use Rattle.long_columns.proofs.swept.sweep_session.Goals as goal
 
@@ -37,7 +38,7 @@ sweep_column-overwritten-requires-clause-firsts c =
     c.requires.column.firsts
 
 pub returns-clause-swept : goal.returns-clause-swept
-returns-clause-swept c sessions i here was =
+returns-clause-swept c sessions places k here was =
     let h = c.args.index.now.history in
     let old = c.args.swept.now in
     let one = c.sweep_column-overwritten.result in
@@ -47,8 +48,8 @@ returns-clause-swept c sessions i here was =
     let size = shows.late_size in
     let column = swept-column h c.args.session one.start one.read (λ n. slice_index_or late n 0) shows.start shows.read shows.edges
     (λ to past. get_or_past late to 0 (omega arith)) shows.writes in
-    swept-both h (IsListed sessions i) (λ t. t ≡ c.args.session) (IsListed sessions (i + 1))
-    (listed-more sessions i c.args.session here) old.has_overwritten_start old.has_overwritten_read
+    swept-both h (IsAmong sessions places) (λ t. t ≡ c.args.session) (IsAmong sessions (places ++ k ∷ []))
+    (among-more sessions places k c.args.session here) old.has_overwritten_start old.has_overwritten_read
     (HasEdge old.edges.items) was one.start one.read (λ from to. slice_index_or late to 0 ≡ from + 1) column
     (old.has_overwritten_start || one.start) (old.has_overwritten_read || one.read) (HasEdge edges)
     (or-either old.has_overwritten_start one.start) (or-either old.has_overwritten_read one.read)

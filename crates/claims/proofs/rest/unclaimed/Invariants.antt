@@ -1,0 +1,9 @@
+use Rattle.std.specs.Prelude.{◌⊎◌, ℕ, ◌<◌}
+use Rattle.claims.specs.Numbers.{HasNumber}
+use Rattle.claims.proofs.rest.unclaimed.Given as goal
+
+abbrev pub invariant-loop-number : goal.invariant-loop-number
+invariant-loop-number l = record {
+  below : (g : ℕ) → HasNumber l.rest.items g → g < l.count;
+  all : (g : ℕ) → g < l.number → HasNumber l.claimed g ⊎ HasNumber l.rest.items g;
+}
