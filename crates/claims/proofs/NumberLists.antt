@@ -45,6 +45,14 @@ unclaimed-more claimed rest more n wider here before g below = ⊎_elim
     (before g (omega arith)))
     (cases_eq g n)
 
+-- one that is not in a list more
+pub apart-more : (claimed rest : List ℕ) (n : ℕ) → ¬ HasNumber claimed n → ((g : ℕ) → HasNumber rest g → ¬ HasNumber claimed g)
+    → (g : ℕ) → HasNumber (rest ++ n ∷ []) g → ¬ HasNumber claimed g
+apart-more claimed rest n lacks before g has = ⊎_elim
+    (λ (old : HasNumber rest g). before g old)
+    (λ (new : HasNumber (n ∷ []) g). subst (λ (k : ℕ). ¬ HasNumber claimed k) (sym (has-alone n g new)) lacks)
+    (has-cases rest (n ∷ []) g has)
+
 -- one below a number more
 pub below-more : (rest : List ℕ) (g count : ℕ) → g < count → ((k : ℕ) → HasNumber rest k → k < count)
     → (k : ℕ) → HasNumber (rest ++ g ∷ []) k → k < count
@@ -73,12 +81,12 @@ done-more rest all i g here before j k below at = ⊎_elim
     (λ (apart : j ≢ i). has-first all (g ∷ []) k (before j k (omega arith) at))
     (cases_eq j i)
 
--- a range grows by its end
-pub range-more : (all : List ℕ) (from i : ℕ) → ((k : ℕ) → from ≤ k → k < from + i → HasNumber all k)
-    → (k : ℕ) → from ≤ k → k < from + (i + 1) → HasNumber (all ++ (from + i) ∷ []) k
-range-more all from i before k low high = ⊎_elim
+-- a range, up to an end, grows by a number
+pub range-more : (all : List ℕ) (from i to : ℕ) → ((k : ℕ) → from ≤ k → k < from + i → k < to → HasNumber all k)
+    → (k : ℕ) → from ≤ k → k < from + (i + 1) → k < to → HasNumber (all ++ (from + i) ∷ []) k
+range-more all from i to before k low high below = ⊎_elim
     (λ (same : k ≡ from + i). subst (λ (n : ℕ). HasNumber (all ++ (from + i) ∷ []) n) (sym same) (has-pushed all (from + i)))
-    (λ (apart : k ≢ from + i). has-first all ((from + i) ∷ []) k (before k low (omega arith)))
+    (λ (apart : k ≢ from + i). has-first all ((from + i) ∷ []) k (before k low (omega arith) below))
     (cases_eq k (from + i))
 
 -- a list with a range more

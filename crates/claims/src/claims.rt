@@ -28,17 +28,21 @@ impl Claims {
         if number < count { Some(number) } else { None }
     }
 
-    /// The next numbers from 0 on below a count, from one up to another, or none if there are none: so many that as many for each of so
-    /// many threads are left at first, and at most so many. O(1).
+    /// Claims the next numbers below a count: from one up to another, or none if none is left. O(1).
     ///
-    /// Towards the end the ranges are shorter, so that threads end at about the same time. No contract says which numbers come.
+    /// Each range has `most` numbers, as long as all threads get as many. What remains then is cut into a range for each thread, so that
+    /// they end at about the same time. No contract says which numbers come.
     pub fn next_range(&self, count: usize, threads: usize, most: usize) -> Option<(usize, usize)>
         ensures some { IfSome result (λ r. r.0 < r.1) }
         ensures below { IfSome result (λ r. r.1 ≤ count) }
         ensures few { IfSome result (λ r. r.1 ≤ r.0 + most) }
     {
-        let left = count.saturating_sub(self.next.load(Ordering::SeqCst));
-        let size = left.div_ceil(threads.max(1)).min(most);
+        let remains = count % threads.saturating_mul(most).max(1);
+        let size = if self.next.load(Ordering::SeqCst) < count - remains {
+            most
+        } else {
+            remains.div_ceil(threads.max(1)).min(most)
+        };
         let from = self.next.fetch_add(size, Ordering::SeqCst);
         let to = from.saturating_add(size).min(count);
         if from < to { Some((from, to)) } else { None }

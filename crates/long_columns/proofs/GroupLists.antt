@@ -6,14 +6,11 @@ use Rattle.std.proofs.lemmas.Bool.{cases_eq}
 use Rattle.std.proofs.lemmas.Nat.{div-add-mod'}
 use Rattle.std.proofs.lemmas.Option.{same_Some, slice_get_within}
 use Rattle.claims.specs.Numbers.{HasNumber}
-use Rattle.claims.proofs.NumberLists.{has-alone, has-cases, has-first, has-none, has-second}
+use Rattle.claims.proofs.NumberLists.{has-alone, has-cases, has-first, has-second}
 use Rattle.long_columns.specs.Groups.{IsAmong, IsFrom, IsInGroups}
 use Rattle.long_columns.specs.Swept.{IsListed}
 
 module _ (size : ℕ) (at : ℕ → ℕ → Type 0) where
-  pub groups-none : (t : ℕ) → ¬ IsInGroups size at [] t
-  groups-none t (g, has, from) = has-none g has
-
   -- the groups of one list, and those of another
   pub groups-joined : (xs ys : List ℕ) (t : ℕ) → IsInGroups size at (xs ++ ys) t ↔ (IsInGroups size at xs t ⊎ IsInGroups size at ys t)
   groups-joined xs ys t = (
@@ -56,9 +53,6 @@ module _ (size : ℕ) (at : ℕ → ℕ → Type 0) where
 -- ---- places of a list of sessions
 
 module _ (sessions : List ℕ) where
-  pub among-none : (t : ℕ) → ¬ IsAmong sessions [] t
-  among-none t (k, has, at) = has-none k has
-
   -- the places of two lists
   pub among-joined : (xs ys : List ℕ) (t : ℕ) → IsAmong sessions (xs ++ ys) t ↔ (IsAmong sessions xs t ⊎ IsAmong sessions ys t)
   among-joined xs ys t = (

@@ -28,7 +28,7 @@ IsSweptSessions h sessions found = IsSweptOver h (IsAmong sessions found.numbers
 abbrev pub IsSweptForks : MemoryHistory → List ℕ → SweptSome → Type 0
 IsSweptForks h writes found = IsSweptOver h (IsInGroups 128 (IsForkAt h writes) found.numbers.items) found.swept
 
--- what is claimed of both kinds shows
+-- what was claimed of both kinds is swept
 abbrev pub IsClaimed : MemoryHistory → Share → Claimed → Type 0
 IsClaimed h share claimed = IsSweptSessions h share.sessions.items claimed.sessions × IsSweptForks h share.forks.items claimed.forks
 

@@ -32,8 +32,9 @@ pub fn is_convergent(
 
 /// The edges, sorted by where they lead.
 ///
-/// A sweep pushes one sorted run for each session, or for each 128 sessions of one write, and the stable sort merges long runs. The runs
-/// matter for time alone. Fails for want of memory alone.
+/// [`sweep`](crate::sweep) pushes one sorted run for each session, and [`sweep_in_threads`](crate::sweep_in_threads) one for each
+/// worker. Both push one for each 128 sessions with one write. The stable sort merges long runs, which matter for time alone. Fails for
+/// want of memory alone.
 fn sorted(mut edges: Vec<(u32, u32)>) -> Result<Vec<(u32, u32)>, AllocError>
     ensures same { IfOk result (λ sorted. IsPermutation edges.items sorted.items) }
     ensures sorted { IfOk result (λ sorted. AreSortedEdges sorted.items) }

@@ -123,6 +123,8 @@ fn leave(
 }
 
 /// Adds what the sessions of a group of 128 writes of a list show, or of fewer at the end of the list. O(n) for n operations.
+// In each loop that calls it the words are locals, whose places are kept in registers.
+#[inline(always)]
 pub(crate) fn sweep_group(
     index: &LongIndex,
     order: &[u32],

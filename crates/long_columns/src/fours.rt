@@ -52,6 +52,8 @@ pub(crate) fn sweep_claimed_sessions(
 }
 
 /// What all sessions of a list show. It takes 44 bytes an operation and 4 a variable. Fails for want of memory alone.
+// A function of its own keeps its loops in registers.
+#[inline(never)]
 fn sweep_sessions(
     alloc: Global,
     index: &LongIndex,

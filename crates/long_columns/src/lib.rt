@@ -1,10 +1,10 @@
 //! Which operations of a session are before and after each operation in the causal order, and what that shows.
 //!
-//! [`sweep`] makes a column for each session that writes, two numbers an operation and four columns at once, or two bits for each of 64
-//! sessions with one write. It finds from them which writes overwrote what reads after them returned, and which writes conflict;
+//! [`sweep`] makes a column for each session that writes, two numbers an operation and four columns at once, or two bits for each of
+//! 128 sessions with one write. It finds from them which writes overwrote what reads after them returned, and which writes conflict;
 //! [`is_convergent`] says whether the conflicts make a cycle. Both serve to decide causal consistency and causal convergence of long
 //! histories. To list all faulty reads, [`find_past_ends`] and [`find_firsts`] make the columns alone, without a sweep, and [`look`], with
-//! the table of last writes that [`advance`] moves, says what a read shows of one column. The crate uses long_order.
+//! the table of last writes that [`advance`] moves, says what a read shows of one column. The crate uses long_order and claims.
 #![tactic(auto)]
 
 mod convergence;

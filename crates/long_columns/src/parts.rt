@@ -11,6 +11,7 @@ ghost use Rattle.long_columns.specs.Shares.{IsShare, IsShared};
 ghost use Rattle.long_columns.specs.Swept.{AreEdgesOf, IsListed};
 
 use crate::fork_groups::{sweep_claimed_forks, sweep_left_forks};
+use crate::forks::groups;
 use crate::fours::{sweep_claimed_sessions, sweep_left_sessions};
 use crate::shares::{Share, share_of};
 use crate::some::SweptSome;
@@ -78,17 +79,18 @@ pub fn sweep_in_threads<T: Threads + Wait + Sync>(
 {
     let sessions = writing_sessions(alloc, index)?;
     let share = share_of(alloc, index, &sessions)?;
-    let parts = workers.min(sessions.len()).max(1);
+    let pieces = share.sessions.len().max(groups(share.forks.len()));
+    let workers = workers.min(pieces).max(1);
     let claimed = join_claimed(
         alloc,
         index,
         &share,
-        sweep_claimed_in(rt, alloc, parts, index, order, &share)?,
+        sweep_claimed_in(rt, alloc, workers, index, order, &share)?,
     )?;
     sweep_left(alloc, index, order, &sessions, &share, claimed)
 }
 
-/// Nothing.
+/// Nothing is claimed, and nothing is shown.
 fn nothing_claimed(alloc: Global) -> Claimed
     ensures { (h : MemoryHistory) (share : Share) → IsClaimed h share result }
 {
@@ -128,7 +130,8 @@ fn sweep_claimed_in<T: Threads + Wait + Sync>(
 
 /// What the calling thread, one of so many, claims until nothing is left.
 ///
-/// The edges of the sessions that are swept alone are sorted by where they lead, so that threads share most of this work.
+/// It sorts the edges of the sessions that are swept alone by where they lead, so that [`is_convergent`](crate::is_convergent) has little
+/// left to sort.
 // A function of its own keeps its loops in registers.
 #[inline(never)]
 fn sweep_claimed(
@@ -175,7 +178,8 @@ fn join_claimed(
     Ok(whole)
 }
 
-/// What all sessions of a list show, once those are swept that nobody claimed.
+/// What all sessions of a list show. If all were claimed, nothing is swept. Otherwise all that are swept alone are swept anew, and of
+/// the groups those that are left.
 fn sweep_left(
     alloc: Global,
     index: &LongIndex,

@@ -27,6 +27,7 @@ pub(crate) struct Overwritten {
 ///
 /// Afterwards `late` has, for each write, the number after that of the last write of the session that conflicts with it, or 0. O(n + k m)
 /// for n operations in k sessions and m operations of this one.
+#[inline(always)]
 pub(crate) fn sweep_column(
     index: &LongIndex,
     session: u32,

@@ -84,6 +84,8 @@ impl Arrays {
 }
 
 /// Adds what the columns of up to four sessions of a list show, from one place up to another. O(n) for n operations, beside the sweeps.
+// In each loop that calls it the arrays are locals, whose places are kept in registers.
+#[inline(always)]
 pub(crate) fn sweep_four(
     index: &LongIndex,
     order: &[u32],
@@ -109,17 +111,19 @@ pub(crate) fn sweep_four(
 {
     let (from, to) = range;
     find_lanes(index, order, four_from(sessions, from), lanes);
-    for lane in 0..to - from {
+    for lane in 0..4 {
         let place = from + lane;
-        sweep_session(
-            index,
-            sessions[place],
-            lanes,
-            lane,
-            arrays,
-            &mut found.swept,
-        )?;
-        found.numbers.push(place)?;
+        if place < to {
+            sweep_session(
+                index,
+                sessions[place],
+                lanes,
+                lane,
+                arrays,
+                &mut found.swept,
+            )?;
+            found.numbers.push(place)?;
+        }
     }
     Ok(())
 }
@@ -152,6 +156,7 @@ fn session_or(sessions: &[u32], place: usize, other: usize) -> u32
 }
 
 /// Adds what the column of one session shows, which is in this lane.
+#[inline(always)]
 fn sweep_session(
     index: &LongIndex,
     session: u32,
@@ -188,6 +193,7 @@ fn sweep_session(
 }
 
 /// Pushes the edges of the table of late writes, and clears the table.
+#[inline(always)]
 fn push_edges(
     index: &LongIndex,
     late: &mut Vec<u32>,

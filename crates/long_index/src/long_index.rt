@@ -49,7 +49,7 @@ impl<'a> Model for LongIndex<'a> {
 
 /// What is known of each operation of a history, or none where its values are not distinct.
 ///
-/// Fails for want of memory alone. Its writes are kept no longer than it runs.
+/// Fails for want of memory alone. The sorted writes are freed when it returns.
 fn parts_if_distinct(
     alloc: Global,
     h: &LongHistory,

@@ -39,7 +39,7 @@ pub(crate) fn guessed_places(
     Ok(places)
 }
 
-/// Guesses of the places of the writes, by key and value, with room for no more than this.
+/// Guesses of the places of the writes, by key and value, in at most so many slots, beside some at the end.
 fn write_guesses(alloc: Global, writes: &[Write], most: usize) -> Result<Guesses, AllocError> {
     let room = writes.len().saturating_mul(2).min(most);
     let mut guesses = Guesses::new(alloc, room, writes.len())?;

@@ -91,7 +91,7 @@ fn places(alloc: Global, distinct: &[u32], keys: &[u32]) -> Result<Vec<u32>, All
     Ok(places)
 }
 
-/// Guesses of the places of the distinct keys, with room for no more than this.
+/// Guesses of the places of the distinct keys, in at most so many slots, beside some at the end.
 fn key_guesses(alloc: Global, distinct: &[u32], most: usize) -> Result<Guesses, AllocError> {
     let room = distinct.len().saturating_mul(8).min(most);
     let mut guesses = Guesses::new(alloc, room, distinct.len())?;

@@ -118,9 +118,6 @@ module _ (depth s : ℕ) (before : List Entry) where
     parts : length entries ≡ length before + length inv.operations
     parts = ap (λ (xs : List Entry). length xs) inv.whole ∙ length-append before inv.operations
 
-    pub no_fewer : length before ≤ length entries
-    no_fewer = let sum = parts in omega arith
-
     -- the place of the next operation
     abbrev pub next_place : OpId
     next_place = at_place s (length entries - length before)

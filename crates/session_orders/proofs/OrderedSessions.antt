@@ -47,14 +47,6 @@ module _ (h : MemoryHistory) (sessions : List ℕ) where
       (λ (ordered : IsOrderedAt h sessions k). ordered)
       (others k below)
 
-  -- one of two that shows its kind
-  pub earlier-shows : (a b r : Option Unexplained) → IfSome a (λ u. AreOrdered h u.order) → IfSome b (λ u. AreOrdered h u.order)
-      → IsEarlier a b r → IfSome r (λ u. AreOrdered h u.order)
-  earlier-shows a b r first second is = ⊎_elim
-      (λ (same : r ≡ a). subst (λ o. IfSome o (λ u. AreOrdered h u.order)) (sym same) first)
-      (λ (same : r ≡ b). subst (λ o. IfSome o (λ u. AreOrdered h u.order)) (sym same) second)
-      is.one
-
   -- all places
   pub ordered-all : ListsSessions h (length h.1) sessions → ((k : ℕ) → k < length sessions → IsOrderedAt h sessions k)
       → AreOrdered h Explained

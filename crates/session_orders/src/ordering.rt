@@ -168,6 +168,8 @@ pub(crate) fn order_places(
 }
 
 /// Orders one session, unless it has an order for certain. Nothing is left before, nor after if it is explained.
+// In each loop that calls it the arrays are locals, whose places are kept in registers.
+#[inline(always)]
 fn order_where_needed(
     index: &LongIndex,
     order: &[u32],

@@ -6,6 +6,7 @@ use Rattle.claims.proofs.NumberLists.{has-first, range-more}
 use Rattle.long_order.proofs.Orders.{order_by-straight}
 use Rattle.long_columns.specs.Lanes.{IsLane}
 use Rattle.long_columns.proofs.swept.sweep_four.Goals as goal
+use Rattle.long_columns.proofs.swept.sweep_four.Goals.{then-place-to+in_ok-sweep_session+in_ok-push, else-place-to}
 
 pub find_lanes-requires-clause-sessions : goal.find_lanes-requires-clause-sessions
 find_lanes-requires-clause-sessions c k below =
@@ -36,22 +37,34 @@ pub loop-lane-preserved : goal.loop-lane-preserved
 loop-lane-preserved c =
     let list : List ℕ = c.args.sessions.now in
     let from : ℕ = c.args.range.0 in
+    let to : ℕ = c.args.range.1 in
     let lane : ℕ = c.loop-lane.lane in
     let place : ℕ = from + lane in
     let old : List ℕ = c.loop-lane.found.numbers.items in
-    let now : List ℕ = c.push.new.self.items in
-    let grown : now ≡ old ++ place ∷ [] = c.in_ok-push.ensures.items in
     let was = c.loop-lane.invariant in
-    let inside : place < length list = grind arith in
-    record {
-      numbers = c.in_ok-sweep_session.ensures.numbers;
-      swept = rw (grown) (c.in_ok-sweep_session.ensures.swept list old place (slice_get-get_or list place 0 inside) was.swept);
-      kept = λ k has. subst (λ (xs : List ℕ). HasNumber xs k) (sym grown) (has-first old (place ∷ []) k (was.kept k has));
-      added = subst (λ (xs : List ℕ). (k : ℕ) → from ≤ k → k < from + (lane + 1) → HasNumber xs k) (sym grown)
-          (range-more old from lane was.added);
-    }
+    elim c.if-place-to.branch [
+      | then-place-to+in_ok-sweep_session+in_ok-push w ↦
+          let now : List ℕ = w.push.new.self.items in
+          let grown : now ≡ old ++ place ∷ [] = w.in_ok-push.ensures.items in
+          let inside : place < length list = (let below = w.if-place-to.true in let end = c.requires.below_end in omega arith) in
+          rw (w.arrays-is, w.found-is) (record {
+            numbers = w.in_ok-sweep_session.ensures.numbers;
+            swept = rw (grown) (w.in_ok-sweep_session.ensures.swept list old place (slice_get-get_or list place 0 inside) was.swept);
+            kept = λ k has. subst (λ (xs : List ℕ). HasNumber xs k) (sym grown) (has-first old (place ∷ []) k (was.kept k has));
+            added = subst (λ (xs : List ℕ). (k : ℕ) → from ≤ k → k < from + (lane + 1) → k < to → HasNumber xs k) (sym grown)
+                (range-more old from lane to was.added);
+          })
+      | else-place-to w ↦
+          rw (w.arrays-is, w.found-is) (record {
+            numbers = was.numbers;
+            swept = was.swept;
+            kept = was.kept;
+            added = λ k low high below. let past = w.if-place-to.false in was.added k low (omega arith) below;
+          })
+    ]
 
 pub returns-clause-added : goal.returns-clause-added
 returns-clause-added c k low high =
-    let below : k < c.args.range.0 + c.loop-lane.lane = grind arith in
-    c.loop-lane.invariant.added k low below
+    let end : c.loop-lane.lane ≡ 4 = grind arith in
+    let few = c.requires.few in
+    c.loop-lane.invariant.added k low (omega arith) high

@@ -9,5 +9,5 @@ invariant-loop-lane l = record {
   numbers : HasNumbers l.index l.arrays;
   swept : IsSweptSessions l.index.history l.sessions l.found;
   kept : (k : ℕ) → HasNumber l.initial.found.numbers.items k → HasNumber l.found.numbers.items k;
-  added : (k : ℕ) → l.from ≤ k → k < l.from + l.lane → HasNumber l.found.numbers.items k;
+  added : (k : ℕ) → l.from ≤ k → k < l.from + l.lane → k < l.to → HasNumber l.found.numbers.items k;
 }
