@@ -394,6 +394,26 @@ def lines(line):
     return shown_by('"CyclicHB",[0,0],', line, "")
 
 
+def in_step(before, part, after):
+    """A script of one step, with as many of these parts as a text can have."""
+    return filled(f'["memory",1,[[{before}[', part, f"]{after}]]]")
+
+
+def filed(part, after):
+    """A script that files a certificate with as many of these vectors as a text can have."""
+    return in_step('"file",0,["cc",', part, after)
+
+
+def small_certificates():
+    """As many steps as a script can have, each with a certificate of one session more than a history has."""
+    lists = [[[1]] * 5] * (SESSIONS + 1)
+    step = compact(["file", 0, ["cc", lists, lists]])
+    yield f'["memory",1,[{step}'
+    for done in range(1, STEPS, BLOCK):
+        yield f",{step}" * min(BLOCK, STEPS - done)
+    yield "]]"
+
+
 class Costly(NamedTuple):
     """An input: its name, the words of the command that reads it, and what makes its text, part by part."""
 
@@ -442,6 +462,7 @@ INPUTS = (
     Costly("check-empty-vectors", CHECK, lambda: vectors("[[]]")),
     Costly("check-short-vectors", CHECK, lambda: vectors("[[1]]")),
     Costly("check-nested-vectors", CHECK, lambda: vectors("[[[]]]")),
+    Costly("check-one-session", CHECK, lambda: filled('[["memory",[]],["cc",[[', "[]", "]],[]]]")),
     Costly("refute-empty-lines", REFUTE, lambda: lines("[]")),
     Costly("refute-lines-of-paths", REFUTE, lambda: lines('["co",[[0,0]],[[0,0]]]')),
     Costly("refute-lines-of-numbers", REFUTE, lambda: lines('["tr",0,0]')),
@@ -453,6 +474,13 @@ INPUTS = (
     Costly("replay-shows", REPLAY, shows),
     Costly("replay-refutes", REPLAY, refutes),
     Costly("replay-derivations", REPLAY, derivations),
+    Costly("replay-lines-of-paths", REPLAY, lambda: in_step('"refute",0,["CyclicHB",[0,0],', '["co",[[0,0]],[[0,0]]]', "]")),
+    Costly("replay-nested-vectors", REPLAY, lambda: filed("[[[]]]", ",[]]")),
+    Costly("replay-most-lists", REPLAY, lambda: filed("[]", ",[]]")),
+    Costly("replay-one-session", REPLAY, lambda: filled('["memory",1,[["file",0,["cc",[[', "[]", "]],[]]]]]")),
+    Costly("replay-counts", REPLAY, lambda: in_step('"start",', "0", "")),
+    Costly("replay-steps", REPLAY, lambda: filled('["memory",1,[', '["take"]', "]]")),
+    Costly("replay-small-certificates", REPLAY, small_certificates),
     Costly("replay-works", REPLAY, works),
     Costly("replay-files", REPLAY, files),
     Costly("replay-asks", REPLAY, asks),

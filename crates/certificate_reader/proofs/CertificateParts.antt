@@ -1,6 +1,6 @@
 -- The parts of a certificate, one after the other.
-use Rattle.std.proofs.Common.{◌≡◌, ℕ, ◌^◌, ◌<◌, List, [], ◌∷◌, ◌++◌, All, length, true, Option, Some, None, refl, sym, ap, subst, ◌∙◌, arith, inl, inr}
-use Rattle.std.specs.Prelude.{◌≢◌, ◌⊎◌}
+use Rattle.std.proofs.Common.{◌≡◌, ℕ, ◌^◌, ◌<◌, List, [], ◌∷◌, ◌++◌, All, length, true, Option, Some, None, refl, sym, ap, ap₂, subst, ◌∙◌, arith}
+use Rattle.std.specs.Prelude.{◌≢◌}
 use Rattle.std.proofs.lemmas.List.{length-append}
 use Rattle.std.proofs.lemmas.Option.{same_Some}
 use Rattle.serde_json.specs.Data.{Data, null, boolean, number, string, array, object}
@@ -22,14 +22,11 @@ use Rattle.cert_check.specs.CertificateForm.{form_of, lists_form, AreBelow, IsCe
 use Rattle.cert_check.proofs.CriterionNames.{one_name}
 use Rattle.certificate_reader.specs.declared.explained.Explained.{Explained}
 use Rattle.certificate_reader.specs.declared.explained.Explained.TheVariants as explained
-use Rattle.certificate_reader.specs.declared.kept.Kept.{Kept}
-use Rattle.certificate_reader.specs.declared.kept.Kept.TheVariants.{Whole, TooLarge}
 use Rattle.certificate_reader.specs.declared.parts.Parts.{Parts}
 use Rattle.certificate_reader.specs.declared.parts.Parts.TheVariants as parts
-use Rattle.certificate_reader.specs.Found.{IsFoundIn, IsTooLarge}
-use Rattle.certificate_reader.specs.Sizes.{AreTooMany}
-use Rattle.certificate_reader.specs.Steps.Lists.{IsForm, IsKept, IsNoForm}
-use Rattle.certificate_reader.specs.Steps.Parts.{AreCertificate, AreNoParts, ArePartsOf, Explains, IsExplainedIn, certificate_of, explained_form, found_of, parts_form, word_form}
+use Rattle.certificate_reader.specs.Found.{IsShortenedIn}
+use Rattle.certificate_reader.specs.Steps.Lists.{IsNoForm}
+use Rattle.certificate_reader.specs.Steps.Parts.{AreKeptLists, AreNoParts, ArePartsOf, AreShortened, Explains, IsExplainedIn, certificate_of, explained_form, parts_form, whole_of, word_form}
 use Rattle.certificate_reader.proofs.Forms.{IsTakenOf, list_taken}
 
 -- ---- the word
@@ -92,71 +89,45 @@ module _ (d : Data) where
 
 -- all parts together
 module _ (v d : Data) where
-  abbrev AreVectors : Kept (ByOperation ℕ) → Type 0
-  AreVectors vectors = IsKept AreTooMany (IsForm (AreBelow (2 ^ 16)) lists_form v) vectors
-
-  abbrev AreAll : Criterion → Kept Certificate → Type 0
-  AreAll criterion kept = IsKept IsTooLarge (AreCertificate (word_form criterion ∷ v ∷ d ∷ [])) kept
-
   three : (criterion : Criterion) (a b : Data) → v ≡ a → d ≡ b → word_form criterion ∷ v ∷ d ∷ [] ≡ word_form criterion ∷ a ∷ b ∷ []
   three criterion a b first second = cc
 
-  -- neither of two is too large
-  neither : {P Q : Type 0} → ¬ P → ¬ Q → ¬ (P ⊎ Q)
-  neither no_p no_q (inl p) = no_p p
-  neither no_p no_q (inr q) = no_q q
+  abbrev AreAll : Criterion → Certificate → Type 0
+  AreAll criterion = AreShortened (word_form criterion ∷ v ∷ d ∷ [])
 
-  cc_parts : (vectors schedules : Kept (ByOperation ℕ)) → AreVectors vectors → Explains criteria.Cc d (explained.Cc schedules) → AreAll criteria.Cc (certificate_of vectors (explained.Cc schedules))
-  cc_parts (Whole vs) (Whole ss) are explains =
-      ((three criteria.Cc (lists_form vs) (lists_form ss) are.0.0 explains.0.0, (are.0.1, explains.0.1)), neither are.1 explains.1)
-  cc_parts (Whole vs) TooLarge are explains =
-      (Cc vs explains.0, (three criteria.Cc (lists_form vs) (lists_form explains.0) are.0.0 explains.1.0, (are.0.1, explains.1.1)), inr explains.2)
-  cc_parts TooLarge (Whole ss) are explains =
-      (Cc are.0 ss, (three criteria.Cc (lists_form are.0) (lists_form ss) are.1.0 explains.0.0, (are.1.1, explains.0.1)), inl are.2)
-  cc_parts TooLarge TooLarge are explains =
-      (Cc are.0 explains.0, (three criteria.Cc (lists_form are.0) (lists_form explains.0) are.1.0 explains.1.0, (are.1.1, explains.1.1)), inl are.2)
+  all_parts : (criterion : Criterion) (vectors : ByOperation ℕ) (e : Explained) → AreKeptLists (2 ^ 16) v vectors → Explains criterion d e → AreAll criterion (certificate_of vectors e)
+  all_parts criteria.Cc vectors (explained.Cc schedules) are is = (
+    Cc are.0 is.0,
+    (three criteria.Cc (lists_form are.0) (lists_form is.0) are.1.0 is.1.0, (are.1.1, is.1.1)),
+    ap₂ Cc are.2 is.2,
+  )
+  all_parts criteria.Cc vectors (explained.Cm schedules) are is = absurd is
+  all_parts criteria.Cc vectors (explained.Ccv sessions) are is = absurd is
+  all_parts criteria.Cm vectors (explained.Cc schedules) are is = absurd is
+  all_parts criteria.Cm vectors (explained.Cm schedules) are is = (
+    Cm are.0 is.0,
+    (three criteria.Cm (lists_form are.0) (lists_form is.0) are.1.0 is.1.0, (are.1.1, is.1.1)),
+    ap₂ Cm are.2 is.2,
+  )
+  all_parts criteria.Cm vectors (explained.Ccv sessions) are is = absurd is
+  all_parts criteria.Ccv vectors (explained.Cc schedules) are is = absurd is
+  all_parts criteria.Ccv vectors (explained.Cm schedules) are is = absurd is
+  all_parts criteria.Ccv vectors (explained.Ccv sessions) are is = (
+    Ccv are.0 sessions,
+    (three criteria.Ccv (lists_form are.0) (list_form number_form sessions) are.1.0 is.0, (are.1.1, is.1)),
+    ap (λ (vs : ByOperation ℕ). Ccv vs sessions) are.2,
+  )
 
-  cm_parts : (vectors schedules : Kept (ByOperation ℕ)) → AreVectors vectors → Explains criteria.Cm d (explained.Cm schedules) → AreAll criteria.Cm (certificate_of vectors (explained.Cm schedules))
-  cm_parts (Whole vs) (Whole ss) are explains =
-      ((three criteria.Cm (lists_form vs) (lists_form ss) are.0.0 explains.0.0, (are.0.1, explains.0.1)), neither are.1 explains.1)
-  cm_parts (Whole vs) TooLarge are explains =
-      (Cm vs explains.0, (three criteria.Cm (lists_form vs) (lists_form explains.0) are.0.0 explains.1.0, (are.0.1, explains.1.1)), inr explains.2)
-  cm_parts TooLarge (Whole ss) are explains =
-      (Cm are.0 ss, (three criteria.Cm (lists_form are.0) (lists_form ss) are.1.0 explains.0.0, (are.1.1, explains.0.1)), inl are.2)
-  cm_parts TooLarge TooLarge are explains =
-      (Cm are.0 explains.0, (three criteria.Cm (lists_form are.0) (lists_form explains.0) are.1.0 explains.1.0, (are.1.1, explains.1.1)), inl are.2)
-
-  ccv_parts : (vectors : Kept (ByOperation ℕ)) (sessions : List ℕ) → AreVectors vectors → Explains criteria.Ccv d (explained.Ccv sessions) → AreAll criteria.Ccv (certificate_of vectors (explained.Ccv sessions))
-  ccv_parts (Whole vs) ss are explains = ((three criteria.Ccv (lists_form vs) (list_form number_form ss) are.0.0 explains.0, (are.0.1, explains.1)), are.1)
-  ccv_parts TooLarge ss are explains =
-      (Ccv are.0 ss, (three criteria.Ccv (lists_form are.0) (list_form number_form ss) are.1.0 explains.0, (are.1.1, explains.1)), are.2)
-
-  all_parts : (criterion : Criterion) (vectors : Kept (ByOperation ℕ)) (e : Explained) → AreVectors vectors → Explains criterion d e → AreAll criterion (certificate_of vectors e)
-  all_parts criteria.Cc vectors (explained.Cc ss) are explains = cc_parts vectors ss are explains
-  all_parts criteria.Cc vectors (explained.Cm ss) are explains = absurd explains
-  all_parts criteria.Cc vectors (explained.Ccv ss) are explains = absurd explains
-  all_parts criteria.Cm vectors (explained.Cc ss) are explains = absurd explains
-  all_parts criteria.Cm vectors (explained.Cm ss) are explains = cm_parts vectors ss are explains
-  all_parts criteria.Cm vectors (explained.Ccv ss) are explains = absurd explains
-  all_parts criteria.Ccv vectors (explained.Cc ss) are explains = absurd explains
-  all_parts criteria.Ccv vectors (explained.Cm ss) are explains = absurd explains
-  all_parts criteria.Ccv vectors (explained.Ccv ss) are explains = ccv_parts vectors ss are explains
-
-pub explained_more : (criterion : Criterion) (vectors : Kept (ByOperation ℕ)) (e : Explained) (ds : List Data) (d : Data) → ArePartsOf (parts.Vectors criterion vectors) ds → Explains criterion d e
+pub explained_more : (criterion : Criterion) (vectors : ByOperation ℕ) (e : Explained) (ds : List Data) (d : Data) → ArePartsOf (parts.Vectors criterion vectors) ds → Explains criterion d e
     → ArePartsOf (parts.All (certificate_of vectors e)) (ds ++ d ∷ [])
 explained_more criterion vectors e ds d so_far explains =
-    subst (λ (es : List Data). IsKept IsTooLarge (AreCertificate (es ++ d ∷ [])) (certificate_of vectors e)) (sym so_far.1) (all_parts so_far.0 d criterion vectors e so_far.2 explains)
+    subst (λ (es : List Data). AreShortened (es ++ d ∷ []) (certificate_of vectors e)) (sym so_far.1) (all_parts so_far.0 d criterion vectors e so_far.2 explains)
 
 -- ---- after the last part
 
-certificate_in : (kept : Kept Certificate) (ds : List Data) → IsKept IsTooLarge (AreCertificate ds) kept → (c : Certificate) × (ds ≡ parts_form c)
-certificate_in (Whole c) ds is = (c, is.0.0)
-certificate_in TooLarge ds is = (is.0, is.1.0)
-
-pub no_more_parts : (kept : Kept Certificate) (ds more : List Data) (d : Data) → ArePartsOf (parts.All kept) ds → (c : Certificate) → IsCertificate c → ds ++ d ∷ more ≢ parts_form c
+pub no_more_parts : (kept : Certificate) (ds more : List Data) (d : Data) → ArePartsOf (parts.All kept) ds → (c : Certificate) → IsCertificate c → ds ++ d ∷ more ≢ parts_form c
 no_more_parts kept ds more d are c good same =
-    let whole = certificate_in kept ds are in
-    let many : length ds ≡ 3 = ap length whole.1 in
+    let many : length ds ≡ 3 = ap length are.1.0 in
     let more_than : length (ds ++ d ∷ more) ≡ 3 = ap length same in
     absurd (omega (arith, length-append ds (d ∷ more)))
 
@@ -175,13 +146,12 @@ module _ (d : Data) (ds : List Data) (has : elements d ≡ Some ds) where
   of_parts : (c : Certificate) → ds ≡ parts_form c → d ≡ form_of c
   of_parts c are = list_from_elements d ds has ∙ ap list are ∙ sym (form_is_list c)
 
-  found : (p : Parts) → ArePartsOf p ds → IsFoundIn d (found_of p)
+  found : (p : Parts) → ArePartsOf p ds → IsShortenedIn d (whole_of p)
   found parts.Begun are = no_form (λ c same. let no : [] ≡ parts_form c = sym are ∙ same in absurd cc)
   found (parts.Named criterion) are = no_form (λ c same. let no : word_form criterion ∷ [] ≡ parts_form c = sym are ∙ same in absurd cc)
   found (parts.Vectors criterion vectors) are = no_form (λ c same. let no : word_form criterion ∷ are.0 ∷ [] ≡ parts_form c = sym are.1 ∙ same in absurd cc)
-  found (parts.All (Whole c)) are = (of_parts c are.0.0, are.0.1, are.1)
-  found (parts.All TooLarge) are = (are.0, of_parts are.0 are.1.0, are.1.1, are.2)
+  found (parts.All c) are = (are.0, of_parts are.0 are.1.0, are.1.1, are.2)
 
-pub found_there : (p : Parts) (d : Data) → IsTakenOf (ArePartsOf p) AreNoParts true (elements d) → IsFoundIn d (found_of p)
+pub found_there : (p : Parts) (d : Data) → IsTakenOf (ArePartsOf p) AreNoParts true (elements d) → IsShortenedIn d (whole_of p)
 found_there p d taken =
     let are = list_taken (ArePartsOf p) AreNoParts d taken in found d are.0 are.1 p are.2

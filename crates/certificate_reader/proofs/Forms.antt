@@ -8,7 +8,7 @@ use Rattle.operations.specs.Json.{elements, list}
 use Rattle.operations.specs.Laws.Json.{elements-list, list_from_elements}
 use Rattle.operations.specs.Reads.{list_form}
 use Rattle.token_reader.specs.Gathers.{IsTaken, IsTakenList}
-use Rattle.certificate_reader.specs.Steps.Lists.{AreForms, AreNoForms, IsForm, IsNoForm, IsPassedAs, IsReadInto}
+use Rattle.certificate_reader.specs.Steps.Lists.{AreForms, AreNoForms, IsForm, IsNoForm, IsReadInto}
 
 -- ---- the elements that were taken are those of the list
 
@@ -58,17 +58,3 @@ module _ {A : Type 0} (fits : A → Type 0) (form : A → Data) where
   list_read xs true d taken =
       let are = list_taken (λ ds. AreForms fits form ds xs) (AreNoForms fits form) d taken in list_is d are.0 xs are.1 are.2
   list_read xs false d taken = list_is_none (λ ds. AreForms fits form ds xs) d taken
-
-  -- ---- elements that are passed
-
-  abbrev pub AreSome : List Data → Type 0
-  AreSome ds = (xs : List A) × AreForms fits form ds xs
-
-  pub passed_more : (a : A) (taken : Bool) (d : Data) (ds : List Data) → AreSome ds → IsReadInto fits form taken d a → IsTakenMore AreSome (AreNoForms fits form) taken ds d
-  passed_more a true d ds so_far is = (so_far.0 ++ a ∷ [], forms_more ds so_far.0 d a so_far.1 is)
-  passed_more a false d ds so_far none = λ more. no_forms ds more d none
-
-  pub list_passed : (taken : Bool) (d : Data) → IsTakenOf AreSome (AreNoForms fits form) taken (elements d) → IsPassedAs (All fits) (list_form form) taken d
-  list_passed true d taken =
-      let are = list_taken AreSome (AreNoForms fits form) d taken in (are.2.0, list_is d are.0 are.2.0 are.1 are.2.1)
-  list_passed false d taken = list_is_none AreSome d taken

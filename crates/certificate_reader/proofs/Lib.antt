@@ -1,5 +1,5 @@
 mod CertificateParts
-mod Forms
+pub mod Forms
 mod KeptLists
 mod PairReading
-pub mod TooLarge
+pub mod Shortened

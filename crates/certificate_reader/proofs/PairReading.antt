@@ -8,7 +8,7 @@ use Rattle.operations.specs.AnyForm.{form_of, IsJson}
 use Rattle.operations.specs.Json.{elements, list}
 use Rattle.operations.specs.Laws.Json.{list_from_elements}
 use Rattle.token_reader.specs.Histories.{IsHistoryIn}
-use Rattle.certificate_reader.specs.declared.certificate.FoundCertificate.{FoundCertificate}
+use Rattle.certificate_reader.specs.declared.found.FoundCertificate.{FoundCertificate}
 use Rattle.certificate_reader.specs.declared.pair.PairParts.{PairParts}
 use Rattle.certificate_reader.specs.declared.pair.PairParts.TheVariants.{Begun, History, Both}
 use Rattle.certificate_reader.specs.Found.{IsFoundIn}

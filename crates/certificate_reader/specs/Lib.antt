@@ -1,4 +1,4 @@
 pub mod Found
 pub mod Pairs
-pub mod Sizes
+pub mod Shortened
 pub mod Steps

@@ -5,7 +5,6 @@ ghost use Rattle.bounded_json.specs.Steps.Reading.{IsRefused};
 ghost use Rattle.certificate_reader.specs.Steps.Parts.{certificate_of as joined_of, IsExplainedIn};
 ghost use Rattle.token_reader.specs.Tokens.{IsValue};
 
-use crate::kept::Kept;
 use crate::lists::next_lists;
 use crate::numbers::read_numbers;
 use bounded_json::TextError;
@@ -18,9 +17,9 @@ use std::alloc::Global;
 #[derive(Drop)]
 pub(crate) enum Explained {
     /// The schedules for causal consistency.
-    Cc(Kept<Schedules>),
+    Cc(Schedules),
     /// The schedules for causal memory.
-    Cm(Kept<Schedules>),
+    Cm(Schedules),
     /// The one list for causal convergence.
     Ccv(Arbitration),
 }
@@ -53,17 +52,13 @@ pub(crate) fn next_explained(
     }
 }
 
-/// The certificate of these vectors and what comes after them, where neither is too large.
-pub(crate) fn certificate_of(vectors: Kept<Vectors>, explained: Explained) -> Kept<Certificate>
+/// The certificate of these vectors and what comes after them.
+pub(crate) fn certificate_of(vectors: Vectors, explained: Explained) -> Certificate
     ensures { result ≡ joined_of vectors explained }
 {
-    let Kept::Whole(vectors) = vectors else {
-        return Kept::TooLarge;
-    };
     match explained {
-        Explained::Cc(Kept::Whole(schedules)) => Kept::Whole(Certificate::Cc(vectors, schedules)),
-        Explained::Cm(Kept::Whole(schedules)) => Kept::Whole(Certificate::Cm(vectors, schedules)),
-        Explained::Ccv(arbitration) => Kept::Whole(Certificate::Ccv(vectors, arbitration)),
-        Explained::Cc(Kept::TooLarge) | Explained::Cm(Kept::TooLarge) => Kept::TooLarge,
+        Explained::Cc(schedules) => Certificate::Cc(vectors, schedules),
+        Explained::Cm(schedules) => Certificate::Cm(vectors, schedules),
+        Explained::Ccv(arbitration) => Certificate::Ccv(vectors, arbitration),
     }
 }

@@ -3,36 +3,31 @@
 ghost use Rattle.std.specs.Prelude.{◌<◌, All, length, IfOk, IfErr, OnOk};
 ghost use Rattle.bounded_json.specs.Steps.Reading.{IsRefused};
 ghost use Rattle.operations.specs.Reads.{list_form, number_form};
-ghost use Rattle.certificate_reader.specs.Sizes.{AreTooMany};
-ghost use Rattle.certificate_reader.specs.Steps.Lists.{IsKeptOf};
+ghost use Rattle.certificate_reader.specs.Steps.Lists.{IsKeptIn};
 ghost use Rattle.token_reader.specs.Tokens.{IsValue};
 
-use crate::kept::Kept;
 use crate::number::Number;
-use crate::passed::{Passed, pass_session};
 use crate::session::{Session, next_session};
 use bounded_json::TextError;
 use causal_order::ByOperation;
+use history::MAX_SESSIONS;
 use json::Reader;
 use std::alloc::Global;
 use token_reader::{Gather, next_list};
 
-/// The lists of the sessions so far, and the memory in which each session is read.
+/// What is kept of the lists of the sessions so far, and the memory in which each session is read.
 #[derive(Drop)]
 pub(crate) struct Lists<T> {
-    kept: Kept<ByOperation<T>>,
+    kept: ByOperation<T>,
     session: Session<T>,
-    passed: Passed<T>,
 }
 
 impl<T: Number> Gather for Lists<T> {
     ghost use Rattle.std.specs.Prelude.{All};
     ghost use Rattle.operations.specs.Reads.{list_form, number_form};
-    ghost use Rattle.certificate_reader.specs.Sizes.{AreTooMany};
-    ghost use Rattle.certificate_reader.specs.Steps.Lists.{AreForms, AreNoForms, IsKept};
+    ghost use Rattle.certificate_reader.specs.Steps.Lists.{AreKept, AreNoForms};
 
-    ghost is_of = { λ lists ds.
-        IsKept AreTooMany (AreForms (All (All T.fits)) (list_form (list_form (λ n. number_form (T.whole n)))) ds) lists.kept };
+    ghost is_of = { λ lists ds. AreKept (All (All T.fits)) (list_form (list_form (λ n. number_form (T.whole n)))) ds lists.kept };
 
     ghost refuses = { AreNoForms (All (All T.fits)) (list_form (list_form (λ n. number_form (T.whole n)))) };
 
@@ -42,35 +37,34 @@ impl<T: Number> Gather for Lists<T> {
         reader: &mut Reader<'_>,
         depth: usize,
     ) -> Result<bool, TextError> {
-        if let Kept::TooLarge = &self.kept {
-            return pass_session(alloc, reader, depth, &mut self.passed);
-        }
-        let Some(session) = next_session(alloc, reader, depth, &mut self.session)? else {
+        let Some(rows) = next_session(alloc, reader, depth, &mut self.session)? else {
             return Ok(false);
         };
-        self.kept.push_session(session)?;
+        if self.kept.sessions() <= MAX_SESSIONS {
+            self.kept.push_rows(rows)?;
+        }
         Ok(true)
     }
 }
 
-/// The lists of all sessions that come next, or none where the next value is the form of no such lists. It passes the value.
+/// What is kept of the lists of all sessions that come next, or none where the next value is the form of no such lists. It passes the
+/// value.
 ///
 /// O(n) for n numbers.
 pub(crate) fn next_lists<T: Number>(
     alloc: Global,
     reader: &mut Reader<'_>,
     depth: usize,
-) -> Result<Option<Kept<ByOperation<T>>>, TextError>
+) -> Result<Option<ByOperation<T>>, TextError>
     ensures read { IfOk result
-        (λ read. IsValue (λ d. IsKeptOf (All (All (All T.fits))) (list_form (list_form (list_form (λ n. number_form (T.whole n)))))
-        AreTooMany d read) depth reader.old reader.new) }
+        (λ read. IsValue (λ d. IsKeptIn (All (All T.fits)) (list_form (list_form (λ n. number_form (T.whole n)))) d read)
+        depth reader.old reader.new) }
     ensures shorter { OnOk result (length reader.new < length reader.old) }
     ensures refused { IfErr result (IsRefused depth reader.old) }
 {
     let mut lists = Lists {
-        kept: Kept::Whole(ByOperation::new(alloc)),
+        kept: ByOperation::new(alloc),
         session: Session::new(alloc),
-        passed: Passed::new(alloc),
     };
     if !next_list(alloc, reader, depth, &mut lists)? {
         return Ok(None);

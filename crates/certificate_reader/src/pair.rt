@@ -9,7 +9,8 @@ ghost use Rattle.certificate_reader.specs.Pairs.{pair_form, IsPairRefused};
 ghost use Rattle.certificate_reader.specs.Steps.PairParts.{ArePairParts, IsNextPairPart, joined_of, pair_by};
 ghost use Rattle.token_reader.specs.Tokens.{IsValue};
 
-use crate::certificate::{FoundCertificate, next_certificate};
+use crate::certificate::next_certificate;
+use crate::found::{FoundCertificate, found_of};
 use bounded_json::TextError;
 use json::Reader;
 use operations::{AnyHistory, ReadError};
@@ -56,7 +57,7 @@ fn next_part(
             Ok(Some(PairParts::History(history)))
         }
         PairParts::History(history) => {
-            let found = next_certificate(alloc, reader, depth)?;
+            let found = found_of(next_certificate(alloc, reader, depth)?);
             Ok(Some(PairParts::Both(joined(history, found))))
         }
         PairParts::Both(_) => {
@@ -103,8 +104,8 @@ fn pair_of(parts: PairParts) -> Pair
 /// The history and the certificate in a text that is a JSON list of both.
 ///
 /// `NotJson` where `serde_json` refuses the text, `BadShape` where it is no list of two elements, else the first refusal of the
-/// history. `Memory` only where an allocation was refused. [`next_certificate`] says what is found of the certificate. O(n) for a text
-/// of n bytes.
+/// history. `Memory` only where an allocation was refused. A certificate of more sessions than a history has is
+/// [`TooLarge`](FoundCertificate::TooLarge): it has the shape of no history. O(n) for a text of n bytes.
 pub fn read_pair(alloc: Global, text: &[u8]) -> Result<(AnyHistory, FoundCertificate), ReadError>
     ensures history { IfOk result (λ pair. IsAnyHistory pair.0) }
     ensures read { IfOk result (λ pair. (d : Data) × IsJson text.now (pair_form (form_of pair.0) d) × IsFoundIn d pair.1) }

@@ -8,7 +8,6 @@ ghost use Rattle.certificate_reader.specs.Steps.Parts.{ArePartsOf, IsNextPart, w
 ghost use Rattle.token_reader.specs.Tokens.{IsValue};
 
 use crate::explained::{certificate_of, next_explained};
-use crate::kept::Kept;
 use crate::lists::next_lists;
 use bounded_json::TextError;
 use causal_order::Vectors;
@@ -27,9 +26,9 @@ pub(crate) enum Parts {
     /// The word of a criterion.
     Named(Criterion),
     /// The word and the vectors.
-    Vectors(Criterion, Kept<Vectors>),
+    Vectors(Criterion, Vectors),
     /// All of them.
-    All(Kept<Certificate>),
+    All(Certificate),
 }
 
 /// The criterion whose word comes next, or none where no such word comes. It passes the value.

@@ -2,11 +2,9 @@
 
 ghost use Rattle.std.specs.Prelude.{◌<◌, All, length, IfOk, IfErr, OnOk};
 ghost use Rattle.bounded_json.specs.Steps.Reading.{IsRefused};
-ghost use Rattle.operations.specs.Reads.{list_form, number_form};
-ghost use Rattle.certificate_reader.specs.Steps.Lists.{IsKeptOf, IsLong};
+ghost use Rattle.operations.specs.Reads.{list_form, number_form, IsReadWithin};
 ghost use Rattle.token_reader.specs.Tokens.{IsValue};
 
-use crate::kept::Kept;
 use crate::number::Number;
 use crate::numbers::{Numbers, next_numbers};
 use bounded_json::TextError;
@@ -19,7 +17,7 @@ use token_reader::{Gather, next_list};
 /// The rows of a session so far, and the memory in which each row is read.
 #[derive(Drop)]
 pub(crate) struct Session<T> {
-    kept: Kept<Rows<T>>,
+    rows: Rows<T>,
     row: Numbers<T>,
 }
 
@@ -27,7 +25,7 @@ impl<T> Session<T> {
     /// No rows.
     pub(crate) fn new(alloc: Global) -> Session<T> {
         Session {
-            kept: Kept::Whole(Rows::new(alloc)),
+            rows: Rows::new(alloc),
             row: Numbers::new(alloc),
         }
     }
@@ -36,9 +34,9 @@ impl<T> Session<T> {
 impl<T: Number> Gather for Session<T> {
     ghost use Rattle.std.specs.Prelude.{All};
     ghost use Rattle.operations.specs.Reads.{list_form, number_form};
-    ghost use Rattle.certificate_reader.specs.Steps.Lists.{AreForms, AreNoForms, IsKept, IsLong};
+    ghost use Rattle.certificate_reader.specs.Steps.Lists.{AreForms, AreNoForms};
 
-    ghost is_of = { λ session ds. IsKept IsLong (AreForms (All T.fits) (list_form (λ n. number_form (T.whole n))) ds) session.kept };
+    ghost is_of = { λ session ds. AreForms (All T.fits) (list_form (λ n. number_form (T.whole n))) ds session.rows };
 
     ghost refuses = { AreNoForms (All T.fits) (list_form (λ n. number_form (T.whole n))) };
 
@@ -51,7 +49,7 @@ impl<T: Number> Gather for Session<T> {
         if !next_numbers(alloc, reader, depth, &mut self.row)? {
             return Ok(false);
         }
-        self.kept.push_row(self.row.as_slice())?;
+        self.rows.push(self.row.as_slice())?;
         Ok(true)
     }
 }
@@ -64,16 +62,16 @@ pub(crate) fn next_session<T: Number>(
     reader: &mut Reader<'_>,
     depth: usize,
     session: &mut Session<T>,
-) -> Result<Option<Kept<Rows<T>>>, TextError>
+) -> Result<Option<Rows<T>>, TextError>
     ensures read { IfOk result
-        (λ read. IsValue (λ d. IsKeptOf (All (All T.fits)) (list_form (list_form (λ n. number_form (T.whole n)))) IsLong d read)
+        (λ read. IsValue (λ d. IsReadWithin (All (All T.fits)) (list_form (list_form (λ n. number_form (T.whole n)))) d read)
         depth reader.old reader.new) }
     ensures shorter { OnOk result (length reader.new < length reader.old) }
     ensures refused { IfErr result (IsRefused depth reader.old) }
 {
-    session.kept = Kept::Whole(Rows::new(alloc));
+    session.rows = Rows::new(alloc);
     if !next_list(alloc, reader, depth, session)? {
         return Ok(None);
     }
-    Ok(Some(mem::replace(&mut session.kept, Kept::TooLarge)))
+    Ok(Some(mem::replace(&mut session.rows, Rows::new(alloc))))
 }

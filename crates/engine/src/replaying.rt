@@ -5,16 +5,14 @@ ghost use Rattle.engine.specs.Running.{IsOutput, IsOutputError};
 
 use crate::failure::RunError;
 use command_line::Order;
-use script::read_script;
 use std::alloc::Global;
 
 /// The lines of the replies to the steps of the script in the input.
 ///
-/// Refuses what is no script, and fails for want of memory. It costs O(n) for n bytes, and what [`script::replay`] takes.
+/// Refuses what is no script, and fails for want of memory. It costs what [`script::replay`] does.
 pub fn replay(alloc: Global, input: &[u8]) -> Result<String, RunError>
     ensures output { IfOk result (λ text. IsOutput Order.Replay input.now (string_bytes text)) }
     ensures error { IfErr result (IsOutputError Order.Replay input.now) }
 {
-    let read = read_script(alloc, input)?;
-    Ok(script::replay(alloc, read)?)
+    Ok(script::replay(alloc, input)?)
 }

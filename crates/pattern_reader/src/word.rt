@@ -14,20 +14,21 @@ use operations::HistoryPlace;
 use std::alloc::Global;
 use token_reader::next_token;
 
-/// What has a name.
-pub(crate) trait Word: Copy {
+/// What has a name, by which a form names it.
+pub trait Word: Copy {
     /// Its name.
     ghost name: { Self → List ℕ };
 
-    /// The word of this name.
+    /// The word of this name. O(n) for n bytes of the text.
     fn named(text: &str) -> Option<Self>
         ensures { IsRead name text.now result };
 }
 
-/// What the value that comes next names. It passes the value in any case.
+/// What the value that comes next names, or none where the value is no text or names nothing. It passes the value in any case.
 ///
-/// `NotJson` exactly where no value comes next, and `Memory` only where an allocation was refused. O(n) for n bytes of the value.
-pub(crate) fn next_word<W: Word>(
+/// `depth` is how much deeper the text may nest there. `NotJson` exactly where no value comes next, and `Memory` only where an allocation
+/// was refused. O(n) for n bytes of the value.
+pub fn next_word<W: Word>(
     alloc: Global,
     reader: &mut Reader<'_>,
     depth: usize,

@@ -1,9 +1,12 @@
 pub mod CaseForms
 pub mod CutScripts
-pub mod CutTexts
-pub mod KeptScripts
-pub mod KeptSteps
+pub mod KeptReplays
+pub mod KeptRuns
+pub mod PassedScripts
 pub mod ScriptForms
-pub mod ScriptReading
+pub mod ScriptTexts
+pub mod ScriptsRead
+pub mod StepArguments
 pub mod StepForms
-pub mod WiderPlaces
+pub mod StepLists
+pub mod Uncut

@@ -1,41 +1,25 @@
--- A value is the form of no step of a script where its word is no word of one, or what stands behind it names nothing.
-use Rattle.std.proofs.Common.{◌≡◌, ℕ, ◌<◌, ◌≤◌, List, [], ◌∷◌, length, map, refl, ap, sym, ◌∙◌, arith}
-use Rattle.std.specs.Prelude.{◌≢◌, nat_eq, codes, Option, Some, None, if◌then◌else◌}
+-- The elements of no step: where no word of a step comes first, or what comes after it is named by no step.
+use Rattle.std.proofs.Common.{◌≡◌, ℕ, ◌+◌, ◌<◌, ◌≤◌, List, [], ◌∷◌, All, length, refl, ap, sym, subst, ◌∙◌, arith}
+use Rattle.std.specs.Prelude.{◌≢◌, nat_eq, codes, Option, Some, if◌then◌else◌}
 use Rattle.std.specs.Cmp.Lexicographic.{pointwise}
-use Rattle.std.proofs.lemmas.List.{length-map}
 use Rattle.std.proofs.lemmas.Option.{same_Some}
+use Rattle.history.specs.declared.limits.TheConstants.{MAX_OPERATIONS}
 use Rattle.serde_json.specs.Data.{Data}
-use Rattle.operations.specs.Json.{elements}
-use Rattle.operations.specs.Laws.Json.{elements-list}
-use Rattle.operations.specs.Reads.{number_form, list_form, worded, IsReadWithin}
-use Rattle.operations.proofs.ReadForms.{one_word}
+use Rattle.operations.specs.Reads.{number_form, list_form}
 use Rattle.cert_check.specs.declared.criterion.Criterion.{Criterion}
 use Rattle.cert_check.specs.declared.certificate.Certificate.{Certificate}
 use Rattle.bad_patterns.specs.declared.pattern.Pattern.{Pattern}
 use Rattle.bad_patterns.specs.PatternForm.{form_of as pattern_form}
+use Rattle.pattern_reader.specs.Words.{word_form}
 use Rattle.world.specs.declared.step.StepOf.TheVariants.{Begin, End, Start, Look, Show, File, Take, Work, Put, Refute, Ask}
 use Rattle.script.specs.declared.step_word.StepWord.{StepWord}
 use Rattle.script.specs.declared.step_word.StepWord.TheVariants as words
 use Rattle.script.specs.declared.written_step.TheConstants.{MAX_LOOKS}
 use Rattle.script.specs.declared.written_step.WrittenStep.{WrittenStep}
 use Rattle.script.specs.declared.written_step.WrittenStep.TheVariants.{Once, StartUntold, Looks}
-use Rattle.script.specs.StepForm.{filed_form, word_of, arguments_of, written_form, IsFiled, IsTold, IsWritten}
+use Rattle.script.specs.StepForm.{filed_form, word_of, arguments_of, IsFiled}
 use Rattle.script.specs.StepWords.{name_of}
-use Rattle.script.specs.Steps.Arguments.{IsReadBehind}
-
--- equal lists of a number and one thing have the same thing
-pub second : {m n : ℕ} {d e : Data} → number_form m ∷ d ∷ [] ≡ number_form n ∷ e ∷ [] → d ≡ e
-second same = cc
-
--- a list of numbers has as many as the values of which it is the form
-pub counted : {V : Type 0} (view : V → Data) (d : Data) (values : List V) → Some (map view values) ≡ elements d → (told : List ℕ)
-    → d ≡ list_form number_form told → length told ≡ length values
-counted view d values has told same =
-    let lists : map view values ≡ map number_form told = same_Some _ _ (has ∙ ap elements same ∙ elements-list (map number_form told)) in
-    let numbers : length (map number_form told) ≡ length told = simp length-map in
-    let viewed : length (map view values) ≡ length values = simp length-map in
-    let counts : length (map view values) ≡ length (map number_form told) = ap length lists in
-    omega arith
+use Rattle.script.specs.Steps.StepParts.{AreNoStep, IsAnyWritten, TakesNumber, elements_of, most_elements}
 
 -- ---- words
 
@@ -68,77 +52,117 @@ at_name words.Ask = refl
 one_name : (a b : StepWord) → name_of a ≡ name_of b → a ≡ b
 one_name a b same = same_Some a b (sym (at_name a) ∙ ap word_at same ∙ at_name b)
 
-module _ {C R : Type 0} (call_form : C → Data) (return_form : R → Data) (is_call : C → Type 0) (k : ℕ) where
-  module _ (d : Data) (word : List ℕ) (ds : List Data) (is : d ≡ worded word ds) where
-    pub no_step-unnamed : ((w : StepWord) → word ≢ name_of w) → (step : WrittenStep C R) → IsWritten is_call k step → d ≢ written_form call_form return_form step
-    no_step-unnamed none step good same =
-        none (word_of step) (one_word word (name_of (word_of step)) ds (arguments_of call_form return_form step) (sym is ∙ same)).0
+module _ {C R : Type 0} (call_form : C → Data) (return_form : R → Data) (is_call : C → Type 0) where
+  -- a step with these elements has this word, and these name its arguments
+  pub has_word : (w : StepWord) (ds : List Data) (step : WrittenStep C R) → word_form name_of w ∷ ds ≡ elements_of call_form return_form step → word_of step ≡ w
+  has_word w ds step same = let names : name_of w ≡ name_of (word_of step) = cc in sym (one_name w (word_of step) names)
 
-    pub step_read : (w : StepWord) → word ≡ name_of w → (read : Option (WrittenStep C R)) → IsReadBehind call_form return_form is_call k w ds read
-        → IsReadWithin (IsWritten is_call k) (written_form call_form return_form) d read
-    step_read w named None none = λ step good same.
-        let p = one_word word (name_of (word_of step)) ds (arguments_of call_form return_form step) (sym is ∙ same) in
-        none step good (one_name (word_of step) w (sym p.0 ∙ named)) p.1
-    step_read w named (Some step) behind =
-        let same : word ≡ name_of (word_of step) = named ∙ ap name_of (sym behind.1) in
-        (is ∙ (λ i. worded (same i) (behind.2 i)), behind.0)
+  -- the arguments of no step with this word
+  abbrev AreNoArguments : StepWord → List Data → Type 0
+  AreNoArguments w ds = (step : WrittenStep C R) → IsAnyWritten is_call step → word_of step ≡ w → ds ≢ arguments_of call_form return_form step
 
-  -- ---- what stands behind a word names nothing
+  pub after_word : (w : StepWord) (ds : List Data) → AreNoArguments w ds → AreNoStep call_form return_form is_call (word_form name_of w ∷ ds)
+  after_word w ds none step good same =
+      let arguments : ds ≡ arguments_of call_form return_form step = cc in none step good (has_word w ds step same) arguments
+
+  pub no_word : (d : Data) (more : List Data) → ((w : StepWord) → d ≢ word_form name_of w) → AreNoStep call_form return_form is_call (d ∷ more)
+  no_word d more none step good same = let first : d ≡ word_form name_of (word_of step) = cc in none (word_of step) first
+
+  -- ---- how many elements there are
+
+  at_most : (step : WrittenStep C R) → length (elements_of call_form return_form step) ≤ most_elements (word_of step)
+  at_most (Once (Begin s c)) = omega arith
+  at_most (Once (End s r)) = omega arith
+  at_most (Once (Start told)) = omega arith
+  at_most (Once (Look z)) = omega arith
+  at_most (Once (Show z)) = omega arith
+  at_most (Once (File z criterion certificate)) = omega arith
+  at_most (Once Take) = omega arith
+  at_most (Once (Work c o)) = omega arith
+  at_most (Once (Put c v)) = omega arith
+  at_most (Once (Refute c pattern)) = omega arith
+  at_most (Once (Ask c)) = omega arith
+  at_most StartUntold = omega arith
+  at_most (Looks z n) = omega arith
+
+  pub too_many : (w : StepWord) (ds : List Data) → most_elements w < length ds + 1 → AreNoStep call_form return_form is_call (word_form name_of w ∷ ds)
+  too_many w ds over = after_word w ds (λ step good e same.
+      let few : length (elements_of call_form return_form step) ≤ most_elements w = subst (λ (x : StepWord). length (elements_of call_form return_form step) ≤ most_elements x) e (at_most step) in
+      let many : length ds ≡ length (arguments_of call_form return_form step) = ap length same in
+      absurd (omega (arith, over, few, many)))
+
+  -- a step with a word after which a number comes has one
+  pub no_number : (w : StepWord) (ds : List Data) → TakesNumber w → ((n : ℕ) (more : List Data) → ds ≢ number_form n ∷ more) → AreNoArguments w ds
+  no_number w ds takes none (Once (Begin s c)) good e same = none s _ same
+  no_number w ds takes none (Once (End s r)) good e same = none s _ same
+  no_number w ds takes none (Once (Start told)) good e same = absurd (subst TakesNumber (sym e) takes)
+  no_number w ds takes none (Once (Look z)) good e same = none z _ same
+  no_number w ds takes none (Once (Show z)) good e same = none z _ same
+  no_number w ds takes none (Once (File z criterion certificate)) good e same = none z _ same
+  no_number w ds takes none (Once Take) good e same = absurd (subst TakesNumber (sym e) takes)
+  no_number w ds takes none (Once (Work c o)) good e same = none c _ same
+  no_number w ds takes none (Once (Put c v)) good e same = none c _ same
+  no_number w ds takes none (Once (Refute c pattern)) good e same = none c _ same
+  no_number w ds takes none (Once (Ask c)) good e same = none c _ same
+  no_number w ds takes none StartUntold good e same = absurd (subst TakesNumber (sym e) takes)
+  no_number w ds takes none (Looks z n) good e same = none z _ same
+
+  -- ---- what comes after a word names nothing
 
   module _ (ds : List Data) where
     pub no_begin : ((s : ℕ) (c : C) → is_call c → ds ≢ number_form s ∷ call_form c ∷ [])
-        → (step : WrittenStep C R) → IsWritten is_call k step → word_of step ≡ words.Begin → ds ≢ arguments_of call_form return_form step
-    no_begin none (Once (Begin s c)) good e same = none s c good same
+        → (step : WrittenStep C R) → IsAnyWritten is_call step → word_of step ≡ words.Begin → ds ≢ arguments_of call_form return_form step
+    no_begin none (Once (Begin s c)) good e same = none s c good.1 same
     no_begin none _ good e same = absurd cc
 
     pub no_end : ((s : ℕ) (r : R) → ds ≢ number_form s ∷ return_form r ∷ [])
-        → (step : WrittenStep C R) → IsWritten is_call k step → word_of step ≡ words.End → ds ≢ arguments_of call_form return_form step
+        → (step : WrittenStep C R) → IsAnyWritten is_call step → word_of step ≡ words.End → ds ≢ arguments_of call_form return_form step
     no_end none (Once (End s r)) good e same = none s r same
     no_end none _ good e same = absurd cc
 
-    pub no_start : ds ≢ [] → ((told : List ℕ) → IsTold k told → ds ≢ list_form number_form told ∷ [])
-        → (step : WrittenStep C R) → IsWritten is_call k step → word_of step ≡ words.Start → ds ≢ arguments_of call_form return_form step
-    no_start some none (Once (Start told)) good e same = none told good same
+    pub no_start : ds ≢ [] → ((told : List ℕ) → All (λ n. n ≤ MAX_OPERATIONS) told → ds ≢ list_form number_form told ∷ [])
+        → (step : WrittenStep C R) → IsAnyWritten is_call step → word_of step ≡ words.Start → ds ≢ arguments_of call_form return_form step
+    no_start some none (Once (Start told)) good e same = none told good.1.1 same
     no_start some none StartUntold good e same = some same
     no_start some none _ good e same = absurd cc
 
     pub no_look : ((z : ℕ) → ds ≢ number_form z ∷ []) → ((z n : ℕ) → 0 < n → n ≤ MAX_LOOKS → ds ≢ number_form z ∷ number_form n ∷ [])
-        → (step : WrittenStep C R) → IsWritten is_call k step → word_of step ≡ words.Look → ds ≢ arguments_of call_form return_form step
+        → (step : WrittenStep C R) → IsAnyWritten is_call step → word_of step ≡ words.Look → ds ≢ arguments_of call_form return_form step
     no_look once many (Once (Look z)) good e same = once z same
-    no_look once many (Looks z n) good e same = many z n good.0 good.1 same
+    no_look once many (Looks z n) good e same = many z n good.1.0 good.1.1 same
     no_look once many _ good e same = absurd cc
 
     pub no_show : ((z : ℕ) → ds ≢ number_form z ∷ [])
-        → (step : WrittenStep C R) → IsWritten is_call k step → word_of step ≡ words.Show → ds ≢ arguments_of call_form return_form step
+        → (step : WrittenStep C R) → IsAnyWritten is_call step → word_of step ≡ words.Show → ds ≢ arguments_of call_form return_form step
     no_show none (Once (Show z)) good e same = none z same
     no_show none _ good e same = absurd cc
 
     pub no_file : ((z : ℕ) (criterion : Criterion) (certificate : Option Certificate) → IsFiled criterion certificate
         → ds ≢ number_form z ∷ filed_form criterion certificate ∷ [])
-        → (step : WrittenStep C R) → IsWritten is_call k step → word_of step ≡ words.File → ds ≢ arguments_of call_form return_form step
-    no_file none (Once (File z criterion certificate)) good e same = none z criterion certificate good same
+        → (step : WrittenStep C R) → IsAnyWritten is_call step → word_of step ≡ words.File → ds ≢ arguments_of call_form return_form step
+    no_file none (Once (File z criterion certificate)) good e same = none z criterion certificate good.1 same
     no_file none _ good e same = absurd cc
 
-    pub no_take : ds ≢ [] → (step : WrittenStep C R) → IsWritten is_call k step → word_of step ≡ words.Take → ds ≢ arguments_of call_form return_form step
+    pub no_take : ds ≢ [] → (step : WrittenStep C R) → IsAnyWritten is_call step → word_of step ≡ words.Take → ds ≢ arguments_of call_form return_form step
     no_take none (Once Take) good e same = none same
     no_take none _ good e same = absurd cc
 
     pub no_work : ((c s i : ℕ) → ds ≢ number_form c ∷ number_form s ∷ number_form i ∷ [])
-        → (step : WrittenStep C R) → IsWritten is_call k step → word_of step ≡ words.Work → ds ≢ arguments_of call_form return_form step
+        → (step : WrittenStep C R) → IsAnyWritten is_call step → word_of step ≡ words.Work → ds ≢ arguments_of call_form return_form step
     no_work none (Once (Work c o)) good e same = none c o.session o.index same
     no_work none _ good e same = absurd cc
 
     pub no_put : ((c v : ℕ) → ds ≢ number_form c ∷ number_form v ∷ [])
-        → (step : WrittenStep C R) → IsWritten is_call k step → word_of step ≡ words.Put → ds ≢ arguments_of call_form return_form step
+        → (step : WrittenStep C R) → IsAnyWritten is_call step → word_of step ≡ words.Put → ds ≢ arguments_of call_form return_form step
     no_put none (Once (Put c v)) good e same = none c v same
     no_put none _ good e same = absurd cc
 
     pub no_refute : ((c : ℕ) (pattern : Pattern) → ds ≢ number_form c ∷ pattern_form pattern ∷ [])
-        → (step : WrittenStep C R) → IsWritten is_call k step → word_of step ≡ words.Refute → ds ≢ arguments_of call_form return_form step
+        → (step : WrittenStep C R) → IsAnyWritten is_call step → word_of step ≡ words.Refute → ds ≢ arguments_of call_form return_form step
     no_refute none (Once (Refute c pattern)) good e same = none c pattern same
     no_refute none _ good e same = absurd cc
 
     pub no_ask : ((c : ℕ) → ds ≢ number_form c ∷ [])
-        → (step : WrittenStep C R) → IsWritten is_call k step → word_of step ≡ words.Ask → ds ≢ arguments_of call_form return_form step
+        → (step : WrittenStep C R) → IsAnyWritten is_call step → word_of step ≡ words.Ask → ds ≢ arguments_of call_form return_form step
     no_ask none (Once (Ask c)) good e same = none c same
     no_ask none _ good e same = absurd cc

@@ -17,7 +17,7 @@ use Rattle.script.specs.ScriptForm.{Parts, ScriptValue, AreParts, IsNumberOfSess
 use Rattle.script.specs.declared.any_script.AnyScript.{AnyScript}
 use Rattle.script.specs.declared.any_script.AnyScript.TheVariants as scripts
 use Rattle.script.specs.declared.script_error.ScriptError.{ScriptError}
-use Rattle.script.specs.declared.script_error.ScriptError.TheVariants.{NotJson, BadShape, UnknownObject, BadLimits, BadStep, TooManySteps, BadInitial, Memory}
+use Rattle.script.specs.declared.script_error.ScriptError.TheVariants.{NotJson, BadShape, UnknownObject, BadLimits, Memory}
 
 -- a script for an object without keys, from the plain start; and for one under keys, from a table of other starts than the
 -- plain one, with keys that fit their type

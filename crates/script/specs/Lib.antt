@@ -1,9 +1,12 @@
 pub mod AnyScriptForm
+pub mod Kept
+pub mod Laws
 pub mod Places
 pub mod Refusals
 pub mod Replays
 pub mod ReplyLines
 pub mod ScriptForm
+pub mod Shortened
 pub mod StepForm
 pub mod StepWords
 pub mod Steps

@@ -1,4 +1,6 @@
 -- What single functions say to one another, in terms of their own data: no promise to a reader rests on it.
-pub mod Arguments
+pub mod Filing
 pub mod ScriptParts
-pub mod ScriptReading
+pub mod ScriptsRead
+pub mod StepParts
+pub mod StepsTaken

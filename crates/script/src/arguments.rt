@@ -1,64 +1,57 @@
-//! The values after the word of a step.
+//! What steps of any kind name: numbers, calls and returns.
 
-ghost use Rattle.std.specs.Prelude.{◌≡◌, ◌∷◌, [], map, option_map};
-ghost use Rattle.serde_json.specs.Data.{Data};
-ghost use Rattle.serde_json.specs.View.{view};
-ghost use Rattle.operations.specs.Reads.{number_form, IsRead};
-ghost use Rattle.script.specs.Steps.Arguments.{number_and_form, one_form, three_numbers_form, two_numbers_form};
+ghost use Rattle.std.specs.Prelude.{◌<◌, length, IfOk, IfErr, OnOk};
+ghost use Rattle.bounded_json.specs.Steps.Reading.{IsRefused};
+ghost use Rattle.operations.specs.Reads.{number_form, IsRead, IsReadWithin};
+ghost use Rattle.token_reader.specs.Tokens.{IsValue};
 
-use serde_json::Value;
+use crate::step_forms::StepForms;
+use bounded_json::TextError;
+use json::Reader;
+use operations::HistoryPlace;
+use std::alloc::Global;
+use token_reader::{next_value, next_whole_number};
 
-/// The whole number that a value is.
-fn number_of(value: &Value) -> Option<usize>
-    ensures { IsRead number_form (view value.now) result }
+/// The whole number that comes next, or none where the next value is none. It passes the value.
+pub(crate) fn next_number(
+    alloc: Global,
+    reader: &mut Reader<'_>,
+    depth: usize,
+) -> Result<Option<usize>, TextError>
+    ensures read { IfOk result (λ number. IsValue (λ d. IsRead number_form d number) depth reader.old reader.new) }
+    ensures shorter { OnOk result (length reader.new < length reader.old) }
+    ensures refused { IfErr result (IsRefused depth reader.old) }
 {
-    let number = value.as_u64()?;
-    Some(number as usize)
-}
-
-/// The one number there.
-pub fn one_number(values: &[Value]) -> Option<usize>
-    ensures { IsRead one_form (map view values.now) result }
-{
-    match values {
-        [number] => number_of(number),
-        _ => None,
+    match next_whole_number(alloc, reader, depth)? {
+        Some(number) => Ok(Some(number as usize)),
+        None => Ok(None),
     }
 }
 
-/// The number there, and the value after it.
-pub fn number_and(values: &[Value]) -> Option<(usize, &Value)>
-    ensures { IsRead number_and_form (map view values.now) (option_map (λ p. (p.0, view p.1.now)) result) }
+/// The call whose form without its return comes next, or none where the next value is the form of none. It passes the value.
+pub(crate) fn next_call<F: StepForms>(
+    alloc: Global,
+    reader: &mut Reader<'_>,
+    depth: usize,
+) -> Result<Option<F::Call>, TextError>
+    ensures read { IfOk result (λ call. IsValue (λ d. IsReadWithin F.is_call F.call_form d call) depth reader.old reader.new) }
+    ensures shorter { OnOk result (length reader.new < length reader.old) }
+    ensures refused { IfErr result (IsRefused depth reader.old) }
 {
-    match values {
-        [number, value] => Some((number_of(number)?, value)),
-        _ => None,
-    }
+    let value = next_value(alloc, reader, HistoryPlace::Operation, depth)?;
+    Ok(F::read_call(&value))
 }
 
-/// The two numbers there.
-pub fn two_numbers(values: &[Value]) -> Option<(usize, usize)>
-    ensures { IsRead two_numbers_form (map view values.now) result }
+/// The return whose form without its call comes next, or none where the next value is the form of none. It passes the value.
+pub(crate) fn next_return<F: StepForms>(
+    alloc: Global,
+    reader: &mut Reader<'_>,
+    depth: usize,
+) -> Result<Option<F::Ret>, TextError>
+    ensures read { IfOk result (λ ret. IsValue (λ d. IsRead F.return_form d ret) depth reader.old reader.new) }
+    ensures shorter { OnOk result (length reader.new < length reader.old) }
+    ensures refused { IfErr result (IsRefused depth reader.old) }
 {
-    match values {
-        [first, second] => {
-            let first = number_of(first)?;
-            Some((first, number_of(second)?))
-        }
-        _ => None,
-    }
-}
-
-/// The three numbers there.
-pub fn three_numbers(values: &[Value]) -> Option<(usize, usize, usize)>
-    ensures { IsRead three_numbers_form (map view values.now) result }
-{
-    match values {
-        [first, second, third] => {
-            let first = number_of(first)?;
-            let second = number_of(second)?;
-            Some((first, second, number_of(third)?))
-        }
-        _ => None,
-    }
+    let value = next_value(alloc, reader, HistoryPlace::Operation, depth)?;
+    Ok(F::read_return(&value))
 }

@@ -1,15 +1,17 @@
 //! Scripts of runs of the world: reading them from JSON, running them, and writing the lines of the replies.
 //!
-//! [`read_script`] and [`script_of`] give an [`AnyScript`] or a [`ScriptError`], [`replay`] runs it; [`reply_line`] makes lines.
-//! It uses world, operations, bounded_json and serde_json. How it reads and writes may change: the contracts fix the form of a
-//! script, which texts are refused, and the lines.
+//! [`replay`] reads a script from its text, runs it and writes the lines of its replies; [`read_script`] gives an [`AnyScript`] or a
+//! [`ScriptError`], and [`reply_line`] makes a line. Steps are read token by token, with no value of a certificate or a pattern.
+//! It uses world, operations, certificate_reader, pattern_reader, token_reader, bounded_json, json and serde_json. How it reads and
+//! writes may change: the contracts fix the form of a script, which texts are refused, and the lines.
 #![tactic(auto)]
 
 mod any_script;
 mod arguments;
+mod counts;
+mod filing;
 mod lines;
 mod reader;
-mod reading_parts;
 mod reading_script;
 mod reading_steps;
 mod replaying;
@@ -17,14 +19,18 @@ mod script;
 mod script_error;
 mod script_parts;
 mod script_place;
+mod script_steps;
+mod scripted;
+mod step_forms;
+mod step_parts;
 mod step_word;
+mod steps_taken;
 mod writing_out;
 mod written_step;
 
 pub use any_script::AnyScript;
 pub use lines::reply_line;
-pub use reader::{read_script, script_of};
-pub use reading_steps::read_step;
+pub use reader::read_script;
 pub use replaying::replay;
 pub use script::{MAX_STEPS, Script};
 pub use script_error::ScriptError;

@@ -1,214 +1,375 @@
-//! Reading a step of a script from a JSON value.
+//! Reading a step of a script, one element after the other.
 
-ghost use Rattle.std.specs.Prelude.{ℕ, map, IfOk};
-ghost use Rattle.serde_json.specs.View.{view};
-ghost use Rattle.operations.specs.Reads.{IsReadWithin};
+ghost use Rattle.std.specs.Prelude.{◌∷◌, ◌<◌, ◌↔◌, [], List, length, IfOk, IfErr, IsTrue, OnOk};
+ghost use Rattle.serde_json.specs.Data.{Data};
+ghost use Rattle.bounded_json.specs.Steps.Reading.{IsRefused};
+ghost use Rattle.operations.specs.Reads.{number_form};
+ghost use Rattle.pattern_reader.specs.Words.{word_form};
+ghost use Rattle.script.specs.Steps.StepParts.{ArePartsOf, HasCounts, IsAnyStepIn, IsNextPart, IsStepIn};
+ghost use Rattle.script.specs.StepWords.{name_of};
 ghost use Rattle.script.specs.declared.step_word.StepWord.TheVariants as words;
-ghost use Rattle.script.specs.StepForm.{written_form, IsWritten};
-ghost use Rattle.script.specs.Steps.Arguments.{IsReadBehind};
+ghost use Rattle.token_reader.specs.Tokens.{IsValue};
 
-use crate::arguments::{number_and, one_number, three_numbers, two_numbers};
-use crate::reading_parts::{read_case, read_told};
+use crate::arguments::{next_call, next_number, next_return};
+use crate::counts::next_told;
+use crate::filing::next_case;
+use crate::step_forms::StepForms;
+use crate::step_parts::{PartsOf, StepFor, StepParts};
 use crate::step_word::StepWord;
 use crate::written_step::{MAX_LOOKS, WrittenStep};
-use bad_patterns::read_pattern;
+use bounded_json::TextError;
 use history::OpId;
-use operations::{Named, word_and_rest};
-use serde_json::Value;
-use std::alloc::{AllocError, Global};
+use json::Reader;
+use pattern_reader::{next_pattern, next_word};
+use std::alloc::Global;
+use std::mem;
+use token_reader::{Gather, next_list, pass_value};
 use world::StepOf;
 
-/// The step of a script whose form the value is, for an object and `k` sessions.
-///
-/// The form is a list of a word and what the step names: `["begin",s,call]`, `["end",s,ret]`, `["start"]`, `["start",told]`,
-/// `["look",z]`, `["look",z,n]`, `["show",z]`, `["file",z,certificate]`, `["file",z,criterion]`, `["take"]`,
-/// `["work",c,s,i]`, `["put",c,v]`, `["refute",c,pattern]` or `["ask",c]`. The step may name what is not there. But `told` is
-/// a list of `k` numbers from 0 to 256, and `n` is a number from 1 to 9,999.
-///
-/// Fails for want of memory alone. O(n) for n values.
-pub fn read_step<O: Named>(
+/// The begin of an operation by a session, with the call that comes next.
+fn begin_with<F: StepForms>(
     alloc: Global,
-    k: usize,
-    value: &Value,
-) -> Result<Option<WrittenStep<O::Call, O::Ret>>, AllocError>
-    ensures { IfOk result (IsReadWithin (IsWritten O.is_call k) (written_form O.call_form O.return_form) (view value.now)) }
+    reader: &mut Reader<'_>,
+    depth: usize,
+    number: usize,
+) -> Result<Option<PartsOf<F>>, TextError>
+    ensures read { IfOk result
+        (λ next. IsValue (IsNextPart F.call_form F.return_form F.is_call next (word_form name_of words.Begin ∷ number_form number ∷ []))
+        depth reader.old reader.new) }
+    ensures shorter { OnOk result (length reader.new < length reader.old) }
+    ensures refused { IfErr result (IsRefused depth reader.old) }
 {
-    let Some((word, rest)) = word_and_rest(value) else {
-        return Ok(None);
-    };
-    match StepWord::named(word) {
-        Some(word) => read_behind::<O>(alloc, k, word, rest),
+    match next_call::<F>(alloc, reader, depth)? {
+        Some(call) => Ok(Some(StepParts::Whole(WrittenStep::Once(StepOf::Begin(number, call))))),
         None => Ok(None),
     }
 }
 
-/// The step with this word, from the values after it.
-fn read_behind<O: Named>(
+/// The end of an operation of a session, with the return that comes next.
+fn end_with<F: StepForms>(
     alloc: Global,
-    k: usize,
-    word: StepWord,
-    rest: &[Value],
-) -> Result<Option<WrittenStep<O::Call, O::Ret>>, AllocError>
-    ensures { IfOk result (IsReadBehind O.call_form O.return_form O.is_call k word (map view rest.now)) }
+    reader: &mut Reader<'_>,
+    depth: usize,
+    number: usize,
+) -> Result<Option<PartsOf<F>>, TextError>
+    ensures read { IfOk result
+        (λ next. IsValue (IsNextPart F.call_form F.return_form F.is_call next (word_form name_of words.End ∷ number_form number ∷ []))
+        depth reader.old reader.new) }
+    ensures shorter { OnOk result (length reader.new < length reader.old) }
+    ensures refused { IfErr result (IsRefused depth reader.old) }
 {
-    match word {
-        StepWord::Begin => Ok(read_begin::<O>(rest)),
-        StepWord::End => Ok(read_end::<O>(rest)),
-        StepWord::Start => read_start::<O>(alloc, k, rest),
-        StepWord::Look => Ok(read_look::<O>(rest)),
-        StepWord::Show => Ok(read_show::<O>(rest)),
-        StepWord::File => read_file::<O>(alloc, rest),
-        StepWord::Take => Ok(read_take::<O>(rest)),
-        StepWord::Work => Ok(read_work::<O>(rest)),
-        StepWord::Put => Ok(read_put::<O>(rest)),
-        StepWord::Refute => read_refute::<O>(alloc, rest),
-        StepWord::Ask => Ok(read_ask::<O>(rest)),
+    match next_return::<F>(alloc, reader, depth)? {
+        Some(ret) => Ok(Some(StepParts::Whole(WrittenStep::Once(StepOf::End(number, ret))))),
+        None => Ok(None),
     }
 }
 
-/// The begin of an operation, from a session and a call.
-fn read_begin<O: Named>(rest: &[Value]) -> Option<WrittenStep<O::Call, O::Ret>>
-    ensures { (k : ℕ) → IsReadBehind O.call_form O.return_form O.is_call k words.Begin (map view rest.now) result }
-{
-    let Some((session, call)) = number_and(rest) else {
-        return None;
-    };
-    let Some(call) = O::read_lone_call(call) else {
-        return None;
-    };
-    Some(WrittenStep::Once(StepOf::Begin(session, call)))
-}
-
-/// The end of an operation, from a session and a return.
-fn read_end<O: Named>(rest: &[Value]) -> Option<WrittenStep<O::Call, O::Ret>>
-    ensures { (k : ℕ) → IsReadBehind O.call_form O.return_form O.is_call k words.End (map view rest.now) result }
-{
-    let Some((session, ret)) = number_and(rest) else {
-        return None;
-    };
-    let Some(ret) = O::read_lone_return(ret) else {
-        return None;
-    };
-    Some(WrittenStep::Once(StepOf::End(session, ret)))
-}
-
-/// The start of a sealer, from the counts that it is given, or from nothing.
-fn read_start<O: Named>(
+/// As many looks of a sealer as the number that comes next says.
+fn look_times<F: StepForms>(
     alloc: Global,
-    k: usize,
-    rest: &[Value],
-) -> Result<Option<WrittenStep<O::Call, O::Ret>>, AllocError>
-    ensures { IfOk result (IsReadBehind O.call_form O.return_form O.is_call k words.Start (map view rest.now)) }
+    reader: &mut Reader<'_>,
+    depth: usize,
+    number: usize,
+) -> Result<Option<PartsOf<F>>, TextError>
+    ensures read { IfOk result
+        (λ next. IsValue (IsNextPart F.call_form F.return_form F.is_call next (word_form name_of words.Look ∷ number_form number ∷ []))
+        depth reader.old reader.new) }
+    ensures shorter { OnOk result (length reader.new < length reader.old) }
+    ensures refused { IfErr result (IsRefused depth reader.old) }
 {
-    match rest {
-        [] => Ok(Some(WrittenStep::StartUntold)),
-        [told] => match read_told(alloc, k, told)? {
-            Some(told) => Ok(Some(WrittenStep::Once(StepOf::Start(told)))),
-            None => Ok(None),
-        },
-        _ => Ok(None),
-    }
-}
-
-/// A look of a sealer, or so many.
-fn read_look<O: Named>(rest: &[Value]) -> Option<WrittenStep<O::Call, O::Ret>>
-    ensures { (k : ℕ) → IsReadBehind O.call_form O.return_form O.is_call k words.Look (map view rest.now) result }
-{
-    if let Some(sealer) = one_number(rest) {
-        return Some(WrittenStep::Once(StepOf::Look(sealer)));
-    }
-    let Some((sealer, times)) = two_numbers(rest) else {
-        return None;
-    };
-    if 0 < times && times <= MAX_LOOKS {
-        Some(WrittenStep::Looks(sealer, times))
-    } else {
-        None
-    }
-}
-
-/// The showing of the history of a sealer, from the sealer.
-fn read_show<O: Named>(rest: &[Value]) -> Option<WrittenStep<O::Call, O::Ret>>
-    ensures { (k : ℕ) → IsReadBehind O.call_form O.return_form O.is_call k words.Show (map view rest.now) result }
-{
-    let Some(sealer) = one_number(rest) else {
-        return None;
-    };
-    Some(WrittenStep::Once(StepOf::Show(sealer)))
-}
-
-/// The filing of a case, from a sealer and a certificate or the name of a criterion.
-fn read_file<O: Named>(
-    alloc: Global,
-    rest: &[Value],
-) -> Result<Option<WrittenStep<O::Call, O::Ret>>, AllocError>
-    ensures { (k : ℕ) → IfOk result (IsReadBehind O.call_form O.return_form O.is_call k words.File (map view rest.now)) }
-{
-    let Some((sealer, case)) = number_and(rest) else {
+    let Some(times) = next_number(alloc, reader, depth)? else {
         return Ok(None);
     };
-    match read_case(alloc, case)? {
+    if 0 < times && times <= MAX_LOOKS {
+        Ok(Some(StepParts::Whole(WrittenStep::Looks(number, times))))
+    } else {
+        Ok(None)
+    }
+}
+
+/// The filing of the history of a sealer, with what comes next: a certificate, or the name of a criterion.
+fn file_with<F: StepForms>(
+    alloc: Global,
+    reader: &mut Reader<'_>,
+    depth: usize,
+    number: usize,
+) -> Result<Option<PartsOf<F>>, TextError>
+    ensures read { IfOk result
+        (λ next. IsValue (IsNextPart F.call_form F.return_form F.is_call next (word_form name_of words.File ∷ number_form number ∷ []))
+        depth reader.old reader.new) }
+    ensures shorter { OnOk result (length reader.new < length reader.old) }
+    ensures refused { IfErr result (IsRefused depth reader.old) }
+{
+    match next_case(alloc, reader, depth)? {
         Some((criterion, certificate)) => {
-            let step = StepOf::File(sealer, criterion, certificate);
-            Ok(Some(WrittenStep::Once(step)))
+            let step = StepOf::File(number, criterion, certificate);
+            Ok(Some(StepParts::Whole(WrittenStep::Once(step))))
         }
         None => Ok(None),
     }
 }
 
-/// The taking of a piece, from nothing.
-fn read_take<O: Named>(rest: &[Value]) -> Option<WrittenStep<O::Call, O::Ret>>
-    ensures { (k : ℕ) → IsReadBehind O.call_form O.return_form O.is_call k words.Take (map view rest.now) result }
-{
-    match rest {
-        [] => Some(WrittenStep::Once(StepOf::Take)),
-        _ => None,
-    }
-}
-
-/// The check of a piece, from a case and an operation.
-fn read_work<O: Named>(rest: &[Value]) -> Option<WrittenStep<O::Call, O::Ret>>
-    ensures { (k : ℕ) → IsReadBehind O.call_form O.return_form O.is_call k words.Work (map view rest.now) result }
-{
-    let Some((case, session, index)) = three_numbers(rest) else {
-        return None;
-    };
-    let op = OpId::at(session, index);
-    Some(WrittenStep::Once(StepOf::Work(case, op)))
-}
-
-/// The putting of a verdict, from a case and a verdict.
-fn read_put<O: Named>(rest: &[Value]) -> Option<WrittenStep<O::Call, O::Ret>>
-    ensures { (k : ℕ) → IsReadBehind O.call_form O.return_form O.is_call k words.Put (map view rest.now) result }
-{
-    let Some((case, verdict)) = two_numbers(rest) else {
-        return None;
-    };
-    Some(WrittenStep::Once(StepOf::Put(case, verdict)))
-}
-
-/// The putting of a pattern, from a case and the pattern.
-fn read_refute<O: Named>(
+/// The check of a piece of a case: its session comes next.
+fn work_on<F: StepForms>(
     alloc: Global,
-    rest: &[Value],
-) -> Result<Option<WrittenStep<O::Call, O::Ret>>, AllocError>
-    ensures { (k : ℕ) → IfOk result (IsReadBehind O.call_form O.return_form O.is_call k words.Refute (map view rest.now)) }
+    reader: &mut Reader<'_>,
+    depth: usize,
+    number: usize,
+) -> Result<Option<PartsOf<F>>, TextError>
+    ensures read { IfOk result
+        (λ next. IsValue (IsNextPart F.call_form F.return_form F.is_call next (word_form name_of words.Work ∷ number_form number ∷ []))
+        depth reader.old reader.new) }
+    ensures shorter { OnOk result (length reader.new < length reader.old) }
+    ensures refused { IfErr result (IsRefused depth reader.old) }
 {
-    let Some((case, pattern)) = number_and(rest) else {
-        return Ok(None);
-    };
-    match read_pattern(alloc, pattern)? {
-        Some(pattern) => Ok(Some(WrittenStep::Once(StepOf::Refute(case, pattern)))),
+    match next_number(alloc, reader, depth)? {
+        Some(session) => Ok(Some(StepParts::Piece(number, session))),
         None => Ok(None),
     }
 }
 
-/// The question for the state of a case, from the case.
-fn read_ask<O: Named>(rest: &[Value]) -> Option<WrittenStep<O::Call, O::Ret>>
-    ensures { (k : ℕ) → IsReadBehind O.call_form O.return_form O.is_call k words.Ask (map view rest.now) result }
+/// The putting of the verdict that comes next to a case.
+fn put_to<F: StepForms>(
+    alloc: Global,
+    reader: &mut Reader<'_>,
+    depth: usize,
+    number: usize,
+) -> Result<Option<PartsOf<F>>, TextError>
+    ensures read { IfOk result
+        (λ next. IsValue (IsNextPart F.call_form F.return_form F.is_call next (word_form name_of words.Put ∷ number_form number ∷ []))
+        depth reader.old reader.new) }
+    ensures shorter { OnOk result (length reader.new < length reader.old) }
+    ensures refused { IfErr result (IsRefused depth reader.old) }
 {
-    let Some(case) = one_number(rest) else {
-        return None;
+    match next_number(alloc, reader, depth)? {
+        Some(verdict) => Ok(Some(StepParts::Whole(WrittenStep::Once(StepOf::Put(
+            number, verdict,
+        ))))),
+        None => Ok(None),
+    }
+}
+
+/// The putting of the pattern that comes next against a case.
+fn refute_with<F: StepForms>(
+    alloc: Global,
+    reader: &mut Reader<'_>,
+    depth: usize,
+    number: usize,
+) -> Result<Option<PartsOf<F>>, TextError>
+    ensures read { IfOk result
+        (λ next. IsValue (IsNextPart F.call_form F.return_form F.is_call next (word_form name_of words.Refute ∷ number_form number ∷ []))
+        depth reader.old reader.new) }
+    ensures shorter { OnOk result (length reader.new < length reader.old) }
+    ensures refused { IfErr result (IsRefused depth reader.old) }
+{
+    match next_pattern(alloc, reader, depth)? {
+        Some(pattern) => Ok(Some(StepParts::Whole(WrittenStep::Once(StepOf::Refute(
+            number, pattern,
+        ))))),
+        None => Ok(None),
+    }
+}
+
+/// The check of a piece of a case, with the operation of this session whose number comes next.
+fn piece_of<F: StepForms>(
+    alloc: Global,
+    reader: &mut Reader<'_>,
+    depth: usize,
+    case: usize,
+    session: usize,
+) -> Result<Option<PartsOf<F>>, TextError>
+    ensures read { IfOk result
+        (λ next. IsValue (IsNextPart F.call_form F.return_form F.is_call next
+        (word_form name_of words.Work ∷ number_form case ∷ number_form session ∷ [])) depth reader.old reader.new) }
+    ensures shorter { OnOk result (length reader.new < length reader.old) }
+    ensures refused { IfErr result (IsRefused depth reader.old) }
+{
+    match next_number(alloc, reader, depth)? {
+        Some(index) => {
+            let step = StepOf::Work(case, OpId::at(session, index));
+            Ok(Some(StepParts::Whole(WrittenStep::Once(step))))
+        }
+        None => Ok(None),
+    }
+}
+
+/// The start of a sealer, with the counts that come next.
+fn start_with<F: StepForms>(
+    alloc: Global,
+    reader: &mut Reader<'_>,
+    depth: usize,
+) -> Result<Option<PartsOf<F>>, TextError>
+    ensures read { IfOk result
+        (λ next. IsValue (IsNextPart F.call_form F.return_form F.is_call next (word_form name_of words.Start ∷ []))
+        depth reader.old reader.new) }
+    ensures shorter { OnOk result (length reader.new < length reader.old) }
+    ensures refused { IfErr result (IsRefused depth reader.old) }
+{
+    match next_told(alloc, reader, depth)? {
+        Some(told) => Ok(Some(StepParts::Whole(WrittenStep::Once(StepOf::Start(told))))),
+        None => Ok(None),
+    }
+}
+
+/// The element after a word.
+fn after_word<F: StepForms>(
+    alloc: Global,
+    reader: &mut Reader<'_>,
+    depth: usize,
+    word: StepWord,
+) -> Result<Option<PartsOf<F>>, TextError>
+    ensures read { IfOk result
+        (λ next. IsValue (IsNextPart F.call_form F.return_form F.is_call next (word_form name_of word ∷ [])) depth reader.old reader.new) }
+    ensures shorter { OnOk result (length reader.new < length reader.old) }
+    ensures refused { IfErr result (IsRefused depth reader.old) }
+{
+    match word {
+        StepWord::Start => start_with::<F>(alloc, reader, depth),
+        StepWord::Take => {
+            pass_value(alloc, reader, depth)?;
+            Ok(None)
+        }
+        _ => match next_number(alloc, reader, depth)? {
+            Some(number) => Ok(Some(StepParts::Number(word, number))),
+            None => Ok(None),
+        },
+    }
+}
+
+/// The element after a word and a number.
+fn after_number<F: StepForms>(
+    alloc: Global,
+    reader: &mut Reader<'_>,
+    depth: usize,
+    word: StepWord,
+    number: usize,
+) -> Result<Option<PartsOf<F>>, TextError>
+    ensures read { IfOk result
+        (λ next. IsValue (IsNextPart F.call_form F.return_form F.is_call next (word_form name_of word ∷ number_form number ∷ []))
+        depth reader.old reader.new) }
+    ensures shorter { OnOk result (length reader.new < length reader.old) }
+    ensures refused { IfErr result (IsRefused depth reader.old) }
+{
+    match word {
+        StepWord::Begin => begin_with::<F>(alloc, reader, depth, number),
+        StepWord::End => end_with::<F>(alloc, reader, depth, number),
+        StepWord::Look => look_times::<F>(alloc, reader, depth, number),
+        StepWord::File => file_with::<F>(alloc, reader, depth, number),
+        StepWord::Work => work_on::<F>(alloc, reader, depth, number),
+        StepWord::Put => put_to::<F>(alloc, reader, depth, number),
+        StepWord::Refute => refute_with::<F>(alloc, reader, depth, number),
+        StepWord::Start | StepWord::Show | StepWord::Take | StepWord::Ask => {
+            pass_value(alloc, reader, depth)?;
+            Ok(None)
+        }
+    }
+}
+
+/// What was taken, with the element that comes next, or none where no step goes on so. It passes the element.
+fn next_part<F: StepForms>(
+    alloc: Global,
+    reader: &mut Reader<'_>,
+    depth: usize,
+    parts: PartsOf<F>,
+) -> Result<Option<PartsOf<F>>, TextError>
+    ensures read { IfOk result
+        (λ next. IsValue (λ d. (ds : List Data) → ArePartsOf F.call_form F.return_form F.is_call parts ds
+        → IsNextPart F.call_form F.return_form F.is_call next ds d) depth reader.old reader.new) }
+    ensures shorter { OnOk result (length reader.new < length reader.old) }
+    ensures refused { IfErr result (IsRefused depth reader.old) }
+{
+    match parts {
+        StepParts::Nothing => match next_word::<StepWord>(alloc, reader, depth)? {
+            Some(word) => Ok(Some(StepParts::Word(word))),
+            None => Ok(None),
+        },
+        StepParts::Word(word) => after_word::<F>(alloc, reader, depth, word),
+        StepParts::Number(word, number) => after_number::<F>(alloc, reader, depth, word, number),
+        StepParts::Piece(case, session) => piece_of::<F>(alloc, reader, depth, case, session),
+        StepParts::Whole(_) => {
+            pass_value(alloc, reader, depth)?;
+            Ok(None)
+        }
+    }
+}
+
+/// A step of a script that is being read.
+#[derive(Drop)]
+struct StepReader<F: StepForms> {
+    parts: PartsOf<F>,
+}
+
+impl<F: StepForms> Gather for StepReader<F> {
+    ghost use Rattle.script.specs.Steps.StepParts.{AreNoStep, ArePartsOf};
+
+    ghost is_of = { λ step ds. ArePartsOf F.call_form F.return_form F.is_call step.parts ds };
+
+    ghost refuses = { AreNoStep F.call_form F.return_form F.is_call };
+
+    fn take_next(
+        &mut self,
+        alloc: Global,
+        reader: &mut Reader<'_>,
+        depth: usize,
+    ) -> Result<bool, TextError> {
+        let parts = mem::replace(&mut self.parts, StepParts::Nothing);
+        match next_part::<F>(alloc, reader, depth, parts)? {
+            Some(next) => {
+                self.parts = next;
+                Ok(true)
+            }
+            None => Ok(false),
+        }
+    }
+}
+
+/// Whether the step gives a sealer `k` counts, where it gives it any.
+fn has_counts<C, R>(k: usize, step: &WrittenStep<C, R>) -> bool
+    ensures { IsTrue result ↔ HasCounts k step.now }
+{
+    match step {
+        WrittenStep::Once(StepOf::Start(told)) => told.counts().len() == k,
+        _ => true,
+    }
+}
+
+/// The step, where it is one for `k` sessions.
+fn step_for<F: StepForms>(k: usize, step: StepFor<F>) -> Option<StepFor<F>>
+    ensures { (d : Data) → IsAnyStepIn F.call_form F.return_form F.is_call d step
+        → IsStepIn F.call_form F.return_form F.is_call k d result }
+{
+    if has_counts(k, &step) {
+        Some(step)
+    } else {
+        None
+    }
+}
+
+/// The step of a script for `k` sessions that comes next, or none where the next value is the form of none. It passes the value.
+///
+/// The form is a list of a word and what the step names: `["begin",s,call]`, `["end",s,ret]`, `["start"]`, `["start",told]`,
+/// `["look",z]`, `["look",z,n]`, `["show",z]`, `["file",z,certificate]`, `["file",z,criterion]`, `["take"]`,
+/// `["work",c,s,i]`, `["put",c,v]`, `["refute",c,pattern]` or `["ask",c]`. The step may name what is not there. But `told` is
+/// a list of `k` numbers from 0 to 256, and `n` is a number from 1 to 9,999.
+pub(crate) fn next_step<F: StepForms>(
+    alloc: Global,
+    reader: &mut Reader<'_>,
+    depth: usize,
+    k: usize,
+) -> Result<Option<StepFor<F>>, TextError>
+    ensures read { IfOk result
+        (λ step. IsValue (λ d. IsStepIn F.call_form F.return_form F.is_call k d step) depth reader.old reader.new) }
+    ensures shorter { OnOk result (length reader.new < length reader.old) }
+    ensures refused { IfErr result (IsRefused depth reader.old) }
+{
+    let mut step = StepReader::<F> {
+        parts: StepParts::Nothing,
     };
-    Some(WrittenStep::Once(StepOf::Ask(case)))
+    if !next_list(alloc, reader, depth, &mut step)? {
+        return Ok(None);
+    }
+    match step.parts.whole() {
+        Some(step) => Ok(step_for::<F>(k, step)),
+        None => Ok(None),
+    }
 }

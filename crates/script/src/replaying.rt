@@ -1,24 +1,39 @@
 //! Running a script, and writing the lines of its replies.
 
-ghost use Rattle.std.specs.Prelude.{◌≡◌, IfOk, string_bytes};
+ghost use Rattle.std.specs.Prelude.{◌≡◌, IfErr, IfOk, string_bytes};
 ghost use Rattle.std.specs.List.{flat_map};
+ghost use Rattle.operations.specs.AnyForm.{IsJson};
+ghost use Rattle.script.specs.AnyScriptForm.{form_of, IsAnyScript, IsRefusedFor};
 ghost use Rattle.script.specs.Replays.{IsReplay, IsReplayOf};
 ghost use Rattle.script.specs.ReplyLines.{line_for};
+ghost use Rattle.script.specs.declared.any_script.AnyScript.{AnyScript};
 
 use crate::any_script::AnyScript;
 use crate::lines::reply_line;
+use crate::reader::read_script;
 use crate::script::Script;
+use crate::script_error::ScriptError;
 use operations::Named;
 use refutable::Refutable;
 use std::alloc::{AllocError, Global};
 use world::Reply;
 
-/// The lines of the replies to the steps of a script, one after the other. The steps and replies before each reply determine
-/// it.
+/// The lines of the replies to the steps of the script that the text is, one after the other. The steps and replies before each reply
+/// determine it.
 ///
-/// Fails for want of memory alone. It costs what [`World::run`](world::World::run) does, and what
-/// [`reply_line`] does for each reply.
-pub fn replay(alloc: Global, script: AnyScript) -> Result<String, AllocError>
+/// The form of a script, what is refused and in which order, is that of [`read_script`]. `Memory` only where an allocation was refused. It
+/// costs O(n) for a text of n bytes, what [`World::run`](world::World::run) does, and what [`reply_line`] does for each reply.
+pub fn replay(alloc: Global, text: &[u8]) -> Result<String, ScriptError>
+    ensures replayed { IfOk result (λ lines. (script : AnyScript) × IsJson text.now (form_of script) × IsAnyScript script
+        × IsReplay script (string_bytes lines)) }
+    ensures refused { IfErr result (IsRefusedFor text.now) }
+{
+    let script = read_script(alloc, text)?;
+    Ok(replay_script(alloc, script)?)
+}
+
+/// The lines of the replies to the steps of a script.
+fn replay_script(alloc: Global, script: AnyScript) -> Result<String, AllocError>
     ensures { IfOk result (λ text. IsReplay script (string_bytes text)) }
 {
     match script {

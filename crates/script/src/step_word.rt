@@ -3,6 +3,8 @@
 ghost use Rattle.operations.specs.Reads.{IsRead};
 ghost use Rattle.script.specs.StepWords.{name_of};
 
+use pattern_reader::Word;
+
 /// The word that a step of a script begins with.
 #[derive(Clone, Copy, Debug, PartialEq, Eq)]
 pub enum StepWord {
@@ -60,5 +62,15 @@ impl StepWord {
         } else {
             None
         }
+    }
+}
+
+impl Word for StepWord {
+    ghost use Rattle.script.specs.StepWords.{name_of};
+
+    ghost name = { name_of };
+
+    fn named(text: &str) -> Option<StepWord> {
+        StepWord::named(text)
     }
 }

@@ -63,7 +63,10 @@ pub fn gather_rest<G: Gather>(
 
 /// Takes the elements of the value that begins with a token, and returns whether it is a list of wanted elements. It passes the value in
 /// any case.
-pub(crate) fn gather_list<G: Gather>(
+///
+/// It serves a caller that needs the token to know what may come, as where a text or a list may. `NotJson` exactly where the token begins
+/// no value, and `Memory` only where an allocation was refused. O(n) for n bytes of the value, beside what `take_next` takes.
+pub fn gather_list<G: Gather>(
     alloc: Global,
     token: Token<'_>,
     reader: &mut Reader<'_>,

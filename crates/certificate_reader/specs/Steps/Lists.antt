@@ -1,11 +1,8 @@
 -- What is read of lists, and what is kept of them.
-use Rattle.std.specs.Prelude.{◌≡◌, ◌≢◌, ◌<◌, nat_lt, List, [], ◌∷◌, ◌++◌, All, length, map, Bool, true, false, Option, Some, None, if◌then◌else◌}
-use Rattle.history.specs.declared.limits.TheConstants.{MAX_OPERATIONS, MAX_SESSIONS}
+use Rattle.std.specs.Prelude.{◌≡◌, ◌≢◌, List, All, map, Bool, true, false, Option, Some, None}
 use Rattle.serde_json.specs.Data.{Data}
-use Rattle.certificate_reader.specs.declared.kept.Kept.{Kept}
-use Rattle.certificate_reader.specs.declared.kept.Kept.TheVariants.{Whole, TooLarge}
-
--- ---- forms
+use Rattle.operations.specs.Reads.{list_form}
+use Rattle.certificate_reader.specs.Shortened.{kept_of}
 
 module _ {A : Type 0} (fits : A → Type 0) (form : A → Data) where
   -- the value is the form of this, or the form of nothing in range
@@ -27,34 +24,16 @@ module _ {A : Type 0} (fits : A → Type 0) (form : A → Data) where
   IsReadInto true d a = IsForm d a
   IsReadInto false d a = IsNoForm d
 
-  abbrev pub IsPassedAs : Bool → Data → Type 0
-  IsPassedAs true d = (a : A) × IsForm d a
-  IsPassedAs false d = IsNoForm d
+module _ {A : Type 0} (fits : A → Type 0) (form : A → Data) where
+  -- these elements are the forms of what this is kept of
+  abbrev pub AreKept : List Data → List A → Type 0
+  AreKept ds kept = (xs : List A) × AreForms fits form ds xs × (kept ≡ kept_of xs)
 
--- ---- what is kept
+  -- the value is the form of a list of which this is kept
+  abbrev pub IsKept : Data → List A → Type 0
+  IsKept d kept = (xs : List A) × IsForm (All fits) (list_form form) d xs × (kept ≡ kept_of xs)
 
--- this holds of what is kept, which is not large, or of something large that is not kept
-abbrev pub IsKept : {L : Type 0} → (L → Type 0) → (L → Type 0) → Kept L → Type 0
-IsKept {L} large holds (Whole lists) = holds lists × ¬ large lists
-IsKept {L} large holds TooLarge = (lists : L) × holds lists × large lists
-
--- the value is the form of what is kept, or of nothing
-abbrev pub IsKeptOf : {L : Type 0} → (L → Type 0) → (L → Data) → (L → Type 0) → Data → Option (Kept L) → Type 0
-IsKeptOf {L} fits form large d None = IsNoForm fits form d
-IsKeptOf {L} fits form large d (Some kept) = IsKept large (IsForm fits form d) kept
-
--- a session with more operations than a history has
-abbrev pub IsLong : {A : Type 0} → List A → Type 0
-IsLong rows = MAX_OPERATIONS < length rows
-
-module _ {A : Type 0} where
-  -- one row more
-  abbrev pub with_row : Kept (List A) → A → Kept (List A)
-  with_row (Whole rows) row = if nat_lt (length rows) MAX_OPERATIONS then Whole (rows ++ row ∷ []) else TooLarge
-  with_row TooLarge row = TooLarge
-
-  -- one session more
-  abbrev pub with_session : Kept (List (List A)) → Kept (List A) → Kept (List (List A))
-  with_session (Whole lists) (Whole rows) = if nat_lt (length lists) MAX_SESSIONS then Whole (lists ++ rows ∷ []) else TooLarge
-  with_session (Whole lists) TooLarge = TooLarge
-  with_session TooLarge session = TooLarge
+  -- or it is the form of no list
+  abbrev pub IsKeptIn : Data → Option (List A) → Type 0
+  IsKeptIn d None = IsNoForm (All fits) (list_form form) d
+  IsKeptIn d (Some kept) = IsKept d kept

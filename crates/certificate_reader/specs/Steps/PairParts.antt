@@ -7,7 +7,7 @@ use Rattle.operations.specs.declared.read_error.ReadError.TheVariants.{BadShape}
 use Rattle.operations.specs.AnyForm.{first_refusal, form_of, IsAnyHistory}
 use Rattle.operations.specs.Refusals.{IsFirst}
 use Rattle.token_reader.specs.Histories.{IsHistoryIn}
-use Rattle.certificate_reader.specs.declared.certificate.FoundCertificate.{FoundCertificate}
+use Rattle.certificate_reader.specs.declared.found.FoundCertificate.{FoundCertificate}
 use Rattle.certificate_reader.specs.declared.pair.PairParts.{PairParts}
 use Rattle.certificate_reader.specs.declared.pair.PairParts.TheVariants.{Begun, History, Both}
 use Rattle.certificate_reader.specs.Found.{IsFoundIn}

@@ -10,17 +10,12 @@ use Rattle.cert_check.specs.declared.certificate.Certificate.{Certificate}
 use Rattle.cert_check.specs.declared.certificate.Certificate.TheVariants.{Cc, Cm, Ccv}
 use Rattle.cert_check.specs.CriterionNames.{name_of}
 use Rattle.cert_check.specs.Certificates.{criterion_of, vectors_of}
-use Rattle.cert_check.specs.CertificateForm.{lists_form, AreBelow, IsCertificate}
-use Rattle.certificate_reader.specs.declared.certificate.FoundCertificate.{FoundCertificate}
-use Rattle.certificate_reader.specs.declared.certificate.FoundCertificate.TheVariants as found
+use Rattle.cert_check.specs.CertificateForm.{lists_form, IsCertificate}
 use Rattle.certificate_reader.specs.declared.explained.Explained.{Explained}
 use Rattle.certificate_reader.specs.declared.explained.Explained.TheVariants as explained
-use Rattle.certificate_reader.specs.declared.kept.Kept.{Kept}
-use Rattle.certificate_reader.specs.declared.kept.Kept.TheVariants.{Whole, TooLarge}
 use Rattle.certificate_reader.specs.declared.parts.Parts.{Parts}
 use Rattle.certificate_reader.specs.declared.parts.Parts.TheVariants as parts
-use Rattle.certificate_reader.specs.Found.{IsTooLarge}
-use Rattle.certificate_reader.specs.Sizes.{AreTooMany}
+use Rattle.certificate_reader.specs.Shortened.{shortened}
 use Rattle.certificate_reader.specs.Steps.Lists.{IsForm, IsKept}
 
 -- the form of the word of a criterion
@@ -39,13 +34,21 @@ parts_form c = word_form (criterion_of c) ∷ lists_form (vectors_of c) ∷ expl
 
 -- ---- what comes after the vectors
 
-abbrev pub AreSchedules : Data → Kept (ByOperation ℕ) → Type 0
-AreSchedules d schedules = IsKept AreTooMany (IsForm (AreBelow MAX_SESSIONS) lists_form d) schedules
+-- numbers below a limit, in the lists of a session
+abbrev pub AreRowsBelow : ℕ → List (List ℕ) → Type 0
+AreRowsBelow limit = All (All (λ n. n < limit))
+
+abbrev pub rows_form : List (List ℕ) → Data
+rows_form = list_form (list_form number_form)
+
+-- the value is the form of lists of numbers below a limit, of which these are kept
+abbrev pub AreKeptLists : ℕ → Data → ByOperation ℕ → Type 0
+AreKeptLists limit = IsKept (AreRowsBelow limit) rows_form
 
 -- the value is the form of this, for a criterion
 abbrev pub Explains : Criterion → Data → Explained → Type 0
-Explains criteria.Cc d (explained.Cc schedules) = AreSchedules d schedules
-Explains criteria.Cm d (explained.Cm schedules) = AreSchedules d schedules
+Explains criteria.Cc d (explained.Cc schedules) = AreKeptLists MAX_SESSIONS d schedules
+Explains criteria.Cm d (explained.Cm schedules) = AreKeptLists MAX_SESSIONS d schedules
 Explains criteria.Ccv d (explained.Ccv sessions) = IsForm (All (λ s. s < MAX_SESSIONS)) (list_form number_form) d sessions
 Explains _ d _ = ⊥
 
@@ -54,19 +57,20 @@ abbrev pub IsExplainedIn : Criterion → Data → Option Explained → Type 0
 IsExplainedIn criterion d None = (c : Certificate) → IsCertificate c → criterion_of c ≡ criterion → d ≢ explained_form c
 IsExplainedIn criterion d (Some e) = Explains criterion d e
 
-abbrev pub certificate_of : Kept (ByOperation ℕ) → Explained → Kept Certificate
-certificate_of TooLarge _ = TooLarge
-certificate_of (Whole vectors) (explained.Cc (Whole schedules)) = Whole (Cc vectors schedules)
-certificate_of (Whole vectors) (explained.Cc TooLarge) = TooLarge
-certificate_of (Whole vectors) (explained.Cm (Whole schedules)) = Whole (Cm vectors schedules)
-certificate_of (Whole vectors) (explained.Cm TooLarge) = TooLarge
-certificate_of (Whole vectors) (explained.Ccv sessions) = Whole (Ccv vectors sessions)
+abbrev pub certificate_of : ByOperation ℕ → Explained → Certificate
+certificate_of vectors (explained.Cc schedules) = Cc vectors schedules
+certificate_of vectors (explained.Cm schedules) = Cm vectors schedules
+certificate_of vectors (explained.Ccv sessions) = Ccv vectors sessions
 
 -- ---- the parts so far
 
 -- these elements are those of a certificate
 abbrev pub AreCertificate : List Data → Certificate → Type 0
 AreCertificate ds c = (ds ≡ parts_form c) × IsCertificate c
+
+-- or those of the one that this is kept of
+abbrev pub AreShortened : List Data → Certificate → Type 0
+AreShortened ds kept = (c : Certificate) × AreCertificate ds c × (kept ≡ shortened c)
 
 -- or of none
 abbrev pub AreNoParts : List Data → Type 0
@@ -77,17 +81,16 @@ abbrev pub ArePartsOf : Parts → List Data → Type 0
 ArePartsOf parts.Begun ds = ds ≡ []
 ArePartsOf (parts.Named criterion) ds = ds ≡ word_form criterion ∷ []
 ArePartsOf (parts.Vectors criterion vectors) ds =
-    (v : Data) × (ds ≡ word_form criterion ∷ v ∷ []) × IsKept AreTooMany (IsForm (AreBelow (2 ^ 16)) lists_form v) vectors
-ArePartsOf (parts.All certificate) ds = IsKept IsTooLarge (AreCertificate ds) certificate
+    (v : Data) × (ds ≡ word_form criterion ∷ v ∷ []) × AreKeptLists (2 ^ 16) v vectors
+ArePartsOf (parts.All certificate) ds = AreShortened ds certificate
 
 -- one element more gives these parts, or no certificate goes on so
 abbrev pub IsNextPart : Option Parts → List Data → Data → Type 0
 IsNextPart next ds d = MatchOption next ((more : List Data) → AreNoParts (ds ++ d ∷ more)) (λ p. ArePartsOf p (ds ++ d ∷ []))
 
--- what the parts of a whole list are as a certificate
-abbrev pub found_of : Parts → FoundCertificate
-found_of parts.Begun = found.NoForm
-found_of (parts.Named criterion) = found.NoForm
-found_of (parts.Vectors criterion vectors) = found.NoForm
-found_of (parts.All (Whole certificate)) = found.Certificate certificate
-found_of (parts.All TooLarge) = found.TooLarge
+-- the certificate that the parts of a whole list are
+abbrev pub whole_of : Parts → Option Certificate
+whole_of parts.Begun = None
+whole_of (parts.Named criterion) = None
+whole_of (parts.Vectors criterion vectors) = None
+whole_of (parts.All certificate) = Some certificate

@@ -1,7 +1,7 @@
-use Rattle.certificate_reader.proofs.CertificateParts.{found_there}
+use Rattle.std.proofs.lemmas.Result.{err_from_is_err_and}
 use Rattle.certificate_reader.proofs.certificate.next_certificate.Goals as goal
 
-pub returns-then-branch-clause-read : goal.returns-then-branch-clause-read
-returns-then-branch-clause-read c =
-    let read = rw c.if-branch.true at c.in_ok-next_list.ensures.read in
-    (read.0, read.1, rw (c.found_of.ensures) (found_there c.next_list.new.gathered read.0 read.2))
+pub returns-in_err-token-clause-refused : goal.returns-in_err-token-clause-refused
+returns-in_err-token-clause-refused c =
+    let p = err_from_is_err_and c.from_residual.result c.from_residual.ensures.1 in
+    rw (p.1, p.2) (c.in_err-token.ensures.refused c.args.depth)

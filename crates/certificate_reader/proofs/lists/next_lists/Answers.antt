@@ -1,8 +1,8 @@
 use Rattle.std.proofs.Common.{All}
 use Rattle.operations.specs.Reads.{list_form, number_form}
-use Rattle.certificate_reader.specs.Sizes.{AreTooMany}
+use Rattle.certificate_reader.specs.Steps.Lists.{AreKept}
 use Rattle.certificate_reader.proofs.Forms.{list_is_none}
-use Rattle.certificate_reader.proofs.KeptLists.{AreKept, list_kept}
+use Rattle.certificate_reader.proofs.KeptLists.{list_kept}
 use Rattle.certificate_reader.proofs.lists.next_lists.Goals as goal
 
 pub returns-then-not-branch-clause-read : goal.returns-then-not-branch-clause-read
@@ -11,10 +11,10 @@ returns-then-not-branch-clause-read g c =
       read.0,
       read.1,
       list_is_none (All (All g.T.Number.fits)) (list_form (list_form (λ n. number_form (g.T.Number.whole n))))
-          (AreKept (All (All g.T.Number.fits)) (list_form (list_form (λ n. number_form (g.T.Number.whole n)))) AreTooMany c.next_list.new.gathered.kept) read.0 read.2,
+          (λ ds. AreKept (All (All g.T.Number.fits)) (list_form (list_form (λ n. number_form (g.T.Number.whole n)))) ds c.next_list.new.gathered.kept) read.0 read.2,
     )
 
 pub returns-clause-read : goal.returns-clause-read
 returns-clause-read g c =
     let read = rw c.if-not-branch.false at c.in_ok-next_list.ensures.read in
-    (read.0, read.1, list_kept (All (All g.T.Number.fits)) (list_form (list_form (λ n. number_form (g.T.Number.whole n)))) AreTooMany c.next_list.new.gathered.kept read.0 read.2)
+    (read.0, read.1, list_kept (All (All g.T.Number.fits)) (list_form (list_form (λ n. number_form (g.T.Number.whole n)))) c.next_list.new.gathered.kept read.0 read.2)

@@ -1,8 +1,7 @@
 use Rattle.std.proofs.Common.{All}
 use Rattle.operations.specs.Reads.{list_form, number_form}
-use Rattle.certificate_reader.specs.Steps.Lists.{IsLong}
-use Rattle.certificate_reader.proofs.Forms.{list_is_none}
-use Rattle.certificate_reader.proofs.KeptLists.{AreKept, list_kept}
+use Rattle.certificate_reader.specs.Steps.Lists.{AreForms, AreNoForms}
+use Rattle.certificate_reader.proofs.Forms.{list_is, list_is_none, list_taken}
 use Rattle.certificate_reader.proofs.session.next_session.Goals as goal
 
 pub returns-then-not-branch-clause-read : goal.returns-then-not-branch-clause-read
@@ -11,10 +10,13 @@ returns-then-not-branch-clause-read g c =
       read.0,
       read.1,
       list_is_none (All g.T.Number.fits) (list_form (λ n. number_form (g.T.Number.whole n)))
-          (AreKept (All g.T.Number.fits) (list_form (λ n. number_form (g.T.Number.whole n))) IsLong c.next_list.new.gathered.kept) read.0 read.2,
+          (λ ds. AreForms (All g.T.Number.fits) (list_form (λ n. number_form (g.T.Number.whole n))) ds c.next_list.new.gathered.rows) read.0 read.2,
     )
 
 pub returns-clause-read : goal.returns-clause-read
 returns-clause-read g c =
     let read = rw c.if-not-branch.false at c.in_ok-next_list.ensures.read in
-    (read.0, read.1, rw (c.replace.ensures.value) (list_kept (All g.T.Number.fits) (list_form (λ n. number_form (g.T.Number.whole n))) IsLong c.next_list.new.gathered.kept read.0 read.2))
+    let rows = c.next_list.new.gathered.rows in
+    let taken = list_taken (λ ds. AreForms (All g.T.Number.fits) (list_form (λ n. number_form (g.T.Number.whole n))) ds rows)
+    (AreNoForms (All g.T.Number.fits) (list_form (λ n. number_form (g.T.Number.whole n)))) read.0 read.2 in
+    (read.0, read.1, rw (c.replace.ensures.value) (list_is (All g.T.Number.fits) (list_form (λ n. number_form (g.T.Number.whole n))) read.0 taken.0 rows taken.1 taken.2))

@@ -1,7 +1,6 @@
 use Rattle.std.proofs.Common.{All}
 use Rattle.operations.specs.Reads.{list_form, number_form}
-use Rattle.certificate_reader.proofs.Forms.{no_forms}
-use Rattle.certificate_reader.proofs.KeptLists.{row_kept}
+use Rattle.certificate_reader.proofs.Forms.{forms_more, no_forms}
 use Rattle.certificate_reader.proofs.session.SessionGather.take_next.Goals as goal
 
 pub returns-then-not-branch-clause-taken : goal.returns-then-not-branch-clause-taken
@@ -14,6 +13,6 @@ returns-clause-taken g c =
     let read = rw c.if-not-branch.false at c.in_ok-next_numbers.ensures.read in (
       read.0,
       read.1,
-      λ ds so_far. rw (c.in_ok-push_row.ensures, c.as_slice.ensures)
-          (row_kept (All g.T.Number.fits) (list_form (λ n. number_form (g.T.Number.whole n))) c.args.self.now.kept c.next_numbers.new.list.numbers.items read.0 ds so_far read.2),
+      λ ds so_far. rw (c.in_ok-push.ensures.ok, c.as_slice.ensures)
+          (forms_more (All g.T.Number.fits) (list_form (λ n. number_form (g.T.Number.whole n))) ds c.args.self.now.rows read.0 c.next_numbers.new.list.numbers.items so_far read.2),
     )

@@ -1,0 +1,118 @@
+-- The elements of a script, of which its steps are taken.
+use Rattle.std.proofs.Common.{◌≡◌, ℕ, List, [], ◌∷◌, ◌++◌, true, false, length, Option, Some, None, refl, ap, sym, subst, ◌∙◌, arith}
+use Rattle.std.proofs.lemmas.List.{length-append}
+use Rattle.std.proofs.lemmas.Option.{same_Some}
+use Rattle.serde_json.specs.Data.{Data, string}
+use Rattle.operations.specs.AnyForm.{IsJson}
+use Rattle.operations.specs.Json.{elements, list}
+use Rattle.operations.specs.Laws.Json.{elements-list, list_from_elements}
+use Rattle.operations.specs.Reads.{number_form}
+use Rattle.token_reader.specs.Gathers.{IsTakenList as IsGathered}
+use Rattle.certificate_reader.proofs.Forms.{list_taken}
+use Rattle.script.specs.declared.script_error.ScriptError.{ScriptError}
+use Rattle.script.specs.declared.script_steps.Passed.{Passed}
+use Rattle.script.specs.declared.script_steps.Passed.TheVariants.{Nothing, Name, Sessions, Steps}
+use Rattle.script.specs.declared.steps_taken.StepsTaken.{StepsTaken}
+use Rattle.script.specs.declared.steps_taken.StepsTaken.TheVariants.{Refused}
+use Rattle.script.specs.declared.written_step.WrittenStep.{WrittenStep}
+use Rattle.script.specs.declared.written_step.WrittenStep.TheVariants.{Once, StartUntold, Looks}
+use Rattle.script.specs.ScriptForm.{Parts, IsFew, parts_form}
+use Rattle.script.specs.StepForm.{steps_of, written_out}
+use Rattle.script.specs.Steps.StepsTaken.{AreNoScript, ArePassed, AreTaken, IsStepsRefusal, IsTakenList}
+
+-- ---- the number of steps of the world does not depend on the sessions
+
+module _ {C R : Type 0} (j k : ℕ) where
+  same_count : (step : WrittenStep C R) → length (steps_of j step) ≡ length (steps_of k step)
+  same_count (Once step) = refl
+  same_count StartUntold = refl
+  same_count (Looks z n) = refl
+
+  same_counts : (steps : List (WrittenStep C R)) → length (written_out j steps) ≡ length (written_out k steps)
+  same_counts [] = refl
+  same_counts (step ∷ steps) =
+      let one = same_count step in
+      let others = same_counts steps in
+      let first = length-append (steps_of j step) (written_out j steps) in
+      let second = length-append (steps_of k step) (written_out k steps) in
+      omega (arith, one, others, first, second)
+
+  pub few_for : (steps : List (WrittenStep C R)) → IsFew k steps → IsFew j steps
+  few_for steps few = let same = same_counts steps in omega (arith, same, few)
+
+one_value : (text : List ℕ) (d e : Data) → IsJson text d → IsJson text e → d ≡ e
+one_value text d e first second = same_Some d e (sym first.1 ∙ second.1)
+
+module _ {C R : Type 0} (call_form : C → Data) (return_form : R → Data) (is_call : C → Type 0) where
+  -- ---- one element more
+
+  module _ (ds : List Data) (d : Data) (k : ℕ) (taken : StepsTaken C R) where
+    third : (a : Data) (o : Option (List Data)) → elements d ≡ o → ds ≡ a ∷ number_form k ∷ [] → IsTakenList call_form return_form is_call k (Some taken) o
+        → ArePassed call_form return_form is_call (Steps k taken) (ds ++ d ∷ [])
+    third a None has so_far are = absurd are
+    third a (Some cs) has so_far are = (
+      a,
+      cs,
+      [],
+      ap (λ (es : List Data). es ++ d ∷ []) so_far ∙ ap (λ (x : Data). a ∷ number_form k ∷ x ∷ []) (list_from_elements d cs has),
+      are,
+    )
+
+    pub steps_passed : ArePassed call_form return_form is_call (Sessions k) ds → IsTakenList call_form return_form is_call k (Some taken) (elements d)
+        → ArePassed call_form return_form is_call (Steps k taken) (ds ++ d ∷ [])
+    steps_passed so_far are = third so_far.0 (elements d) refl so_far.1 are
+
+    pub rest_passed : ArePassed call_form return_form is_call (Steps k taken) ds → ArePassed call_form return_form is_call (Steps k taken) (ds ++ d ∷ [])
+    rest_passed so_far = (so_far.0, so_far.1, so_far.2 ++ d ∷ [], ap (λ (es : List Data). es ++ d ∷ []) so_far.3, so_far.4)
+
+  -- ---- the whole text
+
+  module _ (text : List ℕ) (d : Data) (json : IsJson text d) where
+    module _ (k : ℕ) (taken : StepsTaken C R) (are : IsGathered (λ (s : Unit {0}). ArePassed call_form return_form is_call (Steps k taken)) AreNoScript tt true (elements d)) where
+      pub some_steps : (cs : List Data) × AreTaken call_form return_form is_call k taken cs
+      some_steps = let all = list_taken (ArePassed call_form return_form is_call (Steps k taken)) AreNoScript d are in (all.2.1, all.2.4)
+
+    module _ (p : Parts) (read : IsJson text (parts_form p)) where
+      has : elements d ≡ Some (string p.name ∷ number_form p.sessions ∷ list p.steps ∷ p.rest)
+      has = ap elements (one_value text d (parts_form p) json read) ∙ elements-list (string p.name ∷ number_form p.sessions ∷ list p.steps ∷ p.rest)
+
+      one_list : (cs : List Data) → list cs ≡ list p.steps → cs ≡ p.steps
+      one_list cs same = same_Some cs p.steps (sym (elements-list cs) ∙ ap elements same ∙ elements-list p.steps)
+
+      all_passed : (passed : Passed C R) → IsGathered (λ (s : Unit {0}). ArePassed call_form return_form is_call passed) AreNoScript tt true (elements d)
+          → ArePassed call_form return_form is_call passed (string p.name ∷ number_form p.sessions ∷ list p.steps ∷ p.rest)
+      all_passed passed are = subst (IsGathered (λ (s : Unit {0}). ArePassed call_form return_form is_call passed) AreNoScript tt true) has are
+
+      -- the steps are those of the parts
+      pub these_steps : (k : ℕ) (taken : StepsTaken C R) → IsGathered (λ (s : Unit {0}). ArePassed call_form return_form is_call (Steps k taken)) AreNoScript tt true (elements d)
+          → AreTaken call_form return_form is_call p.sessions taken p.steps
+      these_steps k taken are =
+          let all = all_passed (Steps k taken) are in
+          let numbers : number_form p.sessions ≡ number_form k = cc in
+          let lists : list p.steps ≡ list all.1 = cc in
+          let sessions : p.sessions ≡ k = cc in
+          subst (λ (n : ℕ). AreTaken call_form return_form is_call n taken p.steps) (sym sessions)
+          (subst (AreTaken call_form return_form is_call k taken) (one_list all.1 (sym lists)) all.4)
+
+      nothing_more : (ds : List Data) → ds ++ [] ≡ ds
+      nothing_more [] = refl
+      nothing_more (e ∷ es) = ap (λ (xs : List Data). e ∷ xs) (nothing_more es)
+
+      pub these_refused : (e : ScriptError) → AreTaken call_form return_form is_call p.sessions (Refused e) p.steps → IsStepsRefusal call_form return_form is_call p.sessions p.steps e
+      these_refused e refused = subst (λ (ds : List Data). IsStepsRefusal call_form return_form is_call p.sessions ds e) (nothing_more p.steps) (refused [])
+
+      -- less than a script is none
+      pub some_passed : IsGathered (λ (s : Unit {0}). ArePassed call_form return_form is_call Nothing) AreNoScript tt true (elements d) → ⊥
+      some_passed are = let all = all_passed Nothing are in absurd cc
+
+      pub more_than_name : IsGathered (λ (s : Unit {0}). ArePassed call_form return_form is_call Name) AreNoScript tt true (elements d) → ⊥
+      more_than_name are = let all = all_passed Name are in let same = all.1 in absurd cc
+
+      pub more_than_sessions : (k : ℕ) → IsGathered (λ (s : Unit {0}). ArePassed call_form return_form is_call (Sessions k)) AreNoScript tt true (elements d) → ⊥
+      more_than_sessions k are = let all = all_passed (Sessions k) are in let same = all.1 in absurd cc
+
+      pub a_script : (passed : Passed C R) → IsGathered (λ (s : Unit {0}). ArePassed call_form return_form is_call passed) AreNoScript tt false (elements d) → ⊥
+      a_script passed are =
+          let none : AreNoScript (string p.name ∷ number_form p.sessions ∷ list p.steps ∷ p.rest) =
+          subst (IsGathered (λ (s : Unit {0}). ArePassed call_form return_form is_call passed) AreNoScript tt false) has are in
+          none (string p.name) p.sessions p.steps p.rest refl

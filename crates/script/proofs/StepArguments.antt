@@ -1,0 +1,375 @@
+-- What the elements of a step are taken into, one after the other.
+use Rattle.std.proofs.Common.{◌≡◌, ℕ, ◌+◌, ◌<◌, ◌≤◌, List, [], ◌∷◌, ◌++◌, All, Bool, true, false, length, map, Option, Some, None, refl, ap, sym, subst, ◌∙◌, arith}
+use Rattle.std.specs.Prelude.{◌≢◌, MatchOption}
+use Rattle.std.proofs.lemmas.List.{length-append, length-map}
+use Rattle.std.proofs.lemmas.Option.{same_Some}
+use Rattle.history.specs.declared.limits.TheConstants.{MAX_OPERATIONS}
+use Rattle.serde_json.specs.Data.{Data}
+use Rattle.operations.specs.Json.{elements, list}
+use Rattle.operations.specs.Laws.Json.{elements-list, list_from_elements}
+use Rattle.operations.specs.Reads.{list_form, number_form}
+use Rattle.cert_check.specs.declared.criterion.Criterion.{Criterion}
+use Rattle.cert_check.specs.declared.certificate.Certificate.{Certificate}
+use Rattle.bad_patterns.specs.declared.pattern.Pattern.{Pattern}
+use Rattle.bad_patterns.specs.PatternForm.{form_of as pattern_form}
+use Rattle.pattern_reader.specs.Words.{word_form}
+use Rattle.token_reader.specs.Gathers.{IsTakenList}
+use Rattle.certificate_reader.proofs.Forms.{list_taken}
+use Rattle.world.specs.declared.step.StepOf.TheVariants.{Begin, End, Start, Look, Show, File, Take, Work, Put, Refute, Ask}
+use Rattle.script.specs.declared.step_parts.StepParts.{StepParts}
+use Rattle.script.specs.declared.step_parts.StepParts.TheVariants.{Nothing, Word, Number, Piece, Whole}
+use Rattle.script.specs.declared.step_word.StepWord.{StepWord}
+use Rattle.script.specs.declared.step_word.StepWord.TheVariants as words
+use Rattle.script.specs.declared.written_step.TheConstants.{MAX_LOOKS}
+use Rattle.script.specs.declared.written_step.WrittenStep.{WrittenStep}
+use Rattle.script.specs.declared.written_step.WrittenStep.TheVariants.{Once, StartUntold, Looks}
+use Rattle.script.specs.Shortened.{kept_written}
+use Rattle.script.specs.StepForm.{arguments_of, word_of, written_form, IsWritten}
+use Rattle.script.specs.StepWords.{name_of}
+use Rattle.script.specs.Steps.Filing.{IsCaseIn}
+use Rattle.script.specs.Steps.StepParts.{AreNoStep, ArePartsOf, AreStep, HasCounts, IsAnyStepIn, IsAnyWritten, IsNextPart, IsStepIn, TakesNumber, alone, elements_of, most_elements, whole_of, with_number}
+use Rattle.script.proofs.StepForms.{after_word, has_word, no_begin, no_end, no_file, no_look, no_number, no_put, no_refute, no_start, no_word, no_work, too_many}
+
+module _ {C R : Type 0} (call_form : C → Data) (return_form : R → Data) (is_call : C → Type 0) where
+  -- ---- after a word and a number
+
+  module _ (n : ℕ) (d : Data) where
+    abbrev IsNext : StepWord → Option (StepParts C R) → Type 0
+    IsNext w next = IsNextPart call_form return_form is_call next (word_form name_of w ∷ number_form n ∷ []) d
+
+    with_argument : (w : StepWord) (e : Data) → d ≡ e → word_form name_of w ∷ number_form n ∷ d ∷ [] ≡ word_form name_of w ∷ number_form n ∷ e ∷ []
+    with_argument w e same = ap (λ (x : Data). word_form name_of w ∷ number_form n ∷ x ∷ []) same
+
+    pub begin_taken : (c : C) → (d ≡ call_form c) × is_call c → IsNext words.Begin (Some (Whole (Once (Begin n c))))
+    begin_taken c is = ((Once (Begin n c), with_argument words.Begin (call_form c) is.0, (0, is.1), refl), omega arith)
+
+    pub none_begun : ((c : C) → is_call c → d ≢ call_form c) → IsNext words.Begin None
+    none_begun none = λ more. after_word call_form return_form is_call words.Begin (number_form n ∷ d ∷ more)
+        (no_begin call_form return_form is_call (number_form n ∷ d ∷ more) (λ s c good same. let e : d ≡ call_form c = cc in none c good e))
+
+    pub end_taken : (r : R) → d ≡ return_form r → IsNext words.End (Some (Whole (Once (End n r))))
+    end_taken r is = ((Once (End n r), with_argument words.End (return_form r) is, (0, tt), refl), omega arith)
+
+    pub none_ended : ((r : R) → d ≢ return_form r) → IsNext words.End None
+    none_ended none = λ more. after_word call_form return_form is_call words.End (number_form n ∷ d ∷ more)
+        (no_end call_form return_form is_call (number_form n ∷ d ∷ more) (λ s r same. let e : d ≡ return_form r = cc in none r e))
+
+    pub looks_taken : (times : ℕ) → d ≡ number_form times → 0 < times → times ≤ MAX_LOOKS → IsNext words.Look (Some (Whole (Looks n times)))
+    looks_taken times is some few = ((Looks n times, with_argument words.Look (number_form times) is, (0, (some, few)), refl), omega arith)
+
+    pub no_looks : ((times : ℕ) → 0 < times → times ≤ MAX_LOOKS → d ≢ number_form times) → IsNext words.Look None
+    no_looks none = λ more. after_word call_form return_form is_call words.Look (number_form n ∷ d ∷ more)
+        (no_look call_form return_form is_call (number_form n ∷ d ∷ more) (λ z same. absurd cc)
+        (λ z times some few same. let e : d ≡ number_form times = cc in none times some few e))
+
+    pub file_taken : (criterion : Criterion) (certificate : Option Certificate) → IsCaseIn d (Some (criterion, certificate)) → IsNext words.File (Some (Whole (Once (File n criterion certificate))))
+    file_taken criterion certificate is = (
+      (
+        Once (File n is.0.0 is.0.1),
+        with_argument words.File _ is.1,
+        (0, is.2),
+        ap (λ (case : Criterion × Option Certificate). Once (File n case.0 case.1)) is.3,
+      ),
+      omega arith,
+    )
+
+    pub none_filed : IsCaseIn d None → IsNext words.File None
+    none_filed none = λ more. after_word call_form return_form is_call words.File (number_form n ∷ d ∷ more)
+        (no_file call_form return_form is_call (number_form n ∷ d ∷ more)
+        (λ z criterion certificate good same. none (criterion, certificate) good (let e : d ≡ _ = cc in e)))
+
+    pub piece_taken : (session : ℕ) → d ≡ number_form session → IsNext words.Work (Some (Piece n session))
+    piece_taken session is = with_argument words.Work (number_form session) is
+
+    pub no_piece : ((m : ℕ) → d ≢ number_form m) → IsNext words.Work None
+    no_piece none = λ more. after_word call_form return_form is_call words.Work (number_form n ∷ d ∷ more)
+        (no_work call_form return_form is_call (number_form n ∷ d ∷ more) (λ c s i same. let e : d ≡ number_form s = cc in none s e))
+
+    pub put_taken : (verdict : ℕ) → d ≡ number_form verdict → IsNext words.Put (Some (Whole (Once (Put n verdict))))
+    put_taken verdict is = ((Once (Put n verdict), with_argument words.Put (number_form verdict) is, (0, tt), refl), omega arith)
+
+    pub none_put : ((m : ℕ) → d ≢ number_form m) → IsNext words.Put None
+    none_put none = λ more. after_word call_form return_form is_call words.Put (number_form n ∷ d ∷ more)
+        (no_put call_form return_form is_call (number_form n ∷ d ∷ more) (λ c v same. let e : d ≡ number_form v = cc in none v e))
+
+    pub refute_taken : (pattern : Pattern) → d ≡ pattern_form pattern → IsNext words.Refute (Some (Whole (Once (Refute n pattern))))
+    refute_taken pattern is = ((Once (Refute n pattern), with_argument words.Refute (pattern_form pattern) is, (0, tt), refl), omega arith)
+
+    pub none_refuted : ((pattern : Pattern) → d ≢ pattern_form pattern) → IsNext words.Refute None
+    none_refuted none = λ more. after_word call_form return_form is_call words.Refute (number_form n ∷ d ∷ more)
+        (no_refute call_form return_form is_call (number_form n ∷ d ∷ more) (λ c pattern same. let e : d ≡ pattern_form pattern = cc in none pattern e))
+
+    -- no element comes after the number
+    pub nothing_after : (w : StepWord) → most_elements w ≤ 2 → IsNext w None
+    nothing_after w few = λ more. too_many call_form return_form is_call w (number_form n ∷ d ∷ more) (omega (arith, few))
+
+  -- ---- after a check's case and session
+
+  module _ (case session : ℕ) (d : Data) where
+    abbrev IsNextOfPiece : Option (StepParts C R) → Type 0
+    IsNextOfPiece next = IsNextPart call_form return_form is_call next (word_form name_of words.Work ∷ number_form case ∷ number_form session ∷ []) d
+
+    pub work_taken : (index : ℕ) → d ≡ number_form index → IsNextOfPiece (Some (Whole (Once (Work case (record { session = session; index = index })))))
+    work_taken index is = (
+      (
+        Once (Work case (record { session = session; index = index })),
+        ap (λ (x : Data). word_form name_of words.Work ∷ number_form case ∷ number_form session ∷ x ∷ []) is,
+        (0, tt),
+        refl,
+      ),
+      omega arith,
+    )
+
+    pub no_index : ((m : ℕ) → d ≢ number_form m) → IsNextOfPiece None
+    no_index none = λ more. after_word call_form return_form is_call words.Work (number_form case ∷ number_form session ∷ d ∷ more)
+        (no_work call_form return_form is_call (number_form case ∷ number_form session ∷ d ∷ more) (λ c s i same. let e : d ≡ number_form i = cc in none i e))
+
+  -- ---- after a word
+
+  module _ (d : Data) where
+    abbrev IsNextOf : StepWord → Option (StepParts C R) → Type 0
+    IsNextOf w next = IsNextPart call_form return_form is_call next (word_form name_of w ∷ []) d
+
+    pub start_taken : (told : List ℕ) → (d ≡ list_form number_form told) × All (λ n. n ≤ MAX_OPERATIONS) told → IsNextOf words.Start (Some (Whole (Once (Start told))))
+    start_taken told is =
+        ((Once (Start told), ap (λ (x : Data). word_form name_of words.Start ∷ x ∷ []) is.0, (length told, (refl, is.1)), refl), omega arith)
+
+    pub none_started : ((told : List ℕ) → All (λ n. n ≤ MAX_OPERATIONS) told → d ≢ list_form number_form told) → IsNextOf words.Start None
+    none_started none = λ more. after_word call_form return_form is_call words.Start (d ∷ more)
+        (no_start call_form return_form is_call (d ∷ more) (λ same. absurd cc) (λ told good same. let e : d ≡ list_form number_form told = cc in none told good e))
+
+    pub nothing_taken : IsNextOf words.Take None
+    nothing_taken = λ more. too_many call_form return_form is_call words.Take (d ∷ more) (omega arith)
+
+    takes_number : (w : StepWord) → w ≢ words.Start → w ≢ words.Take → TakesNumber w
+    takes_number words.Begin no_start no_take = tt
+    takes_number words.End no_start no_take = tt
+    takes_number words.Start no_start no_take = absurd (no_start refl)
+    takes_number words.Look no_start no_take = tt
+    takes_number words.Show no_start no_take = tt
+    takes_number words.File no_start no_take = tt
+    takes_number words.Take no_start no_take = absurd (no_take refl)
+    takes_number words.Work no_start no_take = tt
+    takes_number words.Put no_start no_take = tt
+    takes_number words.Refute no_start no_take = tt
+    takes_number words.Ask no_start no_take = tt
+
+    module _ (w : StepWord) (no_start : w ≢ words.Start) (no_take : w ≢ words.Take) where
+      pub number_taken : (n : ℕ) → d ≡ number_form n → IsNextOf w (Some (Number w n))
+      number_taken n is = (takes_number w no_start no_take, ap (λ (x : Data). word_form name_of w ∷ x ∷ []) is)
+
+      pub number_missing : ((n : ℕ) → d ≢ number_form n) → IsNextOf w None
+      number_missing none = λ more. after_word call_form return_form is_call w (d ∷ more)
+          (no_number call_form return_form is_call w (d ∷ more) (takes_number w no_start no_take) (λ n rest same. let e : d ≡ number_form n = cc in none n e))
+
+  -- ---- any element
+
+  module _ (d : Data) (ds : List Data) where
+    abbrev IsNextAfter : Option (StepParts C R) → Type 0
+    IsNextAfter next = IsNextPart call_form return_form is_call next ds d
+
+    pub word_taken : (w : StepWord) → ds ≡ [] → d ≡ word_form name_of w → IsNextAfter (Some (Word w))
+    word_taken w none is = subst (λ (es : List Data). es ++ d ∷ [] ≡ word_form name_of w ∷ []) (sym none) (ap (λ (x : Data). x ∷ []) is)
+
+    pub word_missing : ds ≡ [] → ((w : StepWord) → d ≢ word_form name_of w) → IsNextAfter None
+    word_missing none other = λ more. subst (λ (es : List Data). AreNoStep call_form return_form is_call (es ++ d ∷ more)) (sym none) (no_word call_form return_form is_call d more other)
+
+    pub next_after : (next : Option (StepParts C R)) (es : List Data) → ds ≡ es → IsNextPart call_form return_form is_call next es d → IsNextAfter next
+    next_after next es same is = subst (λ (xs : List Data). IsNextPart call_form return_form is_call next xs d) (sym same) is
+
+    -- as much as a step with the word may have was taken
+    pub all_taken : (kept : WrittenStep C R) → ArePartsOf call_form return_form is_call (Whole kept) ds → IsNextAfter None
+    all_taken kept are = λ more step good same.
+        let e : ds ++ d ∷ more ≡ elements_of call_form return_form step = same in
+        let first : word_form name_of (word_of are.0.0) ∷ (rest_of are ++ d ∷ more) ≡ elements_of call_form return_form step =
+        ap (λ (es : List Data). es ++ d ∷ more) (sym are.0.1) ∙ e in
+        too_many call_form return_form is_call (word_of are.0.0) (rest_of are ++ d ∷ more) (enough are more) step good first
+      where
+        same_word : (step : WrittenStep C R) → word_of (kept_written step) ≡ word_of step
+        same_word (Once (Begin s c)) = refl
+        same_word (Once (End s r)) = refl
+        same_word (Once (Start told)) = refl
+        same_word (Once (Look z)) = refl
+        same_word (Once (Show z)) = refl
+        same_word (Once (File z criterion certificate)) = refl
+        same_word (Once Take) = refl
+        same_word (Once (Work c o)) = refl
+        same_word (Once (Put c v)) = refl
+        same_word (Once (Refute c pattern)) = refl
+        same_word (Once (Ask c)) = refl
+        same_word StartUntold = refl
+        same_word (Looks z n) = refl
+
+        rest_of : ArePartsOf call_form return_form is_call (Whole kept) ds → List Data
+        rest_of are = arguments_of call_form return_form are.0.0
+
+        enough : (are : ArePartsOf call_form return_form is_call (Whole kept) ds) (more : List Data) → most_elements (word_of are.0.0) < length (rest_of are ++ d ∷ more) + 1
+        enough are more =
+            let word : most_elements (word_of kept) ≡ most_elements (word_of are.0.0) = ap (λ (w : WrittenStep C R). most_elements (word_of w)) are.0.3 ∙ ap most_elements (same_word are.0.0) in
+            let many = ap length are.0.1 in
+            let most = are.1 in
+            let sum = length-append (rest_of are) (d ∷ more) in
+            omega (arith, word, many, most, sum)
+
+  -- ---- all elements
+
+  module _ (ds : List Data) where
+    abbrev IsWhole : Option (WrittenStep C R) → Type 0
+    IsWhole step = MatchOption step (AreNoStep call_form return_form is_call ds) (AreStep call_form return_form is_call ds)
+
+    alone_there : (w : StepWord) → ds ≡ word_form name_of w ∷ [] → (step : WrittenStep C R) → word_form name_of w ∷ [] ≡ elements_of call_form return_form step
+        → IsAnyWritten is_call step → kept_written step ≡ step → IsWhole (Some step)
+    alone_there w are step same is kept = (step, are ∙ same, is, sym kept)
+
+    not_alone : (w : StepWord) → TakesNumber w → ds ≡ word_form name_of w ∷ [] → IsWhole None
+    not_alone w takes are =
+        subst (AreNoStep call_form return_form is_call) (sym are)
+        (after_word call_form return_form is_call w [] (no_number call_form return_form is_call w [] takes (λ n more same. absurd cc)))
+
+    whole_word : (w : StepWord) → ds ≡ word_form name_of w ∷ [] → IsWhole (alone w)
+    whole_word words.Begin are = not_alone words.Begin tt are
+    whole_word words.End are = not_alone words.End tt are
+    whole_word words.Start are = alone_there words.Start are StartUntold refl (0, tt) refl
+    whole_word words.Look are = not_alone words.Look tt are
+    whole_word words.Show are = not_alone words.Show tt are
+    whole_word words.File are = not_alone words.File tt are
+    whole_word words.Take are = alone_there words.Take are (Once Take) refl (0, tt) refl
+    whole_word words.Work are = not_alone words.Work tt are
+    whole_word words.Put are = not_alone words.Put tt are
+    whole_word words.Refute are = not_alone words.Refute tt are
+    whole_word words.Ask are = not_alone words.Ask tt are
+
+    module _ (n : ℕ) where
+      abbrev IsAlone : StepWord → Type 0
+      IsAlone w = ds ≡ word_form name_of w ∷ number_form n ∷ []
+
+      no_more : (w : StepWord) → IsAlone w → ((step : WrittenStep C R) → IsAnyWritten is_call step → word_of step ≡ w
+          → number_form n ∷ [] ≢ arguments_of call_form return_form step) → IsWhole None
+      no_more w are none =
+          subst (AreNoStep call_form return_form is_call) (sym are) (after_word call_form return_form is_call w (number_form n ∷ []) none)
+
+      number_there : (w : StepWord) → IsAlone w → (step : WrittenStep C R) → word_form name_of w ∷ number_form n ∷ [] ≡ elements_of call_form return_form step
+          → IsAnyWritten is_call step → kept_written step ≡ step → IsWhole (Some step)
+      number_there w are step same is kept = (step, are ∙ same, is, sym kept)
+
+      whole_number : (w : StepWord) → TakesNumber w → IsAlone w → IsWhole (with_number w n)
+      whole_number words.Begin takes are = no_more words.Begin are (no_begin call_form return_form is_call _ (λ s c good same. absurd cc))
+      whole_number words.End takes are = no_more words.End are (no_end call_form return_form is_call _ (λ s r same. absurd cc))
+      whole_number words.Start takes are = absurd takes
+      whole_number words.Look takes are = number_there words.Look are (Once (Look n)) refl (0, tt) refl
+      whole_number words.Show takes are = number_there words.Show are (Once (Show n)) refl (0, tt) refl
+      whole_number words.File takes are = no_more words.File are (no_file call_form return_form is_call _ (λ z criterion certificate good same. absurd cc))
+      whole_number words.Take takes are = absurd takes
+      whole_number words.Work takes are = no_more words.Work are (no_work call_form return_form is_call _ (λ c s i same. absurd cc))
+      whole_number words.Put takes are = no_more words.Put are (no_put call_form return_form is_call _ (λ c v same. absurd cc))
+      whole_number words.Refute takes are = no_more words.Refute are (no_refute call_form return_form is_call _ (λ c pattern same. absurd cc))
+      whole_number words.Ask takes are = number_there words.Ask are (Once (Ask n)) refl (0, tt) refl
+
+    whole_parts : (parts : StepParts C R) → ArePartsOf call_form return_form is_call parts ds → IsWhole (whole_of parts)
+    whole_parts Nothing are = λ step good same. let none : [] ≡ elements_of call_form return_form step = sym are ∙ same in absurd cc
+    whole_parts (Word w) are = whole_word w are
+    whole_parts (Number w n) are = whole_number n w are.0 are.1
+    whole_parts (Piece case session) are =
+        subst (AreNoStep call_form return_form is_call) (sym are)
+        (after_word call_form return_form is_call words.Work _ (no_work call_form return_form is_call _ (λ c s i same. absurd cc)))
+    whole_parts (Whole kept) are = are.0
+
+  -- ---- the whole value
+
+  module _ (d : Data) where
+    abbrev IsTakenStep : Bool → StepParts C R → Type 0
+    IsTakenStep taken parts = IsTakenList (λ (s : Unit {0}). ArePartsOf call_form return_form is_call parts) (AreNoStep call_form return_form is_call) tt taken (elements d)
+
+    step_of : (step : WrittenStep C R) → d ≡ written_form call_form return_form step → elements d ≡ Some (elements_of call_form return_form step)
+    step_of step same = ap elements same ∙ elements-list (elements_of call_form return_form step)
+
+    pub step_there : (parts : StepParts C R) (kept : WrittenStep C R) → IsTakenStep true parts → whole_of parts ≡ Some kept → IsAnyStepIn call_form return_form is_call d kept
+    step_there parts kept are all =
+        let whole = list_taken (ArePartsOf call_form return_form is_call parts) (AreNoStep call_form return_form is_call) d are in
+        let is = subst (IsWhole whole.0) all (whole_parts whole.0 parts whole.2) in
+        (is.0, list_from_elements d whole.0 whole.1 ∙ ap list is.1, is.2, is.3)
+
+    pub not_all_there : (k : ℕ) (parts : StepParts C R) → IsTakenStep true parts → whole_of parts ≡ None → IsStepIn call_form return_form is_call k d None
+    not_all_there k parts are none =
+        let whole = list_taken (ArePartsOf call_form return_form is_call parts) (AreNoStep call_form return_form is_call) d are in
+        let is = subst (IsWhole whole.0) none (whole_parts whole.0 parts whole.2) in
+        λ step good same. is step (k, good) (same_Some whole.0 (elements_of call_form return_form step) (sym whole.1 ∙ step_of step same))
+
+    pub no_step_there : (k : ℕ) (parts : StepParts C R) → IsTakenStep false parts → IsStepIn call_form return_form is_call k d None
+    no_step_there k parts are step good same =
+        let there : IsTakenList (λ (s : Unit {0}). ArePartsOf call_form return_form is_call parts) (AreNoStep call_form return_form is_call) tt false (Some (elements_of call_form return_form step)) =
+        subst (IsTakenList (λ (s : Unit {0}). ArePartsOf call_form return_form is_call parts) (AreNoStep call_form return_form is_call) tt false) (step_of step same) are in
+        there step (k, good) refl
+
+    -- ---- the number of sessions
+
+    same_counts : (told counts : List ℕ) → list_form number_form told ≡ list_form number_form counts → length told ≡ length counts
+    same_counts told counts same =
+        let forms : map number_form told ≡ map number_form counts =
+        same_Some _ _ (sym (elements-list (map number_form told)) ∙ ap elements same ∙ elements-list (map number_form counts)) in
+        sym (length-map told number_form) ∙ ap length forms ∙ length-map counts number_form
+
+    module _ (k : ℕ) where
+      kept_start : (told : List ℕ) (step : WrittenStep C R) → Once (Start told) ≡ kept_written step → step ≡ Once (Start told)
+      kept_start told (Once (Begin s c)) same = absurd cc
+      kept_start told (Once (End s r)) same = absurd cc
+      kept_start told (Once (Start counts)) same = let counts_are : told ≡ counts = cc in ap (λ (x : List ℕ). Once (Start x)) (sym counts_are)
+      kept_start told (Once (Look z)) same = absurd cc
+      kept_start told (Once (Show z)) same = absurd cc
+      kept_start told (Once (File z criterion certificate)) same = absurd cc
+      kept_start told (Once Take) same = absurd cc
+      kept_start told (Once (Work c o)) same = absurd cc
+      kept_start told (Once (Put c v)) same = absurd cc
+      kept_start told (Once (Refute c pattern)) same = absurd cc
+      kept_start told (Once (Ask c)) same = absurd cc
+      kept_start told StartUntold same = absurd cc
+      kept_start told (Looks z n) same = absurd cc
+
+      module _ (told : List ℕ) (other : length told ≢ k) where
+        no_other : (step : WrittenStep C R) → IsWritten is_call k step → word_of step ≡ words.Start → list_form number_form told ∷ [] ≢ arguments_of call_form return_form step
+        no_other (Once (Start counts)) good e same = let lists : list_form number_form told ≡ list_form number_form counts = cc in other (same_counts told counts lists ∙ good.0)
+        no_other StartUntold good e same = absurd cc
+        no_other _ good e same = absurd cc
+
+        -- a step with another number of counts is none for k sessions
+        pub other_counts : IsAnyStepIn call_form return_form is_call d (Once (Start told)) → IsStepIn call_form return_form is_call k d None
+        other_counts is step good same =
+            let form : d ≡ written_form call_form return_form (Once (Start told)) = is.1 ∙ ap (written_form call_form return_form) (kept_start told is.0 is.3) in
+            let both : elements_of call_form return_form (Once (Start told)) ≡ elements_of call_form return_form step =
+            same_Some _ _ (sym (step_of (Once (Start told)) form) ∙ step_of step same) in
+            let arguments : list_form number_form told ∷ [] ≡ arguments_of call_form return_form step = cc in
+            no_other step good (has_word call_form return_form is_call words.Start (list_form number_form told ∷ []) step both) arguments
+
+      pub no_counts : (kept : WrittenStep C R) → IsAnyStepIn call_form return_form is_call d kept → ¬ HasCounts k kept → IsStepIn call_form return_form is_call k d None
+      no_counts (Once (Begin s c)) is none = absurd (none tt)
+      no_counts (Once (End s r)) is none = absurd (none tt)
+      no_counts (Once (Start told)) is none = other_counts told none is
+      no_counts (Once (Look z)) is none = absurd (none tt)
+      no_counts (Once (Show z)) is none = absurd (none tt)
+      no_counts (Once (File z criterion certificate)) is none = absurd (none tt)
+      no_counts (Once Take) is none = absurd (none tt)
+      no_counts (Once (Work c o)) is none = absurd (none tt)
+      no_counts (Once (Put c v)) is none = absurd (none tt)
+      no_counts (Once (Refute c pattern)) is none = absurd (none tt)
+      no_counts (Once (Ask c)) is none = absurd (none tt)
+      no_counts StartUntold is none = absurd (none tt)
+      no_counts (Looks z n) is none = absurd (none tt)
+
+      -- what is in range for some number of sessions is in range for k, where the counts of a start are
+      for_k : (j : ℕ) (step : WrittenStep C R) → IsWritten is_call j step → HasCounts k (kept_written step) → IsWritten is_call k step
+      for_k j (Once (Begin s c)) is has = is
+      for_k j (Once (End s r)) is has = is
+      for_k j (Once (Start told)) is has = (has, is.1)
+      for_k j (Once (Look z)) is has = is
+      for_k j (Once (Show z)) is has = is
+      for_k j (Once (File z criterion certificate)) is has = is
+      for_k j (Once Take) is has = is
+      for_k j (Once (Work c o)) is has = is
+      for_k j (Once (Put c v)) is has = is
+      for_k j (Once (Refute c pattern)) is has = is
+      for_k j (Once (Ask c)) is has = is
+      for_k j StartUntold is has = is
+      for_k j (Looks z n) is has = is
+
+      pub these_counts : (kept : WrittenStep C R) → IsAnyStepIn call_form return_form is_call d kept → HasCounts k kept → IsStepIn call_form return_form is_call k d (Some kept)
+      these_counts kept is has = (is.0, is.1, for_k is.2.0 is.0 is.2.1 (subst (HasCounts k) is.3 has), is.3)

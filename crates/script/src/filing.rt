@@ -1,0 +1,58 @@
+//! Reading what a case is filed with: the name of a criterion, or a certificate.
+
+ghost use Rattle.std.specs.Prelude.{◌<◌, length, IfOk, IfErr, OnOk};
+ghost use Rattle.serde_json.specs.Data.{Data, string};
+ghost use Rattle.bounded_json.specs.Steps.Reading.{IsRefused};
+ghost use Rattle.certificate_reader.specs.Found.{IsShortenedIn};
+ghost use Rattle.script.specs.Steps.Filing.{IsCaseIn, IsNoText};
+ghost use Rattle.token_reader.specs.Tokens.{IsValue};
+
+use bounded_json::TextError;
+use cert_check::{Certificate, Criterion};
+use certificate_reader::certificate_from;
+use json::{Reader, Token};
+use std::alloc::Global;
+use token_reader::next_token;
+
+/// The criterion of a case, and its certificate where it has one.
+pub(crate) type Case = (Criterion, Option<Certificate>);
+
+/// What the name of a criterion says.
+fn named_case(name: &str) -> Option<Case>
+    ensures { IsCaseIn (string name.now) result }
+{
+    match Criterion::named(name) {
+        Some(criterion) => Some((criterion, None)),
+        None => None,
+    }
+}
+
+/// What a certificate says that was read of a value.
+fn certified_case(read: Option<Certificate>) -> Option<Case>
+    ensures { (d : Data) → IsNoText d → IsShortenedIn d read → IsCaseIn d result }
+{
+    match read {
+        Some(certificate) => Some((certificate.criterion(), Some(certificate))),
+        None => None,
+    }
+}
+
+/// The criterion that comes next, with a certificate where the next value is the form of one and not the name of a criterion. None where
+/// it is neither. It passes the value.
+///
+/// Of a certificate it keeps what [`certificate_from`] keeps.
+pub(crate) fn next_case(
+    alloc: Global,
+    reader: &mut Reader<'_>,
+    depth: usize,
+) -> Result<Option<Case>, TextError>
+    ensures read { IfOk result (λ case. IsValue (λ d. IsCaseIn d case) depth reader.old reader.new) }
+    ensures shorter { OnOk result (length reader.new < length reader.old) }
+    ensures refused { IfErr result (IsRefused depth reader.old) }
+{
+    let token = next_token(reader)?;
+    if let Token::String(name) = token {
+        return Ok(named_case(name));
+    }
+    Ok(certified_case(certificate_from(alloc, token, reader, depth)?))
+}

@@ -1,0 +1,130 @@
+//! Reading the steps of a script from its text.
+
+ghost use Rattle.std.specs.Prelude.{◌<◌, ℕ, List, length, IfOk, IfErr, MatchResult, OnOk};
+ghost use Rattle.serde_json.specs.Data.{Data};
+ghost use Rattle.bounded_json.specs.Steps.Reading.{IsRefused};
+ghost use Rattle.operations.specs.AnyForm.{IsJson};
+ghost use Rattle.script.specs.ScriptForm.{IsFew, Parts, parts_form};
+ghost use Rattle.script.specs.Steps.StepsTaken.{ArePassed, AreSteps, IsNextPassed, IsStepsRefusal};
+ghost use Rattle.token_reader.specs.Tokens.{IsValue};
+
+use crate::arguments::next_number;
+use crate::script_error::ScriptError;
+use crate::step_forms::StepForms;
+use crate::step_parts::StepFor;
+use crate::steps_taken::{StepsTaken, next_steps};
+use bounded_json::TextError;
+use json::Reader;
+use std::alloc::Global;
+use std::mem;
+use token_reader::{Gather, gather_text, pass_value};
+
+/// Which elements of a script were passed, with calls `C` and returns `R`.
+#[derive(Drop)]
+enum Passed<C, R> {
+    /// None.
+    Nothing,
+    /// Its name.
+    Name,
+    /// Its name and its number of sessions.
+    Sessions(usize),
+    /// Its name, its number of sessions and its steps, and whatever comes after them.
+    Steps(usize, StepsTaken<C, R>),
+}
+
+/// Which elements of a script of an object were passed.
+type PassedOf<F> = Passed<<F as StepForms>::Call, <F as StepForms>::Ret>;
+
+/// What was passed, with the element that comes next, or none where no script goes on so. It passes the element.
+fn next_passed<F: StepForms>(
+    alloc: Global,
+    reader: &mut Reader<'_>,
+    depth: usize,
+    passed: PassedOf<F>,
+) -> Result<Option<PassedOf<F>>, TextError>
+    ensures read { IfOk result
+        (λ next. IsValue (λ d. (ds : List Data) → ArePassed F.call_form F.return_form F.is_call passed ds
+        → IsNextPassed F.call_form F.return_form F.is_call next ds d) depth reader.old reader.new) }
+    ensures shorter { OnOk result (length reader.new < length reader.old) }
+    ensures refused { IfErr result (IsRefused depth reader.old) }
+{
+    match passed {
+        Passed::Nothing => {
+            pass_value(alloc, reader, depth)?;
+            Ok(Some(Passed::Name))
+        }
+        Passed::Name => match next_number(alloc, reader, depth)? {
+            Some(sessions) => Ok(Some(Passed::Sessions(sessions))),
+            None => Ok(None),
+        },
+        Passed::Sessions(sessions) => match next_steps::<F>(alloc, reader, depth, sessions)? {
+            Some(steps) => Ok(Some(Passed::Steps(sessions, steps))),
+            None => Ok(None),
+        },
+        Passed::Steps(sessions, steps) => {
+            pass_value(alloc, reader, depth)?;
+            Ok(Some(Passed::Steps(sessions, steps)))
+        }
+    }
+}
+
+/// A script of which the steps are being read.
+#[derive(Drop)]
+struct ScriptSteps<F: StepForms> {
+    passed: PassedOf<F>,
+}
+
+impl<F: StepForms> Gather for ScriptSteps<F> {
+    ghost use Rattle.script.specs.Steps.StepsTaken.{AreNoScript, ArePassed};
+
+    ghost is_of = { λ script ds. ArePassed F.call_form F.return_form F.is_call script.passed ds };
+
+    ghost refuses = { AreNoScript };
+
+    fn take_next(
+        &mut self,
+        alloc: Global,
+        reader: &mut Reader<'_>,
+        depth: usize,
+    ) -> Result<bool, TextError> {
+        let passed = mem::replace(&mut self.passed, Passed::Nothing);
+        match next_passed::<F>(alloc, reader, depth, passed)? {
+            Some(next) => {
+                self.passed = next;
+                Ok(true)
+            }
+            None => Ok(false),
+        }
+    }
+}
+
+/// The steps of the script that the text is, for as many sessions as it says.
+///
+/// The text has the parts of a script. `BadStep` with the place of a step that has no form, and `TooManySteps` where the steps up to here
+/// expand to more than 65,536, whichever comes first. `Memory` only where an allocation was refused. O(n) for n bytes.
+pub(crate) fn read_steps<F: StepForms>(
+    alloc: Global,
+    text: &[u8],
+) -> Result<Vec<StepFor<F>>, ScriptError>
+    ensures few { IfOk result (λ kept. (k : ℕ) → IsFew k kept.items) }
+    ensures read { (p : Parts) → IsJson text.now (parts_form p)
+        → MatchResult result (λ kept. AreSteps F.call_form F.return_form F.is_call p.sessions p.steps kept.items)
+        (IsStepsRefusal F.call_form F.return_form F.is_call p.sessions p.steps) }
+{
+    let mut script = ScriptSteps::<F> {
+        passed: Passed::Nothing,
+    };
+    match gather_text(alloc, text, &mut script) {
+        Ok(true) => {}
+        Ok(false) => return Err(ScriptError::BadShape),
+        Err(TextError::NotJson) => return Err(ScriptError::NotJson),
+        Err(TextError::Memory) => return Err(ScriptError::Memory),
+    }
+    let Passed::Steps(_, taken) = script.passed else {
+        return Err(ScriptError::BadShape);
+    };
+    match taken {
+        StepsTaken::Fine(steps, _) => Ok(steps),
+        StepsTaken::Refused(error) => Err(error),
+    }
+}
