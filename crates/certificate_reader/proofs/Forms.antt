@@ -7,7 +7,7 @@ use Rattle.serde_json.specs.Data.{Data}
 use Rattle.operations.specs.Json.{elements, list}
 use Rattle.operations.specs.Laws.Json.{elements-list, list_from_elements}
 use Rattle.operations.specs.Reads.{list_form}
-use Rattle.token_reader.specs.Gathers.{IsTaken, IsTakenList}
+use Rattle.token_reader.specs.Gathers.{IsTakenList}
 use Rattle.certificate_reader.specs.Steps.Lists.{AreForms, AreNoForms, IsForm, IsNoForm, IsReadInto}
 
 -- ---- the elements that were taken are those of the list
@@ -16,10 +16,6 @@ module _ (P R : List Data → Type 0) where
   -- what is taken of the elements of a value
   abbrev pub IsTakenOf : Bool → Option (List Data) → Type 0
   IsTakenOf = IsTakenList (λ (s : Unit {0}). P) R tt
-
-  -- one element more is taken
-  abbrev pub IsTakenMore : Bool → List Data → Data → Type 0
-  IsTakenMore = IsTaken (λ (s : Unit {0}). P) R tt
 
   of_elements : (o p : Option (List Data)) → o ≡ p → IsTakenOf true p → (ds : List Data) × (o ≡ Some ds) × P ds
   of_elements o None is taken = absurd cc

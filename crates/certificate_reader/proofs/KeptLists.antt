@@ -1,16 +1,16 @@
 -- What is kept of lists, one session after the other.
-use Rattle.std.proofs.Common.{◌≡◌, ℕ, ◌+◌, ◌<◌, ◌≤◌, List, [], ◌∷◌, ◌++◌, All, length, take, true, Some, ap, refl, subst, sym, ◌∙◌, ⊎_elim, arith}
+use Rattle.std.proofs.Common.{◌≡◌, ◌<◌, ◌≤◌, List, [], ◌∷◌, ◌++◌, length, true, ap, subst, sym, ◌∙◌, ⊎_elim, arith}
 use Rattle.std.proofs.lemmas.Bool.{cases_lt}
 use Rattle.std.proofs.lemmas.List.{length-append, length-take-le, take-append-le, take_all}
 use Rattle.serde_json.specs.Data.{Data}
 use Rattle.operations.specs.Json.{elements}
-use Rattle.certificate_reader.specs.Shortened.{kept_of}
-use Rattle.certificate_reader.specs.Steps.Lists.{AreForms, AreKept, AreNoForms, IsForm, IsKept}
+use Rattle.certificate_reader.specs.Shortened.{kept_sessions}
+use Rattle.certificate_reader.specs.Steps.Lists.{AreKept, AreNoForms, IsForm, IsKept}
 use Rattle.certificate_reader.proofs.Forms.{IsTakenOf, forms_more, list_is, list_taken}
 
 module _ {A : Type 0} (xs : List A) where
   -- where no more are kept than a history has, all are
-  pub all_kept : length (kept_of xs) ≤ 16 → kept_of xs ≡ xs
+  pub all_kept : length (kept_sessions xs) ≤ 16 → kept_sessions xs ≡ xs
   all_kept few =
       ⊎_elim
       (λ (short : length xs < 17). take_all 17 xs (omega (arith, short)))
@@ -18,20 +18,20 @@ module _ {A : Type 0} (xs : List A) where
       (cases_lt (length xs) 17)
 
   -- where more are kept, there are more
-  pub more_there : 16 < length (kept_of xs) → 16 < length xs
+  pub more_there : 16 < length (kept_sessions xs) → 16 < length xs
   more_there many =
       ⊎_elim
-      (λ (short : length xs < 17). let same : length (kept_of xs) ≡ length xs = ap length (take_all 17 xs (omega (arith, short))) in omega (arith, same, many))
+      (λ (short : length xs < 17). let same : length (kept_sessions xs) ≡ length xs = ap length (take_all 17 xs (omega (arith, short))) in omega (arith, same, many))
       (λ (long : 17 ≤ length xs). omega (arith, long))
       (cases_lt (length xs) 17)
 
-  kept_with : (x : A) → length (kept_of xs) ≤ 16 → kept_of (xs ++ x ∷ []) ≡ kept_of xs ++ x ∷ []
+  kept_with : (x : A) → length (kept_sessions xs) ≤ 16 → kept_sessions (xs ++ x ∷ []) ≡ kept_sessions xs ++ x ∷ []
   kept_with x few =
       let all = all_kept few in
       let short : length xs ≤ 16 = subst (λ (ys : List A). length ys ≤ 16) all few in
       take_all 17 (xs ++ x ∷ []) (omega (arith, short, length-append xs (x ∷ []))) ∙ ap (λ (ys : List A). ys ++ x ∷ []) (sym all)
 
-  kept_without : (x : A) → ¬ (length (kept_of xs) ≤ 16) → kept_of (xs ++ x ∷ []) ≡ kept_of xs
+  kept_without : (x : A) → ¬ (length (kept_sessions xs) ≤ 16) → kept_sessions (xs ++ x ∷ []) ≡ kept_sessions xs
   kept_without x full = take-append-le 17 xs (x ∷ []) (let many = more_there (omega (arith, full)) in omega (arith, many))
 
 module _ {A : Type 0} (fits : A → Type 0) (form : A → Data) where

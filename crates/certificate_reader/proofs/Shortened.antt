@@ -1,5 +1,5 @@
 -- What is kept of a certificate that is too large is too large, and has the shape of no history; what is kept of another is all of it.
-use Rattle.std.proofs.Common.{◌≡◌, ℕ, ◌<◌, ◌≤◌, List, length, ap, ap₂, subst, sym, ◌∙◌, arith, inl, inr}
+use Rattle.std.proofs.Common.{◌≡◌, ◌<◌, ◌≤◌, List, length, ap, ap₂, subst, sym, ◌∙◌, arith, inl, inr}
 use Rattle.std.specs.Prelude.{Bool, Some}
 use Rattle.serde_json.specs.Data.{Data}
 use Rattle.history.specs.History.{HistoryValue, IsHistory}
@@ -9,10 +9,10 @@ use Rattle.cert_check.specs.declared.certificate.Certificate.TheVariants.{Cc, Cm
 use Rattle.cert_check.specs.Certificates.{HasShapeOf}
 use Rattle.cert_check.specs.CertificateForm.{form_of, IsCertificate}
 use Rattle.certificate_reader.specs.Found.{IsShortenedIn}
-use Rattle.certificate_reader.specs.Shortened.{kept_of, shortened, IsTooLarge}
+use Rattle.certificate_reader.specs.Shortened.{kept_sessions, shortened, IsTooLarge}
 use Rattle.certificate_reader.proofs.KeptLists.{all_kept, more_there}
 
-few_kept : {A : Type 0} (xs : List A) → ¬ (16 < length (kept_of xs)) → kept_of xs ≡ xs
+few_kept : {A : Type 0} (xs : List A) → ¬ (16 < length (kept_sessions xs)) → kept_sessions xs ≡ xs
 few_kept xs few = all_kept xs (omega (arith, few))
 
 pub whole_is_large : (c : Certificate) → IsTooLarge (shortened c) → IsTooLarge c

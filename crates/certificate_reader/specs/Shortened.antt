@@ -5,13 +5,13 @@ use Rattle.history.specs.declared.limits.TheConstants.{MAX_SESSIONS}
 use Rattle.cert_check.specs.declared.certificate.Certificate.{Certificate}
 use Rattle.cert_check.specs.declared.certificate.Certificate.TheVariants.{Cc, Cm, Ccv}
 
-abbrev pub kept_of : {A : Type 0} → List A → List A
-kept_of sessions = take (MAX_SESSIONS + 1) sessions
+abbrev pub kept_sessions : {A : Type 0} → List A → List A
+kept_sessions sessions = take (MAX_SESSIONS + 1) sessions
 
 abbrev pub shortened : Certificate → Certificate
-shortened (Cc vectors schedules) = Cc (kept_of vectors) (kept_of schedules)
-shortened (Cm vectors schedules) = Cm (kept_of vectors) (kept_of schedules)
-shortened (Ccv vectors arbitration) = Ccv (kept_of vectors) arbitration
+shortened (Cc vectors schedules) = Cc (kept_sessions vectors) (kept_sessions schedules)
+shortened (Cm vectors schedules) = Cm (kept_sessions vectors) (kept_sessions schedules)
+shortened (Ccv vectors arbitration) = Ccv (kept_sessions vectors) arbitration
 
 -- a certificate with vectors or schedules of more sessions than a history has
 abbrev pub IsTooLarge : Certificate → Type 0

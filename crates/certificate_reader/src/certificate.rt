@@ -26,8 +26,8 @@ fn whole_of(parts: Parts) -> Option<Certificate>
 
 /// Reads the value that begins with a token as a certificate, as [`next_certificate`] reads the value that comes next.
 ///
-/// It serves a caller that needs the token to know what may come. `NotJson` exactly where the token begins no value, and `Memory` only
-/// where an allocation was refused. O(n) for n bytes of the value.
+/// It serves a caller that took the token to see whether a text or a list comes. `NotJson` exactly where the token begins no value, and
+/// `Memory` only where an allocation was refused. O(n) for n bytes of the value.
 pub fn certificate_from(
     alloc: Global,
     token: Token<'_>,
@@ -49,8 +49,8 @@ pub fn certificate_from(
 /// Reads the value that comes next as a certificate, or none where it is the form of no certificate. It passes the value in any case.
 ///
 /// [`read_certificate`](cert_check::read_certificate) describes the form. The certificate may lack the shape of a history. Of one with
-/// vectors or schedules of more than 17 sessions it keeps those of the first 17: a history has at most 16, so neither has the shape of
-/// one.
+/// vectors or schedules of more than 17 sessions it keeps those of the first 17. A history has at most 16, so neither the certificate nor
+/// what is kept of it has the shape of one.
 ///
 /// `NotJson` exactly where no value comes next, and `Memory` only where an allocation was refused. O(n) for n bytes of the value. It
 /// takes some bytes for each list and each number that it keeps. Of what it does not keep it holds one session, or one text, at a time.

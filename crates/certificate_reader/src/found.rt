@@ -31,7 +31,7 @@ fn is_too_large(certificate: &Certificate) -> bool
     }
 }
 
-/// What is found where this was read.
+/// What [`read_pair`](crate::read_pair) finds where this was read of the certificate.
 pub(crate) fn found_of(read: Option<Certificate>) -> FoundCertificate
     ensures { (d : Data) → IsShortenedIn d read → IsFoundIn d result }
 {

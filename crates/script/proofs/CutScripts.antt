@@ -37,10 +37,10 @@ number_same (string s) = refl
 number_same (array ds) = refl
 number_same (object ms) = refl
 
-abbrev none_of : List Data → List Data
-none_of ds = []
+abbrev no_steps : List Data → List Data
+no_steps ds = []
 
-steps_cut : (d : Data) → elements (cut_at Scalar d) ≡ option_map none_of (elements d)
+steps_cut : (d : Data) → elements (cut_at Scalar d) ≡ option_map no_steps (elements d)
 steps_cut null = refl
 steps_cut (boolean b) = refl
 steps_cut (number n) = refl
@@ -64,7 +64,7 @@ module _ (rest : List Data) where
       option_and_then (λ (k : ℕ). option_map (λ (ss : List Data). record { name = n; sessions = k; steps = ss; rest = after }) steps) sessions) name
 
   all_seen : (name : Option (List ℕ)) (sessions : Option ℕ) (steps : Option (List Data))
-      → parts_from name sessions (option_map none_of steps) (rest_seen rest) ≡ option_map parts_seen (parts_from name sessions steps rest)
+      → parts_from name sessions (option_map no_steps steps) (rest_seen rest) ≡ option_map parts_seen (parts_from name sessions steps rest)
   all_seen None sessions steps = refl
   all_seen (Some n) None steps = refl
   all_seen (Some n) (Some k) None = refl

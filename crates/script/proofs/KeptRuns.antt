@@ -140,7 +140,7 @@ module _ {S C R : Type 0} (start : S) (k : ℕ) (old new : List (Replied S C R))
     once = are.once;
   }
 
--- ---- replies are the same behind such steps
+-- ---- replies are the same after such steps
 
 module _ {S C R : Type 0} (answer : S → List C → C → R) (passes : HistoryValue S C R → Criterion → Pattern → Type 0) (start : S) (k : ℕ)
     (old new : List (Replied S C R)) (alike : AreAlike old new) (reply : ReplyOf (HistoryValue S C R)) where

@@ -1,6 +1,6 @@
 -- The elements of a script, of which its steps are taken.
-use Rattle.std.proofs.Common.{◌≡◌, ℕ, List, [], ◌∷◌, ◌++◌, true, false, length, Option, Some, None, refl, ap, sym, subst, ◌∙◌, arith}
-use Rattle.std.proofs.lemmas.List.{length-append}
+use Rattle.std.proofs.Common.{◌≡◌, ℕ, List, [], ◌∷◌, ◌++◌, true, length, Option, Some, None, refl, ap, sym, subst, ◌∙◌, arith}
+use Rattle.std.proofs.lemmas.List.{append-nil, length-append}
 use Rattle.std.proofs.lemmas.Option.{same_Some}
 use Rattle.serde_json.specs.Data.{Data, string}
 use Rattle.operations.specs.AnyForm.{IsJson}
@@ -11,7 +11,7 @@ use Rattle.token_reader.specs.Gathers.{IsTakenList as IsGathered}
 use Rattle.certificate_reader.proofs.Forms.{list_taken}
 use Rattle.script.specs.declared.script_error.ScriptError.{ScriptError}
 use Rattle.script.specs.declared.script_steps.Passed.{Passed}
-use Rattle.script.specs.declared.script_steps.Passed.TheVariants.{Nothing, Name, Sessions, Steps}
+use Rattle.script.specs.declared.script_steps.Passed.TheVariants.{Sessions, Steps}
 use Rattle.script.specs.declared.steps_taken.StepsTaken.{StepsTaken}
 use Rattle.script.specs.declared.steps_taken.StepsTaken.TheVariants.{Refused}
 use Rattle.script.specs.declared.written_step.WrittenStep.{WrittenStep}
@@ -94,25 +94,5 @@ module _ {C R : Type 0} (call_form : C → Data) (return_form : R → Data) (is_
           subst (λ (n : ℕ). AreTaken call_form return_form is_call n taken p.steps) (sym sessions)
           (subst (AreTaken call_form return_form is_call k taken) (one_list all.1 (sym lists)) all.4)
 
-      nothing_more : (ds : List Data) → ds ++ [] ≡ ds
-      nothing_more [] = refl
-      nothing_more (e ∷ es) = ap (λ (xs : List Data). e ∷ xs) (nothing_more es)
-
       pub these_refused : (e : ScriptError) → AreTaken call_form return_form is_call p.sessions (Refused e) p.steps → IsStepsRefusal call_form return_form is_call p.sessions p.steps e
-      these_refused e refused = subst (λ (ds : List Data). IsStepsRefusal call_form return_form is_call p.sessions ds e) (nothing_more p.steps) (refused [])
-
-      -- less than a script is none
-      pub some_passed : IsGathered (λ (s : Unit {0}). ArePassed call_form return_form is_call Nothing) AreNoScript tt true (elements d) → ⊥
-      some_passed are = let all = all_passed Nothing are in absurd cc
-
-      pub more_than_name : IsGathered (λ (s : Unit {0}). ArePassed call_form return_form is_call Name) AreNoScript tt true (elements d) → ⊥
-      more_than_name are = let all = all_passed Name are in let same = all.1 in absurd cc
-
-      pub more_than_sessions : (k : ℕ) → IsGathered (λ (s : Unit {0}). ArePassed call_form return_form is_call (Sessions k)) AreNoScript tt true (elements d) → ⊥
-      more_than_sessions k are = let all = all_passed (Sessions k) are in let same = all.1 in absurd cc
-
-      pub a_script : (passed : Passed C R) → IsGathered (λ (s : Unit {0}). ArePassed call_form return_form is_call passed) AreNoScript tt false (elements d) → ⊥
-      a_script passed are =
-          let none : AreNoScript (string p.name ∷ number_form p.sessions ∷ list p.steps ∷ p.rest) =
-          subst (IsGathered (λ (s : Unit {0}). ArePassed call_form return_form is_call passed) AreNoScript tt false) has are in
-          none (string p.name) p.sessions p.steps p.rest refl
+      these_refused e refused = subst (λ (ds : List Data). IsStepsRefusal call_form return_form is_call p.sessions ds e) (append-nil p.steps) (refused [])

@@ -16,7 +16,7 @@ use Rattle.script.specs.Shortened.{IsKeptFrom}
 use Rattle.script.specs.Steps.ScriptParts.{parts_at}
 use Rattle.script.specs.Steps.ScriptsRead.{IsAnyKept, rest_seen}
 use Rattle.script.proofs.CutScripts.{cut_at, parts_cut, parts_seen}
-use Rattle.script.proofs.ScriptForms.{no_parts, parts-read, refused_behind}
+use Rattle.script.proofs.ScriptForms.{parts-read, refused_behind}
 
 text_refused : (text : List ℕ) (d : Data) (e : ScriptError) → IsJson text d → IsRefusedAs d e → IsRefusedFor text e
 text_refused text d NotJson json refused = absurd refused
@@ -33,10 +33,6 @@ none_there None none = refl
 none_there (Some p) none = absurd cc
 
 module _ (text : List ℕ) (seen : Data) (read : (d : Data) × IsJson text d × (seen ≡ cut_at Whole d)) where
-  pub bad_shape : parts_at seen ≡ None → IsRefusedFor text BadShape
-  bad_shape none =
-      (read.0, read.1, no_parts read.0 (none_there (parts_at read.0) (sym (parts_cut read.0) ∙ ap parts_at (sym read.2) ∙ none)))
-
   -- the parts that are seen are seen of the parts of the text
   pub parts_there : (q : Parts) → parts_at seen ≡ Some q → (p : Parts) × (read.0 ≡ parts_form p) × AreParts p × (parts_seen p ≡ q)
   parts_there q found =

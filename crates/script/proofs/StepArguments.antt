@@ -28,7 +28,7 @@ use Rattle.script.specs.StepForm.{arguments_of, word_of, written_form, IsWritten
 use Rattle.script.specs.StepWords.{name_of}
 use Rattle.script.specs.Steps.Filing.{IsCaseIn}
 use Rattle.script.specs.Steps.StepParts.{AreNoStep, ArePartsOf, AreStep, HasCounts, IsAnyStepIn, IsAnyWritten, IsNextPart, IsStepIn, TakesNumber, alone, elements_of, most_elements, whole_of, with_number}
-use Rattle.script.proofs.StepForms.{after_word, has_word, no_begin, no_end, no_file, no_look, no_number, no_put, no_refute, no_start, no_word, no_work, too_many}
+use Rattle.script.proofs.StepForms.{after_word, has_word, no_begin, no_end, no_file, no_number, no_put, no_refute, no_start, no_word, no_work, too_many}
 
 module _ {C R : Type 0} (call_form : C → Data) (return_form : R → Data) (is_call : C → Type 0) where
   -- ---- after a word and a number
@@ -43,24 +43,11 @@ module _ {C R : Type 0} (call_form : C → Data) (return_form : R → Data) (is_
     pub begin_taken : (c : C) → (d ≡ call_form c) × is_call c → IsNext words.Begin (Some (Whole (Once (Begin n c))))
     begin_taken c is = ((Once (Begin n c), with_argument words.Begin (call_form c) is.0, (0, is.1), refl), omega arith)
 
-    pub none_begun : ((c : C) → is_call c → d ≢ call_form c) → IsNext words.Begin None
-    none_begun none = λ more. after_word call_form return_form is_call words.Begin (number_form n ∷ d ∷ more)
-        (no_begin call_form return_form is_call (number_form n ∷ d ∷ more) (λ s c good same. let e : d ≡ call_form c = cc in none c good e))
-
     pub end_taken : (r : R) → d ≡ return_form r → IsNext words.End (Some (Whole (Once (End n r))))
     end_taken r is = ((Once (End n r), with_argument words.End (return_form r) is, (0, tt), refl), omega arith)
 
-    pub none_ended : ((r : R) → d ≢ return_form r) → IsNext words.End None
-    none_ended none = λ more. after_word call_form return_form is_call words.End (number_form n ∷ d ∷ more)
-        (no_end call_form return_form is_call (number_form n ∷ d ∷ more) (λ s r same. let e : d ≡ return_form r = cc in none r e))
-
     pub looks_taken : (times : ℕ) → d ≡ number_form times → 0 < times → times ≤ MAX_LOOKS → IsNext words.Look (Some (Whole (Looks n times)))
     looks_taken times is some few = ((Looks n times, with_argument words.Look (number_form times) is, (0, (some, few)), refl), omega arith)
-
-    pub no_looks : ((times : ℕ) → 0 < times → times ≤ MAX_LOOKS → d ≢ number_form times) → IsNext words.Look None
-    no_looks none = λ more. after_word call_form return_form is_call words.Look (number_form n ∷ d ∷ more)
-        (no_look call_form return_form is_call (number_form n ∷ d ∷ more) (λ z same. absurd cc)
-        (λ z times some few same. let e : d ≡ number_form times = cc in none times some few e))
 
     pub file_taken : (criterion : Criterion) (certificate : Option Certificate) → IsCaseIn d (Some (criterion, certificate)) → IsNext words.File (Some (Whole (Once (File n criterion certificate))))
     file_taken criterion certificate is = (
@@ -88,20 +75,8 @@ module _ {C R : Type 0} (call_form : C → Data) (return_form : R → Data) (is_
     pub put_taken : (verdict : ℕ) → d ≡ number_form verdict → IsNext words.Put (Some (Whole (Once (Put n verdict))))
     put_taken verdict is = ((Once (Put n verdict), with_argument words.Put (number_form verdict) is, (0, tt), refl), omega arith)
 
-    pub none_put : ((m : ℕ) → d ≢ number_form m) → IsNext words.Put None
-    none_put none = λ more. after_word call_form return_form is_call words.Put (number_form n ∷ d ∷ more)
-        (no_put call_form return_form is_call (number_form n ∷ d ∷ more) (λ c v same. let e : d ≡ number_form v = cc in none v e))
-
     pub refute_taken : (pattern : Pattern) → d ≡ pattern_form pattern → IsNext words.Refute (Some (Whole (Once (Refute n pattern))))
     refute_taken pattern is = ((Once (Refute n pattern), with_argument words.Refute (pattern_form pattern) is, (0, tt), refl), omega arith)
-
-    pub none_refuted : ((pattern : Pattern) → d ≢ pattern_form pattern) → IsNext words.Refute None
-    none_refuted none = λ more. after_word call_form return_form is_call words.Refute (number_form n ∷ d ∷ more)
-        (no_refute call_form return_form is_call (number_form n ∷ d ∷ more) (λ c pattern same. let e : d ≡ pattern_form pattern = cc in none pattern e))
-
-    -- no element comes after the number
-    pub nothing_after : (w : StepWord) → most_elements w ≤ 2 → IsNext w None
-    nothing_after w few = λ more. too_many call_form return_form is_call w (number_form n ∷ d ∷ more) (omega (arith, few))
 
   -- ---- after a check's case and session
 
@@ -120,10 +95,6 @@ module _ {C R : Type 0} (call_form : C → Data) (return_form : R → Data) (is_
       omega arith,
     )
 
-    pub no_index : ((m : ℕ) → d ≢ number_form m) → IsNextOfPiece None
-    no_index none = λ more. after_word call_form return_form is_call words.Work (number_form case ∷ number_form session ∷ d ∷ more)
-        (no_work call_form return_form is_call (number_form case ∷ number_form session ∷ d ∷ more) (λ c s i same. let e : d ≡ number_form i = cc in none i e))
-
   -- ---- after a word
 
   module _ (d : Data) where
@@ -133,13 +104,6 @@ module _ {C R : Type 0} (call_form : C → Data) (return_form : R → Data) (is_
     pub start_taken : (told : List ℕ) → (d ≡ list_form number_form told) × All (λ n. n ≤ MAX_OPERATIONS) told → IsNextOf words.Start (Some (Whole (Once (Start told))))
     start_taken told is =
         ((Once (Start told), ap (λ (x : Data). word_form name_of words.Start ∷ x ∷ []) is.0, (length told, (refl, is.1)), refl), omega arith)
-
-    pub none_started : ((told : List ℕ) → All (λ n. n ≤ MAX_OPERATIONS) told → d ≢ list_form number_form told) → IsNextOf words.Start None
-    none_started none = λ more. after_word call_form return_form is_call words.Start (d ∷ more)
-        (no_start call_form return_form is_call (d ∷ more) (λ same. absurd cc) (λ told good same. let e : d ≡ list_form number_form told = cc in none told good e))
-
-    pub nothing_taken : IsNextOf words.Take None
-    nothing_taken = λ more. too_many call_form return_form is_call words.Take (d ∷ more) (omega arith)
 
     takes_number : (w : StepWord) → w ≢ words.Start → w ≢ words.Take → TakesNumber w
     takes_number words.Begin no_start no_take = tt

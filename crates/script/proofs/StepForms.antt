@@ -132,11 +132,6 @@ module _ {C R : Type 0} (call_form : C → Data) (return_form : R → Data) (is_
     no_look once many (Looks z n) good e same = many z n good.1.0 good.1.1 same
     no_look once many _ good e same = absurd cc
 
-    pub no_show : ((z : ℕ) → ds ≢ number_form z ∷ [])
-        → (step : WrittenStep C R) → IsAnyWritten is_call step → word_of step ≡ words.Show → ds ≢ arguments_of call_form return_form step
-    no_show none (Once (Show z)) good e same = none z same
-    no_show none _ good e same = absurd cc
-
     pub no_file : ((z : ℕ) (criterion : Criterion) (certificate : Option Certificate) → IsFiled criterion certificate
         → ds ≢ number_form z ∷ filed_form criterion certificate ∷ [])
         → (step : WrittenStep C R) → IsAnyWritten is_call step → word_of step ≡ words.File → ds ≢ arguments_of call_form return_form step
@@ -161,8 +156,3 @@ module _ {C R : Type 0} (call_form : C → Data) (return_form : R → Data) (is_
         → (step : WrittenStep C R) → IsAnyWritten is_call step → word_of step ≡ words.Refute → ds ≢ arguments_of call_form return_form step
     no_refute none (Once (Refute c pattern)) good e same = none c pattern same
     no_refute none _ good e same = absurd cc
-
-    pub no_ask : ((c : ℕ) → ds ≢ number_form c ∷ [])
-        → (step : WrittenStep C R) → IsAnyWritten is_call step → word_of step ≡ words.Ask → ds ≢ arguments_of call_form return_form step
-    no_ask none (Once (Ask c)) good e same = none c same
-    no_ask none _ good e same = absurd cc

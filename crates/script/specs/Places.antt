@@ -1,4 +1,4 @@
--- The places in the form of a script: where the elements of a list stand, and how many of them are read, one more than the form
+-- The places in the form of a script: where the elements of a list are, and how many of them are read, one more than the form
 -- can have. The steps are read apart.
 use Rattle.std.specs.Prelude.{ℕ, ◌+◌, ◌==◌, if◌then◌else◌, Option, Some}
 use Rattle.operations.specs.declared.history_place.HistoryPlace.TheVariants as histories

@@ -41,7 +41,7 @@ IsRest [] = ⊤
 IsRest (d ∷ []) = (ds : List Data) × (d ≡ list ds)
 IsRest (d ∷ e ∷ ds) = ⊥
 
--- behind the forms of the steps stands at most one list
+-- at most one list comes after the forms of the steps
 abbrev pub AreParts : Parts → Type 0
 AreParts p = IsRest p.rest
 

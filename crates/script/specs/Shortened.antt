@@ -1,4 +1,4 @@
--- What is kept of a script: of the certificate in each step what is kept of one (certificate_reader). The rest is kept whole.
+-- What is kept of a script: of each certificate in a step what certificate_reader keeps, and all else.
 use Rattle.std.specs.Prelude.{◌≡◌, ℕ, List, map, option_map}
 use Rattle.certificate_reader.specs.Shortened.{shortened}
 use Rattle.operations.specs.AnyForm.{IsJson}

@@ -17,7 +17,7 @@ use token_reader::next_token;
 /// The criterion of a case, and its certificate where it has one.
 pub(crate) type Case = (Criterion, Option<Certificate>);
 
-/// What the name of a criterion says.
+/// The case of the criterion with this name, or none.
 fn named_case(name: &str) -> Option<Case>
     ensures { IsCaseIn (string name.now) result }
 {
@@ -27,7 +27,7 @@ fn named_case(name: &str) -> Option<Case>
     }
 }
 
-/// What a certificate says that was read of a value.
+/// The case of a certificate that was read, or none.
 fn certified_case(read: Option<Certificate>) -> Option<Case>
     ensures { (d : Data) → IsNoText d → IsShortenedIn d read → IsCaseIn d result }
 {
@@ -37,8 +37,8 @@ fn certified_case(read: Option<Certificate>) -> Option<Case>
     }
 }
 
-/// The criterion that comes next, with a certificate where the next value is the form of one and not the name of a criterion. None where
-/// it is neither. It passes the value.
+/// The criterion whose name comes next, or the certificate that comes next with its criterion. None where it is neither. It passes the
+/// value.
 ///
 /// Of a certificate it keeps what [`certificate_from`] keeps.
 pub(crate) fn next_case(

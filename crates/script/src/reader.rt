@@ -24,7 +24,7 @@ use std::alloc::Global;
 
 /// The script whose form the text is, as JSON: `[name, k, steps]`, or `[name, k, steps, start]`.
 ///
-/// Of a certificate in a step it keeps what [`certificate_from`](certificate_reader::certificate_from) keeps: all of one that may have
+/// Of a certificate in a step it keeps what [`next_certificate`](certificate_reader::next_certificate) keeps: all of one that may have
 /// the shape of a history.
 ///
 /// A refusal is the first in the order of reading. `NotJson` where `serde_json` refuses the text; `BadShape` where its value is no list of
@@ -33,8 +33,8 @@ use std::alloc::Global;
 /// up to here expand to more than 65,536; and `BadInitial` where the value after the steps is no start. `Memory` only where an
 /// allocation was refused.
 ///
-/// O(n) for a text of n bytes, which it goes through twice: first for all but the steps, then for the steps. What no script has takes no
-/// memory.
+/// O(n) for a text of n bytes, which it goes through twice: first for all but the steps, then for the steps. Of what no script has, the
+/// counts of a start alone take memory, 2 bytes each.
 pub fn read_script(alloc: Global, text: &[u8]) -> Result<AnyScript, ScriptError>
     ensures read { IfOk result (IsKeptFrom text.now) }
     ensures refused { IfErr result (IsRefusedFor text.now) }

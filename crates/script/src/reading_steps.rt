@@ -109,8 +109,8 @@ fn file_with<F: StepForms>(
     }
 }
 
-/// The check of a piece of a case: its session comes next.
-fn work_on<F: StepForms>(
+/// Reads the session of the operation that a worker checks for a case.
+fn work_session<F: StepForms>(
     alloc: Global,
     reader: &mut Reader<'_>,
     depth: usize,
@@ -128,7 +128,7 @@ fn work_on<F: StepForms>(
     }
 }
 
-/// The putting of the verdict that comes next to a case.
+/// Reads the verdict that comes next: the step puts it to the case.
 fn put_to<F: StepForms>(
     alloc: Global,
     reader: &mut Reader<'_>,
@@ -149,7 +149,7 @@ fn put_to<F: StepForms>(
     }
 }
 
-/// The putting of the pattern that comes next against a case.
+/// Reads the pattern that comes next: the step puts it against the case.
 fn refute_with<F: StepForms>(
     alloc: Global,
     reader: &mut Reader<'_>,
@@ -255,7 +255,7 @@ fn after_number<F: StepForms>(
         StepWord::End => end_with::<F>(alloc, reader, depth, number),
         StepWord::Look => look_times::<F>(alloc, reader, depth, number),
         StepWord::File => file_with::<F>(alloc, reader, depth, number),
-        StepWord::Work => work_on::<F>(alloc, reader, depth, number),
+        StepWord::Work => work_session::<F>(alloc, reader, depth, number),
         StepWord::Put => put_to::<F>(alloc, reader, depth, number),
         StepWord::Refute => refute_with::<F>(alloc, reader, depth, number),
         StepWord::Start | StepWord::Show | StepWord::Take | StepWord::Ask => {

@@ -21,8 +21,8 @@ use world::Reply;
 /// The lines of the replies to the steps of the script that the text is, one after the other. The steps and replies before each reply
 /// determine it.
 ///
-/// The form of a script, what is refused and in which order, is that of [`read_script`]. `Memory` only where an allocation was refused. It
-/// costs O(n) for a text of n bytes, what [`World::run`](world::World::run) does, and what [`reply_line`] does for each reply.
+/// [`read_script`] states the form of a script, and the refusals in their order. `Memory` only where an allocation was refused. It costs
+/// O(n) for a text of n bytes, what [`World::run`](world::World::run) does, and what [`reply_line`] does for each reply.
 pub fn replay(alloc: Global, text: &[u8]) -> Result<String, ScriptError>
     ensures replayed { IfOk result (λ lines. (script : AnyScript) × IsJson text.now (form_of script) × IsAnyScript script
         × IsReplay script (string_bytes lines)) }

@@ -100,8 +100,9 @@ impl<F: StepForms> Gather for ScriptSteps<F> {
 
 /// The steps of the script that the text is, for as many sessions as it says.
 ///
-/// The text has the parts of a script. `BadStep` with the place of a step that has no form, and `TooManySteps` where the steps up to here
-/// expand to more than 65,536, whichever comes first. `Memory` only where an allocation was refused. O(n) for n bytes.
+/// Call it on a text that has the parts of a script: of other texts it promises nothing. `BadStep` with the place of a step that has no
+/// form, and `TooManySteps` where the steps up to here expand to more than 65,536, whichever comes first. `Memory` only where an allocation
+/// was refused. O(n) for n bytes.
 pub(crate) fn read_steps<F: StepForms>(
     alloc: Global,
     text: &[u8],

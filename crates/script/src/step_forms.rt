@@ -14,7 +14,7 @@ use serde_json::Value;
 
 /// The forms of the calls and the returns of an object in the steps of a script.
 ///
-/// It is apart from [`Named`], whose calls and returns may go to other threads: a reader of steps asks that of nothing.
+/// It is no part of [`Named`], whose calls and returns may go to other threads. A reader of steps does not need that.
 pub(crate) trait StepForms {
     /// Its calls.
     type Call: Drop;

@@ -21,7 +21,7 @@ use token_reader::{next_token, pass_no_list};
 /// Steps with calls `C` and returns `R` that were read so far.
 #[derive(Drop)]
 pub(crate) enum StepsTaken<C, R> {
-    /// The steps, and to how many more steps of the world others may expand.
+    /// The steps, and how many more steps of the world there may be.
     Fine(Vec<WrittenStep<C, R>>, usize),
     /// Why they are refused.
     Refused(ScriptError),

@@ -64,8 +64,8 @@ pub fn gather_rest<G: Gather>(
 /// Takes the elements of the value that begins with a token, and returns whether it is a list of wanted elements. It passes the value in
 /// any case.
 ///
-/// It serves a caller that needs the token to know what may come, as where a text or a list may. `NotJson` exactly where the token begins
-/// no value, and `Memory` only where an allocation was refused. O(n) for n bytes of the value, beside what `take_next` takes.
+/// It serves a caller that took the token to see whether a text or a list comes. `NotJson` exactly where the token begins no value, and
+/// `Memory` only where an allocation was refused. O(n) for n bytes of the value, beside what `take_next` takes.
 pub fn gather_list<G: Gather>(
     alloc: Global,
     token: Token<'_>,

@@ -2,7 +2,7 @@
 use Rattle.std.specs.Prelude.{◌≡◌, ◌≢◌, List, All, map, Bool, true, false, Option, Some, None}
 use Rattle.serde_json.specs.Data.{Data}
 use Rattle.operations.specs.Reads.{list_form}
-use Rattle.certificate_reader.specs.Shortened.{kept_of}
+use Rattle.certificate_reader.specs.Shortened.{kept_sessions}
 
 module _ {A : Type 0} (fits : A → Type 0) (form : A → Data) where
   -- the value is the form of this, or the form of nothing in range
@@ -27,11 +27,11 @@ module _ {A : Type 0} (fits : A → Type 0) (form : A → Data) where
 module _ {A : Type 0} (fits : A → Type 0) (form : A → Data) where
   -- these elements are the forms of what this is kept of
   abbrev pub AreKept : List Data → List A → Type 0
-  AreKept ds kept = (xs : List A) × AreForms fits form ds xs × (kept ≡ kept_of xs)
+  AreKept ds kept = (xs : List A) × AreForms fits form ds xs × (kept ≡ kept_sessions xs)
 
   -- the value is the form of a list of which this is kept
   abbrev pub IsKept : Data → List A → Type 0
-  IsKept d kept = (xs : List A) × IsForm (All fits) (list_form form) d xs × (kept ≡ kept_of xs)
+  IsKept d kept = (xs : List A) × IsForm (All fits) (list_form form) d xs × (kept ≡ kept_sessions xs)
 
   -- or it is the form of no list
   abbrev pub IsKeptIn : Data → Option (List A) → Type 0

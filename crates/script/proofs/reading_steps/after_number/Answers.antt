@@ -13,7 +13,7 @@ pub returns-in-File-clause-read : goal.returns-in-File-clause-read
 returns-in-File-clause-read g c = rw c.in-File.is c.file_with.ensures.read
 
 pub returns-in-Work-clause-read : goal.returns-in-Work-clause-read
-returns-in-Work-clause-read g c = rw c.in-Work.is c.work_on.ensures.read
+returns-in-Work-clause-read g c = rw c.in-Work.is c.work_session.ensures.read
 
 pub returns-in-Put-clause-read : goal.returns-in-Put-clause-read
 returns-in-Put-clause-read g c = rw c.in-Put.is c.put_to.ensures.read
