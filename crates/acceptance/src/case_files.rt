@@ -1,8 +1,11 @@
 //! Case files, and how they are read from texts.
 
 use crate::histories::memory;
-use bad_patterns::{Pattern, read_pattern};
+use bad_patterns::Pattern;
+use bounded_json::MAX_DEPTH;
 use cert_check::{CaseFile, Certificate, Criterion, read_certificate};
+use evidence::next_pattern;
+use json::{Reader, Scratch};
 use objects::Memory;
 use serde_json::Value;
 use std::alloc::Global;
@@ -63,6 +66,7 @@ pub fn certificate_of(alloc: Global, text: &str) -> Option<Certificate> {
 
 /// The pattern in a text.
 pub fn pattern_of(alloc: Global, text: &str) -> Option<Pattern> {
-    let value = Value::from_slice(alloc, text.as_bytes()).ok()?;
-    read_pattern(alloc, &value).ok()?
+    let mut scratch = Scratch::new(alloc);
+    let mut reader = Reader::new(text, &mut scratch).ok()?;
+    next_pattern(alloc, &mut reader, MAX_DEPTH).ok()?
 }

@@ -8,8 +8,8 @@ use parts::{AtKeys, Listed, WithoutKeys, part_of};
 use std::alloc::{AllocError, Global};
 use std::test::Fail;
 
-/// A row has a name, then which operations are kept, and a history, and then the part of it. A part has the operations at some keys or at all
-/// others, or those of a list.
+/// A row has a name, then which operations are kept, and a history, and then the part of it. A part has the operations at some keys or at
+/// all others, or those of a list.
 const ROWS: &str = r#"
 operations_at_one_key | at 1 ["memory",[[["w",0,1],["w",1,2]],[["r",1,2],["r",0,1],["w",1,4,"?"]]],[[1,9]]] | ["memory",[[["w",1,2]],[["r",1,2],["w",1,4,"?"]]],[[1,9]]]
 operations_at_two_keys | at 0,2 ["memory",[[["w",0,1],["w",1,2],["w",2,3]],[["w",1,5]]]] | ["memory",[[["w",0,1],["w",2,3]],[]]]

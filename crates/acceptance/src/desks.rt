@@ -9,13 +9,13 @@ use crate::case_files::{
 use bad_patterns::{Kind, Pattern};
 use cert_check::{Criterion, DeskError, Outcome};
 use desk::{Answer, Desk, Shelf, ShelfName, Ticket, Verdict};
-use history::OpenGate;
 use objects::Memory;
 use operations::OpId;
 use std::alloc::{AllocError, Global};
 use std::marker::Brand;
 use std::sync::Wait;
 use std::test::Fail;
+use workers::OpenGate;
 
 /// A step at a desk. Cases and verdicts have numbers, in the order in which the desk gave them.
 #[derive(Clone, Copy)]
@@ -48,7 +48,7 @@ enum Seen {
     Done,
     Refused(u8),
     /// The answer to a case.
-    Stands(Answer),
+    Asked(Answer),
     Piece(u32, OpId),
     Checked(u32, OpId, Outcome),
     /// The read that a thin-air read names.
@@ -85,7 +85,7 @@ const NO_SUCH: OpId = OpId {
 
 const VERDICTS: [(Step, Seen); 18] = [
     (Step::File(READ_AFTER_ITS_WRITE), Seen::Number(0)),
-    (Step::On(0, Event::Ask), Seen::Stands(Answer::Open(2))),
+    (Step::On(0, Event::Ask), Seen::Asked(Answer::Open(2))),
     (
         Step::On(0, Event::Check(FIRST)),
         Seen::Checked(0, FIRST, Outcome::Explained),
@@ -96,18 +96,18 @@ const VERDICTS: [(Step, Seen); 18] = [
     ),
     (Step::On(0, Event::Check(NO_SUCH)), Seen::Refused(26)),
     (Step::On(0, Event::Put(0)), Seen::Done),
-    (Step::On(0, Event::Ask), Seen::Stands(Answer::Open(1))),
+    (Step::On(0, Event::Ask), Seen::Asked(Answer::Open(1))),
     (Step::On(0, Event::Put(0)), Seen::Refused(24)),
-    (Step::On(0, Event::Ask), Seen::Stands(Answer::Open(1))),
+    (Step::On(0, Event::Ask), Seen::Asked(Answer::Open(1))),
     (Step::On(0, Event::Put(1)), Seen::Done),
-    (Step::On(0, Event::Ask), Seen::Stands(Answer::Yes)),
+    (Step::On(0, Event::Ask), Seen::Asked(Answer::Yes)),
     (Step::FileOrBack(READ_AFTER_ITS_WRITE), Seen::Number(1)),
     (Step::On(1, Event::Put(0)), Seen::Refused(25)),
-    (Step::On(1, Event::Ask), Seen::Stands(Answer::Open(2))),
+    (Step::On(1, Event::Ask), Seen::Asked(Answer::Open(2))),
     (Step::Work, Seen::Number(2)),
-    (Step::On(1, Event::Ask), Seen::Stands(Answer::Yes)),
+    (Step::On(1, Event::Ask), Seen::Asked(Answer::Yes)),
     (Step::File(NO_OPERATION), Seen::Number(2)),
-    (Step::On(2, Event::Ask), Seen::Stands(Answer::Yes)),
+    (Step::On(2, Event::Ask), Seen::Asked(Answer::Yes)),
 ];
 
 /// Two patterns of the case, and one that is not in its history.
@@ -127,14 +127,14 @@ const PATTERNS: [(Step, Seen); 14] = [
     (Step::Work, Seen::Number(1)),
     (
         Step::On(0, Event::Ask),
-        Seen::Stands(Answer::Unknown(Some(FIRST))),
+        Seen::Asked(Answer::Unknown(Some(FIRST))),
     ),
     (Step::On(0, Event::Refute(NO_SUCH_READ)), Seen::Refused(23)),
     (Step::On(0, Event::Pattern), Seen::Pattern(None)),
     (Step::On(0, Event::Refute(SECOND_IS_THIN_AIR)), Seen::Done),
     (
         Step::On(0, Event::Ask),
-        Seen::Stands(Answer::No(Kind::ThinAirRead)),
+        Seen::Asked(Answer::No(Kind::ThinAirRead)),
     ),
     (Step::On(0, Event::Refute(FIRST_IS_THIN_AIR)), Seen::Done),
     (Step::On(0, Event::Pattern), Seen::Pattern(Some(SECOND))),
@@ -159,13 +159,13 @@ const PIECES: [(Step, Seen); 20] = [
     (Step::Take, Seen::Piece(2, THIRD)),
     (Step::Take, Seen::Nothing),
     (Step::Work, Seen::Number(0)),
-    (Step::On(1, Event::Ask), Seen::Stands(Answer::Open(2))),
-    (Step::On(2, Event::Ask), Seen::Stands(Answer::Open(2))),
+    (Step::On(1, Event::Ask), Seen::Asked(Answer::Open(2))),
+    (Step::On(2, Event::Ask), Seen::Asked(Answer::Open(2))),
     (Step::On(2, Event::Settle), Seen::Done),
-    (Step::On(2, Event::Ask), Seen::Stands(Answer::Yes)),
+    (Step::On(2, Event::Ask), Seen::Asked(Answer::Yes)),
     (Step::On(0, Event::Settle), Seen::Done),
-    (Step::On(0, Event::Ask), Seen::Stands(Answer::Unknown(None))),
-    (Step::On(1, Event::Ask), Seen::Stands(Answer::Open(2))),
+    (Step::On(0, Event::Ask), Seen::Asked(Answer::Unknown(None))),
+    (Step::On(1, Event::Ask), Seen::Asked(Answer::Open(2))),
     (Step::On(0, Event::Pattern), Seen::Pattern(None)),
 ];
 
@@ -176,9 +176,9 @@ const FULL: [(Step, Seen); 7] = [
         Step::FileOrBack(WITHOUT_A_CERTIFICATE),
         Seen::Back(Criterion::Cm),
     ),
-    (Step::On(63, Event::Ask), Seen::Stands(Answer::Open(2))),
+    (Step::On(63, Event::Ask), Seen::Asked(Answer::Open(2))),
     (Step::Work, Seen::Number(128)),
-    (Step::On(63, Event::Ask), Seen::Stands(Answer::Yes)),
+    (Step::On(63, Event::Ask), Seen::Asked(Answer::Yes)),
     (Step::File(NO_OPERATION), Seen::Refused(22)),
 ];
 
@@ -209,12 +209,12 @@ fn desk_is_full(rt: HostRuntime) -> Result<(), Fail> {
 /// Three cases are filed, the second without a certificate, and the third by the call that gives back the file.
 const FILED: [(Step, Seen); 10] = [
     (Step::File(READ_AFTER_ITS_WRITE), Seen::Number(0)),
-    (Step::On(0, Event::Ask), Seen::Stands(Answer::Open(2))),
+    (Step::On(0, Event::Ask), Seen::Asked(Answer::Open(2))),
     (Step::File(WITHOUT_A_CERTIFICATE), Seen::Number(1)),
     (Step::FileOrBack(NO_OPERATION), Seen::Number(2)),
-    (Step::On(0, Event::Ask), Seen::Stands(Answer::Open(2))),
-    (Step::On(1, Event::Ask), Seen::Stands(Answer::Unknown(None))),
-    (Step::On(2, Event::Ask), Seen::Stands(Answer::Yes)),
+    (Step::On(0, Event::Ask), Seen::Asked(Answer::Open(2))),
+    (Step::On(1, Event::Ask), Seen::Asked(Answer::Unknown(None))),
+    (Step::On(2, Event::Ask), Seen::Asked(Answer::Yes)),
     (Step::Take, Seen::Piece(0, FIRST)),
     (Step::Take, Seen::Piece(0, FIRST_OF_SECOND)),
     (Step::Take, Seen::Nothing),
@@ -246,11 +246,11 @@ const WORKED_TWICE: [Step; 7] = [
 const WORKED: [Seen; 7] = [
     Seen::Number(0),
     Seen::Number(3),
-    Seen::Stands(Answer::Yes),
+    Seen::Asked(Answer::Yes),
     Seen::Number(0),
-    Seen::Stands(Answer::Yes),
+    Seen::Asked(Answer::Yes),
     Seen::Done,
-    Seen::Stands(Answer::Yes),
+    Seen::Asked(Answer::Yes),
 ];
 
 /// What is seen where the check of the first, the second or the third piece is refused memory: the piece that was taken then
@@ -259,11 +259,11 @@ fn abandoned_at(piece: u32) -> [Seen; 7] {
     [
         Seen::Number(0),
         Seen::Refused(8),
-        Seen::Stands(Answer::Open(3u32.saturating_sub(piece))),
+        Seen::Asked(Answer::Open(3u32.saturating_sub(piece))),
         Seen::Number(2u32.saturating_sub(piece)),
-        Seen::Stands(Answer::Open(1)),
+        Seen::Asked(Answer::Open(1)),
         Seen::Done,
-        Seen::Stands(Answer::Yes),
+        Seen::Asked(Answer::Yes),
     ]
 }
 
@@ -351,14 +351,14 @@ const AFTER: [Step; 3] = [Step::On(0, Event::Ask), Step::Work, Step::On(0, Event
 /// What is seen of them: each desk has a case 0 of its own, and works on that alone.
 const APART: [Seen; 9] = [
     Seen::Number(0),
-    Seen::Stands(Answer::Open(2)),
+    Seen::Asked(Answer::Open(2)),
     Seen::Number(0),
     Seen::Number(2),
-    Seen::Stands(Answer::Unknown(Some(FIRST))),
+    Seen::Asked(Answer::Unknown(Some(FIRST))),
     Seen::Nothing,
-    Seen::Stands(Answer::Open(2)),
+    Seen::Asked(Answer::Open(2)),
     Seen::Number(2),
-    Seen::Stands(Answer::Yes),
+    Seen::Asked(Answer::Yes),
 ];
 
 #[test]
@@ -443,7 +443,7 @@ fn seen_on_case<K: ShelfName, P: Wait + AllocGlobal>(
     match event {
         Event::Check(op) => checked(desk, given, ticket, op),
         Event::Put(verdict) => Ok(put(rt, desk, given, ticket, verdict)),
-        Event::Ask => Ok(Seen::Stands(desk.ask(rt, ticket))),
+        Event::Ask => Ok(Seen::Asked(desk.ask(rt, ticket))),
         Event::Refute(pattern) => refuted(rt, desk, ticket, pattern),
         Event::Pattern => kept(rt, desk, ticket),
         Event::Settle => Ok(done(desk.settle(rt, ticket))),

@@ -23,6 +23,8 @@ mod devices;
 #[cfg(test)]
 mod failures;
 #[cfg(test)]
+mod held_workers;
+#[cfg(test)]
 mod histories;
 #[cfg(test)]
 mod judgements;
@@ -62,5 +64,3 @@ mod seals;
 mod shared_lines;
 #[cfg(test)]
 mod worded;
-#[cfg(test)]
-mod workers;

@@ -1,10 +1,9 @@
 //! Two clients of a store that run at the same time.
 
+use crate::held_workers::{FIRST, SECOND, is_set_in_time};
 use crate::histories::memory;
-use crate::workers::{FIRST, SECOND, is_set_in_time};
 use causal_memory::AsTakenIn;
 use driver::{DriveError, DrivePlan, drive};
-use history::Gate;
 use objects::Memory;
 use operations::{AnyHistory, OpId, write_history};
 use replica::Delivery;
@@ -14,6 +13,7 @@ use std::sync::Wait;
 use std::sync::atomic::{AtomicBool, Ordering};
 use std::test::Fail;
 use std::thread::Threads;
+use workers::Gate;
 
 /// Holds the first call of each of two clients at its entry until the other client has entered too.
 #[derive(Drop)]

@@ -8,4 +8,3 @@ pub mod DerivedEnds
 pub mod Neighbours
 pub mod ReadPasts
 pub mod Shown
-pub mod PatternReading

@@ -3,5 +3,4 @@ pub mod KindNames
 pub mod Paths
 pub mod Derivations
 pub mod Patterns
-pub mod PatternForm
 pub mod Steps

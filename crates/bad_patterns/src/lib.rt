@@ -1,8 +1,9 @@
 //! Bad patterns: what in a memory history shows that it does not meet a criterion.
 //!
-//! It gives [`Pattern`] and [`Kind`], the test [`check_pattern`], and [`read_pattern`], which reads a pattern from JSON. [`laws`]
-//! says that a pattern excludes its criteria. It uses history, causal_order, memory_order and serde_json.
-//! How a pattern is tested may change: the contract says exactly which patterns pass. Names and JSON forms are in the contracts.
+//! It gives [`Pattern`] and [`Kind`], the test [`check_pattern`], and [`Refutable`], which says of each object how a pattern against
+//! its histories is tested. [`laws`] says that a pattern excludes its criteria. It uses object_trait, objects, history, causal_order,
+//! memory_order and cert_check. How a pattern is tested may change: the contracts say exactly which patterns pass, and the law of
+//! [`Refutable`] what a test that passes shows.
 #![tactic(auto)]
 
 mod checking;
@@ -11,7 +12,6 @@ mod cycle;
 mod derivation;
 mod derived_pairs;
 mod edges;
-mod formed;
 mod happened_before;
 mod kind;
 mod known_memory;
@@ -20,8 +20,9 @@ mod link;
 mod listed_memory;
 mod path;
 mod pattern;
-mod reading;
-mod reading_lines;
+mod patternless;
+mod refutable;
+mod refuted_memory;
 mod routes;
 mod thin_air;
 
@@ -34,5 +35,5 @@ pub use link::{Link, Links};
 pub use memory_order::is_differentiated;
 pub use path::Path;
 pub use pattern::Pattern;
-pub use reading::read_pattern;
+pub use refutable::Refutable;
 pub use thin_air::is_thin_air_read;

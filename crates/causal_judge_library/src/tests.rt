@@ -14,7 +14,7 @@ const CLAIM: &[u8] = br#"[["memory",[[["r",0,7]]]],"ccv",["ThinAirRead",[0,0]]]"
 const BAD_OPERATION: &[u8] = br#"["memory",[[["x"]]]]"#;
 
 // A status, the number of bytes that a text needs, and a buffer.
-fn told(alloc: Global, status: u8, needed: usize, answer: &[u8]) -> Result<String, AllocError> {
+fn shown(alloc: Global, status: u8, needed: usize, answer: &[u8]) -> Result<String, AllocError> {
     let answer = String::from_utf8_lossy(alloc, answer)?;
     format!(in alloc; "{status} {needed} {answer}")
 }
@@ -25,25 +25,25 @@ fn answers_stand_first_in_the_buffer(rt: HostRuntime) -> Result<(), Fail> {
     let (mut answer, mut needed) = ([b'.'; 24], 0);
     let status = causal_judge_judge(alloc, HISTORY, &mut answer, &mut needed);
     assert_eq!(rt;
-        told(alloc, status, needed, &answer)?.as_str(),
+        shown(alloc, status, needed, &answer)?.as_str(),
         "0 22 cc yes\ncm yes\nccv yes\n.."
     );
     let mut answer = [b'.'; 16];
     let status = causal_judge_check(alloc, PAIR, &mut answer, &mut needed);
     assert_eq!(rt;
-        told(alloc, status, needed, &answer)?.as_str(),
+        shown(alloc, status, needed, &answer)?.as_str(),
         "0 15 cc unknown 1.0\n."
     );
     let mut answer = [b'.'; 58];
     let status = causal_judge_explain(alloc, HISTORY, &mut answer, &mut needed);
     assert_eq!(rt;
-        told(alloc, status, needed, &answer)?.as_str(),
+        shown(alloc, status, needed, &answer)?.as_str(),
         "0 57 [[\"cc\",\"yes\",null],[\"cm\",\"yes\",null],[\"ccv\",\"yes\",null]]\n."
     );
     let mut answer = [b'.'; 20];
     let status = causal_judge_refute(alloc, CLAIM, &mut answer, &mut needed);
     assert_eq!(rt;
-        told(alloc, status, needed, &answer)?.as_str(),
+        shown(alloc, status, needed, &answer)?.as_str(),
         "0 19 ccv no ThinAirRead\n."
     );
     Ok(())
@@ -55,25 +55,25 @@ fn refusals_stand_first_in_the_buffer(rt: HostRuntime) -> Result<(), Fail> {
     let (mut answer, mut needed) = ([b'.'; 16], 0);
     let status = causal_judge_judge(alloc, BAD_OPERATION, &mut answer, &mut needed);
     assert_eq!(rt;
-        told(alloc, status, needed, &answer)?.as_str(),
+        shown(alloc, status, needed, &answer)?.as_str(),
         "1 14 refused 4 0.0\n.."
     );
     let mut answer = [b'.'; 16];
     let status = causal_judge_check(alloc, HISTORY, &mut answer, &mut needed);
     assert_eq!(rt;
-        told(alloc, status, needed, &answer)?.as_str(),
+        shown(alloc, status, needed, &answer)?.as_str(),
         "1 10 refused 2\n......"
     );
     let mut answer = [b'.'; 16];
     let status = causal_judge_explain(alloc, b"", &mut answer, &mut needed);
     assert_eq!(rt;
-        told(alloc, status, needed, &answer)?.as_str(),
+        shown(alloc, status, needed, &answer)?.as_str(),
         "1 10 refused 1\n......"
     );
     let mut answer = [b'.'; 16];
     let status = causal_judge_refute(alloc, PAIR, &mut answer, &mut needed);
     assert_eq!(rt;
-        told(alloc, status, needed, &answer)?.as_str(),
+        shown(alloc, status, needed, &answer)?.as_str(),
         "1 10 refused 2\n......"
     );
     Ok(())
@@ -85,10 +85,10 @@ fn short_buffers_stay_as_they_were(rt: HostRuntime) -> Result<(), Fail> {
     let (mut answer, mut needed) = ([b'.'; 21], 0);
     let status = causal_judge_judge(alloc, HISTORY, &mut answer, &mut needed);
     assert_eq!(rt;
-        told(alloc, status, needed, &answer)?.as_str(),
+        shown(alloc, status, needed, &answer)?.as_str(),
         "3 22 ....................."
     );
     let status = causal_judge_judge(alloc, b"", &mut [], &mut needed);
-    assert_eq!(rt; told(alloc, status, needed, b"")?.as_str(), "3 10 ");
+    assert_eq!(rt; shown(alloc, status, needed, b"")?.as_str(), "3 10 ");
     Ok(())
 }

@@ -20,4 +20,3 @@ pub mod CertificateForms
 pub mod CriterionNames
 pub mod ConvergentLaws
 pub mod FilteredLaws
-pub mod CutCertificates

@@ -6,5 +6,4 @@ pub mod CertErrors
 pub mod DeskErrors
 pub mod CriterionNames
 pub mod CertificateForm
-pub mod Places
 pub mod Steps

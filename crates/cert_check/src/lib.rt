@@ -2,7 +2,7 @@
 //! certificate show of them, and how the criteria relate to one another.
 //!
 //! It gives [`Criterion`], [`Certificate`], [`CaseFile`], [`PieceChecker`], [`check_piece`] and [`read_certificate`]. It uses
-//! object_trait, history, operations, causal_order, bounded_json, serde_json and thiserror. How a piece is checked may change, and
+//! object_trait, history, operations, causal_order, serde_json and thiserror. How a piece is checked may change, and
 //! how lists are walked: callers rest on the contracts alone, with the form of a certificate and the numbers of errors in them.
 #![tactic(auto)]
 
@@ -12,7 +12,6 @@ mod asked_back;
 mod case_file;
 mod cert_error;
 mod certificate;
-mod certificate_place;
 mod checking;
 mod considered;
 mod criterion;
@@ -37,12 +36,10 @@ pub use arbitration::Arbitration;
 pub use case_file::CaseFile;
 pub use cert_error::CertError;
 pub use certificate::{Certificate, Schedules};
-pub use certificate_place::CertificatePlace;
 pub use checking::{Outcome, check_piece, first_unexplained};
 pub use criterion::Criterion;
 pub use desk_error::DeskError;
 pub use kept::Kept;
 pub use piece_checker::PieceChecker;
 pub use reading::read_certificate;
-pub use scheduled::is_scheduled_piece;
 pub use shape::{names_all, shape_ok};

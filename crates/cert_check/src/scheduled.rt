@@ -1,45 +1,17 @@
-//! The check of one piece of a certificate with schedules: the order of a schedule, and the returns it explains.
+//! The check of one schedule of a certificate: the order in which it names operations.
 
-ghost use Rattle.std.specs.Prelude.{◌≡◌, ◌↔◌, ℕ, [], length, IfOk, IsTrue};
+ghost use Rattle.std.specs.Prelude.{◌≡◌, ◌↔◌, length, IsTrue};
 ghost use Rattle.history.specs.History.{IsOp};
 ghost use Rattle.causal_order.specs.Vectors.{AreVectorsOf, IsVectorOk};
-ghost use Rattle.cert_check.specs.Certificates.{IsScheduledPiece};
 ghost use Rattle.cert_check.specs.Schedules.{IsSchedule};
 ghost use Rattle.cert_check.specs.Steps.Namings.{AreCountsAt, AreNamedWell};
 ghost use Rattle.cert_check.specs.Steps.Needs.{AreNeedsOf};
-ghost use Rattle.cert_check.specs.Steps.Replays.{kept_of};
 
-use crate::kept::Kept;
 use crate::naming::Naming;
 use crate::need::Needs;
-use crate::replay::Replay;
 use causal_order::{Vectors, vector_ok};
 use history::{History, OpId};
 use object_trait::SeqObject;
-use std::alloc::{AllocError, Global};
-
-/// Whether the vector and the schedule of an operation explain the known returns that are kept.
-///
-/// Fails for want of memory alone. O(p k) for p numbers and k sessions, and one call of the object for each number.
-pub fn is_scheduled_piece<O: SeqObject>(
-    alloc: Global,
-    h: &History<O>,
-    v: &Vectors,
-    schedule: &[u8],
-    op: OpId,
-    kept: Kept,
-) -> Result<bool, AllocError>
-    requires shape { AreVectorsOf h.now v.now }
-    requires is_op { IsOp h.now op }
-    ensures { IfOk result (λ yes. IsTrue yes ↔ IsScheduledPiece O.answer h.now v.now schedule.now op (kept_of kept)) }
-{
-    let mut naming = Naming::new(alloc, h)?;
-    if !is_schedule(&mut naming, h, v, &Needs::none(alloc), &[], schedule, op) {
-        return Ok(false);
-    }
-    let mut replay = Replay::new(alloc, h)?;
-    replay.go_through(h, schedule, 0, kept)
-}
 
 /// Whether the vector and the schedule of an operation are good, continuing from another list that names operations well.
 ///

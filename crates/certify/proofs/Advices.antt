@@ -10,11 +10,11 @@ use Rattle.history.proofs.Counting.{many_next, many_within}
 use Rattle.certify.specs.Advice.{Heard, IsAdvised, advice_in, hear, heard_before}
 
 -- what is known of the next operation of a session
-pub hear_next : (told : List (Option Advice)) (s i : ℕ) (o : OpId) (entry : Option Advice) (before : Heard)
-    → o ≡ op s i → entry ≡ slice_index_or told i None → before ≡ heard_before told s i → hear o entry before ≡ heard_before told s (i + 1)
-hear_next told s i o entry before same entry_is before_is =
+pub hear_next : (reported : List (Option Advice)) (s i : ℕ) (o : OpId) (entry : Option Advice) (before : Heard)
+    → o ≡ op s i → entry ≡ slice_index_or reported i None → before ≡ heard_before reported s i → hear o entry before ≡ heard_before reported s (i + 1)
+hear_next reported s i o entry before same entry_is before_is =
     let more : suc i ≡ i + 1 = omega arith in
-    (λ j. hear (same j) (entry_is j) (before_is j)) ∙ ap (λ (n : ℕ). heard_before told s n) more
+    (λ j. hear (same j) (entry_is j) (before_is j)) ∙ ap (λ (n : ℕ). heard_before reported s n) more
 
 module _ {S C R : Type 0} (h : HistoryValue S C R) where
   -- what the counts of operations say, by the names that this crate's functions give them

@@ -15,22 +15,22 @@ more : (n : ℕ) → n + 1 ≡ suc n
 more n = omega arith
 
 -- the operations of a session
-sessions-in : (told : List (Option Advice)) (s n : ℕ) → sessions_of (stamped_in told s n) ≡ replicate n s
-sessions-in told s zero = refl
-sessions-in told s (suc n) =
-    map-append (λ (o : Stamped). o.1) (stamped_in told s n) _
-    ∙ ap (λ (xs : List ℕ). xs ++ s ∷ []) (sessions-in told s n)
+sessions-in : (reported : List (Option Advice)) (s n : ℕ) → sessions_of (stamped_in reported s n) ≡ replicate n s
+sessions-in reported s zero = refl
+sessions-in reported s (suc n) =
+    map-append (λ (o : Stamped). o.1) (stamped_in reported s n) _
+    ∙ ap (λ (xs : List ℕ). xs ++ s ∷ []) (sessions-in reported s n)
     ∙ replicate-append-replicate n 1 s
     ∙ ap (λ (m : ℕ). replicate m s) (more n)
 
 -- one operation more of a session
-pub stamped-next : (told : List (Option Advice)) (s i stamp : ℕ) (before now : List Stamped) → now ≡ before ++ stamped_in told s i
-    → stamp ≡ (heard_before told s (i + 1)).1 → now ++ (stamp, s, i) ∷ [] ≡ before ++ stamped_in told s (i + 1)
-stamped-next told s i stamp before now so_far is =
+pub stamped-next : (reported : List (Option Advice)) (s i stamp : ℕ) (before now : List Stamped) → now ≡ before ++ stamped_in reported s i
+    → stamp ≡ (heard_before reported s (i + 1)).1 → now ++ (stamp, s, i) ∷ [] ≡ before ++ stamped_in reported s (i + 1)
+stamped-next reported s i stamp before now so_far is =
     let next : suc i ≡ i + 1 = omega arith in
     (λ j. so_far j ++ (is j, s, i) ∷ [])
-    ∙ append_assoc before (stamped_in told s i) (((heard_before told s (i + 1)).1, s, i) ∷ [])
-    ∙ ap (λ (n : ℕ). before ++ stamped_in told s n) next
+    ∙ append_assoc before (stamped_in reported s i) (((heard_before reported s (i + 1)).1, s, i) ∷ [])
+    ∙ ap (λ (n : ℕ). before ++ stamped_in reported s n) next
 
 module _ {S C R : Type 0} (h : HistoryValue S C R) (advice : List (Option Advice)) where
   -- those of the first sessions

@@ -1,4 +1,4 @@
--- What a store told of the operations of a history, trusted by nobody (this project's profile).
+-- What a store reported of the operations of a history, trusted by nobody (this project's profile).
 use Rattle.std.specs.Prelude.{◌≡◌, ℕ, ◌+◌, ◌<◌, List, [], length, take, replicate, Option, Some, None, slice_index_or, slice_set}
 use Rattle.std.specs.List.{slice_range}
 use Rattle.std.proofs.Common.{zero, suc}
@@ -20,8 +20,8 @@ hear o None before = (slice_set before.0 o.session (o.index + 1), before.1)
 
 -- what is known of the operation before the place i of the session s: before the first, nothing is counted
 abbrev pub heard_before : List (Option Advice) → ℕ → ℕ → Heard
-heard_before told s zero = (replicate MAX_SESSIONS 0, 0)
-heard_before told s (suc i) = hear (op s i) (slice_index_or told i None) (heard_before told s i)
+heard_before reported s zero = (replicate MAX_SESSIONS 0, 0)
+heard_before reported s (suc i) = hear (op s i) (slice_index_or reported i None) (heard_before reported s i)
 
 -- the order that advice tells: none where there is no advice
 abbrev pub order_of : Option Advice → List ℕ
@@ -42,10 +42,10 @@ module _ {S C R : Type 0} where
   abbrev pub heard : HistoryValue S C R → List (Option Advice) → OpId → Heard
   heard h advice o = heard_before (advice_in h advice o.session) o.session (o.index + 1)
 
-  -- the vector of an operation has the counts that are told, one for each session
+  -- the vector of an operation has the counts that are reported, one for each session
   pub record IsToldVector (h : HistoryValue S C R) (advice : List (Option Advice)) (o : OpId) (counts : List ℕ) : Type 0 where
     pub size : length counts ≡ length h.1
-    pub told : counts ≡ take (length h.1) (heard h advice o).0
+    pub reported : counts ≡ take (length h.1) (heard h advice o).0
 
   -- each vector does
   abbrev pub AreToldVectors : HistoryValue S C R → List (Option Advice) → Counts → Type 0

@@ -1,4 +1,4 @@
--- Certificates from what a store told of each operation (this project's profile).
+-- Certificates from what a store reported of each operation (this project's profile).
 use Rattle.std.specs.Prelude.{◌≡◌, ℕ, ◌<◌, Bool, List, Option, length}
 use Rattle.history.specs.declared.advice.Advice.{Advice}
 use Rattle.history.specs.declared.op_id.OpId.{OpId}
@@ -12,19 +12,19 @@ use Rattle.certify.specs.ByProgramOrder.{IsByProgramOrder}
 use Rattle.certify.specs.ByStamp.{AreByStamp, Stamped, counted_of, sessions_of}
 
 module _ {S C R : Type 0} (query : C → Bool) (h : HistoryValue S C R) (advice : List (Option Advice)) where
-  -- the schedule of an operation goes by the order that is told of it; where none is, it has the counted operations by stamp
+  -- the schedule of an operation goes by the order that is reported of it; where none is, it has the counted operations by stamp
   pub record IsToldSchedule (v : Counts) (ops : List Stamped) (o : OpId) (schedule : List ℕ) : Type 0 where
     pub by_order : 0 < length (order_at (advice_in h advice o.session) o.index) → GoesByOrder query h (advice_in h advice o.session) o schedule
     pub by_stamp : length (order_at (advice_in h advice o.session) o.index) ≡ 0 → schedule ≡ sessions_of (counted_of v o ops)
 
-  -- the vectors and the schedules are as told
+  -- the vectors and the schedules are as reported
   pub record AreAsTold (v : Counts) (schedules : ByOperation ℕ) : Type 0 where
     pub vectors : AreToldVectors h advice v
     pub ops : List Stamped
     pub stamped : AreByStamp h advice ops
     pub each : (o : OpId) → IsOp h o → IsToldSchedule v ops o (list_of schedules o)
 
-  -- the vectors are as told, and the one list goes by stamps
+  -- the vectors are as reported, and the one list goes by stamps
   pub record IsListedAsTold (v : Counts) (list : List ℕ) : Type 0 where
     pub vectors : AreToldVectors h advice v
     pub ops : List Stamped

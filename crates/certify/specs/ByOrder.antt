@@ -12,10 +12,10 @@ use Rattle.certify.specs.Advice.{order_of}
 
 -- the order of the operation at a place of a session, and how many of its entries come before that of the operation itself
 abbrev pub order_at : List (Option Advice) → ℕ → List ℕ
-order_at told i = order_of (slice_index_or told i None)
+order_at reported i = order_of (slice_index_or reported i None)
 
 abbrev pub many_first : List (Option Advice) → ℕ → ℕ
-many_first told i = length (order_at told i) - 1
+many_first reported i = length (order_at reported i) - 1
 
 module _ {C : Type 0} (query : C → Bool) where
   abbrev pub is_query_call : Option C → Bool
@@ -50,12 +50,12 @@ module _ {S C R : Type 0} (query : C → Bool) (h : HistoryValue S C R) where
       ((i : ℕ) × IsNextUpdate s (placed before s) i × (whole ≡ before ++ replicate (i + 1 - placed before s) s))
       ⊎ (HasNoUpdate s (placed before s) × (whole ≡ before))
 
-  module _ (told : List (Option Advice)) (o : OpId) where
+  module _ (reported : List (Option Advice)) (o : OpId) where
     -- an own query before o comes once so many entries are done as come before its own, and at the end if no number is given
     pub record MayCome (done : Option ℕ) (i : ℕ) : Type 0 where
       pub earlier : i < o.index
       pub asks : IsTrue (is_query (op o.session i))
-      pub due : MatchOption done ⊤ (λ n. many_first told i ≤ n)
+      pub due : MatchOption done ⊤ (λ n. many_first reported i ≤ n)
 
     -- behind a schedule come the next operations of the session of o, as far as they may
     pub record AreAsked (done : Option ℕ) (before whole : List ℕ) : Type 0 where
@@ -69,7 +69,7 @@ module _ {S C R : Type 0} (query : C → Bool) (h : HistoryValue S C R) where
     pub record IsTurn (n : ℕ) (before whole : List ℕ) : Type 0 where
       pub asked : List ℕ
       pub queries : AreAsked (Some n) before asked
-      pub named : IsNamed (slice_index_or (order_at told o.index) n 0) asked whole
+      pub named : IsNamed (slice_index_or (order_at reported o.index) n 0) asked whole
 
     -- the turns of the first n entries
     abbrev pub AreTurns : ℕ → List ℕ → Type 0
@@ -79,7 +79,7 @@ module _ {S C R : Type 0} (query : C → Bool) (h : HistoryValue S C R) where
     -- the turns of all entries but the last, the own queries that are left, and o, for which the last entry stands
     pub record GoesByOrder (schedule : List ℕ) : Type 0 where
       pub taken : List ℕ
-      pub turns : AreTurns (many_first told o.index) taken
+      pub turns : AreTurns (many_first reported o.index) taken
       pub asked : List ℕ
       pub queries : AreAsked None taken asked
       pub whole : schedule ≡ asked ++ o.session ∷ []

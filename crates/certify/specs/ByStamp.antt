@@ -21,8 +21,8 @@ by_stamp a b = ordering_then (nat_cmp a.0 b.0) (ordering_then (nat_cmp a.1 b.1) 
 
 -- the first n operations of the session s, in order
 abbrev pub stamped_in : List (Option Advice) → ℕ → ℕ → List Stamped
-stamped_in told s zero = []
-stamped_in told s (suc n) = stamped_in told s n ++ ((heard_before told s (n + 1)).1, s, n) ∷ []
+stamped_in reported s zero = []
+stamped_in reported s (suc n) = stamped_in reported s n ++ ((heard_before reported s (n + 1)).1, s, n) ∷ []
 
 -- the sessions of operations
 abbrev pub sessions_of : List Stamped → List ℕ

@@ -13,7 +13,7 @@ use crate::advice::{advice_in, is_advised};
 use crate::by_order::{order_at, schedule_by_order};
 use crate::by_program_order::make_by_program_order;
 use crate::by_stamp::{Stamped, counted_sessions, operations_by_stamp, sessions_of};
-use crate::heard::told_vectors;
+use crate::heard::reported_vectors;
 use causal_order::{Rows, Vectors};
 use cert_check::{Arbitration, Certificate, Criterion, Schedules};
 use history::{Advice, History, MAX_OPERATIONS, MAX_SESSIONS, OpId};
@@ -57,15 +57,15 @@ pub fn make_by_advice<O: SeqObject>(
     ensures shape { IfOk result (HasShapeOf h.now) }
     ensures exact { IfOk result (IsByAdvice O.query h.now advice.now) }
 {
-    let vectors = told_vectors(alloc, h, advice)?;
+    let vectors = reported_vectors(alloc, h, advice)?;
     let ops = operations_by_stamp(alloc, h, advice)?;
     match criterion {
         Criterion::Cc => {
-            let schedules = told_schedules(alloc, h, advice, &vectors, &ops)?;
+            let schedules = reported_schedules(alloc, h, advice, &vectors, &ops)?;
             Ok(Certificate::Cc(vectors, schedules))
         }
         Criterion::Cm => {
-            let schedules = told_schedules(alloc, h, advice, &vectors, &ops)?;
+            let schedules = reported_schedules(alloc, h, advice, &vectors, &ops)?;
             Ok(Certificate::Cm(vectors, schedules))
         }
         Criterion::Ccv => {
@@ -76,7 +76,7 @@ pub fn make_by_advice<O: SeqObject>(
 }
 
 /// For each operation, its schedule by the order in its advice, or by stamps if this order is missing or empty.
-fn told_schedules<O: SeqObject>(
+fn reported_schedules<O: SeqObject>(
     alloc: Global,
     h: &History<O>,
     advice: &[Option<Advice>],
@@ -95,12 +95,12 @@ fn told_schedules<O: SeqObject>(
             requires advised { IsAdvised h.now advice.now }
             requires few { length h.now.1 ≤ MAX_SESSIONS }
             requires exists { session < length h.now.1 }
-        { told_schedules_of(alloc, h, advice, vectors, ops, session) },
+        { reported_schedules_of(alloc, h, advice, vectors, ops, session) },
     )
 }
 
 /// The schedules of the operations of a session.
-fn told_schedules_of<O: SeqObject>(
+fn reported_schedules_of<O: SeqObject>(
     alloc: Global,
     h: &History<O>,
     advice: &[Option<Advice>],
@@ -115,14 +115,14 @@ fn told_schedules_of<O: SeqObject>(
 {
     let mut schedules = Rows::new(alloc);
     for index in 0..h.len(session) {
-        let schedule = told_schedule(alloc, h, advice, vectors, ops, OpId::at(session, index))?;
+        let schedule = reported_schedule(alloc, h, advice, vectors, ops, OpId::at(session, index))?;
         schedules.push(&schedule)?;
     }
     Ok(schedules)
 }
 
 /// The schedule of an operation.
-fn told_schedule<O: SeqObject>(
+fn reported_schedule<O: SeqObject>(
     alloc: Global,
     h: &History<O>,
     advice: &[Option<Advice>],
@@ -137,10 +137,10 @@ fn told_schedule<O: SeqObject>(
     requires short { op.index < MAX_OPERATIONS }
     ensures { IfOk result (λ schedule. IsToldSchedule O.query h.now advice.now vectors.now ops.now op schedule.items) }
 {
-    let told = advice_in(h, advice, op.session_place());
-    if order_at(told, op.place()).is_empty() {
+    let reported = advice_in(h, advice, op.session_place());
+    if order_at(reported, op.place()).is_empty() {
         counted_sessions(alloc, ops, vectors, op)
     } else {
-        schedule_by_order(alloc, h, told, op)
+        schedule_by_order(alloc, h, reported, op)
     }
 }

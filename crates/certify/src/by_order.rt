@@ -12,11 +12,11 @@ use object_trait::SeqObject;
 use std::alloc::{AllocError, Global};
 
 /// The order in the advice on the operation at an index of a session; empty where there is no advice.
-pub(crate) fn order_at(told: &[Option<Advice>], index: usize) -> &[u8]
-    requires { index < length told.now }
-    ensures { result.now ≡ order_at told.now index }
+pub(crate) fn order_at(reported: &[Option<Advice>], index: usize) -> &[u8]
+    requires { index < length reported.now }
+    ensures { result.now ≡ order_at reported.now index }
 {
-    match &told[index] {
+    match &reported[index] {
         Some(advice) => advice.order.sessions(),
         None => &[],
     }
@@ -29,40 +29,40 @@ pub(crate) fn order_at(told: &[Option<Advice>], index: usize) -> &[u8]
 pub(crate) fn schedule_by_order<O: SeqObject>(
     alloc: Global,
     h: &History<O>,
-    told: &[Option<Advice>],
+    reported: &[Option<Advice>],
     op: OpId,
 ) -> Result<Vec<u8>, AllocError>
     requires few { length h.now.1 ≤ MAX_SESSIONS }
     requires is_op { IsOp h.now op }
     requires short { op.index < MAX_OPERATIONS }
-    requires told { length told.now ≡ length (operations_of h.now op.session) }
-    ensures { IfOk result (λ schedule. GoesByOrder O.query h.now told.now op schedule.items) }
+    requires reported { length reported.now ≡ length (operations_of h.now op.session) }
+    ensures { IfOk result (λ schedule. GoesByOrder O.query h.now reported.now op schedule.items) }
 {
-    let order = order_at(told, op.place());
+    let order = order_at(reported, op.place());
     let mut walk = Walk::new(alloc);
-    for done in 0..many_first(told, op.place()) {
-        ask(h, told, op, Some(done), &mut walk)?;
+    for done in 0..many_first(reported, op.place()) {
+        ask(h, reported, op, Some(done), &mut walk)?;
         name(h, usize::from(order[done]), &mut walk)?;
     }
-    ask(h, told, op, None, &mut walk)?;
+    ask(h, reported, op, None, &mut walk)?;
     let mut schedule = walk.into_schedule();
     schedule.push(op.session as u8)?;
     Ok(schedule)
 }
 
 /// How many entries of the order of an operation come before that of the operation itself.
-fn many_first(told: &[Option<Advice>], index: usize) -> usize
-    requires { index < length told.now }
-    ensures { result ≡ many_first told.now index }
+fn many_first(reported: &[Option<Advice>], index: usize) -> usize
+    requires { index < length reported.now }
+    ensures { result ≡ many_first reported.now index }
 {
-    order_at(told, index).len().saturating_sub(1)
+    order_at(reported, index).len().saturating_sub(1)
 }
 
 /// Places the next own queries of an operation, as far as they may come.
 #[tactic(auto, using(crate::proofs::Placing::session_there))]
 fn ask<O: SeqObject>(
     h: &History<O>,
-    told: &[Option<Advice>],
+    reported: &[Option<Advice>],
     op: OpId,
     done: Option<usize>,
     walk: &mut Walk,
@@ -70,31 +70,31 @@ fn ask<O: SeqObject>(
     requires few { length h.now.1 ≤ MAX_SESSIONS }
     requires is_op { IsOp h.now op }
     requires short { op.index < MAX_OPERATIONS }
-    requires told { length told.now ≡ length (operations_of h.now op.session) }
-    ensures { OnOk result (AreAsked O.query h.now told.now op done walk.old walk.new) }
+    requires reported { length reported.now ≡ length (operations_of h.now op.session) }
+    ensures { OnOk result (AreAsked O.query h.now reported.now op done walk.old walk.new) }
 {
     let session = op.session_place();
-    let end = end_of_asked(h, told, op, done, walk.placed(session));
+    let end = end_of_asked(h, reported, op, done, walk.placed(session));
     place_before(walk, session, end)
 }
 
 /// The index up to which, from a given one on, the own queries of an operation may come.
 fn end_of_asked<O: SeqObject>(
     h: &History<O>,
-    told: &[Option<Advice>],
+    reported: &[Option<Advice>],
     op: OpId,
     done: Option<usize>,
     from: usize,
 ) -> usize
     requires is_op { IsOp h.now op }
-    requires told { length told.now ≡ length (operations_of h.now op.session) }
+    requires reported { length reported.now ≡ length (operations_of h.now op.session) }
     ensures behind { from ≤ result }
     ensures short { from < result → result ≤ op.index }
-    ensures each { (i : ℕ) → from ≤ i → i < result → MayCome O.query h.now told.now op done i }
-    ensures last { ¬ MayCome O.query h.now told.now op done result }
+    ensures each { (i : ℕ) → from ≤ i → i < result → MayCome O.query h.now reported.now op done i }
+    ensures last { ¬ MayCome O.query h.now reported.now op done result }
 {
     let mut end = from;
-    while may_come(h, told, op, done, end) {
+    while may_come(h, reported, op, done, end) {
         end += 1;
     }
     end
@@ -103,20 +103,20 @@ fn end_of_asked<O: SeqObject>(
 /// Whether an own query before an operation may come.
 fn may_come<O: SeqObject>(
     h: &History<O>,
-    told: &[Option<Advice>],
+    reported: &[Option<Advice>],
     op: OpId,
     done: Option<usize>,
     index: usize,
 ) -> bool
     requires is_op { IsOp h.now op }
-    requires told { length told.now ≡ length (operations_of h.now op.session) }
-    ensures { IsTrue result ↔ MayCome O.query h.now told.now op done index }
+    requires reported { length reported.now ≡ length (operations_of h.now op.session) }
+    ensures { IsTrue result ↔ MayCome O.query h.now reported.now op done index }
 {
     if index >= op.place() || !is_query(h, OpId::at(op.session_place(), index)) {
         return false;
     }
     match done {
-        Some(done) => many_first(told, index) <= done,
+        Some(done) => many_first(reported, index) <= done,
         None => true,
     }
 }

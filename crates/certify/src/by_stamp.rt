@@ -47,10 +47,10 @@ fn push_stamped<O: SeqObject>(
     ensures { OnOk result (ops.new.items
         ≡ ops.old.items ++ stamped_in (advice_in h.now advice.now session) session (length (operations_of h.now session))) }
 {
-    let told = advice_in(h, advice, session);
+    let reported = advice_in(h, advice, session);
     let mut heard = Heard::nothing();
     for index in 0..h.len(session) {
-        heard.hear(OpId::at(session, index), &told[index]);
+        heard.hear(OpId::at(session, index), &reported[index]);
         ops.push((heard.stamp(), session as u8, index as u16))?;
     }
     Ok(())

@@ -74,7 +74,7 @@ impl Heard {
 /// The vectors that a store reported: an operation without advice has the counts of the one before it, and counts itself.
 ///
 /// Fails for want of memory alone. O(n k) for n operations of k sessions.
-pub(crate) fn told_vectors<O: SeqObject>(
+pub(crate) fn reported_vectors<O: SeqObject>(
     alloc: Global,
     h: &History<O>,
     advice: &[Option<Advice>],
@@ -106,11 +106,11 @@ fn vectors_of<O: SeqObject>(
     requires exists { session < length h.now.1 }
     ensures { IfOk result (AreListsOf h.now (IsToldVector h.now advice.now) session) }
 {
-    let told = advice_in(h, advice, session);
+    let reported = advice_in(h, advice, session);
     let mut heard = Heard::nothing();
     let mut vectors = Rows::new(alloc);
     for index in 0..h.len(session) {
-        heard.hear(OpId::at(session, index), &told[index]);
+        heard.hear(OpId::at(session, index), &reported[index]);
         vectors.push(heard.counts(h.sessions()))?;
     }
     Ok(vectors)

@@ -12,7 +12,7 @@ use Rattle.board.specs.declared.answer.Answer.{Answer}
 use Rattle.board.specs.declared.answer.Answer.TheVariants.{Yes, No, Unknown, Open}
 use Rattle.cert_check.specs.declared.desk_error.DeskError.{DeskError}
 use Rattle.cert_check.specs.declared.desk_error.DeskError.TheVariants.{Memory}
-use Rattle.history.specs.Workers.{AreWorkers}
+use Rattle.workers.specs.Workers.{AreWorkers}
 use Rattle.collector.specs.Judgements.{IsFounded, IsJudgeError, IsKnown, IsSaidOf, IsSaidOfFile, IsUnexplainedOf}
 
 -- what follows from what an answer is

@@ -9,11 +9,10 @@ ghost use Rattle.cert_check.specs.Certificates.{HasShapeOf, IsExplainedThroughou
 ghost use Rattle.cert_check.specs.Criteria.{Meets};
 ghost use Rattle.collector.specs.NamedKinds.{IfExcluded};
 
-use bad_patterns::Pattern;
+use bad_patterns::{Pattern, Refutable};
 use cert_check::{Certificate, Criterion};
 use decision::Decision;
 use history::{Advice, History};
-use refutable::Refutable;
 use std::alloc::{AllocError, Global};
 
 /// An object whose histories are judged: how they are decided, how patterns are looked for, and how certificates are made.

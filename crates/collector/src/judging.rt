@@ -3,7 +3,7 @@
 ghost use Rattle.std.specs.Prelude.{◌≡◌, ◌↔◌, IfErr, IfOk, IsTrue};
 ghost use Rattle.bad_patterns.specs.declared.kind.Kind.{Kind as AnyKind};
 ghost use Rattle.cert_check.specs.Criteria.{Meets};
-ghost use Rattle.history.specs.Workers.{AreWorkers};
+ghost use Rattle.workers.specs.Workers.{AreWorkers};
 ghost use Rattle.collector.specs.Judgements.{IsFounded, IsFoundedByCertificate, IsJudgeError, IsKnown, IsSaidOfFile, IsUnexplainedOf};
 
 use crate::judged::Judged;
@@ -13,10 +13,11 @@ use cert_check::laws::explained_certificates_show_their_criterion;
 use cert_check::{CaseFile, Criterion, DeskError};
 use decision::Decision;
 use desk::Answer;
-use history::{Advice, Gate, History, MAX_WORKERS};
+use history::{Advice, History};
 use std::alloc::Global;
 use std::sync::Wait;
 use std::thread::Threads;
+use workers::{Gate, MAX_WORKERS};
 
 /// What is known of a history and a criterion.
 ///

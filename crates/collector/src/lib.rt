@@ -1,6 +1,6 @@
 //! From a history to an answer: how the histories of each object are judged.
 //!
-//! [`judge`] and [`judge_with`] check the pieces in threads, [`judge_alone`] and [`judge_alone_with`] start none. [`Judged`] says
+//! [`judge`] and [`judge_with`] check the pieces in threads, and [`judge_alone_with`] starts none. [`Judged`] says
 //! what an object gives for it. It uses decision, desk, pattern_search, and certify_cc, certify_cm and certify_ccv.
 //! How pieces are shared among workers may change: callers rest on the contracts alone, and nobody trusts advice.
 #![tactic(auto)]
@@ -14,7 +14,7 @@ mod making;
 mod working;
 
 pub use desk::Answer;
-pub use history::{Gate, MAX_WORKERS, OpenGate};
 pub use judged::Judged;
 pub use judging::{judge, judge_with};
-pub use judging_alone::{judge_alone, judge_alone_with};
+pub use judging_alone::judge_alone_with;
+pub use workers::{Gate, MAX_WORKERS, OpenGate};

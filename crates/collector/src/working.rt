@@ -3,16 +3,16 @@
 ghost use Rattle.std.specs.Prelude.{◌≡◌, IfErr, IfOk, IsSome};
 ghost use Rattle.collector.specs.Judgements.{IsSaidOfFile};
 
+use bad_patterns::Refutable;
 use cert_check::{CaseFile, DeskError, first_unexplained};
 use desk::{Answer, Desk, Shelf, ShelfName, Ticket};
-use history::Gate;
 use object_trait::SeqObject;
-use refutable::Refutable;
 use std::alloc::Global;
 use std::marker::Brand;
 use std::sync::Wait;
 use std::thread;
 use std::thread::Threads;
+use workers::Gate;
 
 /// What the certificate of a case file shows. Workers check its pieces at a desk that is made for it alone.
 pub fn answer_of_file<O: Refutable + Send + Sync, R: Threads + Wait + Sync, G: Gate>(

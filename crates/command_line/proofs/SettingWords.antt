@@ -5,7 +5,7 @@ use Rattle.std.specs.Cmp.Lexicographic.{pointwise}
 use Rattle.std.specs.List.{after_first}
 use Rattle.std.specs.Str.Parse.{digits_value, without_leading_plus}
 use Rattle.clap.specs.Words.{Text}
-use Rattle.history.specs.Workers.{AreWorkers}
+use Rattle.workers.specs.Workers.{AreWorkers}
 use Rattle.history.specs.declared.limits.TheConstants.{MAX_SESSIONS}
 use Rattle.command_line.specs.declared.drive.TheConstants.{MAX_SEALS}
 use Rattle.command_line.specs.declared.drive.Store.TheVariants.{Causal, Lamport}

@@ -6,7 +6,7 @@ use Rattle.clap.specs.declared.builder.action.ArgAction.TheVariants.{Set, SetTru
 use Rattle.clap.specs.declared.builder.value_parser.ValueParser.TheVariants.{Unsigned}
 use Rattle.clap.specs.declared.error.kind.ErrorKind.{ErrorKind}
 use Rattle.clap.specs.declared.error.kind.ErrorKind.TheVariants.{DisplayHelp, DisplayVersion, OutOfMemory}
-use Rattle.history.specs.declared.limits.TheConstants.{MAX_WORKERS}
+use Rattle.workers.specs.declared.limit.TheConstants.{MAX_WORKERS}
 use Rattle.command_line.specs.Options.{IsTask}
 use Rattle.command_line.specs.declared.drive.TheConstants.{MAX_SEALS}
 use Rattle.command_line.specs.declared.listing.TheConstants.{MAX_LISTED}

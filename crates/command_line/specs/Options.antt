@@ -2,7 +2,7 @@
 -- words, or one word with an equals sign between. Text is bytes.
 use Rattle.std.specs.Prelude.{◌≡◌, ◌⊎◌, ◌<◌, ◌≤◌, ◌&&◌, ◌||◌, ℕ, List, [], ◌∷◌, ◌++◌, Option, Some, None, codes, option_map, Bool, true, false, if◌then◌else◌, is_some, not, unwrap_or}
 use Rattle.clap.specs.Words.{Text}
-use Rattle.history.specs.Workers.{AreWorkers}
+use Rattle.workers.specs.Workers.{AreWorkers}
 use Rattle.history.specs.declared.limits.TheConstants.{MAX_SESSIONS}
 use Rattle.replica.specs.declared.delivery.Delivery.{Delivery}
 use Rattle.replica.specs.declared.delivery.Delivery.TheVariants as deliveries

@@ -9,8 +9,9 @@ use crate::listing::MAX_LISTED;
 use crate::log_order::MAX_EVERY;
 use clap::builder::ValueParser;
 use clap::{Arg, ArgAction};
-use history::{MAX_SESSIONS, MAX_WORKERS};
+use history::MAX_SESSIONS;
 use std::alloc::Global;
+use workers::MAX_WORKERS;
 
 /// The name of a store.
 pub fn store_argument<'a>(alloc: Global) -> Arg<'a>

@@ -1,7 +1,7 @@
 //! How a store is driven.
 
-use crate::workers::Workers;
 use replica::Delivery;
+use workers::Workers;
 
 /// The most seals that are taken while clients run.
 pub const MAX_SEALS: u8 = 8;

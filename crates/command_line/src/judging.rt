@@ -6,7 +6,7 @@ ghost use Rattle.command_line.specs.declared.length.Length.TheVariants.{Limited}
 
 use crate::expected::Expected;
 use crate::length::Length;
-use crate::workers::Workers;
+use workers::Workers;
 
 /// How a history is judged.
 #[derive(Clone, Copy, Debug, PartialEq, Eq)]

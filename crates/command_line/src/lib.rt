@@ -1,7 +1,7 @@
 //! What the words of a command line order, and what the program says of other words.
 //!
 //! [`command_of`] gives the [`Task`] of the words, or the [`Usage`] that says why they give none. [`Order`], [`Page`] and
-//! [`LogOrder`] are what a task may ask for. It uses clap for faults and help, and replica and cert_check for what options name.
+//! [`LogOrder`] are what a task may ask for. It uses clap for faults and help, and replica, cert_check and workers for what options name.
 //! How words are read may change: the contract says which give which task. No contract fixes the texts of faults and of help.
 #![tactic(auto)]
 
@@ -25,7 +25,6 @@ mod page;
 mod program;
 mod said;
 mod settings;
-mod workers;
 
 pub use detail::Detail;
 pub use drive::{Drive, MAX_SEALS, Store};

@@ -2,7 +2,7 @@
 
 use crate::expected::Expected;
 use crate::form::{ListForm, LongForm};
-use crate::workers::Workers;
+use workers::Workers;
 
 /// The most events after which a log may be judged again.
 pub const MAX_EVERY: u32 = 2_147_483_647;

@@ -1,14 +1,14 @@
 //! The numbers that words write.
 
 ghost use Rattle.std.specs.Prelude.{◌<◌, ◌≤◌, ℕ, MatchOption};
-ghost use Rattle.history.specs.Workers.{AreWorkers};
+ghost use Rattle.workers.specs.Workers.{AreWorkers};
 ghost use Rattle.command_line.specs.Numerals.{IsEvery, IsListed, Writes};
 
 use crate::drive::MAX_SEALS;
 use crate::listing::MAX_LISTED;
 use crate::log_order::MAX_EVERY;
-use crate::workers::Workers;
 use history::MAX_SESSIONS;
+use workers::Workers;
 
 /// The number of workers that a text writes.
 pub fn workers_in(text: &str) -> Option<Workers>

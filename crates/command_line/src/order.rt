@@ -15,11 +15,11 @@ use crate::misuse::text_of_misuse;
 use crate::options::task_of;
 use crate::page::Page;
 use crate::program::program;
-use crate::workers::Workers;
 use clap::error::ErrorKind;
 use clap::{ArgMatches, Error};
 use std::alloc::Global;
 use std::convert::AsStr;
+use workers::Workers;
 
 /// What a command line asks for.
 #[derive(Clone, Copy, Debug, PartialEq, Eq)]

@@ -20,8 +20,8 @@ use crate::log_order::{LogJudging, LogOrder};
 use crate::order::{Order, Task};
 use crate::page::{Page, PageOf, USUAL_LISTED};
 use crate::settings::{CommandName, Setting};
-use crate::workers::Workers;
 use replica::Delivery;
+use workers::Workers;
 
 /// All that was said to a command.
 #[derive(Clone, Copy, Debug, PartialEq, Eq)]

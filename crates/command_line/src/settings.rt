@@ -7,7 +7,7 @@ ghost use Rattle.command_line.specs.Steps.BareWords.{IsNoBareWord};
 use crate::drive::Store;
 use crate::expected::{Expected, expected_in};
 use crate::numerals::{every_in, listed_in, seals_in, session_in, workers_in};
-use crate::workers::Workers;
+use workers::Workers;
 
 /// The name of a command.
 #[derive(Clone, Copy, Debug, PartialEq, Eq)]

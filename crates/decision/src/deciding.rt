@@ -15,11 +15,12 @@ use bad_patterns::laws::present_kinds_exclude_criteria;
 use bad_patterns::{Kind, Pattern};
 use cert_check::Criterion;
 use history::History;
-use long_decision::{CallingThread, LongDecision, LongDecisions, decide_long};
+use long_decision::{LongDecision, LongDecisions, decide_long};
 use memory_order::IndexedMemory;
 use objects::Memory;
 use pattern_search::{Searched, SearchedKinds, find_in, search_happened_before};
 use std::alloc::{AllocError, Global};
+use workers::CallingThread;
 
 /// What is decided of a memory history and a criterion.
 #[derive(Debug, Drop)]

@@ -7,10 +7,10 @@ use crate::desk::Desk;
 use crate::shelf_name::ShelfName;
 use crate::ticket::Ticket;
 use crate::verdict::Verdict;
+use bad_patterns::Refutable;
 use cert_check::PieceChecker;
 use history::OpId;
 use object_trait::SeqObject;
-use refutable::Refutable;
 use std::alloc::{AllocError, Global};
 use std::marker::Model;
 

@@ -3,11 +3,11 @@
 ghost use Rattle.std.specs.Prelude.{◌≡◌, ◌+◌, length};
 ghost use Rattle.desk.specs.Answers.{IsTrueAnswer, operations_of};
 
+use bad_patterns::Refutable;
 use board::Answer;
 use cert_check::CaseFile;
 use history::History;
 use object_trait::SeqObject;
-use refutable::Refutable;
 
 /// How many operations a history has: at most 4,096.
 fn operations_in<O: SeqObject>(h: &History<O>) -> u32

@@ -1,8 +1,8 @@
-//! A desk: case files on a shelf, and a lock round the board that says what is known of them. Threads take pieces, check
-//! them outside the lock and put verdicts, and what the desk answers of a case is true of its file.
+//! A desk: case files on a shelf, and a lock round the board that says what is known of them. Threads take pieces, check them outside
+//! the lock and put verdicts, and what the desk answers of a case is true of its file.
 //!
-//! It gives [`Desk`], [`Shelf`] with [`ShelfName`], [`Ticket`], [`Verdict`] and [`Answer`]. It uses board, boxcar and cert_check.
-//! How a worker goes from piece to piece may change: callers rest on the contracts alone.
+//! It gives [`Desk`], [`Shelf`] with [`ShelfName`], [`Ticket`], [`Verdict`] and [`Answer`]. It uses board, bad_patterns, boxcar,
+//! cert_check and workers. How a worker goes from piece to piece may change: callers rest on the contracts alone.
 #![tactic(auto)]
 
 mod case_checker;

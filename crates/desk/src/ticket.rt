@@ -6,10 +6,10 @@ ghost use Rattle.desk.specs.Files.{file_at, IsSameCase};
 use crate::desk::Desk;
 use crate::shelf_name::ShelfName;
 use crate::token::Token;
+use bad_patterns::Refutable;
 use board::Mark;
 use cert_check::CaseFile;
 use object_trait::SeqObject;
-use refutable::Refutable;
 use std::marker::Model;
 
 /// Names a case of a desk: its number, and its file.

@@ -8,11 +8,12 @@ use crate::desk::Desk;
 use crate::shelf_name::ShelfName;
 use crate::ticket::Ticket;
 use crate::verdict::Verdict;
+use bad_patterns::Refutable;
 use cert_check::DeskError;
-use history::{Gate, OpId};
-use refutable::Refutable;
+use history::OpId;
 use std::alloc::{AllocError, Global};
 use std::sync::Wait;
+use workers::Gate;
 
 /// How many pieces one call of `work` takes at most.
 const MAX_TURNS: u32 = 65_536;

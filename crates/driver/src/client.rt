@@ -10,11 +10,12 @@ use crate::drive_error::DriveError;
 use crate::run::Run;
 use crate::steps::{ask, begin, finish};
 use crate::taking_in::take_in;
-use history::{Gate, OpId};
+use history::OpId;
 use object_trait::SeqObject;
 use recorder::{Receipt, Session};
 use replica::{Replica, UpdateOrder};
 use std::sync::Wait;
+use workers::Gate;
 
 /// The client of a session: what records its calls, and what answers them.
 #[derive(Drop)]

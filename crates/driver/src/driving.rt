@@ -18,7 +18,7 @@ use crate::sealing::seals_of;
 use crate::sealing_progress::SealingProgress;
 use crate::seated::play_seats;
 use crate::seating::{read_seats, seats_of};
-use history::{Gate, History};
+use history::History;
 use object_trait::SeqObject;
 use recorder::Session;
 use replica::UpdateOrder;
@@ -27,6 +27,7 @@ use std::alloc::Global;
 use std::marker::{Brand, PhantomData};
 use std::sync::Wait;
 use std::thread::Threads;
+use workers::Gate;
 
 /// Calls a store with the calls of the sessions of a history, ignoring the returns of the history, and seals what is recorded.
 ///

@@ -1,7 +1,7 @@
 //! Clients that call a replicated store, recorded and sealed while they run.
 //!
 //! It gives [`drive`], which follows a [`DrivePlan`] and returns seals or a [`DriveError`]; steps of a run, such as [`play`] and
-//! [`seals_of`], are public too. The crate uses recorder, snapshot and replica. No contract states which updates come through
+//! [`seals_of`], are public too. The crate uses recorder, snapshot, replica and workers. No contract states which updates come through
 //! [`Mailboxes`]: how they are sent may change, and so may the threads of the clients, while the contract of [`drive`] holds.
 #![tactic(auto)]
 

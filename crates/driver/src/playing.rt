@@ -12,11 +12,11 @@ use crate::input::{call_at, ended_calls};
 use crate::played::{NumberedSeal, Played};
 use crate::run::Run;
 use crate::sealing::seal_now;
-use history::Gate;
 use object_trait::SeqObject;
 use recorder::{Receipt, Session};
 use replica::{Replica, UpdateOrder};
 use std::sync::Wait;
+use workers::Gate;
 
 /// Plays a session to its end, and takes the seals that fall due at its calls. The client of a session that stops begins its
 /// last call, doesn't ask its replica, and never ends it.

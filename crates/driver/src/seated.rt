@@ -9,7 +9,6 @@ use crate::playing::play;
 use crate::run::Run;
 use crate::run_name::RunName;
 use crate::seat::Seat;
-use history::Gate;
 use object_trait::SeqObject;
 use recorder::Session;
 use replica::UpdateOrder;
@@ -18,6 +17,7 @@ use std::marker::{Model, PhantomData};
 use std::sync::{Mutex, Wait};
 use std::thread;
 use std::thread::Threads;
+use workers::Gate;
 
 /// Takes the session that waits at a seat.
 fn take_own<O: SeqObject, K: RunName<O::Start, O::Call, O::Ret>, R: Wait>(

@@ -10,8 +10,8 @@ use Rattle.operations.specs.Json.{elements, list}
 use Rattle.cert_check.specs.declared.criterion.Criterion.{Criterion}
 use Rattle.cert_check.specs.CriterionNames.{name_of}
 use Rattle.bad_patterns.specs.declared.pattern.Pattern.{Pattern}
-use Rattle.bad_patterns.specs.PatternForm.{form_of as pattern_form}
-use Rattle.pattern_reader.specs.ClaimForm.{claim_refusal as refusal_read, IsClaimRefused}
+use Rattle.evidence.specs.PatternForm.{form_of as pattern_form}
+use Rattle.evidence.specs.ClaimForm.{claim_refusal as refusal_read, IsClaimRefused}
 use Rattle.cert_check.proofs.CriterionNames.{one_name}
 use Rattle.engine.proofs.PatternForms.{one_pattern}
 use Rattle.engine.specs.Failure.{failure_of}
@@ -19,7 +19,8 @@ use Rattle.engine.specs.declared.failure.RunError.TheVariants.{NotThatPattern}
 use Rattle.command_line.specs.declared.length.Length.{Length}
 use Rattle.command_line.specs.declared.length.Length.TheVariants.{Limited}
 use Rattle.engine.specs.Lengths.{IsHistoryOf, first_refusal_of}
-use Rattle.engine.specs.Refuting.{claim_form, claim_refusal_at, HasNoSuchPatternAt, IsClaimError, IsPatternOf}
+use Rattle.engine.specs.Refuting.{claim_form, claim_refusal_at, HasNoSuchPatternAt, IsClaimError}
+use Rattle.findings.specs.Answers.{IsPatternOf}
 
 -- the first refusal of a list of three is that of its history
 pub refusal-claim : (long : Length) (d h c p : Data) → d ≡ list (h ∷ c ∷ p ∷ []) → claim_refusal_at long (elements d) ≡ first_refusal_of long h

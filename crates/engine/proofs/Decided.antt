@@ -8,7 +8,7 @@ use Rattle.cert_check.specs.Criteria.{Meets}
 use Rattle.operations.specs.declared.any_history.AnyHistory.TheVariants as histories
 use Rattle.board.specs.declared.answer.Answer.{Answer}
 use Rattle.board.specs.declared.answer.Answer.TheVariants.{Yes, No, Unknown, Open}
-use Rattle.engine.specs.Report.{IsKnownOnDistinctValues, IsLongTrueOf, IsTrueOf}
+use Rattle.findings.specs.Answers.{IsKnownOnDistinctValues, IsLongTrueOf, IsTrueOf}
 
 module _ (h : MemoryHistory) (criterion : Criterion) where
   -- an answer says whether the history meets the criterion, or nothing

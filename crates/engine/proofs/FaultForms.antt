@@ -11,9 +11,9 @@ use Rattle.long_faults.specs.declared.fault.Fault.TheVariants.{ThinAirRead, Writ
 use Rattle.long_faults.specs.declared.tally.Faults.{Faults}
 use Rattle.long_faults.specs.FaultsForm.{fault_form, session_form}
 use Rattle.engine.specs.declared.listing_faults.FaultReport.{FaultReport}
-use Rattle.engine.specs.Explaining.{explanation_form}
+use Rattle.engine.specs.Explaining.{findings_form}
 use Rattle.engine.specs.ListingFaults.{fault_report_form, list_form}
-use Rattle.engine.proofs.ExplanationForms.{explanation_has_no_float, shown_depth}
+use Rattle.engine.proofs.FindingForms.{findings_have_no_float, shown_depth}
 
 fault_depth : (fault : Fault) → depth (fault_form fault) ≤ 2
 fault_depth (ThinAirRead r) = omega arith
@@ -32,9 +32,9 @@ list_depth (Some faults) =
 
 pub fault_report_depth : (report : FaultReport) → depth (fault_report_form report) ≤ max_depth
 fault_report_depth report =
-    let cc = shown_depth report.explanation.cc in
-    let cm = shown_depth report.explanation.cm in
-    let ccv = shown_depth report.explanation.ccv in
+    let cc = shown_depth report.findings.cc in
+    let cm = shown_depth report.findings.cm in
+    let ccv = shown_depth report.findings.ccv in
     let listed = list_depth report.faults in
     omega arith
 
@@ -49,4 +49,4 @@ list_has_no_float (Some faults) =
     rw (no_float-map session_form (λ row. refl) faults.by_session.items, no_float-map fault_form fault_has_no_float faults.listed.items) refl
 
 pub fault_report_has_no_float : (report : FaultReport) → has_float (fault_report_form report) ≡ false
-fault_report_has_no_float report = rw (explanation_has_no_float report.explanation, list_has_no_float report.faults) refl
+fault_report_has_no_float report = rw (findings_have_no_float report.findings, list_has_no_float report.faults) refl

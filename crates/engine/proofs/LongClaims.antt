@@ -12,9 +12,9 @@ use Rattle.operations.specs.Reads.{IsRead}
 use Rattle.cert_check.specs.declared.criterion.Criterion.{Criterion}
 use Rattle.cert_check.specs.CriterionNames.{name_of}
 use Rattle.bad_patterns.specs.declared.pattern.Pattern.{Pattern}
-use Rattle.bad_patterns.specs.PatternForm.{form_of as pattern_form}
-use Rattle.pattern_reader.specs.Words.{word_form}
-use Rattle.pattern_reader.specs.declared.violation.Violation.{Violation}
+use Rattle.evidence.specs.PatternForm.{form_of as pattern_form}
+use Rattle.evidence.specs.Words.{word_form}
+use Rattle.evidence.specs.declared.violation.Violation.{Violation}
 use Rattle.memory_order.specs.Memory.{MemoryHistory}
 use Rattle.long_history.specs.LongHistories.{IsLongHistory}
 use Rattle.long_reader.specs.FirstOfList.{BeginsWith, IsRefusedFirst, refusal_of_first}

@@ -21,7 +21,7 @@ use Rattle.engine.specs.declared.failure.RunError.TheVariants.{History, Script, 
 use Rattle.engine.specs.declared.listing_faults.FaultReport.{FaultReport}
 use Rattle.engine.specs.Lengths.{IsHistoryOf}
 use Rattle.engine.specs.ListingFaults.{AreFaultsIn, IsFaultReportOf, IsListedAs, fault_report_form}
-use Rattle.engine.specs.Report.{LacksDistinctValues}
+use Rattle.findings.specs.Answers.{LacksDistinctValues}
 use Rattle.engine.specs.Running.{IsOutput, IsOutputError}
 use Rattle.engine.specs.Steps.Listed.{IsListOf, IsLongOf}
 use Rattle.engine.specs.Steps.LongExplained.{IsExplainedAs}
@@ -31,7 +31,7 @@ module _ (input : List ℕ) (history : AnyHistory) where
   explained_output : (form : LongForm) (text : List ℕ) → IsHistoryOf Any history → IsJson input (form_of history)
       → IsExplainedAs form history text → IsOutput (ExplainLong form) input text
   explained_output long_forms.Words text is read said =
-      record { history = history; explanation = said.0; is_history = is; read = read; reasons = said.1; told = said.2 }
+      record { history = history; findings = said.0; is_history = is; read = read; found = said.1; told = said.2 }
   explained_output long_forms.Json text is read said =
       record { history = history; said = said.0; is_history = is; read = read; true_of = said.1; json = said.2; whole = said.3 }
   explained_output long_forms.Picture text is read svg = record { history = history; is_history = is; read = read; drawn = svg }
@@ -39,7 +39,7 @@ module _ (input : List ℕ) (history : AnyHistory) where
   listed_output : (form : ListForm) (long : Length) (most : ℕ) (text : List ℕ) → IsHistoryOf long history → IsJson input (form_of history)
       → IsListOf form most history text → IsListedAs form long most input text
   listed_output list_forms.Words long most text is read said =
-      record { history = history; explanation = said.0; is_history = is; read = read; reasons = said.1; told = said.2 }
+      record { history = history; findings = said.0; is_history = is; read = read; found = said.1; told = said.2 }
   listed_output list_forms.Json long most text is read said =
       record { history = history; said = said.0; is_history = is; read = read; true_of = said.1; json = said.2; whole = said.3 }
 

@@ -19,7 +19,7 @@ use Rattle.cert_check.specs.declared.certificate.Certificate.{Certificate}
 use Rattle.cert_check.specs.CertificateForm.{IsCertificate, form_of as certificate_form}
 use Rattle.cert_check.proofs.CertificateForms.{one_certificate}
 use Rattle.cert_check.specs.CriterionNames.{name_of}
-use Rattle.bad_patterns.specs.PatternForm.{form_of as pattern_form}
+use Rattle.evidence.specs.PatternForm.{form_of as pattern_form}
 use Rattle.lines.specs.declared.outcome.Outcome.{Outcome}
 use Rattle.command_line.specs.declared.order.Order.{Order}
 use Rattle.command_line.specs.declared.order.Order.TheVariants.{Judge, JudgeLines, Check, Explain, ExplainLong, ListFaults, Refute, Replay, Drive}
@@ -40,10 +40,12 @@ use Rattle.engine.specs.Driving.{IsDriveError, IsDriveReport, IsUndriven, sessio
 use Rattle.engine.specs.declared.failure.RunError.{RunError}
 use Rattle.engine.specs.declared.failure.RunError.TheVariants.{History, Script, BadCertificate, ShapeMismatch, NotThatPattern, BadLimits, NoSuch, TooLong, Memory, ReadFault, WriteFault}
 use Rattle.engine.specs.InputLengths.{length_for, most_bytes}
-use Rattle.certificate_reader.specs.Pairs.{pair_form, pair_refusal}
-use Rattle.engine.specs.Checking.{HasOtherShape, HasShape, IsCheckReport, IsPair, IsPairError}
+use Rattle.evidence.specs.Pairs.{pair_form, pair_refusal}
+use Rattle.engine.specs.Checking.{HasOtherShape, IsCheckReport, IsPair, IsPairError}
+use Rattle.findings.specs.Pieces.{HasShape}
 use Rattle.engine.specs.ListingFaults.{IsListedAs}
-use Rattle.engine.specs.Refuting.{claim_form, claim_refusal_at, IsClaimErrorAt, IsPatternOf, IsRefutationAt}
+use Rattle.engine.specs.Refuting.{claim_form, claim_refusal_at, IsClaimErrorAt, IsRefutationAt}
+use Rattle.findings.specs.Answers.{IsPatternOf}
 use Rattle.engine.specs.Failure.{failure_status, refusal_status, script_status}
 use Rattle.engine.specs.Lengths.{IsHistoryOf, IsRefusedAs, first_refusal_of}
 use Rattle.engine.specs.Report.{IsReport, IsReportAt}

@@ -9,11 +9,12 @@ use Rattle.operations.specs.AnyForm.{first_refusal, form_of, IsAnyHistory, IsJso
 use Rattle.operations.specs.Json.{elements}
 use Rattle.cert_check.specs.declared.certificate.Certificate.{Certificate}
 use Rattle.cert_check.specs.CertificateForm.{form_of as certificate_form, IsCertificate}
-use Rattle.certificate_reader.specs.Shortened.{IsTooLarge}
-use Rattle.certificate_reader.specs.Pairs.{pair_form, pair_refusal, IsPairRefused}
-use Rattle.certificate_reader.proofs.Shortened.{too_large_has_no_shape}
+use Rattle.evidence.specs.Shortened.{IsTooLarge}
+use Rattle.evidence.specs.Pairs.{pair_form, pair_refusal, IsPairRefused}
+use Rattle.evidence.proofs.Shortened.{too_large_has_no_shape}
 use Rattle.engine.specs.declared.failure.RunError.TheVariants.{BadCertificate, ShapeMismatch}
-use Rattle.engine.specs.Checking.{HasShape, IsPair, IsUnread}
+use Rattle.findings.specs.Pieces.{HasShape}
+use Rattle.engine.specs.Checking.{IsPair, IsUnread}
 use Rattle.engine.specs.Failure.{failure_of}
 
 -- the first refusal of a pair is that of its history

@@ -19,7 +19,7 @@ use Rattle.bad_patterns.specs.declared.pattern.Pattern.{Pattern}
 use Rattle.bad_patterns.specs.declared.pattern.Pattern.TheVariants.{CyclicCO, ThinAirRead, WriteCOInitRead, WriteCORead, WriteHBInitRead, CyclicHB, CyclicCF}
 use Rattle.bad_patterns.specs.KindNames.{kind_name}
 use Rattle.bad_patterns.specs.Patterns.{kind_of}
-use Rattle.bad_patterns.specs.PatternForm.{op_form, path_form, link_form, links_form, line_form, lines_form, form_of}
+use Rattle.evidence.specs.PatternForm.{op_form, path_form, link_form, links_form, line_form, lines_form, form_of}
 
 -- two lists of two elements
 both_of_two : (a b x y : Data) → a ∷ x ∷ [] ≡ b ∷ y ∷ [] → (a ≡ b) × (x ≡ y)

@@ -12,42 +12,43 @@ use Rattle.command_line.specs.declared.order.Order.TheVariants.{Judge}
 use Rattle.engine.specs.declared.failure.RunError.{RunError}
 use Rattle.engine.specs.declared.failure.RunError.TheVariants.{History, Script, BadCertificate, ShapeMismatch, NotThatPattern, BadLimits, NoSuch, TooLong, Memory, ReadFault, WriteFault}
 use Rattle.engine.specs.declared.input.TheConstants.{MAX_INPUT_BYTES}
-use Rattle.engine.specs.declared.report.Report.{Report}
+use Rattle.findings.specs.declared.finding.Findings.{Findings}
 use Rattle.engine.specs.LineAnswers.{IsLineError}
 use Rattle.engine.specs.Running.{IsOutputError}
 use Rattle.engine.specs.Steps.ReportErrors.{IsReportError}
-use Rattle.engine.specs.Report.{EachIsTrueOf, EachIsTrueAt, EachNamesUnexplained, EachIsKnownOnDistinctValues, IsReportOnAt}
+use Rattle.findings.specs.declared.kept.Kept.TheVariants.{Answers}
+use Rattle.findings.specs.Findings.{EachIsFound, EachIsKnownOnDistinctValues, EachIsLongTrueOf, EachNamesUnexplained}
+use Rattle.findings.proofs.Each.{found-known, found-names, found-true}
+use Rattle.engine.specs.Report.{IsReportOnAt}
 
--- what is true of the history that was read is a report on the input
-pub reported : (input : List ℕ) (history : AnyHistory) (r : Result Report RunError) → IsAnyHistory history → IsJson input (form_of history)
-    → IfOk r (EachIsTrueOf history) → IfOk r (EachIsKnownOnDistinctValues history) → IfOk r (EachNamesUnexplained history) → IfOk r (IsReportOnAt Limited input)
-reported input history (Ok report) is read true_of unknown unexplained = (
+-- what is found of the history that was read is a report on the input
+pub reported : (input : List ℕ) (history : AnyHistory) (report : Findings) → IsAnyHistory history → IsJson input (form_of history)
+    → EachIsFound Answers history report → IsReportOnAt Limited input report
+reported input history report is read found = (
   record {
     history = history;
     report = report;
     is_history = is;
     read = read;
-    true_of = true_of;
-    unknown = unknown;
-    unexplained = unexplained;
+    true_of = found-true Answers history report found;
+    unknown = found-known Answers history report found;
+    unexplained = found-names Answers history report found;
     lines = refl;
   },
   refl,
 )
-reported input history (Err e) is read true_of unknown unexplained = tt
 
 -- the same where it may be that nothing is known
-pub reported_known : (input : List ℕ) (history : AnyHistory) (known : Option Report) → IsAnyHistory history → IsJson input (form_of history)
-    → IfSome known (EachIsTrueOf history) → IfSome known (EachIsKnownOnDistinctValues history) → IfSome known (EachNamesUnexplained history)
-    → IfSome known (IsReportOnAt Limited input)
-reported_known input history (Some report) is read true_of unknown unexplained = reported input history (Ok report) is read true_of unknown unexplained
-reported_known input history None is read true_of unknown unexplained = tt
+pub reported_known : (input : List ℕ) (history : AnyHistory) (known : Option Findings) → IsAnyHistory history → IsJson input (form_of history)
+    → IfSome known (EachIsFound Answers history) → IfSome known (IsReportOnAt Limited input)
+reported_known input history (Some report) is read found = reported input history report is read found
+reported_known input history None is read found = tt
 
 -- the same of a history of any length
-pub reported_long : (input : List ℕ) (h : MemoryHistory) (r : Result Report RunError) → IsLongHistory h → IsJson input (form_of (histories.Memory h))
-    → IfOk r (EachIsTrueAt Any (histories.Memory h)) → IfOk r (EachIsKnownOnDistinctValues (histories.Memory h))
-    → IfOk r (EachNamesUnexplained (histories.Memory h)) → IfOk r (IsReportOnAt Any input)
-reported_long input h (Ok report) is read true_of unknown unexplained = (
+pub reported_long : (input : List ℕ) (h : MemoryHistory) (report : Findings) → IsLongHistory h → IsJson input (form_of (histories.Memory h))
+    → EachIsLongTrueOf (histories.Memory h) report → EachIsKnownOnDistinctValues (histories.Memory h) report
+    → EachNamesUnexplained (histories.Memory h) report → IsReportOnAt Any input report
+reported_long input h report is read true_of unknown unexplained = (
   record {
     history = histories.Memory h;
     report = report;
@@ -60,7 +61,6 @@ reported_long input h (Ok report) is read true_of unknown unexplained = (
   },
   refl,
 )
-reported_long input h (Err e) is read true_of unknown unexplained = tt
 
 -- an error in the place of a report is one of a run of `judge`, and of a line that is not too long
 pub error_judged : (judging : Judging) (input : List ℕ) (e : RunError) → IsReportError judging.length input e → IsOutputError (Judge judging) input e

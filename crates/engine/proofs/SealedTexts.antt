@@ -12,26 +12,33 @@ use Rattle.operations.specs.AnyForm.{form_of, IsAnyHistory}
 use Rattle.serde_json.specs.Written.{compact_text}
 use Rattle.cert_check.proofs.Named.{take_next}
 use Rattle.command_line.specs.declared.drive.Drive.{Drive}
-use Rattle.engine.specs.declared.report.Report.{Report}
-use Rattle.engine.specs.Report.{EachIsTrueOf, EachNamesUnexplained, EachIsKnownOnDistinctValues, text_for}
+use Rattle.findings.specs.declared.finding.Findings.{Findings}
+use Rattle.findings.specs.declared.kept.Kept.TheVariants.{Answers}
+use Rattle.findings.specs.Findings.{EachIsFound}
+use Rattle.findings.proofs.Each.{found-known, found-names, found-true}
+use Rattle.engine.specs.Report.{text_for}
 use Rattle.engine.specs.Driving.{CanDrive, IsDriven, IsSealedFrom, IsTrueReport, Repeats, SealedReport, sessions_in, text_of}
-use Rattle.engine.specs.Steps.SealedTexts.{AreTrueReports, AreTrueTexts, IsTrueText}
+use Rattle.engine.specs.Steps.SealedTexts.{AreTrueReports, AreTrueTexts, IsReportedText, IsTrueText}
 
 -- the text of a sealed history
-pub true_text : (input history named : AnyHistory) (report : Report) (form lines text : List ℕ) → named ≡ history → IsAnyHistory named → IsSealedFrom input history
-    → EachIsTrueOf named report → EachIsKnownOnDistinctValues named report → EachNamesUnexplained named report → form ≡ compact_text (form_of named)
-    → lines ≡ text_for report → text ≡ form ++ (codes "\n" ++ lines) → IsTrueText input history text
-true_text input history named report form lines text same is_history sealed true_of unknown unexplained of_form of_lines is =
-    (record { history = named; report = report }, same, report_is_true, is ∙ (λ i. of_form i ++ (codes "\n" ++ of_lines i)))
+pub true_text : (input history named : AnyHistory) (text : List ℕ) → named ≡ history → IsSealedFrom input history → IsReportedText named text
+    → IsTrueText input history text
+true_text input history named text same sealed (report, is_history, found, is) = (record { history = named; report = report }, same, report_is_true, is)
   where
     report_is_true : IsTrueReport input (record { history = named; report = report })
     report_is_true = record {
       is_history = is_history;
       sealed = subst (λ (h : AnyHistory). IsSealedFrom input h) (sym same) sealed;
-      true_of = true_of;
-      unknown = unknown;
-      unexplained = unexplained;
+      true_of = found-true Answers named report found;
+      unknown = found-known Answers named report found;
+      unexplained = found-names Answers named report found;
     }
+
+-- the form of a history and the lines of a report on it are what is found of it
+pub reported_text : (history : AnyHistory) (report : Findings) (form lines text : List ℕ) → IsAnyHistory history → EachIsFound Answers history report
+    → form ≡ compact_text (form_of history) → lines ≡ text_for report → text ≡ form ++ (codes "\n" ++ lines) → IsReportedText history text
+reported_text history report form lines text is_history found of_form of_lines is =
+    (report, is_history, found, is ∙ (λ i. of_form i ++ (codes "\n" ++ of_lines i)))
 
 module _ {S C R : Type 0} (any : HistoryValue S C R → AnyHistory) (input : HistoryValue S C R) where
   -- one more report of one more history

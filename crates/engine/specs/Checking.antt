@@ -1,5 +1,5 @@
 -- What is said of a history and a certificate of it.
-use Rattle.std.specs.Prelude.{◌≡◌, ◌≢◌, ⊤, ℕ, List, [], ◌∷◌, Option, Some, None}
+use Rattle.std.specs.Prelude.{◌≡◌, ◌≢◌, ℕ, List, [], ◌∷◌, Option, Some, None}
 use Rattle.serde_json.specs.Data.{Data}
 use Rattle.operations.specs.declared.read_error.ReadError.{ReadError}
 use Rattle.operations.specs.declared.read_error.ReadError.TheVariants as errors
@@ -7,15 +7,16 @@ use Rattle.operations.specs.declared.any_history.AnyHistory.{AnyHistory}
 use Rattle.operations.specs.Json.{list}
 use Rattle.operations.specs.AnyForm.{first_refusal, form_of, IsAnyHistory, IsJson}
 use Rattle.cert_check.specs.declared.certificate.Certificate.{Certificate}
-use Rattle.cert_check.specs.Certificates.{HasShapeOf, criterion_of}
+use Rattle.cert_check.specs.Certificates.{criterion_of}
 use Rattle.cert_check.specs.CertificateForm.{form_of as certificate_form, IsCertificate}
-use Rattle.certificate_reader.specs.Pairs.{pair_form, pair_refusal}
+use Rattle.evidence.specs.Pairs.{pair_form, pair_refusal}
 use Rattle.engine.specs.declared.failure.RunError.{RunError}
-use Rattle.engine.specs.declared.failure.RunError.TheVariants.{BadCertificate, ShapeMismatch, Memory}
+use Rattle.engine.specs.declared.failure.RunError.TheVariants.{BadCertificate, ShapeMismatch}
 use Rattle.engine.specs.InputErrors.{IsTextError}
-use Rattle.engine.specs.Report.{HoldsOf, IsTrueOf, line_for}
+use Rattle.findings.specs.Answers.{IsTrueOf}
+use Rattle.findings.specs.Pieces.{HasShape, IsShown}
+use Rattle.engine.specs.Report.{line_for}
 use Rattle.board.specs.declared.answer.Answer.{Answer}
-use Rattle.collector.specs.Judgements.{IsSaidOf}
 
 -- a text of a pair of a history's form and another value
 abbrev pub IsPair : List ℕ → Data → Data → Type 0
@@ -35,14 +36,6 @@ IsWrongPair _ pair = ⊥
 abbrev pub IsPairError : List ℕ → RunError → Type 0
 IsPairError text error = IsTextError pair_refusal IsWrongPair text error
 
--- a certificate has the shape of a history
-abbrev pub HasShape : AnyHistory → Certificate → Type 0
-HasShape history certificate = HoldsOf (λ S C R answer h. HasShapeOf h certificate) history
-
--- an answer says what the pieces of a certificate of the history show
-abbrev pub IsShown : AnyHistory → Certificate → Answer → Type 0
-IsShown history certificate said = HoldsOf (λ S C R answer h. IsSaidOf answer h certificate said) history
-
 -- the certificate of a text has another shape than its history
 abbrev pub HasOtherShape : List ℕ → Type 0
 HasOtherShape text =
@@ -52,12 +45,6 @@ HasOtherShape text =
 abbrev pub IsUnread : List ℕ → RunError → Type 0
 IsUnread text ShapeMismatch = HasOtherShape text
 IsUnread text error = IsPairError text error
-
--- why a certificate with a form is not checked: it does not have the shape of the history, or memory ran out
-abbrev pub IsCheckError : Type 0 → RunError → Type 0
-IsCheckError has_shape ShapeMismatch = ¬ has_shape
-IsCheckError has_shape Memory = ⊤
-IsCheckError has_shape _ = ⊥
 
 -- the text answers the pair in the input: it is the line of what the pieces of its certificate show, which is true of its
 -- history

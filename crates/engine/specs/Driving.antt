@@ -12,8 +12,9 @@ use Rattle.command_line.specs.declared.order.Order.TheVariants as orders
 use Rattle.command_line.specs.declared.drive.Drive.{Drive}
 use Rattle.engine.specs.declared.failure.RunError.{RunError}
 use Rattle.engine.specs.declared.failure.RunError.TheVariants.{BadLimits, NoSuch, Memory}
-use Rattle.engine.specs.declared.report.Report.{Report}
-use Rattle.engine.specs.Report.{EachIsTrueOf, EachNamesUnexplained, EachIsKnownOnDistinctValues, text_for}
+use Rattle.findings.specs.declared.finding.Findings.{Findings}
+use Rattle.findings.specs.Findings.{EachIsTrueOf, EachNamesUnexplained, EachIsKnownOnDistinctValues}
+use Rattle.engine.specs.Report.{text_for}
 
 -- a fact about two histories of one object
 abbrev pub Relation : Type 1
@@ -54,7 +55,7 @@ sessions_in (histories.Queues h) = length h.1
 -- a history, and what is said of it
 pub record SealedReport : Type 0 where
   pub history : AnyHistory
-  pub report : Report
+  pub report : Findings
 
 -- its compact text, a line feed and the lines of the report
 abbrev pub text_of : SealedReport → List ℕ

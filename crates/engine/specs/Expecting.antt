@@ -6,7 +6,8 @@ use Rattle.command_line.specs.declared.expected.Expected.{Expected}
 use Rattle.lines.specs.declared.outcome.Outcome.{Outcome}
 use Rattle.lines.specs.declared.outcome.Outcome.TheVariants as outcomes
 use Rattle.lines.specs.Outcomes.{worse}
-use Rattle.engine.specs.declared.report.Report.{Report}
+use Rattle.findings.specs.declared.finding.Findings.{Findings}
+use Rattle.findings.specs.Findings.{answer_of}
 use Rattle.command_line.specs.declared.length.Length.{Length}
 use Rattle.engine.specs.Report.{IsReportOnAt, text_for}
 
@@ -19,13 +20,13 @@ outcome_in true (Unknown place) = outcomes.Unknown
 outcome_in true (Open n) = outcomes.Unknown
 
 -- what comes of a report: a no to a criterion that is expected counts more than an unknown
-abbrev pub outcome_for : Expected → Report → Outcome
+abbrev pub outcome_for : Expected → Findings → Outcome
 outcome_for expected report =
-    worse (outcome_in expected.cc report.cc) (worse (outcome_in expected.cm report.cm) (outcome_in expected.ccv report.ccv))
+    worse (outcome_in expected.cc (answer_of report.cc)) (worse (outcome_in expected.cm (answer_of report.cm)) (outcome_in expected.ccv (answer_of report.ccv)))
 
 -- the text has the lines of a report on the history in the input, and this comes of that report
 pub record IsOutcomeOfReport (long : Length) (expected : Expected) (input text : List ℕ) (outcome : Outcome) : Type 0 where
-  pub report : Report
+  pub report : Findings
   pub reported : IsReportOnAt long input report
   pub lines : text ≡ text_for report
   pub comes : outcome ≡ outcome_for expected report

@@ -12,7 +12,8 @@ use Rattle.lines.specs.Lines.{AreAnswered, is_blank, lines_of}
 use Rattle.engine.specs.declared.failure.RunError.{RunError}
 use Rattle.engine.specs.declared.failure.RunError.TheVariants.{History, TooLong, Memory}
 use Rattle.engine.specs.declared.input.TheConstants.{MAX_INPUT_BYTES}
-use Rattle.engine.specs.declared.report.Report.{Report}
+use Rattle.findings.specs.declared.finding.Findings.{Findings}
+use Rattle.findings.specs.Findings.{answer_of}
 use Rattle.engine.specs.Expecting.{outcome_for}
 use Rattle.engine.specs.Failure.{failure_status, line_for as fault_line_for}
 use Rattle.engine.specs.Lengths.{IsRefusedAs}
@@ -23,9 +24,9 @@ abbrev pub unended : List ℕ → List ℕ
 unended line = take (length line - 1) line
 
 -- the lines of a report, joined to one without its line feed
-abbrev pub joined_for : Report → List ℕ
+abbrev pub joined_for : Findings → List ℕ
 joined_for report =
-    unended (line_for Cc report.cc) ++ (codes "; " ++ (unended (line_for Cm report.cm) ++ (codes "; " ++ unended (line_for Ccv report.ccv))))
+    unended (line_for Cc (answer_of report.cc)) ++ (codes "; " ++ (unended (line_for Cm (answer_of report.cm)) ++ (codes "; " ++ unended (line_for Ccv (answer_of report.ccv)))))
 
 module _ (long : Length) where
   -- what can come of a line in the place of a report: it is too long, or its history is refused, or memory ran out
@@ -38,7 +39,7 @@ module _ (long : Length) where
   -- the text has the lines of a report on the history in the line, which is not too long, and this comes of the report
   abbrev pub IsLineReport : Expected → List ℕ → List ℕ → Outcome → Type 0
   IsLineReport expected line text outcome =
-      (report : Report) × (length line ≤ MAX_INPUT_BYTES) × IsReportOnAt long line report × (text ≡ joined_for report)
+      (report : Findings) × (length line ≤ MAX_INPUT_BYTES) × IsReportOnAt long line report × (text ≡ joined_for report)
       × (outcome ≡ outcome_for expected report)
 
   -- the text says why the line is refused

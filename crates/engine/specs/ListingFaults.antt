@@ -13,11 +13,12 @@ use Rattle.command_line.specs.declared.form.ListForm.TheVariants.{Words, Json}
 use Rattle.command_line.specs.declared.length.Length.{Length}
 use Rattle.command_line.specs.declared.listing.Listing.{Listing}
 use Rattle.engine.specs.declared.listing_faults.FaultReport.{FaultReport}
-use Rattle.engine.specs.declared.reason.Explanation.{Explanation}
-use Rattle.engine.specs.Explaining.{EachIsReason, explanation_form, IsToldOf}
+use Rattle.findings.specs.declared.finding.Findings.{Findings}
+use Rattle.findings.specs.Findings.{EachIsFinding}
+use Rattle.engine.specs.Explaining.{findings_form, IsToldOf}
 use Rattle.engine.specs.ExplainingInWords.{IsIndented, TellsEach}
 use Rattle.engine.specs.Lengths.{IsHistoryOf}
-use Rattle.engine.specs.Report.{LacksDistinctValues}
+use Rattle.findings.specs.Answers.{LacksDistinctValues}
 
 -- of a memory these are the first faults, at most so many, with the counts of all; none are given where values are not distinct, and of
 -- other objects
@@ -26,27 +27,27 @@ AreFaultsIn most history None = LacksDistinctValues history
 AreFaultsIn most (histories.Memory h) (Some faults) = IsTallyOf h most faults.listed.items faults.counts faults.by_session.items
 AreFaultsIn most _ (Some faults) = ⊥
 
--- the reasons are those of a history, and so are the faults
+-- the findings are those of a history, and so are the faults
 pub record IsFaultReportOf (most : ℕ) (history : AnyHistory) (report : FaultReport) : Type 0 where
-  pub reasons : EachIsReason history report.explanation
+  pub found : EachIsFinding history report.findings
   pub faults : AreFaultsIn most history report.faults
 
--- the form of a list: that of the reasons, and that of the faults, if values are distinct
+-- the form of a list: that of the findings, and that of the faults, if values are distinct
 abbrev pub list_form : Option Faults → Data
 list_form None = null
 list_form (Some faults) = faults_form faults.counts faults.by_session.items faults.listed.items
 
 abbrev pub fault_report_form : FaultReport → Data
-fault_report_form report = list (explanation_form report.explanation ∷ list_form report.faults ∷ [])
+fault_report_form report = list (findings_form report.findings ∷ list_form report.faults ∷ [])
 
--- the text gives the reasons on the history in the input, which may be that long, and after them lines that begin with two spaces
+-- the text gives what is found of the history in the input, which may be that long, and after them lines that begin with two spaces
 pub record IsListedInWords (long : Length) (input text : List ℕ) : Type 0 where
   pub history : AnyHistory
-  pub explanation : Explanation
+  pub findings : Findings
   pub is_history : IsHistoryOf long history
   pub read : IsJson input (form_of history)
-  pub reasons : EachIsReason history explanation
-  pub told : (first rest : List ℕ) × TellsEach explanation first × IsIndented rest × (text ≡ first ++ rest)
+  pub found : EachIsFinding history findings
+  pub told : (first rest : List ℕ) × TellsEach findings first × IsIndented rest × (text ≡ first ++ rest)
 
 abbrev pub IsListedAs : ListForm → Length → ℕ → List ℕ → List ℕ → Type 0
 IsListedAs Words long most input text = IsListedInWords long input text

@@ -4,14 +4,13 @@ use Rattle.serde_json.specs.Data.{Data, string}
 use Rattle.operations.specs.declared.read_error.ReadError.{ReadError}
 use Rattle.operations.specs.declared.read_error.ReadError.TheVariants as errors
 use Rattle.operations.specs.declared.any_history.AnyHistory.{AnyHistory}
-use Rattle.operations.specs.declared.any_history.AnyHistory.TheVariants as histories
 use Rattle.operations.specs.Json.{list}
 use Rattle.operations.specs.AnyForm.{form_of, IsJson}
 use Rattle.cert_check.specs.declared.criterion.Criterion.{Criterion}
 use Rattle.cert_check.specs.CriterionNames.{name_of}
 use Rattle.bad_patterns.specs.declared.pattern.Pattern.{Pattern}
-use Rattle.bad_patterns.specs.PatternForm.{form_of as pattern_form}
-use Rattle.bad_patterns.specs.Patterns.{IsBadPattern, kind_of}
+use Rattle.evidence.specs.PatternForm.{form_of as pattern_form}
+use Rattle.bad_patterns.specs.Patterns.{kind_of}
 use Rattle.board.specs.declared.answer.Answer.TheVariants.{No}
 use Rattle.engine.specs.declared.failure.RunError.{RunError}
 use Rattle.engine.specs.declared.failure.RunError.TheVariants.{NotThatPattern}
@@ -19,7 +18,8 @@ use Rattle.command_line.specs.declared.length.Length.{Length}
 use Rattle.command_line.specs.declared.length.Length.TheVariants.{Limited}
 use Rattle.engine.specs.InputErrors.{IsTextError}
 use Rattle.engine.specs.Lengths.{IsHistoryOf, first_refusal_of}
-use Rattle.engine.specs.Report.{IsExcluded, line_for}
+use Rattle.findings.specs.Answers.{IsExcluded, IsPatternOf}
+use Rattle.engine.specs.Report.{line_for}
 
 -- the form of a claim that a pattern shows that a history does not meet a criterion: the three in one JSON list
 abbrev pub claim_form : AnyHistory → Criterion → Pattern → Data
@@ -36,11 +36,6 @@ first_of_claim_at long (h ∷ c ∷ p ∷ d ∷ ds) = Some errors.BadShape
 abbrev pub claim_refusal_at : Length → Option (List Data) → Option ReadError
 claim_refusal_at long None = Some errors.BadShape
 claim_refusal_at long (Some ds) = first_of_claim_at long ds
-
--- a pattern shows that a history does not meet a criterion: patterns are known for memories alone
-abbrev pub IsPatternOf : AnyHistory → Criterion → Pattern → Type 0
-IsPatternOf (histories.Memory h) criterion pattern = IsBadPattern h criterion pattern
-IsPatternOf _ criterion pattern = ⊥
 
 -- a list of three begins with the form of a history, which may be that long, and after it come not the name of a criterion and the form
 -- of a pattern that shows that the history does not meet it

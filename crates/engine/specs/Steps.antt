@@ -1,10 +1,6 @@
 -- What single functions say to one another, in terms of their own data: no promise to a reader rests on it.
-pub mod FileChecks
-pub mod FoundedAnswers
 pub mod Transfer
 pub mod SealedTexts
-pub mod Unshown
-pub mod FoundedEvidence
 pub mod LineRefusals
 pub mod ReportErrors
 pub mod LongExplained

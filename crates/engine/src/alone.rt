@@ -5,24 +5,22 @@ ghost use Rattle.command_line.specs.declared.form.Form.TheVariants.{Json};
 ghost use Rattle.engine.specs.Alone.{judging_alone};
 ghost use Rattle.engine.specs.Running.{Fails, IsOutput, IsOutputError};
 
-use crate::checking::pair_in;
-use crate::checking_alone::answer_of_certificate_alone;
-use crate::expecting::report_on_input_alone;
-use crate::explaining::explanation_text;
-use crate::explaining_alone::explanation_alone;
+use crate::checking::check;
+use crate::expecting::report_on_input;
+use crate::explaining::explain_as_json;
 use crate::failure::RunError;
 use crate::input::MAX_INPUT_BYTES;
 use crate::refuting::refute;
-use crate::report::{report_line, report_text};
+use crate::report::report_text;
 use command_line::{Length, Order};
 use json::Scratch;
-use operations::read_history;
 use std::alloc::Global;
+use workers::CallingThread;
 
 /// The answer that a run of `judge` writes for this input. It starts no thread.
 ///
 /// Refuses what such a run refuses, and fails for want of memory. The cost is that of reading the input and of
-/// [`report_alone`](crate::report_alone).
+/// [`report_on`](crate::report_on).
 pub fn judge_alone(alloc: Global, input: &[u8]) -> Result<String, RunError>
     ensures within { OnOk result (length input.now ≤ MAX_INPUT_BYTES) }
     ensures output { IfOk result (λ text. IsOutput (Order.Judge judging_alone) input.now (string_bytes text)) }
@@ -35,7 +33,7 @@ pub fn judge_alone(alloc: Global, input: &[u8]) -> Result<String, RunError>
 /// The answer that a run of `check` writes for this input. It starts no thread.
 ///
 /// Refuses what such a run refuses, and fails for want of memory. The cost is that of reading the input and of
-/// [`answer_of_certificate_alone`].
+/// [`PieceWork::answer_of`](crate::PieceWork::answer_of).
 pub fn check_alone(alloc: Global, input: &[u8]) -> Result<String, RunError>
     ensures within { OnOk result (length input.now ≤ MAX_INPUT_BYTES) }
     ensures output { IfOk result (λ text. IsOutput (Order.Check 1) input.now (string_bytes text)) }
@@ -48,14 +46,14 @@ pub fn check_alone(alloc: Global, input: &[u8]) -> Result<String, RunError>
 /// The answer that a run of `explain --json` writes for this input. It starts no thread.
 ///
 /// Refuses what such a run refuses, and fails for want of memory. The cost is that of reading the input and of
-/// [`explanation_alone`].
+/// [`findings_of`](crate::findings_of).
 pub fn explain_alone(alloc: Global, input: &[u8]) -> Result<String, RunError>
     ensures within { OnOk result (length input.now ≤ MAX_INPUT_BYTES) }
     ensures output { IfOk result (λ text. IsOutput (Order.Explain Json) input.now (string_bytes text)) }
     ensures error { IfErr result (Fails (Order.Explain Json) (Some input.now)) }
 {
     stay_within(input)?;
-    reasons_of(alloc, input)
+    explain_as_json(&CallingThread, alloc, input)
 }
 
 /// The answer that a run of `refute` writes for this input. It starts no thread.
@@ -89,7 +87,7 @@ fn report_of(alloc: Global, input: &[u8]) -> Result<String, RunError>
     ensures error { IfErr result (IsOutputError (Order.Judge judging_alone) input.now) }
 {
     let mut scratch = Scratch::new(alloc);
-    let report = report_on_input_alone(alloc, &mut scratch, input, Length::Limited)?;
+    let report = report_on_input(&CallingThread, alloc, &mut scratch, input, Length::Limited)?;
     Ok(report_text(alloc, &report)?)
 }
 
@@ -98,18 +96,5 @@ fn line_of(alloc: Global, input: &[u8]) -> Result<String, RunError>
     ensures output { IfOk result (λ text. IsOutput (Order.Check 1) input.now (string_bytes text)) }
     ensures error { IfErr result (IsOutputError (Order.Check 1) input.now) }
 {
-    let (history, certificate) = pair_in(alloc, input)?;
-    let criterion = certificate.criterion();
-    let answer = answer_of_certificate_alone(alloc, history, certificate)?;
-    Ok(report_line(alloc, criterion, answer)?)
-}
-
-// The reasons on the history in the input.
-fn reasons_of(alloc: Global, input: &[u8]) -> Result<String, RunError>
-    ensures output { IfOk result (λ text. IsOutput (Order.Explain Json) input.now (string_bytes text)) }
-    ensures error { IfErr result (IsOutputError (Order.Explain Json) input.now) }
-{
-    let history = read_history(alloc, input)?;
-    let explanation = explanation_alone(alloc, &history)?;
-    Ok(explanation_text(alloc, &explanation)?)
+    check(&CallingThread, alloc, input)
 }

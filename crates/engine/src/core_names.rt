@@ -52,8 +52,8 @@ impl<'a, N: Names> Names for CoreNames<'a, N> {
         self.whole.session(alloc, self.core.in_whole(op))
     }
 
-    fn told(&self, alloc: Global, op: OpId) -> Result<Option<String>, AllocError> {
-        self.whole.told(alloc, self.core.in_whole(op))
+    fn phrase(&self, alloc: Global, op: OpId) -> Result<Option<String>, AllocError> {
+        self.whole.phrase(alloc, self.core.in_whole(op))
     }
 
     fn label(&self, alloc: Global, op: OpId) -> Result<Option<String>, AllocError> {

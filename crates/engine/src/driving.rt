@@ -4,24 +4,25 @@ ghost use Rattle.std.specs.Prelude.{◌≡◌, IfErr, IfOk, string_bytes};
 ghost use Rattle.driver.specs.Drives.{IsOfInput};
 ghost use Rattle.engine.specs.Driving.{IsDriveError, IsDriven, IsDrivenAs, IsDriveOrder, IsOrderError, sessions_in};
 ghost use Rattle.engine.specs.Running.{IsOutput, IsOutputError};
-ghost use Rattle.engine.specs.Steps.SealedTexts.{AreSealedFrom, AreTrueTexts, IsTrueText};
+ghost use Rattle.engine.specs.Steps.SealedTexts.{AreSealedFrom, AreTrueTexts, IsReportedText, IsTrueText};
 
 use crate::drivable::Drivable;
 use crate::failure::RunError;
-use crate::judging::report_on;
 use crate::report::report_text;
 use causal_memory::AsTakenIn;
-use collector::{Gate, OpenGate};
-use command_line::{Drive, Order, Store, Workers};
+use command_line::{Drive, Order, Store};
 use driver::{DrivePlan, drive};
+use findings::{PieceWork, report_on};
+use history::Advice;
 use lamport_store::ByStamp;
 use objects::{AddRemoveSet, Counter, Counters, Memory, Queue, Queues, Register, Sets};
 use operations::{AnyHistory, History, read_history, write_history};
 use replica::UpdateOrder;
 use snapshot::Sealed;
-use std::alloc::Global;
+use std::alloc::{AllocError, Global};
 use std::sync::Wait;
 use std::thread::Threads;
+use workers::{Gate, OpenGate, WorkerThreads};
 
 /// Drives a store with the calls of a history, as the order says, and returns what was recorded: for each sealed history its
 /// compact text, a line feed, and the three lines of what is known of it.
@@ -146,48 +147,60 @@ fn drive_object<
         stop: order.stop,
     };
     let seals = drive::<O, P, T, G>(rt, alloc, history, plan, gate)?;
-    text_of_seals(rt, alloc, history, seals.as_slice(), order.workers)
+    let work = WorkerThreads::of(rt, order.workers);
+    Ok(text_of_seals(&work, alloc, history, seals.as_slice())?)
 }
 
 // The texts of sealed histories, one after the other.
 #[tactic(auto, using(crate::proofs::SealedTexts::texts_next, crate::proofs::SealedTexts::texts_all))]
-fn text_of_seals<O: Drivable + Send + Sync, T: Threads + Wait + Sync>(
-    rt: &T,
+fn text_of_seals<O: Drivable, K: PieceWork>(
+    work: &K,
     alloc: Global,
     input: &History<O>,
     seals: &[Sealed<O>],
-    workers: Workers,
-) -> Result<String, RunError>
+) -> Result<String, AllocError>
+    requires can_check { K.can_check work.now }
     requires start { O.starts input.now.0 }
     requires sealed { AreSealedFrom input.now seals.now }
-    ensures texts { IfOk result (λ text. AreTrueTexts O.any input.now seals.now (string_bytes text)) }
-    ensures error { IfErr result (λ e. e ≡ RunError.Memory) }
+    ensures { IfOk result (λ text. AreTrueTexts O.any input.now seals.now (string_bytes text)) }
 {
     let mut text = String::new(alloc);
     for sealed in seals {
-        let more = text_of_seal(rt, alloc, input, sealed, workers)?;
+        let more = text_of_seal(work, alloc, input, sealed)?;
         text.push_str(more.as_str())?;
     }
     Ok(text)
 }
 
 // The text of a sealed history: its form, and the lines of the report on it.
-#[tactic(auto, using(crate::proofs::SealedTexts::true_text))]
-fn text_of_seal<O: Drivable + Send + Sync, T: Threads + Wait + Sync>(
-    rt: &T,
+fn text_of_seal<O: Drivable, K: PieceWork>(
+    work: &K,
     alloc: Global,
     input: &History<O>,
     sealed: &Sealed<O>,
-    workers: Workers,
-) -> Result<String, RunError>
+) -> Result<String, AllocError>
+    requires can_check { K.can_check work.now }
     requires start { O.starts input.now.0 }
     requires sealed { IsOfInput input.now sealed.now.history }
-    ensures text { IfOk result (λ text. IsTrueText (O.any input.now) (O.any sealed.now.history) (string_bytes text)) }
-    ensures error { IfErr result (λ e. e ≡ RunError.Memory) }
+    ensures { IfOk result (λ text. IsTrueText (O.any input.now) (O.any sealed.now.history) (string_bytes text)) }
 {
     let history = O::copy_as_any(alloc, sealed.history())?;
-    let form = write_history(alloc, &history)?;
-    let report = report_on(rt, alloc, &history, sealed.advice(), workers)?;
+    let text = text_of_report(work, alloc, &history, sealed.advice())?;
+    Ok(text)
+}
+
+// The form of a history, and the lines of the report on it.
+fn text_of_report<K: PieceWork>(
+    work: &K,
+    alloc: Global,
+    history: &AnyHistory,
+    advice: &[Option<Advice>],
+) -> Result<String, AllocError>
+    requires { K.can_check work.now }
+    ensures { IfOk result (λ text. IsReportedText history.now (string_bytes text)) }
+{
+    let form = write_history(alloc, history)?;
+    let report = report_on(work, alloc, history, advice)?;
     let lines = report_text(alloc, &report)?;
-    Ok(format!(in alloc; "{form}\n{lines}")?)
+    format!(in alloc; "{form}\n{lines}")
 }

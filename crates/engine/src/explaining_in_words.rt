@@ -5,66 +5,116 @@ ghost use Rattle.std.specs.Str.Iter.{LacksByte};
 ghost use Rattle.command_line.specs.declared.form.Form.TheVariants.{Words};
 ghost use Rattle.engine.specs.ExplainingInWords.{IsIndented, IsWorded, Tells, TellsEach, indented};
 ghost use Rattle.engine.specs.Running.{IsOutputError};
+ghost use Rattle.engine.specs.Steps.LongExplained.{IsWordsOf};
 
-use crate::explaining::explanation_of;
+use crate::examined::Examined;
 use crate::failure::RunError;
-use crate::reason::{Explanation, Reason};
-use crate::reason_lines::lines_of_reason;
+use crate::finding_lines::lines_of_finding;
 use crate::report::report_line;
-use crate::three_reasons::{ReasonLines, text_of_reasons};
+use crate::three_findings::{FindingLines, text_of_findings};
 use cert_check::Criterion;
-use command_line::{Order, Workers};
-use operations::{AnyHistory, read_history};
+use command_line::Order;
+use findings::{Finding, Findings, Kept, PieceWork, findings_of, findings_of_memory};
+use memory_order::IndexedMemory;
+use objects::Memory;
+use operations::{AnyHistory, History, read_history};
 use std::alloc::{AllocError, Global};
-use std::sync::Wait;
-use std::thread::Threads;
 use wording::OwnNames;
 
-/// The reasons on the history in the input, in words: for each criterion the line of `judge`, and after it what shows it, in lines that
+/// What is found of the history in the input, in words: for each criterion the line of `judge`, and after it what shows it, in lines that
 /// begin with two spaces. What shows two criteria is given once.
 ///
-/// Refuses what is no history, and fails for want of memory. It judges as [`report_on`](crate::report_on) does. If a
-/// certificate does not explain an operation, it makes the certificate once more and replays the piece of the operation.
-/// Besides that, it costs O(n) for n bytes that are read and written.
-pub fn explain_in_words<T: Threads + Wait + Sync>(
-    rt: &T,
+/// Refuses what is no history, and fails for want of memory. It costs what [`findings_of`] takes, with its reasons, and the words. If a
+/// certificate does not explain an operation, it replays the piece of the operation. Besides that, it costs O(n) for n bytes that are read
+/// and written.
+pub(crate) fn explain_in_words<W: PieceWork>(
+    work: &W,
     alloc: Global,
     input: &[u8],
 ) -> Result<String, RunError>
+    requires { W.can_check work.now }
     ensures worded { IfOk result (λ text. IsWorded input.now (string_bytes text)) }
     ensures error { IfErr result (IsOutputError (Order.Explain Words) input.now) }
 {
     let history = read_history(alloc, input)?;
-    let explanation = explanation_of(rt, alloc, &history, Workers::usual())?;
-    Ok(text_of_explanation(alloc, &history, &explanation)?)
+    let text = words_of_any(work, alloc, &history)?;
+    Ok(text)
 }
 
-// The text of an explanation of a history.
-fn text_of_explanation(
+// What is found of a history, in words.
+fn words_of_any<W: PieceWork>(
+    work: &W,
     alloc: Global,
     history: &AnyHistory,
-    explanation: &Explanation,
 ) -> Result<String, AllocError>
-    ensures { IfOk result (λ text. TellsEach explanation.now (string_bytes text)) }
+    requires { W.can_check work.now }
+    ensures { IfOk result (λ text. IsWordsOf history.now (string_bytes text)) }
 {
-    let lines = ReasonLines {
-        cc: lines_of_reason(alloc, history, &OwnNames, Criterion::Cc, &explanation.cc)?,
-        cm: lines_of_reason(alloc, history, &OwnNames, Criterion::Cm, &explanation.cm)?,
-        ccv: lines_of_reason(alloc, history, &OwnNames, Criterion::Ccv, &explanation.ccv)?,
-    };
-    text_of_reasons(alloc, &OwnNames, explanation, lines)
+    match history {
+        AnyHistory::Memory(memory) => words_of_memory(work, alloc, memory),
+        AnyHistory::Register(_)
+        | AnyHistory::Counter(_)
+        | AnyHistory::Set(_)
+        | AnyHistory::Queue(_)
+        | AnyHistory::Counters(_)
+        | AnyHistory::Sets(_)
+        | AnyHistory::Queues(_) => words_of_object(work, alloc, history),
+    }
 }
 
-/// The text of one reason, with these lines after the line of `judge`. It leaves out a line that has a line feed.
+// The same for a memory. What is known of it is made once.
+fn words_of_memory<W: PieceWork>(
+    work: &W,
+    alloc: Global,
+    history: &History<Memory>,
+) -> Result<String, AllocError>
+    requires { W.can_check work.now }
+    ensures { IfOk result (λ text. IsWordsOf (AnyHistory.Memory history.now) (string_bytes text)) }
+{
+    let memory = IndexedMemory::of(alloc, history)?;
+    let findings = findings_of_memory(work, alloc, &memory, Kept::Reasons)?;
+    text_of_examined(alloc, Examined::Memory(&memory), &findings)
+}
+
+// The same for another object.
+fn words_of_object<W: PieceWork>(
+    work: &W,
+    alloc: Global,
+    history: &AnyHistory,
+) -> Result<String, AllocError>
+    requires { W.can_check work.now }
+    ensures { IfOk result (λ text. IsWordsOf history.now (string_bytes text)) }
+{
+    let findings = findings_of(work, alloc, history, Kept::Reasons)?;
+    text_of_examined(alloc, Examined::Object(history), &findings)
+}
+
+// The text of what is found of a history.
+fn text_of_examined(
+    alloc: Global,
+    history: Examined<'_, '_>,
+    findings: &Findings,
+) -> Result<String, AllocError>
+    ensures { IfOk result (λ text. TellsEach findings.now (string_bytes text)) }
+{
+    let lines = FindingLines {
+        cc: lines_of_finding(alloc, history, &OwnNames, Criterion::Cc, &findings.cc)?,
+        cm: lines_of_finding(alloc, history, &OwnNames, Criterion::Cm, &findings.cm)?,
+        ccv: lines_of_finding(alloc, history, &OwnNames, Criterion::Ccv, &findings.ccv)?,
+    };
+    text_of_findings(alloc, &OwnNames, findings, lines)
+}
+
+/// The text of one finding, with these lines after the line of `judge`. It leaves out a line that has a line feed.
 pub(crate) fn text_with_lines(
     alloc: Global,
     criterion: Criterion,
-    reason: &Reason,
+    finding: &Finding,
     lines: &[String],
 ) -> Result<String, AllocError>
-    ensures { IfOk result (λ text. Tells criterion reason.now (string_bytes text)) }
+    ensures { IfOk result (λ text. Tells criterion finding.now (string_bytes text)) }
 {
-    let line = report_line(alloc, criterion, reason.answer())?;
+    let line = report_line(alloc, criterion, finding.answer())?;
     let words = indented_text(alloc, lines)?;
     format!(in alloc; "{line}{words}")
 }

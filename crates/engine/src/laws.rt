@@ -8,7 +8,7 @@ ghost use Rattle.engine.specs.Failure.{failure_status};
 ghost use Rattle.engine.specs.InputLengths.{length_for, most_bytes};
 ghost use Rattle.lines.specs.ReadCalls.{CallOutcome, CallsAtMost};
 ghost use Rattle.engine.specs.ReadCalls.{GivesBytes, IdlesAtMost};
-ghost use Rattle.engine.specs.Report.{answer_for};
+ghost use Rattle.findings.specs.Findings.{answer_for};
 ghost use Rattle.engine.specs.Running.{Completes, Fails, IsOutput, IsOutputError};
 ghost use Rattle.command_line.specs.declared.length.Length.TheVariants.{Any};
 ghost use Rattle.long_history.specs.LongHistories.{IsLongHistory};

@@ -6,17 +6,19 @@ ghost use Rattle.engine.specs.LineAnswers.{IsHistoryAnswer, IsLineAnswer, IsLine
 ghost use Rattle.engine.specs.Steps.LineRefusals.{IsRefusalBy};
 ghost use Rattle.engine.specs.Report.{IsReportOnAt};
 
-use crate::expecting::{outcome_of, report_on_input_alone};
+use crate::expecting::{outcome_of, report_on_input};
 use crate::failure::{RunError, fault_line, status_of};
 use crate::input::MAX_INPUT_BYTES;
-use crate::report::{Report, report_line};
+use crate::report::report_line;
 use cert_check::Criterion;
 use command_line::{BlankLines, Judging, Length, LineJudging};
+use findings::Findings;
 use json::Scratch;
 use lines::{Fault, Outcome, is_blank};
 use std::alloc::{AllocError, Global};
+use workers::CallingThread;
 
-// The joined lines of a report have fewer bytes, but for those of an open case file.
+// The joined lines of a report have fewer bytes.
 const USUAL_BYTES: usize = 96;
 
 /// Appends the answer to a line and a line feed, and returns the outcome. The answer is the lines of the report on its history
@@ -79,7 +81,7 @@ fn report_on_line(
     scratch: &mut Scratch<Global>,
     line: &[u8],
     allowed: Length,
-) -> Result<Report, RunError>
+) -> Result<Findings, RunError>
     ensures within { OnOk result (length line.now ≤ MAX_INPUT_BYTES) }
     ensures report { IfOk result (IsReportOnAt allowed line.now) }
     ensures error { IfErr result (IsLineError allowed line.now) }
@@ -87,11 +89,11 @@ fn report_on_line(
     if line.len() > MAX_INPUT_BYTES {
         return Err(RunError::TooLong);
     }
-    report_on_input_alone(alloc, scratch, line, allowed)
+    report_on_input(&CallingThread, alloc, scratch, line, allowed)
 }
 
 // Appends the lines of a report, joined to one, and a line feed.
-fn append_report(alloc: Global, report: &Report, text: &mut Vec<u8>) -> Result<(), AllocError>
+fn append_report(alloc: Global, report: &Findings, text: &mut Vec<u8>) -> Result<(), AllocError>
     ensures appended { OnOk result (text.new.items ≡ text.old.items ++ ended (joined_for report.now)) }
     ensures unchanged { OnErr result (text.new.items ≡ text.old.items) }
 {
@@ -102,12 +104,12 @@ fn append_report(alloc: Global, report: &Report, text: &mut Vec<u8>) -> Result<(
 /// The lines of a report, joined by `; `, and a line feed.
 ///
 /// Fails for want of memory alone. O(1).
-pub fn joined_text(alloc: Global, report: &Report) -> Result<Vec<u8>, AllocError>
+pub fn joined_text(alloc: Global, report: &Findings) -> Result<Vec<u8>, AllocError>
     ensures { IfOk result (λ text. text.items ≡ ended (joined_for report.now)) }
 {
-    let cc = report_line(alloc, Criterion::Cc, report.cc)?;
-    let cm = report_line(alloc, Criterion::Cm, report.cm)?;
-    let ccv = report_line(alloc, Criterion::Ccv, report.ccv)?;
+    let cc = report_line(alloc, Criterion::Cc, report.cc.answer())?;
+    let cm = report_line(alloc, Criterion::Cm, report.cm.answer())?;
+    let ccv = report_line(alloc, Criterion::Ccv, report.ccv.answer())?;
     let mut text = Vec::with_capacity(alloc, USUAL_BYTES)?;
     text.extend_from_slice(without_end(cc.as_bytes()))?;
     text.extend_from_slice(b"; ")?;

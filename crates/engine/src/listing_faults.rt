@@ -5,41 +5,45 @@ ghost use Rattle.serde_json.specs.View.{view};
 ghost use Rattle.serde_json.specs.Written.{compact_text};
 ghost use Rattle.operations.specs.AnyForm.{IsAnyHistory, IsJson, form_of};
 ghost use Rattle.operations.specs.Json.{list};
-ghost use Rattle.engine.specs.Explaining.{EachIsReason};
+ghost use Rattle.findings.specs.Findings.{EachIsFinding};
 ghost use Rattle.engine.specs.ExplainingInWords.{TellsEach};
 ghost use Rattle.engine.specs.ListingFaults.{AreFaultsIn, IsListedAs, fault_report_form, list_form};
 ghost use Rattle.engine.specs.Running.{IsOutput, IsOutputError};
-ghost use Rattle.engine.specs.Steps.Listed.{AreLinesAfter, IsListOf, IsLongOf};
+ghost use Rattle.engine.specs.Steps.Listed.{AreLinesAfter, IsListInWords, IsListOf, IsLongOf};
 ghost use Rattle.engine.specs.Steps.ReportErrors.{IsReportError};
 
-use crate::explaining::explanation_of;
+use crate::examined::Examined;
 use crate::explaining_in_words::{indented_text, text_with_lines};
 use crate::failure::RunError;
-use crate::long_explaining::{LongExplanation, explanation_of_long};
+use crate::finding_forms::findings_value;
+use crate::finding_lines::lines_of_finding;
+use crate::long_explaining::{LongFindings, findings_of_long};
 use crate::long_words::lines_of_found;
-use crate::reason::{Explanation, Reason};
-use crate::reason_lines::lines_of_reason;
 use crate::written::line_of_value;
 use bad_patterns::Kind;
 use cert_check::Criterion;
-use command_line::{Length, ListForm, Listing, Order, Workers};
-use long_decision::WorkerThreads;
+use command_line::{Length, ListForm, Listing, Order};
+use findings::{Finding, Findings, Kept, PieceWork, findings_of, findings_of_memory};
+use long_decision::SessionWork;
 use long_faults::{Faults, count_lines, fault_line, faults_value, find_faults};
 use long_history::LongHistory;
 use long_index::LongIndex;
 use long_reader::{read_long, small};
-use operations::{AnyHistory, read_history};
+use memory_order::IndexedMemory;
+use objects::Memory;
+use operations::{AnyHistory, History, read_history};
 use serde_json::Value;
 use std::alloc::{AllocError, Global};
 use std::sync::Wait;
 use std::thread::Threads;
 use wording::{Names, OwnNames};
+use workers::{WorkerThreads, Workers};
 
 /// Why a history meets each criterion or does not, and its reads that show a fault. There is no list of such reads where values
 /// are not distinct, nor for objects that have no keys to read.
 #[derive(Drop)]
 pub struct FaultReport {
-    pub explanation: Explanation,
+    pub findings: Findings,
     pub faults: Option<Faults>,
 }
 
@@ -116,7 +120,7 @@ fn list_in_long_input<T: Threads + Wait + Sync>(
 
 /// The list of a memory history of any length, with these names.
 ///
-/// Fails for want of memory alone. It costs what the reasons cost, and O(n k) for n operations of k sessions.
+/// Fails for want of memory alone. It costs what the findings cost, and O(n k) for n operations of k sessions.
 pub fn list_in_long<T: Threads + Wait + Sync, N: Names>(
     rt: &T,
     alloc: Global,
@@ -133,7 +137,10 @@ pub fn list_in_long<T: Threads + Wait + Sync, N: Names>(
             let small = AnyHistory::Memory(small);
             list_in_limited(rt, alloc, small, Some(history), names, most, form)
         }
-        None => list_in_larger(rt, alloc, history, names, most, form),
+        None => {
+            let work = WorkerThreads::of(rt, Workers::usual());
+            Ok(list_in_larger(&work, alloc, history, names, most, form)?)
+        }
     }
 }
 
@@ -151,88 +158,136 @@ fn list_in_limited<T: Threads + Wait + Sync, N: Names>(
     ensures list { IfOk result (λ text. IsListOf form most history (string_bytes text)) }
     ensures error { IfErr result (λ e. e ≡ RunError.Memory) }
 {
-    let explanation = explanation_of(rt, alloc, &history, Workers::usual())?;
-    Ok(limited_list(alloc, &history, long, names, explanation, most, form)?)
-}
-
-// That list, with these reasons.
-fn limited_list<N: Names>(
-    alloc: Global,
-    history: &AnyHistory,
-    long: Option<&LongHistory>,
-    names: &N,
-    explanation: Explanation,
-    most: u32,
-    form: ListForm,
-) -> Result<String, AllocError>
-    requires reasons { EachIsReason history.now explanation }
-    requires long { IsLongOf history.now (option_map (λ g. g.now) long) }
-    ensures { IfOk result (λ text. IsListOf form most history.now (string_bytes text)) }
-{
-    match form {
-        ListForm::Words => words_in_limited(alloc, history, long, names, &explanation, most),
-        ListForm::Json => json_in_limited(alloc, history, long, explanation, most),
-    }
+    let work = WorkerThreads::of(rt, Workers::usual());
+    let text = match form {
+        ListForm::Words => words_in_limited(&work, alloc, &history, long, names, most)?,
+        ListForm::Json => json_in_limited(&work, alloc, &history, long, most)?,
+    };
+    Ok(text)
 }
 
 // That list in words.
-fn words_in_limited<N: Names>(
+fn words_in_limited<W: PieceWork, N: Names>(
+    work: &W,
     alloc: Global,
     history: &AnyHistory,
     long: Option<&LongHistory>,
     names: &N,
-    explanation: &Explanation,
     most: u32,
 ) -> Result<String, AllocError>
-    ensures { IfOk result (λ text. AreLinesAfter explanation.now (string_bytes text)) }
+    requires { W.can_check work.now }
+    ensures { IfOk result (λ text. IsListInWords history.now (string_bytes text)) }
 {
-    let first = text_in_list(alloc, history, names, explanation)?;
+    match history {
+        AnyHistory::Memory(memory) => words_on_memory(work, alloc, memory, long, names, most),
+        AnyHistory::Register(_)
+        | AnyHistory::Counter(_)
+        | AnyHistory::Set(_)
+        | AnyHistory::Queue(_)
+        | AnyHistory::Counters(_)
+        | AnyHistory::Sets(_)
+        | AnyHistory::Queues(_) => words_on_object(work, alloc, history, long, names, most),
+    }
+}
+
+// That list of a memory in words. What is known of it is made once.
+fn words_on_memory<W: PieceWork, N: Names>(
+    work: &W,
+    alloc: Global,
+    history: &History<Memory>,
+    long: Option<&LongHistory>,
+    names: &N,
+    most: u32,
+) -> Result<String, AllocError>
+    requires { W.can_check work.now }
+    ensures { IfOk result (λ text. IsListInWords (AnyHistory.Memory history.now) (string_bytes text)) }
+{
+    let memory = IndexedMemory::of(alloc, history)?;
+    let findings = findings_of_memory(work, alloc, &memory, Kept::Reasons)?;
+    words_on_findings(
+        alloc,
+        Examined::Memory(&memory),
+        long,
+        names,
+        &findings,
+        most,
+    )
+}
+
+// That list of another object in words.
+fn words_on_object<W: PieceWork, N: Names>(
+    work: &W,
+    alloc: Global,
+    history: &AnyHistory,
+    long: Option<&LongHistory>,
+    names: &N,
+    most: u32,
+) -> Result<String, AllocError>
+    requires { W.can_check work.now }
+    ensures { IfOk result (λ text. IsListInWords history.now (string_bytes text)) }
+{
+    let findings = findings_of(work, alloc, history, Kept::Reasons)?;
+    words_on_findings(
+        alloc,
+        Examined::Object(history),
+        long,
+        names,
+        &findings,
+        most,
+    )
+}
+
+// That list in words, with these findings.
+fn words_on_findings<N: Names>(
+    alloc: Global,
+    history: Examined<'_, '_>,
+    long: Option<&LongHistory>,
+    names: &N,
+    findings: &Findings,
+    most: u32,
+) -> Result<String, AllocError>
+    ensures { IfOk result (λ text. AreLinesAfter findings.now (string_bytes text)) }
+{
+    let first = text_in_list(alloc, history, names, findings)?;
     let mut lines = fault_lines_of_any(alloc, long, names, most)?;
     names.push_remarks(alloc, &mut lines)?;
     joined(alloc, &first, &lines)
 }
 
 // That list as JSON.
-fn json_in_limited(
+fn json_in_limited<W: PieceWork>(
+    work: &W,
     alloc: Global,
     history: &AnyHistory,
     long: Option<&LongHistory>,
-    explanation: Explanation,
     most: u32,
 ) -> Result<String, AllocError>
-    requires reasons { EachIsReason history.now explanation }
+    requires can_check { W.can_check work.now }
     requires long { IsLongOf history.now (option_map (λ g. g.now) long) }
     ensures { IfOk result (λ text. IsListOf ListForm.Json most history.now (string_bytes text)) }
 {
+    let findings = findings_of(work, alloc, history, Kept::Patterns)?;
     let faults = faults_of_any(alloc, history, long, most)?;
-    text_of_report(
-        alloc,
-        &FaultReport {
-            explanation,
-            faults,
-        },
-    )
+    text_of_report(alloc, &FaultReport { findings, faults })
 }
 
 // The list of a history over the limits.
-fn list_in_larger<T: Threads + Wait + Sync, N: Names>(
-    rt: &T,
+fn list_in_larger<W: SessionWork, N: Names>(
+    work: &W,
     alloc: Global,
     history: &LongHistory,
     names: &N,
     most: u32,
     form: ListForm,
-) -> Result<String, RunError>
-    ensures list { IfOk result (λ text. IsListOf form most (AnyHistory.Memory history.now) (string_bytes text)) }
-    ensures error { IfErr result (λ e. e ≡ RunError.Memory) }
+) -> Result<String, AllocError>
+    requires { W.can_work work.now }
+    ensures { IfOk result (λ text. IsListOf form most (AnyHistory.Memory history.now) (string_bytes text)) }
 {
-    let work = WorkerThreads::of(rt, Workers::usual().count());
-    let said = explanation_of_long(&work, alloc, history)?;
-    let text = match form {
-        ListForm::Words => words_in_larger(alloc, history, names, &said, most)?,
-        ListForm::Json => json_in_larger(alloc, history, said.explanation, most)?,
-    };
-    Ok(text)
+    let said = findings_of_long(work, alloc, history)?;
+    match form {
+        ListForm::Words => words_in_larger(alloc, history, names, &said, most),
+        ListForm::Json => json_in_larger(alloc, history, said.findings, most),
+    }
 }
 
 // That list in words.
@@ -240,10 +295,10 @@ fn words_in_larger<N: Names>(
     alloc: Global,
     history: &LongHistory,
     names: &N,
-    said: &LongExplanation,
+    said: &LongFindings,
     most: u32,
 ) -> Result<String, AllocError>
-    ensures { IfOk result (λ text. AreLinesAfter said.now.explanation (string_bytes text)) }
+    ensures { IfOk result (λ text. AreLinesAfter said.now.findings (string_bytes text)) }
 {
     let first = long_text_in_list(alloc, history, names, said)?;
     let mut lines = fault_lines_of(alloc, history, names, most)?;
@@ -255,26 +310,20 @@ fn words_in_larger<N: Names>(
 fn json_in_larger(
     alloc: Global,
     history: &LongHistory,
-    explanation: Explanation,
+    findings: Findings,
     most: u32,
 ) -> Result<String, AllocError>
-    requires { EachIsReason (AnyHistory.Memory history.now) explanation }
+    requires { EachIsFinding (AnyHistory.Memory history.now) findings }
     ensures { IfOk result (λ text. IsListOf ListForm.Json most (AnyHistory.Memory history.now) (string_bytes text)) }
 {
     let faults = faults_of(alloc, history, most)?;
-    text_of_report(
-        alloc,
-        &FaultReport {
-            explanation,
-            faults,
-        },
-    )
+    text_of_report(alloc, &FaultReport { findings, faults })
 }
 
-// The text of the reasons, and lines after it.
+// The text of findings, and lines after it.
 fn joined(alloc: Global, first: &str, lines: &[String]) -> Result<String, AllocError>
-    ensures { IfOk result (λ text. (explanation : Explanation) → TellsEach explanation first.now
-        → AreLinesAfter explanation (string_bytes text)) }
+    ensures { IfOk result (λ text. (findings : Findings) → TellsEach findings first.now
+        → AreLinesAfter findings (string_bytes text)) }
 {
     let rest = indented_text(alloc, lines)?;
     format!(in alloc; "{first}{rest}")
@@ -360,10 +409,10 @@ fn text_of_report(alloc: Global, report: &FaultReport) -> Result<String, AllocEr
 fn value_of_report(alloc: Global, report: &FaultReport) -> Result<Value, AllocError>
     ensures { IfOk result (λ value. view value ≡ fault_report_form report.now) }
 {
-    let explanation = report.explanation.value(alloc)?;
+    let findings = findings_value(alloc, &report.findings)?;
     let faults = value_of_faults(alloc, &report.faults)?;
     let mut values = Vec::new(alloc);
-    values.push(explanation)?;
+    values.push(findings)?;
     values.push(faults)?;
     Ok(Value::Array(values))
 }
@@ -378,12 +427,12 @@ fn value_of_faults(alloc: Global, faults: &Option<Faults>) -> Result<Value, Allo
     }
 }
 
-// The text of the reasons on a history within the limits.
+// The text of what is found of a history within the limits.
 fn text_in_list<N: Names>(
     alloc: Global,
-    history: &AnyHistory,
+    history: Examined<'_, '_>,
     names: &N,
-    said: &Explanation,
+    said: &Findings,
 ) -> Result<String, AllocError>
     ensures { IfOk result (λ text. TellsEach said.now (string_bytes text)) }
 {
@@ -397,71 +446,71 @@ fn text_in_list<N: Names>(
     format!(in alloc; "{cc}{cm}{ccv}")
 }
 
-// The lines of a reason: none where the list has the reads that show it, or the kind was shown before.
+// The lines of a finding: none where the list has the reads that show it, or the kind was shown before.
 fn lines_in_list<N: Names>(
     alloc: Global,
-    history: &AnyHistory,
+    history: Examined<'_, '_>,
     names: &N,
     criterion: Criterion,
-    reason: &Reason,
+    finding: &Finding,
     before: Option<Kind>,
 ) -> Result<Vec<String>, AllocError> {
-    if is_shown_apart(reason, before) {
-        lines_of_reason(alloc, history, names, criterion, reason)
+    if is_shown_apart(finding, before) {
+        lines_of_finding(alloc, history, names, criterion, finding)
     } else {
         Ok(Vec::new(alloc))
     }
 }
 
-// The text of the reasons on a history over the limits.
+// The text of what is found of a history over the limits.
 fn long_text_in_list<N: Names>(
     alloc: Global,
     history: &LongHistory,
     names: &N,
-    said: &LongExplanation,
+    said: &LongFindings,
 ) -> Result<String, AllocError>
-    ensures { IfOk result (λ text. TellsEach said.now.explanation (string_bytes text)) }
+    ensures { IfOk result (λ text. TellsEach said.now.findings (string_bytes text)) }
 {
-    let reasons = &said.explanation;
-    let lines = long_lines_in_list(alloc, history, names, said, &reasons.cc, None)?;
-    let cc = text_with_lines(alloc, Criterion::Cc, &reasons.cc, &lines)?;
-    let before = kind_in(&reasons.cc);
-    let lines = long_lines_in_list(alloc, history, names, said, &reasons.cm, before)?;
-    let cm = text_with_lines(alloc, Criterion::Cm, &reasons.cm, &lines)?;
-    let lines = long_lines_in_list(alloc, history, names, said, &reasons.ccv, before)?;
-    let ccv = text_with_lines(alloc, Criterion::Ccv, &reasons.ccv, &lines)?;
+    let findings = &said.findings;
+    let lines = long_lines_in_list(alloc, history, names, said, &findings.cc, None)?;
+    let cc = text_with_lines(alloc, Criterion::Cc, &findings.cc, &lines)?;
+    let before = kind_in(&findings.cc);
+    let lines = long_lines_in_list(alloc, history, names, said, &findings.cm, before)?;
+    let cm = text_with_lines(alloc, Criterion::Cm, &findings.cm, &lines)?;
+    let lines = long_lines_in_list(alloc, history, names, said, &findings.ccv, before)?;
+    let ccv = text_with_lines(alloc, Criterion::Ccv, &findings.ccv, &lines)?;
     format!(in alloc; "{cc}{cm}{ccv}")
 }
 
-// The lines of a reason on a history over the limits, as above.
+// The lines of a finding on a history over the limits, as above.
 fn long_lines_in_list<N: Names>(
     alloc: Global,
     history: &LongHistory,
     names: &N,
-    said: &LongExplanation,
-    reason: &Reason,
+    said: &LongFindings,
+    finding: &Finding,
     before: Option<Kind>,
 ) -> Result<Vec<String>, AllocError> {
-    match kind_in(reason) {
-        Some(kind) if is_shown_apart(reason, before) => {
+    match kind_in(finding) {
+        Some(kind) if is_shown_apart(finding, before) => {
             lines_of_found(alloc, history, names, said, kind)
         }
         _ => Ok(Vec::new(alloc)),
     }
 }
 
-// The kind of a reason that is a no.
-fn kind_in(reason: &Reason) -> Option<Kind> {
-    match reason {
-        Reason::Shown(pattern) => Some(pattern.kind()),
-        Reason::Present(kind) => Some(*kind),
-        Reason::Explained | Reason::Unexplained(_) => None,
+// The kind of a finding that is a no.
+fn kind_in(finding: &Finding) -> Option<Kind> {
+    match finding {
+        Finding::Shown(pattern) => Some(pattern.kind()),
+        Finding::Present(kind) => Some(*kind),
+        Finding::Met(_) | Finding::Unexplained(_, _) => None,
     }
 }
 
-// Whether a reason names a kind that no single read shows, and that was not shown before.
-fn is_shown_apart(reason: &Reason, before: Option<Kind>) -> bool {
-    match kind_in(reason) {
+// Whether a finding names a kind that no single read shows, and that was not shown before.
+fn is_shown_apart(finding: &Finding, before: Option<Kind>) -> bool {
+    match kind_in(finding) {
         None | Some(Kind::ThinAirRead | Kind::WriteCOInitRead | Kind::WriteCORead) => false,
         kind => kind != before,
     }

@@ -1,14 +1,13 @@
 //! Why a memory history of any length meets each criterion, or does not.
 
-ghost use Rattle.std.specs.Prelude.{◌≡◌, IfErr, IfOk, IfSome};
+ghost use Rattle.std.specs.Prelude.{◌≡◌, IfOk, IfSome};
 ghost use Rattle.bad_patterns.specs.Patterns.{IsShownBy, kind_of};
 ghost use Rattle.long_decision.specs.LongDecisions.{AreDecided, IsLongDecided};
-ghost use Rattle.engine.specs.Explaining.{EachIsReason, IsReason};
+ghost use Rattle.findings.specs.Findings.{EachIsFinding, IsFinding};
 
-use crate::failure::RunError;
-use crate::reason::{Explanation, Reason};
 use bad_patterns::{Kind, Pattern};
 use cert_check::Criterion;
+use findings::{Finding, Findings};
 use long_cores::{Gathered, core_of_kind};
 use long_decision::{LongDecision, LongDecisions, SessionWork, decide_indexed};
 use long_history::LongHistory;
@@ -19,8 +18,8 @@ use std::alloc::{AllocError, Global};
 
 /// Why a long history meets each criterion or does not, with what was gathered of each kind that it shows.
 #[derive(Drop)]
-pub(crate) struct LongExplanation {
-    pub explanation: Explanation,
+pub(crate) struct LongFindings {
+    pub findings: Findings,
     pub found: Vec<Found>,
 }
 
@@ -31,7 +30,7 @@ pub(crate) struct Found {
     pub gathered: Gathered,
 }
 
-impl LongExplanation {
+impl LongFindings {
     /// What was gathered of a kind.
     pub(crate) fn gathered(&self, kind: Kind) -> Option<&Gathered> {
         gathered_of(&self.found, kind)
@@ -44,22 +43,21 @@ impl LongExplanation {
 /// found there is tested in the whole. Else the `no` has its kind. Unknown, with no operation, exactly where values are not distinct.
 ///
 /// Fails for want of memory alone. O(n (k + log n)) for n operations of k sessions.
-pub(crate) fn explanation_of_long<W: SessionWork>(
+pub(crate) fn findings_of_long<W: SessionWork>(
     work: &W,
     alloc: Global,
     history: &LongHistory,
-) -> Result<LongExplanation, RunError>
+) -> Result<LongFindings, AllocError>
     requires { W.can_work work.now }
-    ensures reasons { IfOk result (λ said. EachIsReason (AnyHistory.Memory history.now) said.explanation) }
-    ensures error { IfErr result (λ e. e ≡ RunError.Memory) }
+    ensures { IfOk result (λ said. EachIsFinding (AnyHistory.Memory history.now) said.findings) }
 {
     match LongIndex::of(alloc, history)? {
-        Some(index) => Ok(explanation_of_indexed(work, alloc, &index)?),
-        None => Ok(LongExplanation {
-            explanation: Explanation {
-                cc: Reason::Unexplained(None),
-                cm: Reason::Unexplained(None),
-                ccv: Reason::Unexplained(None),
+        Some(index) => findings_of_indexed(work, alloc, &index),
+        None => Ok(LongFindings {
+            findings: Findings {
+                cc: Finding::Unexplained(None, None),
+                cm: Finding::Unexplained(None, None),
+                ccv: Finding::Unexplained(None, None),
             },
             found: Vec::new(alloc),
         }),
@@ -67,22 +65,22 @@ pub(crate) fn explanation_of_long<W: SessionWork>(
 }
 
 // The same of a history of distinct values.
-#[tactic(auto, using(crate::proofs::Reasons::each_reason))]
-fn explanation_of_indexed<W: SessionWork>(
+#[tactic(auto, using(crate::proofs::EachFinding::each_finding))]
+fn findings_of_indexed<W: SessionWork>(
     work: &W,
     alloc: Global,
     index: &LongIndex,
-) -> Result<LongExplanation, AllocError>
+) -> Result<LongFindings, AllocError>
     requires { W.can_work work.now }
-    ensures { IfOk result (λ said. EachIsReason (AnyHistory.Memory index.now.history) said.explanation) }
+    ensures { IfOk result (λ said. EachIsFinding (AnyHistory.Memory index.now.history) said.findings) }
 {
     let decisions = decide_indexed(work, alloc, index)?;
     let found = found_of(alloc, index, &decisions)?;
-    let cc = reason_of(alloc, index, Criterion::Cc, decisions.cc, &found)?;
-    let cm = reason_of(alloc, index, Criterion::Cm, decisions.cm, &found)?;
-    let ccv = reason_of(alloc, index, Criterion::Ccv, decisions.ccv, &found)?;
-    Ok(LongExplanation {
-        explanation: Explanation { cc, cm, ccv },
+    let cc = finding_of(alloc, index, Criterion::Cc, decisions.cc, &found)?;
+    let cm = finding_of(alloc, index, Criterion::Cm, decisions.cm, &found)?;
+    let ccv = finding_of(alloc, index, Criterion::Ccv, decisions.ccv, &found)?;
+    Ok(LongFindings {
+        findings: Findings { cc, cm, ccv },
         found,
     })
 }
@@ -127,25 +125,25 @@ fn gathered_of(found: &[Found], kind: Kind) -> Option<&Gathered> {
     None
 }
 
-// The reason of a decision.
-fn reason_of(
+// The finding of a decision.
+fn finding_of(
     alloc: Global,
     index: &LongIndex,
     criterion: Criterion,
     decision: LongDecision,
     found: &[Found],
-) -> Result<Reason, AllocError>
+) -> Result<Finding, AllocError>
     requires { IsLongDecided index.now.history criterion decision }
-    ensures { IfOk result (IsReason (AnyHistory.Memory index.now.history) criterion) }
+    ensures { IfOk result (IsFinding (AnyHistory.Memory index.now.history) criterion) }
 {
     index.value_is_indexed();
     match decision {
-        LongDecision::Meets => Ok(Reason::Explained),
+        LongDecision::Meets => Ok(Finding::Met(None)),
         LongDecision::ExcludedBy(kind) => match pattern_of(alloc, index, kind, found)? {
-            Some(pattern) => Ok(Reason::Shown(pattern)),
-            None => Ok(Reason::Present(kind)),
+            Some(pattern) => Ok(Finding::Shown(pattern)),
+            None => Ok(Finding::Present(kind)),
         },
-        LongDecision::Open => Ok(Reason::Unexplained(None)),
+        LongDecision::Open => Ok(Finding::Unexplained(None, None)),
     }
 }
 

@@ -1,32 +1,37 @@
-//! The forms of the reasons why a memory history of any length meets each criterion, or does not.
+//! The forms of what is found of a memory history of any length.
 
 ghost use Rattle.std.specs.Prelude.{◌≡◌, IfErr, IfOk, string_bytes};
 ghost use Rattle.command_line.specs.declared.length.Length.TheVariants.{Any};
-ghost use Rattle.engine.specs.Explaining.{EachIsReason};
+ghost use Rattle.findings.specs.Findings.{EachIsFinding};
 ghost use Rattle.engine.specs.Running.{IsOutput, IsOutputError};
 ghost use Rattle.engine.specs.Steps.LongExplained.{IsExplainedAs, IsWordsOf};
 
-use crate::explaining::{explanation_of_memory, explanation_text};
+use crate::examined::Examined;
 use crate::failure::RunError;
-use crate::long_explaining::{LongExplanation, explanation_of_long};
+use crate::finding_forms::findings_text;
+use crate::long_explaining::{LongFindings, findings_of_long};
 use crate::long_picturing::picture_of_long;
 use crate::long_words::{text_of_long, text_of_small};
-use crate::picturing::picture_of_memory;
-use command_line::{LongForm, Order, Workers};
-use long_decision::WorkerThreads;
+use crate::picturing::picture_of_findings;
+use command_line::{LongForm, Order};
+use findings::{Kept, PieceWork, findings_of, findings_of_memory};
+use long_decision::SessionWork;
 use long_history::LongHistory;
 use long_reader::{read_long, small};
+use memory_order::IndexedMemory;
 use objects::Memory;
 use operations::{AnyHistory, History};
 use std::alloc::{AllocError, Global};
 use std::sync::Wait;
 use std::thread::Threads;
 use wording::{Names, OwnNames};
+use workers::{WorkerThreads, Workers};
 
 /// Why the memory history in the input, of any length, meets each criterion or does not, in a form.
 ///
 /// For a history within the limits of [`History`] it is the text of `explain`, except for the words after a yes. Refuses what is no such
-/// history, and fails for want of memory. The cost is that of reading it and of [`explanation_of_long`].
+/// history, and fails for want of memory. The cost is that of reading it and of
+/// [`explained_as`].
 pub fn explain_long<T: Threads + Wait + Sync>(
     rt: &T,
     alloc: Global,
@@ -42,7 +47,7 @@ pub fn explain_long<T: Threads + Wait + Sync>(
 
 /// The text on a history, in a form, with these names.
 ///
-/// Fails for want of memory alone. The cost is that of [`explanation_of_long`].
+/// Fails for want of memory alone. O(n (k + log n)) for n operations of k sessions, or what [`findings_of`] takes within the limits.
 pub fn explained_as<T: Threads + Wait + Sync, N: Names>(
     rt: &T,
     alloc: Global,
@@ -53,80 +58,86 @@ pub fn explained_as<T: Threads + Wait + Sync, N: Names>(
     ensures text { IfOk result (λ text. IsExplainedAs form (AnyHistory.Memory history.now) (string_bytes text)) }
     ensures error { IfErr result (λ e. e ≡ RunError.Memory) }
 {
-    match small(alloc, history)? {
-        Some(small) => small_as(rt, alloc, history, small, names, form),
-        None => larger_as(rt, alloc, history, names, form),
-    }
+    let work = WorkerThreads::of(rt, Workers::usual());
+    let text = match small(alloc, history)? {
+        Some(small) => small_as(&work, alloc, history, small, names, form)?,
+        None => larger_as(&work, alloc, history, names, form)?,
+    };
+    Ok(text)
 }
 
 // The text on a history over the limits.
-fn larger_as<T: Threads + Wait + Sync, N: Names>(
-    rt: &T,
+fn larger_as<W: SessionWork, N: Names>(
+    work: &W,
     alloc: Global,
     history: &LongHistory,
     names: &N,
     form: LongForm,
-) -> Result<String, RunError>
-    ensures text { IfOk result (λ text. IsExplainedAs form (AnyHistory.Memory history.now) (string_bytes text)) }
-    ensures error { IfErr result (λ e. e ≡ RunError.Memory) }
+) -> Result<String, AllocError>
+    requires { W.can_work work.now }
+    ensures { IfOk result (λ text. IsExplainedAs form (AnyHistory.Memory history.now) (string_bytes text)) }
 {
-    let work = WorkerThreads::of(rt, Workers::usual().count());
-    let said = explanation_of_long(&work, alloc, history)?;
-    Ok(text_of_larger(alloc, history, names, &said, form)?)
+    let said = findings_of_long(work, alloc, history)?;
+    text_of_larger(alloc, history, names, &said, form)
 }
 
-// The text of the reasons on a history over the limits.
+// The text of what is found of a history over the limits.
 fn text_of_larger<N: Names>(
     alloc: Global,
     history: &LongHistory,
     names: &N,
-    said: &LongExplanation,
+    said: &LongFindings,
     form: LongForm,
 ) -> Result<String, AllocError>
-    requires { EachIsReason (AnyHistory.Memory history.now) said.now.explanation }
+    requires { EachIsFinding (AnyHistory.Memory history.now) said.now.findings }
     ensures { IfOk result (λ text. IsExplainedAs form (AnyHistory.Memory history.now) (string_bytes text)) }
 {
     match form {
         LongForm::Words => text_of_long(alloc, history, names, said),
-        LongForm::Json => explanation_text(alloc, &said.explanation),
+        LongForm::Json => findings_text(alloc, &said.findings),
         LongForm::Picture => picture_of_long(alloc, history, names, said),
     }
 }
 
 // The text on a history within the limits.
-fn small_as<T: Threads + Wait + Sync, N: Names>(
-    rt: &T,
+fn small_as<W: PieceWork, N: Names>(
+    work: &W,
     alloc: Global,
     history: &LongHistory,
     small: History<Memory>,
     names: &N,
     form: LongForm,
-) -> Result<String, RunError>
-    ensures text { IfOk result (λ text. IsExplainedAs form (AnyHistory.Memory small) (string_bytes text)) }
-    ensures error { IfErr result (λ e. e ≡ RunError.Memory) }
+) -> Result<String, AllocError>
+    requires { W.can_check work.now }
+    ensures { IfOk result (λ text. IsExplainedAs form (AnyHistory.Memory small) (string_bytes text)) }
 {
     match form {
-        LongForm::Words => words_of_small(rt, alloc, history, small, names),
+        LongForm::Words => words_of_small(work, alloc, history, &small, names),
         LongForm::Json => {
-            let said = explanation_of_memory(rt, alloc, &small, Workers::usual())?;
-            Ok(explanation_text(alloc, &said)?)
+            let small = AnyHistory::Memory(small);
+            let findings = findings_of(work, alloc, &small, Kept::Patterns)?;
+            findings_text(alloc, &findings)
         }
-        LongForm::Picture => picture_of_memory(rt, alloc, &small, names),
+        LongForm::Picture => {
+            let small = AnyHistory::Memory(small);
+            let findings = findings_of(work, alloc, &small, Kept::Patterns)?;
+            picture_of_findings(alloc, &small, names, &findings)
+        }
     }
 }
 
 // The words on a history within the limits.
-fn words_of_small<T: Threads + Wait + Sync, N: Names>(
-    rt: &T,
+fn words_of_small<W: PieceWork, N: Names>(
+    work: &W,
     alloc: Global,
     history: &LongHistory,
-    small: History<Memory>,
+    small: &History<Memory>,
     names: &N,
-) -> Result<String, RunError>
-    ensures words { IfOk result (λ text. IsWordsOf (AnyHistory.Memory small) (string_bytes text)) }
-    ensures error { IfErr result (λ e. e ≡ RunError.Memory) }
+) -> Result<String, AllocError>
+    requires { W.can_check work.now }
+    ensures { IfOk result (λ text. IsWordsOf (AnyHistory.Memory small.now) (string_bytes text)) }
 {
-    let said = explanation_of_memory(rt, alloc, &small, Workers::usual())?;
-    let small = AnyHistory::Memory(small);
-    Ok(text_of_small(alloc, history, &small, names, &said)?)
+    let memory = IndexedMemory::of(alloc, small)?;
+    let findings = findings_of_memory(work, alloc, &memory, Kept::Reasons)?;
+    text_of_small(alloc, history, Examined::Memory(&memory), names, &findings)
 }

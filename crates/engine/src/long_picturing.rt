@@ -4,10 +4,10 @@ ghost use Rattle.std.specs.Prelude.{IfOk, IfSome, string_bytes};
 ghost use Rattle.picture.specs.Markup.{IsSvgElement};
 
 use crate::core_names::CoreNames;
-use crate::long_explaining::LongExplanation;
+use crate::long_explaining::LongFindings;
 use crate::picturing::title_of;
-use crate::reason::Reason;
 use cert_check::Criterion;
+use findings::Finding;
 use long_cores::Gathered;
 use long_history::LongHistory;
 use objects::{Memory, Table};
@@ -24,15 +24,15 @@ pub(crate) fn picture_of_long<N: Names>(
     alloc: Global,
     history: &LongHistory,
     names: &N,
-    said: &LongExplanation,
+    said: &LongFindings,
 ) -> Result<String, AllocError>
     ensures { IfOk result (λ svg. IsSvgElement (string_bytes svg)) }
 {
-    let reasons = &said.explanation;
-    if let Some(svg) = picture_of_found(alloc, history, names, said, Criterion::Cc, &reasons.cc)? {
+    let findings = &said.findings;
+    if let Some(svg) = picture_of_found(alloc, history, names, said, Criterion::Cc, &findings.cc)? {
         return Ok(svg);
     }
-    if let Some(svg) = picture_of_found(alloc, history, names, said, Criterion::Cm, &reasons.cm)? {
+    if let Some(svg) = picture_of_found(alloc, history, names, said, Criterion::Cm, &findings.cm)? {
         return Ok(svg);
     }
     if let Some(svg) = picture_of_found(
@@ -41,25 +41,25 @@ pub(crate) fn picture_of_long<N: Names>(
         names,
         said,
         Criterion::Ccv,
-        &reasons.ccv,
+        &findings.ccv,
     )? {
         return Ok(svg);
     }
     picture_of_title(alloc, said)
 }
 
-// The picture of what was gathered of a reason, if it shows a pattern.
+// The picture of what was gathered of a finding, if it shows a pattern.
 fn picture_of_found<N: Names>(
     alloc: Global,
     history: &LongHistory,
     names: &N,
-    said: &LongExplanation,
+    said: &LongFindings,
     criterion: Criterion,
-    reason: &Reason,
+    finding: &Finding,
 ) -> Result<Option<String>, AllocError>
     ensures { IfOk result (λ made. IfSome made (λ svg. IsSvgElement (string_bytes svg))) }
 {
-    let Reason::Shown(pattern) = reason else {
+    let Finding::Shown(pattern) = finding else {
         return Ok(None);
     };
     let Some(Gathered::Core(core)) = said.gathered(pattern.kind()) else {
@@ -75,11 +75,11 @@ fn picture_of_found<N: Names>(
 }
 
 // The picture of what is known of each criterion, and of no operation.
-fn picture_of_title(alloc: Global, said: &LongExplanation) -> Result<String, AllocError>
+fn picture_of_title(alloc: Global, said: &LongFindings) -> Result<String, AllocError>
     ensures { IfOk result (λ svg. IsSvgElement (string_bytes svg)) }
 {
     let mut lines = Vec::new(alloc);
-    lines.push(title_of(alloc, &said.explanation.report())?)?;
+    lines.push(title_of(alloc, &said.findings)?)?;
     let none: History<Memory> = History::of(Table::new(alloc), Vec::new(alloc));
     picture_of_history(alloc, &none, &OwnNames, lines.as_slice(), None)
 }

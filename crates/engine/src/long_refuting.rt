@@ -15,11 +15,11 @@ use bounded_json::TextError;
 use cert_check::Criterion;
 use collector::Answer;
 use command_line::{Length, Order};
+use evidence::{Violation, read_violation};
 use long_history::LongHistory;
 use long_patterns::check_long_pattern;
 use long_reader::read_long_first;
 use operations::{AnyHistory, ReadError};
-use pattern_reader::{Violation, read_violation};
 use std::alloc::Global;
 
 /// A claim: that the pattern shows that the history does not meet the criterion.

@@ -4,53 +4,54 @@ ghost use Rattle.std.specs.Prelude.{IfOk, string_bytes};
 ghost use Rattle.engine.specs.ExplainingInWords.{TellsEach};
 
 use crate::core_names::CoreNames;
-use crate::long_explaining::LongExplanation;
+use crate::examined::Examined;
+use crate::finding_lines::{lines_of_finding, lines_of_kind};
+use crate::long_explaining::LongFindings;
 use crate::long_repeated::push_repeated;
-use crate::reason::{Explanation, Reason};
-use crate::reason_lines::{lines_of_kind, lines_of_reason};
-use crate::three_reasons::{ReasonLines, text_of_reasons};
+use crate::three_findings::{FindingLines, text_of_findings};
 use bad_patterns::Kind;
 use cert_check::Criterion;
+use findings::{Finding, Findings};
 use long_cores::{Gathered, LongCore};
 use long_history::LongHistory;
 use operations::{AnyHistory, write_history};
 use std::alloc::{AllocError, Global};
 use wording::{Names, words_of_long_yes, words_of_operations, words_of_pattern, words_of_places};
 
-/// The text that gives the reasons of a long history: for each criterion the line of `judge`, and after it what shows it.
+/// The text of what is found of a long history: for each criterion the line of `judge`, and after it what shows it.
 ///
 /// Fails for want of memory alone. O(n) for n operations of the cores, beside their words.
 pub(crate) fn text_of_long<N: Names>(
     alloc: Global,
     history: &LongHistory,
     names: &N,
-    said: &LongExplanation,
+    said: &LongFindings,
 ) -> Result<String, AllocError>
-    ensures { IfOk result (λ text. TellsEach said.now.explanation (string_bytes text)) }
+    ensures { IfOk result (λ text. TellsEach said.now.findings (string_bytes text)) }
 {
-    let reasons = &said.explanation;
-    let lines = ReasonLines {
-        cc: lines_of_long_reason(alloc, history, names, said, Criterion::Cc, &reasons.cc)?,
-        cm: lines_of_long_reason(alloc, history, names, said, Criterion::Cm, &reasons.cm)?,
-        ccv: lines_of_long_reason(alloc, history, names, said, Criterion::Ccv, &reasons.ccv)?,
+    let findings = &said.findings;
+    let lines = FindingLines {
+        cc: lines_of_long_finding(alloc, history, names, said, Criterion::Cc, &findings.cc)?,
+        cm: lines_of_long_finding(alloc, history, names, said, Criterion::Cm, &findings.cm)?,
+        ccv: lines_of_long_finding(alloc, history, names, said, Criterion::Ccv, &findings.ccv)?,
     };
-    text_of_reasons(alloc, names, reasons, lines)
+    text_of_findings(alloc, names, findings, lines)
 }
 
-// The lines of one reason.
-fn lines_of_long_reason<N: Names>(
+// The lines on one finding.
+fn lines_of_long_finding<N: Names>(
     alloc: Global,
     history: &LongHistory,
     names: &N,
-    said: &LongExplanation,
+    said: &LongFindings,
     criterion: Criterion,
-    reason: &Reason,
+    finding: &Finding,
 ) -> Result<Vec<String>, AllocError> {
-    match reason {
-        Reason::Explained => lines_of_yes(alloc, history, names, criterion),
-        Reason::Shown(pattern) => lines_of_found(alloc, history, names, said, pattern.kind()),
-        Reason::Present(kind) => lines_of_found(alloc, history, names, said, *kind),
-        Reason::Unexplained(_) => lines_of_repeated(alloc, history, names),
+    match finding {
+        Finding::Met(_) => lines_of_yes(alloc, history, names, criterion),
+        Finding::Shown(pattern) => lines_of_found(alloc, history, names, said, pattern.kind()),
+        Finding::Present(kind) => lines_of_found(alloc, history, names, said, *kind),
+        Finding::Unexplained(_, _) => lines_of_repeated(alloc, history, names),
     }
 }
 
@@ -91,7 +92,7 @@ pub(crate) fn lines_of_found<N: Names>(
     alloc: Global,
     history: &LongHistory,
     names: &N,
-    said: &LongExplanation,
+    said: &LongFindings,
     kind: Kind,
 ) -> Result<Vec<String>, AllocError> {
     match said.gathered(kind) {
@@ -124,39 +125,39 @@ fn lines_of_core<N: Names>(
     Ok(lines)
 }
 
-/// The text that gives the reasons of a history within the limits, which was asked for as one of any length.
+/// The text of what is found of a history within the limits, which was asked for as one of any length.
 ///
 /// Fails for want of memory alone. The cost is that of the words of `explain`.
 pub(crate) fn text_of_small<N: Names>(
     alloc: Global,
     history: &LongHistory,
-    small: &AnyHistory,
+    small: Examined<'_, '_>,
     names: &N,
-    said: &Explanation,
+    said: &Findings,
 ) -> Result<String, AllocError>
     ensures { IfOk result (λ text. TellsEach said.now (string_bytes text)) }
 {
-    let lines = ReasonLines {
-        cc: lines_of_small_reason(alloc, history, small, names, Criterion::Cc, &said.cc)?,
-        cm: lines_of_small_reason(alloc, history, small, names, Criterion::Cm, &said.cm)?,
-        ccv: lines_of_small_reason(alloc, history, small, names, Criterion::Ccv, &said.ccv)?,
+    let lines = FindingLines {
+        cc: lines_of_small_finding(alloc, history, small, names, Criterion::Cc, &said.cc)?,
+        cm: lines_of_small_finding(alloc, history, small, names, Criterion::Cm, &said.cm)?,
+        ccv: lines_of_small_finding(alloc, history, small, names, Criterion::Ccv, &said.ccv)?,
     };
-    text_of_reasons(alloc, names, said, lines)
+    text_of_findings(alloc, names, said, lines)
 }
 
 // The lines of one of them.
-fn lines_of_small_reason<N: Names>(
+fn lines_of_small_finding<N: Names>(
     alloc: Global,
     history: &LongHistory,
-    small: &AnyHistory,
+    small: Examined<'_, '_>,
     names: &N,
     criterion: Criterion,
-    reason: &Reason,
+    finding: &Finding,
 ) -> Result<Vec<String>, AllocError> {
-    match reason {
-        Reason::Explained => lines_of_yes(alloc, history, names, criterion),
-        Reason::Shown(_) | Reason::Present(_) | Reason::Unexplained(_) => {
-            lines_of_reason(alloc, small, names, criterion, reason)
+    match finding {
+        Finding::Met(_) => lines_of_yes(alloc, history, names, criterion),
+        Finding::Shown(_) | Finding::Present(_) | Finding::Unexplained(_, _) => {
+            lines_of_finding(alloc, small, names, criterion, finding)
         }
     }
 }

@@ -1,6 +1,6 @@
 //! The lines on parts of a history that do not meet a criterion by themselves.
 
-use crate::reason_lines::lines_of_kind;
+use crate::finding_lines::lines_of_kind;
 use bad_patterns::Pattern;
 use cert_check::Criterion;
 use decision::Decision;

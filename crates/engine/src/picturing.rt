@@ -6,151 +6,123 @@ ghost use Rattle.command_line.specs.declared.form.Form.TheVariants.{Picture};
 ghost use Rattle.engine.specs.Picturing.{IsPicture};
 ghost use Rattle.engine.specs.Running.{IsOutputError};
 
-use crate::explaining::explanation_of_memory;
 use crate::failure::RunError;
-use crate::judging::report_on_object;
-use crate::reason::{Explanation, Reason};
-use crate::report::{Report, report_line};
+use crate::report::report_line;
 use cert_check::Criterion;
-use collector::{Answer, Judged};
-use command_line::{Order, Workers};
+use command_line::Order;
+use findings::{Finding, Findings, Kept, PieceWork, findings_of};
 use objects::Memory;
 use operations::{AnyHistory, History, OpId, read_history};
 use picture::{Labelled, picture_of_history, picture_of_pattern};
 use std::alloc::{AllocError, Global};
-use std::sync::Wait;
-use std::thread::Threads;
 use wording::{Names, OwnNames};
 
 /// The picture of the history in the input, as an SVG text: with the pattern of the first criterion that is not met, if one is
 /// at hand, and else all of the history, with the first operation that a certificate does not explain drawn out.
 ///
-/// Refuses what is no history, and fails for want of memory. It judges as [`report_on`](crate::report_on) does, at the same cost
-/// plus that of reading the input and drawing the picture.
-pub fn explain_as_picture<T: Threads + Wait + Sync>(
-    rt: &T,
+/// Refuses what is no history, and fails for want of memory. It costs what [`findings_of`] takes, with its patterns, and reading the input
+/// and drawing the picture.
+pub(crate) fn explain_as_picture<W: PieceWork>(
+    work: &W,
     alloc: Global,
     input: &[u8],
 ) -> Result<String, RunError>
+    requires { W.can_check work.now }
     ensures picture { IfOk result (λ text. IsPicture input.now (string_bytes text)) }
     ensures error { IfErr result (IsOutputError (Order.Explain Picture) input.now) }
 {
     let history = read_history(alloc, input)?;
-    picture_of_any(rt, alloc, &history)
+    let findings = findings_of(work, alloc, &history, Kept::Patterns)?;
+    Ok(picture_of_findings(alloc, &history, &OwnNames, &findings)?)
 }
 
-// The picture of a history.
-fn picture_of_any<T: Threads + Wait + Sync>(
-    rt: &T,
+/// The picture of a history, with what is found of it and these names. For objects other than a memory no patterns are known.
+///
+/// Fails for want of memory alone. It costs what drawing takes.
+pub(crate) fn picture_of_findings<N: Names>(
     alloc: Global,
     history: &AnyHistory,
-) -> Result<String, RunError>
-    ensures svg { IfOk result (λ svg. IsSvgElement (string_bytes svg)) }
-    ensures error { IfErr result (λ e. e ≡ RunError.Memory) }
-{
-    match history {
-        AnyHistory::Register(plain) => picture_of_object(rt, alloc, plain.history()),
-        AnyHistory::Counter(plain) => picture_of_object(rt, alloc, plain.history()),
-        AnyHistory::Set(plain) => picture_of_object(rt, alloc, plain.history()),
-        AnyHistory::Queue(plain) => picture_of_object(rt, alloc, plain.history()),
-        AnyHistory::Memory(history) => picture_of_memory(rt, alloc, history, &OwnNames),
-        AnyHistory::Counters(history) => picture_of_object(rt, alloc, history),
-        AnyHistory::Sets(history) => picture_of_object(rt, alloc, history),
-        AnyHistory::Queues(history) => picture_of_object(rt, alloc, history),
-    }
-}
-
-// The picture of a history of one object, for which no patterns are known.
-fn picture_of_object<O: Judged + Labelled + Send + Sync, T: Threads + Wait + Sync>(
-    rt: &T,
-    alloc: Global,
-    history: &History<O>,
-) -> Result<String, RunError>
-    ensures svg { IfOk result (λ svg. IsSvgElement (string_bytes svg)) }
-    ensures error { IfErr result (λ e. e ≡ RunError.Memory) }
-{
-    let report = report_on_object(rt, alloc, history, &[], Workers::usual())?;
-    Ok(picture_with_report(alloc, history, &OwnNames, &report)?)
-}
-
-/// The picture of a history of a memory, with these names. It costs what [`explain_as_picture`] costs without the reading.
-pub(crate) fn picture_of_memory<T: Threads + Wait + Sync, N: Names>(
-    rt: &T,
-    alloc: Global,
-    history: &History<Memory>,
     names: &N,
-) -> Result<String, RunError>
-    ensures svg { IfOk result (λ svg. IsSvgElement (string_bytes svg)) }
-    ensures error { IfErr result (λ e. e ≡ RunError.Memory) }
-{
-    let explanation = explanation_of_memory(rt, alloc, history, Workers::usual())?;
-    Ok(picture_with_explanation(alloc, history, names, &explanation)?)
-}
-
-// The picture of a history of a memory, with what is known of it.
-fn picture_with_explanation<N: Names>(
-    alloc: Global,
-    history: &History<Memory>,
-    names: &N,
-    explanation: &Explanation,
+    findings: &Findings,
 ) -> Result<String, AllocError>
     ensures { IfOk result (λ svg. IsSvgElement (string_bytes svg)) }
 {
-    match picture_of_first(alloc, history, names, explanation)? {
-        Some(svg) => Ok(svg),
-        None => picture_with_report(alloc, history, names, &explanation.report()),
+    match history {
+        AnyHistory::Register(plain) => picture_of_whole(alloc, plain.history(), names, findings),
+        AnyHistory::Counter(plain) => picture_of_whole(alloc, plain.history(), names, findings),
+        AnyHistory::Set(plain) => picture_of_whole(alloc, plain.history(), names, findings),
+        AnyHistory::Queue(plain) => picture_of_whole(alloc, plain.history(), names, findings),
+        AnyHistory::Memory(history) => picture_of_memory(alloc, history, names, findings),
+        AnyHistory::Counters(history) => picture_of_whole(alloc, history, names, findings),
+        AnyHistory::Sets(history) => picture_of_whole(alloc, history, names, findings),
+        AnyHistory::Queues(history) => picture_of_whole(alloc, history, names, findings),
     }
 }
 
-// The picture of the pattern of the first criterion that is not met, if a reason has one.
+// The picture of a history of a memory, with what is found of it.
+fn picture_of_memory<N: Names>(
+    alloc: Global,
+    history: &History<Memory>,
+    names: &N,
+    findings: &Findings,
+) -> Result<String, AllocError>
+    ensures { IfOk result (λ svg. IsSvgElement (string_bytes svg)) }
+{
+    match picture_of_first(alloc, history, names, findings)? {
+        Some(svg) => Ok(svg),
+        None => picture_of_whole(alloc, history, names, findings),
+    }
+}
+
+// The picture of the pattern of the first criterion that is not met, if a finding has one.
 fn picture_of_first<N: Names>(
     alloc: Global,
     history: &History<Memory>,
     names: &N,
-    explanation: &Explanation,
+    findings: &Findings,
 ) -> Result<Option<String>, AllocError>
     ensures { IfOk result (λ made. IfSome made (λ svg. IsSvgElement (string_bytes svg))) }
 {
-    if let Some(svg) = picture_of_reason(alloc, history, names, Criterion::Cc, &explanation.cc)? {
+    if let Some(svg) = picture_of_finding(alloc, history, names, Criterion::Cc, &findings.cc)? {
         return Ok(Some(svg));
     }
-    if let Some(svg) = picture_of_reason(alloc, history, names, Criterion::Cm, &explanation.cm)? {
+    if let Some(svg) = picture_of_finding(alloc, history, names, Criterion::Cm, &findings.cm)? {
         return Ok(Some(svg));
     }
-    picture_of_reason(alloc, history, names, Criterion::Ccv, &explanation.ccv)
+    picture_of_finding(alloc, history, names, Criterion::Ccv, &findings.ccv)
 }
 
-// The picture of the pattern of a reason, if it has one.
-fn picture_of_reason<N: Names>(
+// The picture of the pattern of a finding, if it has one.
+fn picture_of_finding<N: Names>(
     alloc: Global,
     history: &History<Memory>,
     names: &N,
     criterion: Criterion,
-    reason: &Reason,
+    finding: &Finding,
 ) -> Result<Option<String>, AllocError>
     ensures { IfOk result (λ made. IfSome made (λ svg. IsSvgElement (string_bytes svg))) }
 {
-    match reason {
-        Reason::Shown(pattern) => {
+    match finding {
+        Finding::Shown(pattern) => {
             let svg = picture_of_pattern(alloc, history, names, criterion, pattern)?;
             Ok(Some(svg))
         }
-        Reason::Explained | Reason::Present(_) | Reason::Unexplained(_) => Ok(None),
+        Finding::Met(_) | Finding::Present(_) | Finding::Unexplained(_, _) => Ok(None),
     }
 }
 
-// The picture of all of a history, with what is known of it at its head.
-fn picture_with_report<O: Labelled, N: Names>(
+// The picture of all of a history, with what is found of it at its head.
+fn picture_of_whole<O: Labelled, N: Names>(
     alloc: Global,
     history: &History<O>,
     names: &N,
-    report: &Report,
+    findings: &Findings,
 ) -> Result<String, AllocError>
     ensures { IfOk result (λ svg. IsSvgElement (string_bytes svg)) }
 {
     let mut lines = Vec::new(alloc);
-    lines.push(title_of(alloc, report)?)?;
-    let marked = first_unexplained(report);
+    lines.push(title_of(alloc, findings)?)?;
+    let marked = first_unexplained(findings);
     if let Some(op) = marked {
         lines.push(sentence_about(alloc, names, op)?)?;
     }
@@ -158,10 +130,10 @@ fn picture_with_report<O: Labelled, N: Names>(
 }
 
 /// The lines of a report, joined to one line.
-pub(crate) fn title_of(alloc: Global, report: &Report) -> Result<String, AllocError> {
-    let cc = report_line(alloc, Criterion::Cc, report.cc)?;
-    let cm = report_line(alloc, Criterion::Cm, report.cm)?;
-    let ccv = report_line(alloc, Criterion::Ccv, report.ccv)?;
+pub(crate) fn title_of(alloc: Global, findings: &Findings) -> Result<String, AllocError> {
+    let cc = report_line(alloc, Criterion::Cc, findings.cc.answer())?;
+    let cm = report_line(alloc, Criterion::Cm, findings.cm.answer())?;
+    let ccv = report_line(alloc, Criterion::Ccv, findings.ccv.answer())?;
     let cc = cc.trim_end();
     let cm = cm.trim_end();
     let ccv = ccv.trim_end();
@@ -174,21 +146,21 @@ fn sentence_about<N: Names>(alloc: Global, names: &N, op: OpId) -> Result<String
     format!(in alloc; "The certificate that was made does not explain {name}.")
 }
 
-// The first operation that a report names as not explained.
-fn first_unexplained(report: &Report) -> Option<OpId> {
-    match unexplained_in(report.cc) {
+// The first operation that is not explained.
+fn first_unexplained(findings: &Findings) -> Option<OpId> {
+    match unexplained_in(&findings.cc) {
         Some(op) => Some(op),
-        None => match unexplained_in(report.cm) {
+        None => match unexplained_in(&findings.cm) {
             Some(op) => Some(op),
-            None => unexplained_in(report.ccv),
+            None => unexplained_in(&findings.ccv),
         },
     }
 }
 
-// The operation that an answer names as not explained.
-fn unexplained_in(answer: Answer) -> Option<OpId> {
-    match answer {
-        Answer::Unknown(place) => place,
-        Answer::Yes | Answer::No(_) | Answer::Open(_) => None,
+// The operation that a finding names as not explained.
+fn unexplained_in(finding: &Finding) -> Option<OpId> {
+    match finding {
+        Finding::Unexplained(place, _) => *place,
+        Finding::Met(_) | Finding::Shown(_) | Finding::Present(_) => None,
     }
 }

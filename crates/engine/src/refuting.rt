@@ -3,9 +3,9 @@
 ghost use Rattle.std.specs.Prelude.{◌↔◌, IfErr, IfOk, IsTrue, string_bytes};
 ghost use Rattle.bad_patterns.specs.Patterns.{kind_of};
 ghost use Rattle.operations.specs.AnyForm.{IsAnyHistory, IsJson};
-ghost use Rattle.engine.specs.Report.{IsExcluded};
+ghost use Rattle.findings.specs.Answers.{IsExcluded, IsPatternOf};
 ghost use Rattle.engine.specs.Running.{IsOutput, IsOutputError};
-ghost use Rattle.engine.specs.Refuting.{IsClaimError, IsPatternOf, claim_form};
+ghost use Rattle.engine.specs.Refuting.{IsClaimError, claim_form};
 
 use crate::failure::RunError;
 use crate::report::report_line;
@@ -13,8 +13,8 @@ use bad_patterns::{Pattern, check_pattern};
 use cert_check::Criterion;
 use collector::Answer;
 use command_line::{Length, Order};
+use evidence::{Claim as ClaimRead, read_claim};
 use operations::AnyHistory;
-use pattern_reader::{Claim as ClaimRead, read_claim};
 use std::alloc::{AllocError, Global};
 
 /// A claim: that the pattern shows that the history does not meet the criterion.

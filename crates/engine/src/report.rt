@@ -1,48 +1,23 @@
-//! The report on a history, and its lines.
+//! The lines of a report.
 
 ghost use Rattle.std.specs.Prelude.{◌≡◌, ◌++◌, codes, IfOk, string_bytes};
 ghost use Rattle.engine.specs.Report.{line_for, text_for};
 
 use cert_check::Criterion;
 use collector::Answer;
+use findings::Findings;
 use operations::OpId;
 use std::alloc::{AllocError, Global};
-
-/// What is known of a history, for each criterion.
-#[derive(Clone, Copy, Debug, PartialEq, Eq)]
-pub struct Report {
-    /// For causal consistency.
-    pub cc: Answer,
-    /// For causal memory.
-    pub cm: Answer,
-    /// For causal convergence.
-    pub ccv: Answer,
-}
-
-impl Report {
-    ghost use Rattle.engine.specs.Report.{answer_for};
-
-    /// The answer for a criterion.
-    pub fn answer(&self, criterion: Criterion) -> Answer
-        ensures { result ≡ answer_for self.now criterion }
-    {
-        match criterion {
-            Criterion::Cc => self.cc,
-            Criterion::Cm => self.cm,
-            Criterion::Ccv => self.ccv,
-        }
-    }
-}
 
 /// The text of a report: its lines for causal consistency, causal memory and causal convergence, one after the other.
 ///
 /// Fails for want of memory alone. O(1).
-pub fn report_text(alloc: Global, report: &Report) -> Result<String, AllocError>
+pub fn report_text(alloc: Global, report: &Findings) -> Result<String, AllocError>
     ensures { IfOk result (λ text. string_bytes text ≡ text_for report.now) }
 {
-    let cc = report_line(alloc, Criterion::Cc, report.cc)?;
-    let cm = report_line(alloc, Criterion::Cm, report.cm)?;
-    let ccv = report_line(alloc, Criterion::Ccv, report.ccv)?;
+    let cc = report_line(alloc, Criterion::Cc, report.cc.answer())?;
+    let cm = report_line(alloc, Criterion::Cm, report.cm.answer())?;
+    let ccv = report_line(alloc, Criterion::Ccv, report.ccv.answer())?;
     format!(in alloc; "{cc}{cm}{ccv}")
 }
 

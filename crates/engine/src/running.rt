@@ -9,7 +9,7 @@ use crate::answered::Answered;
 use crate::checking::check;
 use crate::driving::drive_input;
 use crate::expecting::{outcome_of, report_on_input};
-use crate::explaining_forms::explain_as;
+use crate::explaining::explain_as;
 use crate::failure::RunError;
 use crate::input::read_input_for;
 use crate::line_judge::judge_each;
@@ -21,19 +21,21 @@ use crate::refuting::refute;
 use crate::replaying::replay;
 use crate::report::report_text;
 use command_line::{Judging, Length, Order};
+use json::Scratch;
 use lines::{MAX_READ_CALLS, Outcome, Source};
 use std::alloc::Global;
 use std::io::Write;
 use std::sync::Wait;
 use std::thread::Threads;
+use workers::{WorkerThreads, Workers};
 
 /// Reads the whole input, makes the whole answer that the order asks for, and then writes it. Returns what comes of the answer: where
 /// criteria are expected to be met, whether they are, and else [`Outcome::Met`].
 ///
 /// It writes nothing before the answer is made: after every error but a write fault the writer is as it was. The contract does
 /// not say how much was written before a write fault, nor how much was read before an error. [`read_input_for`] says how many read
-/// calls are made. It costs O(n log n) for an input of n bytes, and what [`report_on`](crate::report_on) or
-/// [`answer_of_certificate`](crate::answer_of_certificate) takes for its history, or [`script::replay`] for its script.
+/// calls are made. It costs O(n log n) for an input of n bytes, and what [`findings_of`](crate::findings_of) or
+/// [`PieceWork::answer_of`](crate::PieceWork::answer_of) takes for its history, or [`script::replay`] for its script.
 pub fn run<P: Threads + Wait + Sync + AllocGlobal, R: Source, W: Write>(
     rt: &P,
     reader: &mut R,
@@ -106,7 +108,7 @@ fn length_of(order: &Order) -> Length
 /// The whole answer to an input, as the order asks.
 ///
 /// Refuses what is no input of the order, and fails for want of memory. Its cost is that of reading the input, and what
-/// [`report_on`](crate::report_on) or [`answer_of_certificate`](crate::answer_of_certificate) takes for its history, or
+/// [`report_on`](crate::report_on) or [`PieceWork::answer_of`](crate::PieceWork::answer_of) takes for its history, or
 /// [`script::replay`] for its script.
 pub fn answer_to<T: Threads + Wait + Sync>(
     rt: &T,
@@ -135,8 +137,14 @@ fn answer_and_outcome<T: Threads + Wait + Sync>(
     match order {
         Order::Judge(judging) => judge(rt, alloc, input, *judging),
         Order::JudgeLines(judging) => judge_each(rt, alloc, input, *judging),
-        Order::Check(workers) => Ok(Answered::met(check(rt, alloc, input, *workers)?)),
-        Order::Explain(form) => Ok(Answered::met(explain_as(rt, alloc, input, *form)?)),
+        Order::Check(workers) => {
+            let work = WorkerThreads::of(rt, *workers);
+            Ok(Answered::met(check(&work, alloc, input)?))
+        }
+        Order::Explain(form) => {
+            let work = WorkerThreads::of(rt, Workers::usual());
+            Ok(Answered::met(explain_as(&work, alloc, input, *form)?))
+        }
         Order::ExplainLong(form) => Ok(Answered::met(explain_long(rt, alloc, input, *form)?)),
         Order::ListFaults(listing) => Ok(Answered::met(list_faults(rt, alloc, input, *listing)?)),
         Order::Refute(Length::Limited) => Ok(Answered::met(refute(alloc, input)?)),
@@ -159,7 +167,9 @@ fn judge<T: Threads + Wait + Sync>(
     ensures error { IfErr result (IsOutputError (Order.Judge judging) input.now) }
 {
     let expected = judging.expected;
-    let report = report_on_input(rt, alloc, input, judging)?;
+    let work = WorkerThreads::of(rt, judging.workers);
+    let mut scratch = Scratch::new(alloc);
+    let report = report_on_input(&work, alloc, &mut scratch, input, judging.length)?;
     let text = report_text(alloc, &report)?;
     Ok(Answered {
         text,

@@ -134,7 +134,7 @@ impl<'a, T: LogTables> Names for LogNames<'a, T> {
         }
     }
 
-    fn told(&self, alloc: Global, op: OpId) -> Result<Option<String>, AllocError> {
+    fn phrase(&self, alloc: Global, op: OpId) -> Result<Option<String>, AllocError> {
         match self.tables.stood_for(op) {
             Some(stood) if self.is_in_fork(op) => {
                 Ok(Some(fork_words(alloc, self.tables, stood, op.index > 0)?))

@@ -10,7 +10,7 @@ use Rattle.bad_patterns.specs.declared.link.Link.{Link}
 use Rattle.bad_patterns.specs.declared.link.Link.TheVariants.{Co, Cf}
 use Rattle.bad_patterns.specs.declared.pattern.Pattern.{Pattern}
 use Rattle.bad_patterns.specs.declared.pattern.Pattern.TheVariants.{CyclicCO, ThinAirRead, WriteCOInitRead, WriteCORead, WriteHBInitRead, CyclicHB, CyclicCF}
-use Rattle.bad_patterns.specs.PatternForm.{form_of, line_form, link_form, op_form}
+use Rattle.evidence.specs.PatternForm.{form_of, line_form, link_form, op_form}
 
 -- how deep the elements of a list nest
 abbrev pub deepest : List Data → ℕ

@@ -7,7 +7,7 @@ use Rattle.lines.specs.declared.outcome.Outcome.TheVariants.{Met, Unknown, Exclu
 use Rattle.lines.specs.Outcomes.{worse}
 use Rattle.lines.proofs.AnswerLaws.{worse-met}
 use Rattle.events.specs.declared.event.Event.{Event}
-use Rattle.engine.specs.declared.report.Report.{Report}
+use Rattle.findings.specs.declared.finding.Findings.{Findings}
 use Rattle.engine.specs.Expecting.{outcome_for}
 use Rattle.log_engine.specs.Reports.{AreCutLines, IsReportOn, cut_line, multiples}
 
@@ -69,7 +69,7 @@ second-met : (a b : Outcome) → Met ≡ worse a b → b ≡ Met
 second-met a b both = let first : a ≡ Met = first-met a b both in sym (both ∙ ap (λ o. worse o b) first)
 
 -- one line more
-pub lines-then : (expected : Expected) (es : List Event) (ns : List ℕ) (text : List ℕ) (n : ℕ) (report : Report)
+pub lines-then : (expected : Expected) (es : List Event) (ns : List ℕ) (text : List ℕ) (n : ℕ) (report : Findings)
     → AreCutLines expected es ns text Met → IsReportOn (take n es) report
     → AreCutLines expected es (ns ++ (n ∷ [])) (text ++ cut_line n report) (outcome_for expected report)
 unfolding AreCutLines
@@ -94,7 +94,7 @@ unfolding AreCutLines multiples
 lines-none expected es every = (refl, refl)
 
 -- the line on all events is one cut more
-pub lines-all : (expected : Expected) (es : List Event) (ns : List ℕ) (text : List ℕ) (report : Report)
+pub lines-all : (expected : Expected) (es : List Event) (ns : List ℕ) (text : List ℕ) (report : Findings)
     → AreCutLines expected es ns text Met → IsReportOn es report
     → AreCutLines expected es (ns ++ (length es ∷ [])) (text ++ cut_line (length es) report) (outcome_for expected report)
 lines-all expected es ns text report are on =

@@ -14,7 +14,7 @@ use Rattle.event_reader.specs.ReadSteps.{ReadsAll, ReadsMore}
 use Rattle.event_reader.specs.Readings.{Extends, HasRead, Reading}
 use Rattle.log_engine.specs.declared.following.Followed.{Followed}
 use Rattle.log_engine.specs.LogAnswers.{IsLogOfFront, WatchesLog, WritesFirstCuts}
-use Rattle.engine.specs.declared.report.Report.{Report}
+use Rattle.findings.specs.declared.finding.Findings.{Findings}
 use Rattle.engine.specs.Expecting.{outcome_for}
 use Rattle.log_engine.specs.Reports.{AreCuts, AreCutLines, IsReportOn, cut_line, multiples}
 use Rattle.log_engine.specs.Steps.Watching.{HasWatched, IsTurn, WritesCut, WritesLast}

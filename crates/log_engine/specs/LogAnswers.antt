@@ -9,7 +9,7 @@ use Rattle.command_line.specs.declared.log_order.LogOrder.TheVariants.{Judge, Ex
 use Rattle.lines.specs.declared.outcome.Outcome.{Outcome}
 use Rattle.lines.specs.declared.outcome.Outcome.TheVariants.{Met}
 use Rattle.operations.specs.AnyForm.{form_of}
-use Rattle.engine.specs.declared.report.Report.{Report}
+use Rattle.findings.specs.declared.finding.Findings.{Findings}
 use Rattle.engine.specs.Report.{text_for}
 use Rattle.engine.specs.Expecting.{outcome_for}
 use Rattle.engine.specs.Steps.LongExplained.{IsExplainedAs}
@@ -23,7 +23,7 @@ use Rattle.log_engine.specs.Reports.{AreCuts, AreCutLines, IsReportOn, any_histo
 -- the text answers a log that was read whole, and this comes of it
 abbrev pub IsLogAnswer : LogOrder → Log → List ℕ → Outcome → Type 0
 IsLogAnswer (Judge judging) log text outcome =
-    (report : Report) × IsReportOn log.events report × (text ≡ text_for report) × (outcome ≡ outcome_for judging.expected report)
+    (report : Findings) × IsReportOn log.events report × (text ≡ text_for report) × (outcome ≡ outcome_for judging.expected report)
 IsLogAnswer (Explain form) log text outcome = IsExplainedAs form (any_history_of log.events) text × (outcome ≡ Met)
 IsLogAnswer (ListFaults most form) log text outcome = IsListOf form most (any_history_of log.events) text × (outcome ≡ Met)
 IsLogAnswer WriteHistory log text outcome = (text ≡ compact_text (form_of (any_history_of log.events)) ++ codes "\n") × (outcome ≡ Met)

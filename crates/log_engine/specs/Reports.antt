@@ -10,8 +10,9 @@ use Rattle.lines.specs.Lines.{ended}
 use Rattle.lines.specs.Outcomes.{worse}
 use Rattle.events.specs.declared.event.Event.{Event}
 use Rattle.events.specs.Histories.{history_of}
-use Rattle.engine.specs.declared.report.Report.{Report}
-use Rattle.engine.specs.Report.{EachIsKnownOnDistinctValues, EachIsTrueAt, EachNamesUnexplained}
+use Rattle.findings.specs.declared.finding.Findings.{Findings}
+use Rattle.findings.specs.Findings.{EachIsKnownOnDistinctValues, EachNamesUnexplained}
+use Rattle.engine.specs.Report.{EachIsTrueAt}
 use Rattle.engine.specs.Expecting.{outcome_for}
 use Rattle.engine.specs.LineAnswers.{joined_for}
 
@@ -20,20 +21,20 @@ abbrev pub any_history_of : List Event → AnyHistory
 any_history_of events = histories.Memory (history_of events)
 
 -- a report on it: each line is true, and unknown only where values are not distinct
-pub record IsReportOn (events : List Event) (report : Report) : Type 0 where
+pub record IsReportOn (events : List Event) (report : Findings) : Type 0 where
   pub true_of : EachIsTrueAt Any (any_history_of events) report
   pub unknown : EachIsKnownOnDistinctValues (any_history_of events) report
   pub unexplained : EachNamesUnexplained (any_history_of events) report
 
 -- the line on the first events: how many they are, and the lines of a report, joined
-abbrev pub cut_line : ℕ → Report → List ℕ
+abbrev pub cut_line : ℕ → Findings → List ℕ
 cut_line n report = decimal n ++ (codes " " ++ ended (joined_for report))
 
 -- the text has a line on the first events for each of these numbers of them, in order, and this comes of all their reports
 unfoldable pub AreCutLines : Expected → List Event → List ℕ → List ℕ → Outcome → Type 0
 AreCutLines expected events [] text outcome = (text ≡ []) × (outcome ≡ Met)
 AreCutLines expected events (n ∷ ns) text outcome =
-    (report : Report) × (others : List ℕ) × (more : Outcome) × IsReportOn (take n events) report
+    (report : Findings) × (others : List ℕ) × (more : Outcome) × IsReportOn (take n events) report
     × AreCutLines expected events ns others more × (text ≡ cut_line n report ++ others) × (outcome ≡ worse (outcome_for expected report) more)
 
 -- the first multiples of a number

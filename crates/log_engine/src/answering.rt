@@ -75,7 +75,7 @@ fn judged_log<T: Threads + Wait + Sync>(
         IsLogAnswer (LogOrder.Judge judging) reader.log (string_bytes answer.text) answer.outcome) }
     ensures error { IfErr result (λ e. e ≡ LogError.Memory) }
 {
-    let work = WorkerThreads::of(rt, judging.workers.count());
+    let work = WorkerThreads::of(rt, judging.workers);
     let report = report_on_last_log(&work, alloc, reader.into_log())?;
     Ok(Answered {
         text: report_text(alloc, &report)?,

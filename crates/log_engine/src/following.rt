@@ -53,7 +53,7 @@ pub fn follow_log<P: Threads + Wait + Sync + AllocGlobal, R: Source, W: Write>(
                 every: Some(every),
             },
         ) => {
-            let work = WorkerThreads::of(rt, workers.count());
+            let work = WorkerThreads::of(rt, *workers);
             let watch = Watch {
                 work: &work,
                 alloc: rt.alloc(),

@@ -3,25 +3,26 @@
 ghost use Rattle.std.specs.Prelude.{◌≡◌, IfErr, IfOk};
 ghost use Rattle.log_engine.specs.Reports.{IsReportOn};
 
-use engine::{Report, RunError, SessionWork, report_on_long};
+use engine::{Findings, RunError, SessionWork, report_on_long};
 use event_log::EventLog;
 use std::alloc::Global;
 
 /// What is known of the history of a log, for each criterion. `work` shares out the sessions, and starts threads or none.
 ///
-/// The report decides: `Unknown` exactly where values are not distinct, as for [`report_on_long`]. Fails for want of memory alone.
+/// It is that of [`report_on_long`]: `Unknown` only where values are not distinct. Fails for want of memory alone.
 /// O(n (k + log n)) for n calls of k clients and lost writes that were read.
 pub fn report_on_log<W: SessionWork>(
     work: &W,
     alloc: Global,
     log: &EventLog,
-) -> Result<Report, RunError>
+) -> Result<Findings, RunError>
     requires { W.can_work work.now }
     ensures report { IfOk result (IsReportOn log.now) }
     ensures error { IfErr result (λ e. e ≡ RunError.Memory) }
 {
     let history = log.history(alloc)?;
-    report_on_long(work, alloc, &history)
+    let report = report_on_long(work, alloc, &history)?;
+    Ok(report)
 }
 
 /// The same, but drops the log before it judges the history, and so takes less memory.
@@ -29,12 +30,13 @@ pub(crate) fn report_on_last_log<W: SessionWork>(
     work: &W,
     alloc: Global,
     log: EventLog,
-) -> Result<Report, RunError>
+) -> Result<Findings, RunError>
     requires { W.can_work work.now }
     ensures report { IfOk result (IsReportOn log) }
     ensures error { IfErr result (λ e. e ≡ RunError.Memory) }
 {
     let history = log.history(alloc)?;
     drop(log);
-    report_on_long(work, alloc, &history)
+    let report = report_on_long(work, alloc, &history)?;
+    Ok(report)
 }

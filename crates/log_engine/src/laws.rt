@@ -4,8 +4,8 @@ ghost use Rattle.std.specs.Prelude.{List, ◌≡◌, ◌↔◌, ℕ};
 ghost use Rattle.memory_order.specs.Memory.{IsDifferentiated, memory_answer};
 ghost use Rattle.cert_check.specs.Criteria.{Meets};
 ghost use Rattle.events.specs.Histories.{history_of};
-ghost use Rattle.engine.specs.Report.{answer_for};
-ghost use Rattle.engine.specs.declared.report.Report.{Report};
+ghost use Rattle.findings.specs.Findings.{answer_for};
+ghost use Rattle.findings.specs.declared.finding.Findings.{Findings};
 ghost use Rattle.log_engine.specs.Reports.{IsReportOn};
 
 use bad_patterns::Kind;
@@ -16,9 +16,9 @@ use events::Event;
 /// A report on a log whose history has distinct values leaves nothing unknown: a line is a yes exactly if the history meets the
 /// criterion, and a no exactly if it does not.
 pub fn distinct_values_are_decided()
-    ensures met { (events : List Event) (report : Report) → IsReportOn events report → IsDifferentiated (history_of events)
+    ensures met { (events : List Event) (report : Findings) → IsReportOn events report → IsDifferentiated (history_of events)
         → (criterion : Criterion) → answer_for report criterion ≡ Answer.Yes ↔ Meets memory_answer (history_of events) criterion }
-    ensures excluded { (events : List Event) (report : Report) → IsReportOn events report → IsDifferentiated (history_of events)
+    ensures excluded { (events : List Event) (report : Findings) → IsReportOn events report → IsDifferentiated (history_of events)
         → (criterion : Criterion)
         → ((kind : Kind) × (answer_for report criterion ≡ Answer.No kind)) ↔ ¬ Meets memory_answer (history_of events) criterion }
 {}

@@ -9,7 +9,7 @@ ghost use Rattle.log_engine.specs.Steps.Watching.{WritesCut};
 use crate::failure::LogError;
 use crate::judging::report_on_log;
 use command_line::Expected;
-use engine::{Report, SessionWork, joined_text, outcome_of, write_output};
+use engine::{Findings, SessionWork, joined_text, outcome_of, write_output};
 use event_log::EventLog;
 use lines::Outcome;
 use std::alloc::{AllocError, Global};
@@ -35,7 +35,7 @@ pub(crate) fn write_cut<K: SessionWork, W: Write>(
 }
 
 // The number of events, and the joined lines of a report.
-fn line_of_cut(alloc: Global, events: u32, report: &Report) -> Result<Vec<u8>, AllocError>
+fn line_of_cut(alloc: Global, events: u32, report: &Findings) -> Result<Vec<u8>, AllocError>
     ensures { IfOk result (λ line. line.items ≡ cut_line events report.now) }
 {
     let count = format!(in alloc; "{events} ")?;

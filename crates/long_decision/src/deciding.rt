@@ -29,8 +29,8 @@ use std::alloc::{AllocError, Global};
 /// also orders the conflicts that columns leave, and for causal memory the past of each session's last operation. `Open` exactly where
 /// values are not distinct.
 ///
-/// `work` goes over the sessions: [`CallingThread`](crate::CallingThread) alone, or [`WorkerThreads`](crate::WorkerThreads), which share
-/// them. Both give the same decisions.
+/// `work` goes over the sessions: [`CallingThread`](workers::CallingThread) alone, or [`WorkerThreads`](workers::WorkerThreads), which
+/// share them. Both give the same decisions.
 ///
 /// Fails for want of memory alone. O(n (k + log n)) for n operations of k sessions, of which the workers share O(n k).
 pub fn decide_long<W: SessionWork>(

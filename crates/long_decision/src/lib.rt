@@ -11,4 +11,4 @@ mod thin_air;
 
 pub use deciding::{decide_indexed, decide_long};
 pub use decisions::{LongDecision, LongDecisions};
-pub use session_work::{CallingThread, SessionWork, WorkerThreads};
+pub use session_work::SessionWork;

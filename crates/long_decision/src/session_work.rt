@@ -15,8 +15,9 @@ use session_orders::{SessionOrder, order_sessions, order_sessions_in_threads};
 use std::alloc::{AllocError, Global};
 use std::sync::Wait;
 use std::thread::Threads;
+use workers::{CallingThread, WorkerThreads};
 
-/// Goes over the sessions of a long history.
+/// Goes over the sessions of a long history, which workers share.
 pub trait SessionWork {
     /// It can do this work: threads may share the runtime.
     ghost can_work: { Self → Type 0 };
@@ -44,10 +45,6 @@ pub trait SessionWork {
         ensures { IfOk result (AreOrdered index.now.history) };
 }
 
-/// The calling thread alone: no thread is started.
-#[derive(Clone, Copy, Debug, PartialEq, Eq)]
-pub struct CallingThread;
-
 impl SessionWork for CallingThread {
     ghost can_work = { λ _. Unit {0} };
 
@@ -65,25 +62,11 @@ impl SessionWork for CallingThread {
     }
 }
 
-/// So many workers, which share the sessions: the calling thread, and threads of a runtime.
-#[derive(Drop)]
-pub struct WorkerThreads<'a, T> {
-    rt: &'a T,
-    workers: usize,
-}
-
-impl<'a, T: Threads + Wait + Sync> WorkerThreads<'a, T> {
-    /// This many workers, or one if the number is 0.
-    pub fn of(rt: &'a T, workers: usize) -> WorkerThreads<'a, T> {
-        WorkerThreads { rt, workers }
-    }
-}
-
 impl<'a, T: Threads + Wait + Sync> SessionWork for WorkerThreads<'a, T> {
     ghost can_work = { λ _. IsSync T.row };
 
     fn sweep(&self, alloc: Global, index: &LongIndex, order: &[u32]) -> Result<Swept, AllocError> {
-        sweep_in_threads(self.rt, alloc, self.workers, index, order)
+        sweep_in_threads(self.rt(), alloc, self.workers().count(), index, order)
     }
 
     fn order_sessions(
@@ -92,6 +75,6 @@ impl<'a, T: Threads + Wait + Sync> SessionWork for WorkerThreads<'a, T> {
         index: &LongIndex,
         order: &[u32],
     ) -> Result<SessionOrder, AllocError> {
-        order_sessions_in_threads(self.rt, alloc, self.workers, index, order)
+        order_sessions_in_threads(self.rt(), alloc, self.workers().count(), index, order)
     }
 }

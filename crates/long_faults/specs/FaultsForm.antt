@@ -6,7 +6,7 @@ use Rattle.operations.specs.Reads.{number_form, list_form, worded}
 use Rattle.bad_patterns.specs.declared.kind.Kind.{Kind}
 use Rattle.bad_patterns.specs.declared.kind.Kind.TheVariants as kinds
 use Rattle.bad_patterns.specs.KindNames.{kind_name}
-use Rattle.bad_patterns.specs.PatternForm.{op_form}
+use Rattle.evidence.specs.PatternForm.{op_form}
 use Rattle.long_faults.specs.declared.counts.FaultCounts.{FaultCounts}
 use Rattle.long_faults.specs.declared.counts.SessionFaults.{SessionFaults}
 use Rattle.long_faults.specs.declared.fault.Fault.{Fault}

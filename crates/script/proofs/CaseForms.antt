@@ -8,8 +8,8 @@ use Rattle.cert_check.specs.declared.certificate.Certificate.TheVariants.{Cc, Cm
 use Rattle.cert_check.specs.Certificates.{criterion_of}
 use Rattle.cert_check.specs.CertificateForm.{form_of as certificate_form}
 use Rattle.cert_check.specs.CriterionNames.{name_of}
-use Rattle.certificate_reader.specs.Found.{IsShortenedIn}
-use Rattle.certificate_reader.specs.Shortened.{shortened}
+use Rattle.evidence.specs.Found.{IsShortenedIn}
+use Rattle.evidence.specs.Shortened.{shortened}
 use Rattle.script.specs.Steps.Filing.{IsCaseIn, IsNoText}
 
 no_text : (c : Certificate) (text : List ℕ) → string text ≢ certificate_form c

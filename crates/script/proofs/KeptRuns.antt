@@ -21,8 +21,8 @@ use Rattle.snapshot.specs.Plans.{Plan, fresh_plan, after_looks}
 use Rattle.snapshot.specs.Runs.{Event, looks, sealed_sessions}
 use Rattle.snapshot.proofs.Filtered.{take-from}
 use Rattle.snapshot.proofs.FoundLooks.{after_is}
-use Rattle.certificate_reader.specs.Shortened.{shortened}
-use Rattle.certificate_reader.proofs.Shortened.{of_kept_shape, of_whole_shape}
+use Rattle.evidence.specs.Shortened.{shortened}
+use Rattle.evidence.proofs.Shortened.{of_kept_shape, of_whole_shape}
 use Rattle.world.specs.declared.step.StepOf.{StepOf}
 use Rattle.world.specs.declared.step.StepOf.TheVariants.{File, Take, Work, Put, Refute, Ask}
 use Rattle.world.specs.declared.reply.ReplyOf.{ReplyOf}

@@ -8,7 +8,7 @@ use Rattle.operations.specs.Json.{elements, list}
 use Rattle.operations.specs.Laws.Json.{elements-list, list_from_elements}
 use Rattle.operations.specs.Reads.{number_form}
 use Rattle.token_reader.specs.Gathers.{IsTakenList as IsGathered}
-use Rattle.certificate_reader.proofs.Forms.{list_taken}
+use Rattle.evidence.proofs.CertificateForms.{list_taken}
 use Rattle.script.specs.declared.script_error.ScriptError.{ScriptError}
 use Rattle.script.specs.declared.script_steps.Passed.{Passed}
 use Rattle.script.specs.declared.script_steps.Passed.TheVariants.{Sessions, Steps}

@@ -11,10 +11,10 @@ use Rattle.operations.specs.Reads.{list_form, number_form}
 use Rattle.cert_check.specs.declared.criterion.Criterion.{Criterion}
 use Rattle.cert_check.specs.declared.certificate.Certificate.{Certificate}
 use Rattle.bad_patterns.specs.declared.pattern.Pattern.{Pattern}
-use Rattle.bad_patterns.specs.PatternForm.{form_of as pattern_form}
-use Rattle.pattern_reader.specs.Words.{word_form}
+use Rattle.evidence.specs.PatternForm.{form_of as pattern_form}
+use Rattle.evidence.specs.Words.{word_form}
 use Rattle.token_reader.specs.Gathers.{IsTakenList}
-use Rattle.certificate_reader.proofs.Forms.{list_taken}
+use Rattle.evidence.proofs.CertificateForms.{list_taken}
 use Rattle.world.specs.declared.step.StepOf.TheVariants.{Begin, End, Start, Look, Show, File, Take, Work, Put, Refute, Ask}
 use Rattle.script.specs.declared.step_parts.StepParts.{StepParts}
 use Rattle.script.specs.declared.step_parts.StepParts.TheVariants.{Nothing, Word, Number, Piece, Whole}

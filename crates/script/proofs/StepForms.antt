@@ -9,8 +9,8 @@ use Rattle.operations.specs.Reads.{number_form, list_form}
 use Rattle.cert_check.specs.declared.criterion.Criterion.{Criterion}
 use Rattle.cert_check.specs.declared.certificate.Certificate.{Certificate}
 use Rattle.bad_patterns.specs.declared.pattern.Pattern.{Pattern}
-use Rattle.bad_patterns.specs.PatternForm.{form_of as pattern_form}
-use Rattle.pattern_reader.specs.Words.{word_form}
+use Rattle.evidence.specs.PatternForm.{form_of as pattern_form}
+use Rattle.evidence.specs.Words.{word_form}
 use Rattle.world.specs.declared.step.StepOf.TheVariants.{Begin, End, Start, Look, Show, File, Take, Work, Put, Refute, Ask}
 use Rattle.script.specs.declared.step_word.StepWord.{StepWord}
 use Rattle.script.specs.declared.step_word.StepWord.TheVariants as words

@@ -1,6 +1,6 @@
--- What is kept of a script: of each certificate in a step what certificate_reader keeps, and all else.
+-- What is kept of a script: of each certificate in a step what evidence keeps, and all else.
 use Rattle.std.specs.Prelude.{◌≡◌, ℕ, List, map, option_map}
-use Rattle.certificate_reader.specs.Shortened.{shortened}
+use Rattle.evidence.specs.Shortened.{shortened}
 use Rattle.operations.specs.AnyForm.{IsJson}
 use Rattle.world.specs.declared.step.StepOf.{StepOf}
 use Rattle.world.specs.declared.step.StepOf.TheVariants.{Begin, End, Start, Look, Show, File, Take, Work, Put, Refute, Ask}

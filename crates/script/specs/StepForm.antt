@@ -9,7 +9,7 @@ use Rattle.cert_check.specs.declared.certificate.Certificate.{Certificate}
 use Rattle.cert_check.specs.Certificates.{criterion_of}
 use Rattle.cert_check.specs.CertificateForm.{form_of as certificate_form, IsCertificate}
 use Rattle.cert_check.specs.CriterionNames.{name_of as criterion_name}
-use Rattle.bad_patterns.specs.PatternForm.{form_of as pattern_form}
+use Rattle.evidence.specs.PatternForm.{form_of as pattern_form}
 use Rattle.world.specs.declared.step.StepOf.{StepOf}
 use Rattle.world.specs.declared.step.StepOf.TheVariants.{Begin, End, Start, Look, Show, File, Take, Work, Put, Refute, Ask}
 use Rattle.script.specs.declared.step_word.StepWord.{StepWord}

@@ -50,7 +50,7 @@ fn next_count(
 
 impl Gather for Counts {
     ghost use Rattle.std.specs.Prelude.{◌≤◌};
-    ghost use Rattle.certificate_reader.specs.Steps.Lists.{AreForms, AreNoForms};
+    ghost use Rattle.evidence.specs.Steps.Lists.{AreForms, AreNoForms};
     ghost use Rattle.history.specs.declared.limits.TheConstants.{MAX_OPERATIONS as LIMIT};
     ghost use Rattle.operations.specs.Reads.{number_form};
 

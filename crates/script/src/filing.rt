@@ -3,13 +3,13 @@
 ghost use Rattle.std.specs.Prelude.{◌<◌, length, IfOk, IfErr, OnOk};
 ghost use Rattle.serde_json.specs.Data.{Data, string};
 ghost use Rattle.bounded_json.specs.Steps.Reading.{IsRefused};
-ghost use Rattle.certificate_reader.specs.Found.{IsShortenedIn};
+ghost use Rattle.evidence.specs.Found.{IsShortenedIn};
 ghost use Rattle.script.specs.Steps.Filing.{IsCaseIn, IsNoText};
 ghost use Rattle.token_reader.specs.Tokens.{IsValue};
 
 use bounded_json::TextError;
 use cert_check::{Certificate, Criterion};
-use certificate_reader::certificate_from;
+use evidence::certificate_from;
 use json::{Reader, Token};
 use std::alloc::Global;
 use token_reader::next_token;

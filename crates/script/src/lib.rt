@@ -2,7 +2,7 @@
 //!
 //! [`replay`] reads a script from its text, runs it and writes the lines of its replies; [`read_script`] gives an [`AnyScript`] or a
 //! [`ScriptError`], and [`reply_line`] makes a line. Steps are read token by token, with no value of a certificate or a pattern.
-//! It uses world, operations, certificate_reader, pattern_reader, token_reader, bounded_json, json and serde_json. How it reads and
+//! It uses world, operations, evidence, token_reader, bounded_json, json and serde_json. How it reads and
 //! writes may change: the contracts fix the form of a script, which texts are refused, and the lines.
 #![tactic(auto)]
 

@@ -24,7 +24,7 @@ use std::alloc::Global;
 
 /// The script whose form the text is, as JSON: `[name, k, steps]`, or `[name, k, steps, start]`.
 ///
-/// Of a certificate in a step it keeps what [`next_certificate`](certificate_reader::next_certificate) keeps: all of one that may have
+/// Of a certificate in a step it keeps what [`next_certificate`](evidence::next_certificate) keeps: all of one that may have
 /// the shape of a history.
 ///
 /// A refusal is the first in the order of reading. `NotJson` where `serde_json` refuses the text; `BadShape` where its value is no list of

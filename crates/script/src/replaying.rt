@@ -13,8 +13,8 @@ use crate::lines::reply_line;
 use crate::reader::read_script;
 use crate::script::Script;
 use crate::script_error::ScriptError;
+use bad_patterns::Refutable;
 use operations::Named;
-use refutable::Refutable;
 use std::alloc::{AllocError, Global};
 use world::Reply;
 

@@ -8,8 +8,8 @@ ghost use Rattle.script.specs.StepForm.{written_out as steps_written_out};
 
 use crate::writing_out::written_out;
 use crate::written_step::WrittenStep;
+use bad_patterns::Refutable;
 use object_trait::SeqObject;
-use refutable::Refutable;
 use std::alloc::{AllocError, Global};
 use std::marker::Model;
 use world::{Reply, World};

@@ -3,7 +3,7 @@
 ghost use Rattle.operations.specs.Reads.{IsRead};
 ghost use Rattle.script.specs.StepWords.{name_of};
 
-use pattern_reader::Word;
+use evidence::Word;
 
 /// The word that a step of a script begins with.
 #[derive(Clone, Copy, Debug, PartialEq, Eq)]

@@ -11,7 +11,7 @@ use std::alloc::{AllocError, Global};
 
 /// What a text says of a pattern.
 #[derive(Debug, Drop)]
-pub(crate) struct Told {
+pub(crate) struct Outline {
     pub steps: Steps,
     /// Where the steps begin and where they end, if that can be said.
     pub ends: Option<Pair>,
@@ -21,11 +21,11 @@ pub(crate) struct Told {
 ///
 /// Fails for want of memory alone. O(m + l) for a pattern of m operations and l lines, and for a derivation the cost of
 /// [`push_derivation`].
-pub(crate) fn told_of(
+pub(crate) fn outline_of(
     alloc: Global,
     h: &History<Memory>,
     pattern: &Pattern,
-) -> Result<Told, AllocError> {
+) -> Result<Outline, AllocError> {
     let mut steps = Steps::none(alloc);
     let ends = match pattern {
         Pattern::CyclicCO(path) | Pattern::WriteCOInitRead(path) => {
@@ -39,7 +39,7 @@ pub(crate) fn told_of(
         }
         Pattern::CyclicCF(links) => push_links(&mut steps, links)?,
     };
-    Ok(Told { steps, ends })
+    Ok(Outline { steps, ends })
 }
 
 // The steps from a write to another and from there to a read that reads from the first. It gives the other write and the read.

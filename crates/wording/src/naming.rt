@@ -60,7 +60,7 @@ pub trait Names {
 
     /// Who does what by an operation of the part, and what is known of its return, after the operation's name and a colon. None if
     /// its call and its return say it.
-    fn told(&self, _alloc: Global, _op: OpId) -> Result<Option<String>, AllocError> {
+    fn phrase(&self, _alloc: Global, _op: OpId) -> Result<Option<String>, AllocError> {
         Ok(None)
     }
 

@@ -13,7 +13,7 @@ use std::alloc::{AllocError, Global};
 pub trait Worded: SeqObject {
     /// What a session does by a call, at a key if one is given, and its answer if that is known, with these names of variables and
     /// values. The text follows the name of the operation, as in `reads 5 from variable 3`. Fails for want of memory alone.
-    fn told<N: Names>(
+    fn phrase<N: Names>(
         alloc: Global,
         names: &N,
         key: Option<u32>,
@@ -35,14 +35,14 @@ pub(crate) fn operation_words<O: Worded, N: Names>(
     if !h.contains(op) {
         return format!(in alloc; "{name} is not in the history");
     }
-    if let Some(told) = names.told(alloc, op)? {
-        return format!(in alloc; "{name}: {told}");
+    if let Some(phrase) = names.phrase(alloc, op)? {
+        return format!(in alloc; "{name}: {phrase}");
     }
     let ret = h.ret(op);
-    let told = O::told(alloc, names, None, &h.call(op), ret)?;
+    let phrase = O::phrase(alloc, names, None, &h.call(op), ret)?;
     match ret {
-        Some(_) => format!(in alloc; "{name} {told}"),
-        None => format!(in alloc; "{name} {told}, and its return is not known"),
+        Some(_) => format!(in alloc; "{name} {phrase}"),
+        None => format!(in alloc; "{name} {phrase}, and its return is not known"),
     }
 }
 
@@ -57,8 +57,8 @@ pub fn read_of<N: Names>(
     value: u64,
 ) -> Result<String, AllocError> {
     let name = names.operation(alloc, op)?;
-    if let Some(told) = names.told(alloc, op)? {
-        return format!(in alloc; "{name}: {told}");
+    if let Some(phrase) = names.phrase(alloc, op)? {
+        return format!(in alloc; "{name}: {phrase}");
     }
     let value = names.value(alloc, key, value)?;
     let variable = names.variable(alloc, key)?;
@@ -68,18 +68,18 @@ pub fn read_of<N: Names>(
 // A number after its words, if there is one, and else nothing.
 fn with_key(
     alloc: Global,
-    told: &str,
+    phrase: &str,
     words: &'static str,
     key: Option<u32>,
 ) -> Result<String, AllocError> {
     match key {
-        Some(key) => format!(in alloc; "{told}{words}{key}"),
-        None => String::from_str(alloc, told),
+        Some(key) => format!(in alloc; "{phrase}{words}{key}"),
+        None => String::from_str(alloc, phrase),
     }
 }
 
 impl Worded for Register {
-    fn told<N: Names>(
+    fn phrase<N: Names>(
         alloc: Global,
         names: &N,
         key: Option<u32>,
@@ -87,14 +87,14 @@ impl Worded for Register {
         ret: Option<RegisterRet>,
     ) -> Result<String, AllocError> {
         match key {
-            Some(key) => told_of_variable(alloc, names, key, call, ret),
-            None => told_of_register(alloc, call, ret),
+            Some(key) => words_of_variable(alloc, names, key, call, ret),
+            None => words_of_register(alloc, call, ret),
         }
     }
 }
 
 // What a session does by a call of a memory.
-fn told_of_variable<N: Names>(
+fn words_of_variable<N: Names>(
     alloc: Global,
     names: &N,
     key: u32,
@@ -116,7 +116,7 @@ fn told_of_variable<N: Names>(
 }
 
 // What a session does by a call of a register alone.
-fn told_of_register(
+fn words_of_register(
     alloc: Global,
     call: &RegisterCall,
     ret: Option<RegisterRet>,
@@ -131,7 +131,7 @@ fn told_of_register(
 }
 
 impl Worded for Counter {
-    fn told<N: Names>(
+    fn phrase<N: Names>(
         alloc: Global,
         _names: &N,
         key: Option<u32>,
@@ -141,8 +141,8 @@ impl Worded for Counter {
         match (call, ret) {
             (CounterCall::Increment, _) => with_key(alloc, "increments", " key ", key),
             (CounterCall::Get, Some(CounterRet::Value(value))) => {
-                let told = format!(in alloc; "gets {value}")?;
-                with_key(alloc, &told, " from key ", key)
+                let phrase = format!(in alloc; "gets {value}")?;
+                with_key(alloc, &phrase, " from key ", key)
             }
             (CounterCall::Get, _) => with_key(alloc, "gets the count", " of key ", key),
         }
@@ -150,14 +150,14 @@ impl Worded for Counter {
 }
 
 impl Worded for AddRemoveSet {
-    fn told<N: Names>(
+    fn phrase<N: Names>(
         alloc: Global,
         _names: &N,
         key: Option<u32>,
         call: &SetCall,
         ret: Option<SetRet>,
     ) -> Result<String, AllocError> {
-        let told = match (call, ret) {
+        let phrase = match (call, ret) {
             (SetCall::Add(element), _) => format!(in alloc; "adds {element}")?,
             (SetCall::Remove(element), _) => format!(in alloc; "removes {element}")?,
             (SetCall::Has(element), Some(SetRet::Has(true))) => {
@@ -168,19 +168,19 @@ impl Worded for AddRemoveSet {
             }
             (SetCall::Has(element), _) => format!(in alloc; "looks for {element}")?,
         };
-        with_key(alloc, &told, " at key ", key)
+        with_key(alloc, &phrase, " at key ", key)
     }
 }
 
 impl Worded for Queue {
-    fn told<N: Names>(
+    fn phrase<N: Names>(
         alloc: Global,
         _names: &N,
         key: Option<u32>,
         call: &QueueCall,
         ret: Option<QueueRet>,
     ) -> Result<String, AllocError> {
-        let told = match (call, ret) {
+        let phrase = match (call, ret) {
             (QueueCall::Push(value), _) => format!(in alloc; "pushes {value}")?,
             (QueueCall::Pop, Some(QueueRet::Popped(Some(value)))) => {
                 format!(in alloc; "pops {value}")?
@@ -190,18 +190,18 @@ impl Worded for Queue {
             }
             (QueueCall::Pop, _) => String::from_str(alloc, "pops")?,
         };
-        with_key(alloc, &told, " at key ", key)
+        with_key(alloc, &phrase, " at key ", key)
     }
 }
 
 impl<O: Worded> Worded for Keyed<O> {
-    fn told<N: Names>(
+    fn phrase<N: Names>(
         alloc: Global,
         names: &N,
         _key: Option<u32>,
         call: &KeyedCall<O::Call>,
         ret: Option<O::Ret>,
     ) -> Result<String, AllocError> {
-        O::told(alloc, names, Some(call.key), &call.call, ret)
+        O::phrase(alloc, names, Some(call.key), &call.call, ret)
     }
 }

@@ -1,6 +1,6 @@
 //! Patterns in words.
 
-use crate::gathering::{Told, told_of};
+use crate::gathering::{Outline, outline_of};
 use crate::naming::Names;
 use crate::operation_words::operation_words;
 use crate::sentences::sentence_of;
@@ -24,13 +24,13 @@ pub fn words_of_pattern<N: Names>(
     names: &N,
     pattern: &Pattern,
 ) -> Result<Vec<String>, AllocError> {
-    let told = told_of(alloc, h, pattern)?;
+    let outline = outline_of(alloc, h, pattern)?;
     let mut lines = Vec::new(alloc);
-    push_operations(alloc, &mut lines, h, names, &told)?;
-    push_steps(alloc, &mut lines, names, told.steps.first())?;
-    push_left_out(alloc, &mut lines, told.steps.left_out())?;
-    push_steps(alloc, &mut lines, names, told.steps.last())?;
-    lines.push(last_line(alloc, h, names, pattern, &told)?)?;
+    push_operations(alloc, &mut lines, h, names, &outline)?;
+    push_steps(alloc, &mut lines, names, outline.steps.first())?;
+    push_left_out(alloc, &mut lines, outline.steps.left_out())?;
+    push_steps(alloc, &mut lines, names, outline.steps.last())?;
+    lines.push(last_line(alloc, h, names, pattern, &outline)?)?;
     Ok(lines)
 }
 
@@ -40,12 +40,12 @@ fn push_operations<N: Names>(
     lines: &mut Vec<String>,
     h: &History<Memory>,
     names: &N,
-    told: &Told,
+    outline: &Outline,
 ) -> Result<(), AllocError> {
     let mut ops = Vec::new(alloc);
-    push_ops(&mut ops, told.steps.first())?;
-    push_ops(&mut ops, told.steps.last())?;
-    if let Some((begin, end)) = told.ends {
+    push_ops(&mut ops, outline.steps.first())?;
+    push_ops(&mut ops, outline.steps.last())?;
+    if let Some((begin, end)) = outline.ends {
         ops.push(begin)?;
         ops.push(end)?;
     }
@@ -92,9 +92,9 @@ fn last_line<N: Names>(
     h: &History<Memory>,
     names: &N,
     pattern: &Pattern,
-    told: &Told,
+    outline: &Outline,
 ) -> Result<String, AllocError> {
-    let sentence = match told.ends {
+    let sentence = match outline.ends {
         Some(ends) => sentence_of(alloc, h, names, pattern, ends)?,
         None => None,
     };

@@ -62,13 +62,13 @@ fn sentence_on_read<N: Names>(
     let read = names.operation(alloc, read)?;
     let sentence = match kind {
         Kind::ThinAirRead => {
-            let told = names.unwritten_read_words(alloc, key, value)?;
+            let phrase = names.unwritten_read_words(alloc, key, value)?;
             let initial = names.initial_words(alloc, key, initial_value(h, key))?;
-            format!(in alloc; "{read} {told}, and {initial}.")?
+            format!(in alloc; "{read} {phrase}, and {initial}.")?
         }
         Kind::WriteCOInitRead => {
-            let told = names.initial_read_words(alloc, key, value)?;
-            format!(in alloc; "{read} {told}, which {other} had overwritten in its past.")?
+            let phrase = names.initial_read_words(alloc, key, value)?;
+            format!(in alloc; "{read} {phrase}, which {other} had overwritten in its past.")?
         }
         _ => {
             let value = names.value(alloc, key, value)?;
@@ -100,8 +100,8 @@ fn sentence_on_session<N: Names>(
         return Ok(None);
     };
     let before = names.operation(alloc, second)?;
-    let told = names.initial_read_words(alloc, key, value)?;
+    let phrase = names.initial_read_words(alloc, key, value)?;
     Ok(Some(format!(in alloc;
-        "{before} {told}, but what {session} has read up to {op} puts {puts}, which writes the variable, before it."
+        "{before} {phrase}, but what {session} has read up to {op} puts {puts}, which writes the variable, before it."
     )?))
 }

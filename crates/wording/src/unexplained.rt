@@ -44,7 +44,7 @@ fn push_answer<O: Worded, N: Names>(
         return Ok(());
     }
     let name = names.operation(alloc, unlike)?;
-    let told = O::told(alloc, names, None, &h.call(unlike), Some(answer))?;
-    lines.push(format!(in alloc; "In its order {name} {told}.")?)?;
+    let phrase = O::phrase(alloc, names, None, &h.call(unlike), Some(answer))?;
+    lines.push(format!(in alloc; "In its order {name} {phrase}.")?)?;
     Ok(())
 }

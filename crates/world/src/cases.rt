@@ -13,11 +13,10 @@ use crate::place::Place;
 use crate::refusal::Refusal;
 use crate::reply::{Reply, ReplyOf};
 use crate::step::StepOf;
-use bad_patterns::Pattern;
+use bad_patterns::{Pattern, Refutable};
 use board::{Answer, Board, BoardError, CaseRows, MAX_CASES, Piece, has_piece};
 use cert_check::{CaseFile, Certificate, Criterion, check_piece};
 use history::{History, OpId};
-use refutable::Refutable;
 use std::alloc::{AllocError, Global};
 use std::marker::Model;
 

@@ -7,8 +7,8 @@ ghost use Rattle.world.specs.declared.reply.ReplyOf.{ReplyOf as AnyReply};
 ghost use Rattle.world.specs.Runs.{IsReply, IsRun, Replied};
 ghost use Rattle.world.specs.Headline.{EachNoIsTrue, EachYesIsTrue, SealsAreCuts};
 
+use bad_patterns::Refutable;
 use cert_check::laws::explained_certificates_show_their_criterion;
-use refutable::Refutable;
 
 /// Runs are made step by step: a run is empty, or a run with one more step, whose reply that step and the steps and replies
 /// before it determine.

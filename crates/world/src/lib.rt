@@ -1,8 +1,8 @@
 //! The world: sessions, sealers, cases and verdicts of one recorder and one desk, step by step, with no thread.
 //!
 //! [`World::run`] gives the [`Reply`] to each [`Step`]; the steps and replies before each reply determine it. [`laws`] says what
-//! holds in every run: seals are consistent cuts, each yes and each no is true. It uses history, snapshot, cert_check, refutable
-//! and board. How it keeps its state may change: the contract of a run is about steps and replies alone.
+//! holds in every run: seals are consistent cuts, each yes and each no is true. It uses history, snapshot, cert_check,
+//! bad_patterns and board. How it keeps its state may change: the contract of a run is about steps and replies alone.
 #![tactic(auto)]
 
 mod cases;

@@ -11,9 +11,9 @@ use crate::recording::Recording;
 use crate::refusal::Refusal;
 use crate::reply::{Reply, ReplyOf};
 use crate::step::{Step, StepOf};
+use bad_patterns::Refutable;
 use cert_check::{Certificate, Criterion};
 use history::MAX_SESSIONS;
-use refutable::Refutable;
 use std::alloc::{AllocError, Global};
 
 /// A recorder and a desk without threads: sessions, sealers, cases and verdicts, as they are between two steps.

@@ -8,18 +8,22 @@ use Rattle.operations.specs.declared.any_history.AnyHistory.TheVariants as histo
 use Rattle.operations.specs.AnyForm.{IsJson}
 use Rattle.memory_order.specs.Memory.{MemoryHistory}
 use Rattle.engine.specs.declared.listing_faults.FaultReport.{FaultReport}
-use Rattle.engine.specs.declared.reason.Explanation.{Explanation}
-use Rattle.engine.specs.Explaining.{EachIsReason}
+use Rattle.findings.specs.declared.finding.Findings.{Findings}
+use Rattle.findings.specs.Findings.{EachIsFinding}
 use Rattle.engine.specs.ExplainingInWords.{IsIndented, TellsEach}
 use Rattle.engine.specs.ListingFaults.{IsFaultReportOf, fault_report_form}
 
--- the text is that of the reasons, and lines after it
-abbrev pub AreLinesAfter : Explanation → List ℕ → Type 0
-AreLinesAfter explanation text = (first rest : List ℕ) × TellsEach explanation first × IsIndented rest × (text ≡ first ++ rest)
+-- the text is that of findings, and lines after it
+abbrev pub AreLinesAfter : Findings → List ℕ → Type 0
+AreLinesAfter findings text = (first rest : List ℕ) × TellsEach findings first × IsIndented rest × (text ≡ first ++ rest)
+
+-- the text gives what is found of a history, and lines after it
+abbrev pub IsListInWords : AnyHistory → List ℕ → Type 0
+IsListInWords history text = (findings : Findings) × EachIsFinding history findings × AreLinesAfter findings text
 
 -- the text lists the faults of a history
 abbrev pub IsListOf : ListForm → ℕ → AnyHistory → List ℕ → Type 0
-IsListOf Words most history text = (explanation : Explanation) × EachIsReason history explanation × AreLinesAfter explanation text
+IsListOf Words most history text = IsListInWords history text
 IsListOf Json most history text =
     (report : FaultReport) × IsFaultReportOf most history report
     × IsJson (compact_text (fault_report_form report)) (fault_report_form report)

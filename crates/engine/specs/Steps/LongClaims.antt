@@ -1,13 +1,13 @@
 -- What is read of the text of a claim after its history, which is read by itself.
 use Rattle.std.specs.Prelude.{ℕ, List, [], ◌∷◌}
 use Rattle.serde_json.specs.Data.{Data}
-use Rattle.bad_patterns.specs.PatternForm.{form_of as pattern_form}
+use Rattle.evidence.specs.PatternForm.{form_of as pattern_form}
 use Rattle.cert_check.specs.CriterionNames.{name_of}
 use Rattle.operations.specs.AnyForm.{IsJson}
 use Rattle.operations.specs.Json.{list}
 use Rattle.operations.specs.Reads.{IsRead}
-use Rattle.pattern_reader.specs.Words.{word_form}
-use Rattle.pattern_reader.specs.declared.violation.Violation.{Violation}
+use Rattle.evidence.specs.Words.{word_form}
+use Rattle.evidence.specs.declared.violation.Violation.{Violation}
 
 -- the text is JSON of a list of three, of which the last two are read as these
 pub record IsShownBy (text : List ℕ) (violation : Violation) : Type 0 where

@@ -6,19 +6,20 @@ use Rattle.command_line.specs.declared.form.LongForm.TheVariants.{Words, Json, P
 use Rattle.operations.specs.declared.any_history.AnyHistory.{AnyHistory}
 use Rattle.operations.specs.AnyForm.{IsJson}
 use Rattle.picture.specs.Markup.{IsSvgElement}
-use Rattle.engine.specs.declared.reason.Explanation.{Explanation}
-use Rattle.engine.specs.Explaining.{EachIsReason, explanation_form}
+use Rattle.findings.specs.declared.finding.Findings.{Findings}
+use Rattle.findings.specs.Findings.{EachIsFinding}
+use Rattle.engine.specs.Explaining.{findings_form}
 use Rattle.engine.specs.ExplainingInWords.{TellsEach}
 
--- the text gives reasons of a history in words, as JSON, or is a picture
+-- the text gives what is found of a history in words, as JSON, or is a picture
 abbrev pub IsWordsOf : AnyHistory → List ℕ → Type 0
-IsWordsOf history text = (explanation : Explanation) × EachIsReason history explanation × TellsEach explanation text
+IsWordsOf history text = (findings : Findings) × EachIsFinding history findings × TellsEach findings text
 
 abbrev pub IsJsonOf : AnyHistory → List ℕ → Type 0
 IsJsonOf history text =
-    (explanation : Explanation) × EachIsReason history explanation
-    × IsJson (compact_text (explanation_form explanation)) (explanation_form explanation)
-    × (text ≡ compact_text (explanation_form explanation) ++ codes "\n")
+    (findings : Findings) × EachIsFinding history findings
+    × IsJson (compact_text (findings_form findings)) (findings_form findings)
+    × (text ≡ compact_text (findings_form findings) ++ codes "\n")
 
 abbrev pub IsExplainedAs : LongForm → AnyHistory → List ℕ → Type 0
 IsExplainedAs Words history text = IsWordsOf history text

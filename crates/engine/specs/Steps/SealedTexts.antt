@@ -5,11 +5,20 @@ use Rattle.history.specs.History.{HistoryValue}
 use Rattle.snapshot.specs.Seals.{SealState}
 use Rattle.driver.specs.Drives.{IsOfInput}
 use Rattle.operations.specs.declared.any_history.AnyHistory.{AnyHistory}
+use Rattle.operations.specs.AnyForm.{IsAnyHistory}
+use Rattle.findings.specs.declared.finding.Findings.{Findings}
+use Rattle.findings.specs.declared.kept.Kept.TheVariants.{Answers}
+use Rattle.findings.specs.Findings.{EachIsFound}
 use Rattle.engine.specs.Driving.{IsTrueReport, SealedReport, text_of}
 
 -- the text says what a history is, with a true report
 abbrev pub IsTrueText : AnyHistory → AnyHistory → List ℕ → Type 0
 IsTrueText input history text = (s : SealedReport) × (s.history ≡ history) × IsTrueReport input s × (text ≡ text_of s)
+
+-- the text says what a history is, with what is found of it
+abbrev pub IsReportedText : AnyHistory → List ℕ → Type 0
+IsReportedText history text =
+    (report : Findings) × IsAnyHistory history × EachIsFound Answers history report × (text ≡ text_of (record { history = history; report = report }))
 
 module _ {S C R : Type 0} where
   -- each history was sealed from the input

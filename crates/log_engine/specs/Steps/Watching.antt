@@ -5,7 +5,7 @@ use Rattle.command_line.specs.declared.expected.Expected.{Expected}
 use Rattle.lines.specs.declared.outcome.Outcome.{Outcome}
 use Rattle.lines.specs.declared.outcome.Outcome.TheVariants.{Met}
 use Rattle.events.specs.declared.event.Event.{Event}
-use Rattle.engine.specs.declared.report.Report.{Report}
+use Rattle.findings.specs.declared.finding.Findings.{Findings}
 use Rattle.engine.specs.Expecting.{outcome_for}
 use Rattle.event_reader.specs.Readings.{HasRead, Reading}
 use Rattle.log_engine.specs.declared.following.Followed.{Followed}
@@ -14,7 +14,7 @@ use Rattle.log_engine.specs.Reports.{AreCutLines, IsReportOn, cut_line, multiple
 
 -- the line on all these events was written, and this came of their report
 pub record WritesCut (expected : Expected) (events : List Event) (writer_before writer_after : Option (List ℕ)) (outcome : Outcome) : Type 0 where
-  pub report : Report
+  pub report : Findings
   pub on : IsReportOn events report
   pub comes : outcome ≡ outcome_for expected report
   pub written : Appends writer_before writer_after (cut_line (length events) report)

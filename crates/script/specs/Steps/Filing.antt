@@ -3,7 +3,7 @@ use Rattle.std.specs.Prelude.{◌≡◌, ◌≢◌, ℕ, List, Option, Some, Non
 use Rattle.serde_json.specs.Data.{Data, string}
 use Rattle.cert_check.specs.declared.certificate.Certificate.{Certificate}
 use Rattle.cert_check.specs.declared.criterion.Criterion.{Criterion}
-use Rattle.certificate_reader.specs.Shortened.{shortened}
+use Rattle.evidence.specs.Shortened.{shortened}
 use Rattle.script.specs.StepForm.{case_form, IsCase}
 
 abbrev pub kept_case : Criterion × Option Certificate → Criterion × Option Certificate

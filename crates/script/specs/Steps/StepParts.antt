@@ -2,7 +2,7 @@
 use Rattle.std.specs.Prelude.{◌≡◌, ◌≢◌, ⊤, ℕ, ◌≤◌, List, [], ◌∷◌, ◌++◌, length, Option, Some, None, MatchOption}
 use Rattle.serde_json.specs.Data.{Data}
 use Rattle.operations.specs.Reads.{number_form}
-use Rattle.pattern_reader.specs.Words.{word_form}
+use Rattle.evidence.specs.Words.{word_form}
 use Rattle.world.specs.declared.step.StepOf.TheVariants.{Ask, Look, Show, Start, Take}
 use Rattle.script.specs.declared.step_parts.StepParts.{StepParts}
 use Rattle.script.specs.declared.step_parts.StepParts.TheVariants.{Nothing, Word, Number, Piece, Whole}

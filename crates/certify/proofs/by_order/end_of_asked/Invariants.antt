@@ -7,7 +7,7 @@ abbrev pub invariant-loop-op : goal.invariant-loop-op
 invariant-loop-op g l = record {
   behind : l.from ≤ l.end;
   short : l.from < l.end → l.end ≤ l.op.index;
-  each : (i : ℕ) → l.from ≤ i → i < l.end → MayCome g.O.SeqObject.query l.h l.told l.op l.done i;
+  each : (i : ℕ) → l.from ≤ i → i < l.end → MayCome g.O.SeqObject.query l.h l.reported l.op l.done i;
 }
 
 -- how many own operations are left

@@ -7,7 +7,7 @@ loop-done-preserved g c =
     let query = g.O.SeqObject.query in
     let n = c.loop-done.done in
     let next : suc n ≡ n + 1 = omega arith in
-    let turn : AreTurns query c.args.h.now c.args.told.now c.args.op (suc n) c.name.new.walk = (
+    let turn : AreTurns query c.args.h.now c.args.reported.now c.args.op (suc n) c.name.new.walk = (
       c.loop-done.walk,
       c.loop-done.invariant,
       record {
@@ -17,4 +17,4 @@ loop-done-preserved g c =
             (c.from.ensures ∙ ap (λ (xs : List ℕ). get_or xs n 0) (rw c.place.ensures at c.order_at-order.ensures)) c.in_ok-name.ensures;
       },
     ) in
-    subst (λ (m : ℕ). AreTurns query c.args.h.now c.args.told.now c.args.op m c.name.new.walk) next turn
+    subst (λ (m : ℕ). AreTurns query c.args.h.now c.args.reported.now c.args.op m c.name.new.walk) next turn

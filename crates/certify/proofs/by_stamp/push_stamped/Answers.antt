@@ -10,14 +10,14 @@ pub loop-index-preserved : goal.loop-index-preserved
 loop-index-preserved g c =
     let s = c.args.session in
     let i = c.loop-index.index in
-    let told = c.advice_in-told.result.now in
-    let size = c.advice_in-told.ensures.size in
+    let reported = c.advice_in-reported.result.now in
+    let size = c.advice_in-reported.ensures.size in
     let count = c.len-index-end.ensures.count in
-    let entry = c.index-told-index.is ∙ get_or_default told i c.index-told-index.result None (omega arith) in
-    let known = c.hear.ensures ∙ hear_next told s i c.at.result c.index-told-index.result c.loop-index.heard c.at.ensures entry c.loop-index.invariant.known in
+    let entry = c.index-reported-index.is ∙ get_or_default reported i c.index-reported-index.result None (omega arith) in
+    let known = c.hear.ensures ∙ hear_next reported s i c.at.result c.index-reported-index.result c.loop-index.heard c.at.ensures entry c.loop-index.invariant.known in
     record {
       known = known;
       listed = c.in_ok-push.ensures.items
-          ∙ stamped-next told s i c.stamp.result c.args.ops.now.items c.loop-index.ops.items c.loop-index.invariant.listed
+          ∙ stamped-next reported s i c.stamp.result c.args.ops.now.items c.loop-index.ops.items c.loop-index.invariant.listed
           (c.stamp.ensures ∙ ap (λ (k : Heard). k.1) known);
     }

@@ -6,6 +6,6 @@ use Rattle.certify.proofs.by_stamp.push_stamped.Given as goal
 -- the operations so far are listed
 abbrev pub invariant-loop-index : goal.invariant-loop-index
 invariant-loop-index g l = record {
-  known : l.heard ≡ heard_before l.told l.session l.index;
-  listed : l.ops.items ≡ l.fn.ops.items ++ stamped_in l.told l.session l.index;
+  known : l.heard ≡ heard_before l.reported l.session l.index;
+  listed : l.ops.items ≡ l.fn.ops.items ++ stamped_in l.reported l.session l.index;
 }

@@ -20,18 +20,18 @@ loop-index-preserved g c =
     let h = c.args.h.now in
     let s = c.args.session in
     let i = c.loop-index.index in
-    let told = c.advice_in-told.result.now in
-    let size = c.advice_in-told.ensures.size in
+    let reported = c.advice_in-reported.result.now in
+    let size = c.advice_in-reported.ensures.size in
     let count = c.len-index-end.ensures.count in
-    let entry = c.index-told-index.is ∙ get_or_default told i c.index-told-index.result None (omega arith) in
-    let known = c.hear.ensures ∙ hear_next told s i c.at.result c.index-told-index.result c.loop-index.heard c.at.ensures entry c.loop-index.invariant.known in
-    let own = known ∙ ap (λ (t : List (Option Advice)). heard_before t s (i + 1)) c.advice_in-told.ensures.entries in
+    let entry = c.index-reported-index.is ∙ get_or_default reported i c.index-reported-index.result None (omega arith) in
+    let known = c.hear.ensures ∙ hear_next reported s i c.at.result c.index-reported-index.result c.loop-index.heard c.at.ensures entry c.loop-index.invariant.known in
+    let own = known ∙ ap (λ (t : List (Option Advice)). heard_before t s (i + 1)) c.advice_in-reported.ensures.entries in
     record {
       so_far = rw c.in_ok-push.ensures.ok
           (lists-push (IsToldVector h c.args.advice.now) s i c.loop-index.vectors c.counts.result.now c.loop-index.invariant.so_far
           (record {
             size = c.counts.ensures.size ∙ c.sessions.ensures.count;
-            told = c.counts.ensures.counts
+            reported = c.counts.ensures.counts
                 ∙ ap (λ (n : ℕ). take n c.hear.new.self.0) c.sessions.ensures.count
                 ∙ ap (λ (k : Heard). take (length h.1) k.0) own;
           }));

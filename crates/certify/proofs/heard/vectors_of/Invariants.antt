@@ -7,5 +7,5 @@ use Rattle.certify.proofs.heard.vectors_of.Given as goal
 abbrev pub invariant-loop-index : goal.invariant-loop-index
 invariant-loop-index g l = record {
   so_far : AreListsUpTo (IsToldVector l.h l.advice) l.session l.index l.vectors;
-  known : l.heard ≡ heard_before l.told l.session l.index;
+  known : l.heard ≡ heard_before l.reported l.session l.index;
 }

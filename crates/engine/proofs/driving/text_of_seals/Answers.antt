@@ -17,5 +17,5 @@ loop-sealed-preserved g c =
     let text = string_bytes c.loop-sealed.text in
     let more = string_bytes c.in_ok-more.more in
     texts_next g.O.Drivable.any c.args.input.now seals i c.sealed-item.result text more (string_bytes c.push_str.new.self)
-    (slice_get_read seals (length seals) i c.sealed-item.result refl c.loop-sealed-test.true c.sealed-item.is) c.loop-sealed.invariant c.in_ok-more.ensures.text
+    (slice_get_read seals (length seals) i c.sealed-item.result refl c.loop-sealed-test.true c.sealed-item.is) c.loop-sealed.invariant c.in_ok-more.ensures
     (c.in_ok-push_str.ensures.bytes ∙ ap (λ m. text ++ m) c.as_str.ensures.value)

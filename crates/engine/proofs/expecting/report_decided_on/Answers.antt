@@ -12,4 +12,4 @@ returns-in_ok-report_decided-in-Some-clause-report c =
     reported_known input (histories.Memory c.in-Some.history) known.field-0
     (subst (λ (o : Option MemoryHistory). IfSome o (λ h. IsAnyHistory (histories.Memory h))) c.in-Some.is c.in_ok-history.ensures.is_history)
     (subst (λ (o : Option MemoryHistory). IfSome o (λ h. IsJson input (form_of (histories.Memory h)))) c.in-Some.is c.in_ok-history.ensures.form)
-    known.ensures.truth known.ensures.unknown known.ensures.unexplained
+    known.ensures

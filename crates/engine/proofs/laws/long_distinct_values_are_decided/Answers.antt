@@ -1,6 +1,7 @@
 use Rattle.std.proofs.Common.{subst}
 use Rattle.operations.specs.declared.any_history.AnyHistory.{AnyHistory}
-use Rattle.engine.specs.Report.{IsKnownOnDistinctValues, IsLongTrueOf, answer_for}
+use Rattle.findings.specs.Answers.{IsKnownOnDistinctValues, IsLongTrueOf}
+use Rattle.findings.specs.Findings.{answer_for}
 use Rattle.engine.proofs.Decided.{decided-excluded, decided-met, says-long_true}
 use Rattle.engine.proofs.laws.long_distinct_values_are_decided.Goals as goal
 

@@ -4,5 +4,5 @@ use Rattle.engine.proofs.listing_faults.json_in_larger.Goals as goal
 
 pub returns : goal.returns
 returns c =
-    listed_as_json string_bytes c.args.most _ (record { explanation = c.args.explanation; faults = c.in_ok-faults.faults }) c.text_of_report.result
-    (record { reasons = c.requires; faults = c.in_ok-faults.ensures }) c.text_of_report.ensures.whole c.text_of_report.ensures.json
+    listed_as_json string_bytes c.args.most _ (record { findings = c.args.findings; faults = c.in_ok-faults.faults }) c.text_of_report.result
+    (record { found = c.requires; faults = c.in_ok-faults.ensures }) c.text_of_report.ensures.whole c.text_of_report.ensures.json

@@ -1,7 +1,7 @@
 use Rattle.std.proofs.Common.{subst, sym}
 use Rattle.std.specs.Prelude.{◌↔◌, IfOk, IsTrue}
 use Rattle.operations.specs.declared.any_history.AnyHistory.{AnyHistory}
-use Rattle.engine.specs.Refuting.{IsPatternOf}
+use Rattle.findings.specs.Answers.{IsPatternOf}
 use Rattle.engine.proofs.refuting.is_pattern_of.Goals as goal
 
 pub returns-in-Memory-clause-exact : goal.returns-in-Memory-clause-exact

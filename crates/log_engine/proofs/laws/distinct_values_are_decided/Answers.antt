@@ -1,5 +1,5 @@
 -- A report on distinct values says of each criterion whether the history meets it.
-use Rattle.engine.specs.Report.{answer_for}
+use Rattle.findings.specs.Findings.{answer_for}
 use Rattle.engine.proofs.Decided.{decided-excluded, decided-met, says-long_true}
 use Rattle.events.specs.Histories.{history_of}
 use Rattle.log_engine.proofs.laws.distinct_values_are_decided.Goals as goal

@@ -1,8 +1,8 @@
 use Rattle.std.proofs.Common.{◌≤◌}
 use Rattle.history.specs.declared.limits.TheConstants.{MAX_OPERATIONS}
 use Rattle.operations.specs.Reads.{number_form}
-use Rattle.certificate_reader.specs.Steps.Lists.{AreForms, AreNoForms}
-use Rattle.certificate_reader.proofs.Forms.{list_is, list_is_none, list_taken}
+use Rattle.evidence.specs.Steps.Lists.{AreForms, AreNoForms}
+use Rattle.evidence.proofs.CertificateForms.{list_is, list_is_none, list_taken}
 use Rattle.script.proofs.counts.next_told.Goals as goal
 
 pub returns-then-branch-clause-read : goal.returns-then-branch-clause-read

@@ -3,7 +3,7 @@ use Rattle.std.proofs.lemmas.Result.{err_from_is_err_and}
 use Rattle.json.specs.Reads.{token_of}
 use Rattle.serde_json.specs.Data.{string}
 use Rattle.bounded_json.proofs.Tokens.{at_string, next}
-use Rattle.pattern_reader.proofs.Scalars.{no_text_there}
+use Rattle.evidence.proofs.Scalars.{no_text_there}
 use Rattle.script.proofs.filing.next_case.Goals as goal
 
 pub returns-in_err-token-clause-refused : goal.returns-in_err-token-clause-refused

@@ -1,7 +1,7 @@
 use Rattle.std.proofs.Common.{◌≤◌}
 use Rattle.history.specs.declared.limits.TheConstants.{MAX_OPERATIONS}
 use Rattle.operations.specs.Reads.{number_form}
-use Rattle.certificate_reader.proofs.Forms.{no_forms}
+use Rattle.evidence.proofs.CertificateForms.{no_forms}
 use Rattle.script.proofs.counts.CountsGather.take_next.Goals as goal
 
 pub returns-in_default-clause-taken : goal.returns-in_default-clause-taken

@@ -1,5 +1,0 @@
-mod CertificateParts
-pub mod Forms
-mod KeptLists
-mod PairReading
-pub mod Shortened

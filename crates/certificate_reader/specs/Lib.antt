@@ -1,4 +1,0 @@
-pub mod Found
-pub mod Pairs
-pub mod Shortened
-pub mod Steps

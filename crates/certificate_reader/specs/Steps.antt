@@ -1,4 +1,0 @@
--- What the functions say to one another: no statement of what is read names these.
-pub mod Lists
-pub mod Parts
-pub mod PairParts

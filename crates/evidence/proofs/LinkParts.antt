@@ -1,0 +1,40 @@
+-- The parts of links: which words they begin with, and what comes after each.
+use Rattle.std.proofs.Common.{◌≡◌, List, [], ◌∷◌, refl}
+use Rattle.std.specs.Prelude.{◌≢◌, codes}
+use Rattle.serde_json.specs.Data.{Data, string}
+use Rattle.history.specs.declared.op_id.OpId.{OpId}
+use Rattle.operations.specs.Json.{list}
+use Rattle.bad_patterns.specs.declared.link.Link.{Link}
+use Rattle.bad_patterns.specs.declared.link.Link.TheVariants.{Co, Cf}
+use Rattle.evidence.specs.PatternForm.{link_form, op_form, path_form}
+use Rattle.evidence.proofs.OtherWords.{other_word}
+use Rattle.evidence.specs.declared.link.LinkWord.{LinkWord}
+use Rattle.evidence.specs.declared.link.LinkWord.TheVariants as words
+use Rattle.evidence.specs.Steps.Taken.{both, link_begun, link_parts, link_taken}
+use Rattle.evidence.specs.Steps.PartWords.{link_word}
+use Rattle.evidence.specs.Words.{word_form}
+
+pub link_list : (l : Link) → list (link_parts l) ≡ link_form l
+link_list (Co a b) = refl
+link_list (Cf path b) = refl
+
+pub begun_link : (w : LinkWord) → link_taken (link_begun w) ≡ word_form link_word w ∷ []
+begun_link words.Co = refl
+begun_link words.Cf = refl
+
+pub no_empty_link : (l : Link) → [] ≢ link_parts l
+no_empty_link (Co a b) same = absurd cc
+no_empty_link (Cf path b) same = absurd cc
+
+pub no_link_unnamed : (d : Data) (more : List Data) → ((w : LinkWord) → d ≢ word_form link_word w) → (l : Link) → d ∷ more ≢ link_parts l
+no_link_unnamed d more none (Co a b) same = let first : d ≡ string (codes "co") = cc in none words.Co first
+no_link_unnamed d more none (Cf path b) same = let first : d ≡ string (codes "cf") = cc in none words.Cf first
+
+module _ (es : List Data) where
+  pub no_edge : ((x : OpId × OpId) → es ≢ both op_form op_form x) → (l : Link) → string (codes "co") ∷ es ≢ link_parts l
+  no_edge none (Co a b) same = let rest : es ≡ op_form a ∷ op_form b ∷ [] = cc in none (a, b) rest
+  no_edge none (Cf path b) same = absurd (other_word (codes "co") (codes "cf") es _ refl refl same)
+
+  pub no_conflict : ((x : List OpId × OpId) → es ≢ both path_form op_form x) → (l : Link) → string (codes "cf") ∷ es ≢ link_parts l
+  no_conflict none (Co a b) same = absurd (other_word (codes "cf") (codes "co") es _ refl refl same)
+  no_conflict none (Cf path b) same = let rest : es ≡ path_form path ∷ op_form b ∷ [] = cc in none (path, b) rest

@@ -1,0 +1,76 @@
+-- The parts of patterns: which names they begin with, and what comes after each.
+use Rattle.std.proofs.Common.{◌≡◌, List, [], ◌∷◌, refl}
+use Rattle.std.specs.Prelude.{◌≢◌}
+use Rattle.serde_json.specs.Data.{Data, string}
+use Rattle.history.specs.declared.op_id.OpId.{OpId}
+use Rattle.operations.specs.Json.{list}
+use Rattle.bad_patterns.specs.declared.derivation.Line.{Line}
+use Rattle.bad_patterns.specs.declared.kind.Kind.{Kind}
+use Rattle.bad_patterns.specs.declared.kind.Kind.TheVariants as kinds
+use Rattle.bad_patterns.specs.declared.link.Link.{Link}
+use Rattle.bad_patterns.specs.declared.pattern.Pattern.{Pattern}
+use Rattle.bad_patterns.specs.declared.pattern.Pattern.TheVariants.{CyclicCO, ThinAirRead, WriteCOInitRead, WriteCORead, WriteHBInitRead, CyclicHB, CyclicCF}
+use Rattle.bad_patterns.specs.KindNames.{kind_name}
+use Rattle.evidence.specs.PatternForm.{form_of, lines_form, links_form, op_form, path_form}
+use Rattle.bad_patterns.specs.Patterns.{kind_of}
+use Rattle.evidence.proofs.OtherWords.{other_word}
+use Rattle.evidence.specs.Steps.PatternTaken.{pattern_begun, pattern_parts, pattern_taken, shown_parts}
+use Rattle.evidence.specs.Steps.Taken.{both, one}
+use Rattle.evidence.specs.Words.{word_form}
+
+pub pattern_list : (p : Pattern) → list (pattern_parts p) ≡ form_of p
+pattern_list (CyclicCO path) = refl
+pattern_list (ThinAirRead r) = refl
+pattern_list (WriteCOInitRead path) = refl
+pattern_list (WriteCORead above below) = refl
+pattern_list (WriteHBInitRead o lines) = refl
+pattern_list (CyclicHB o lines) = refl
+pattern_list (CyclicCF links) = refl
+
+pub begun_pattern : (k : Kind) → pattern_taken (pattern_begun k) ≡ word_form kind_name k ∷ []
+begun_pattern kinds.CyclicCO = refl
+begun_pattern kinds.ThinAirRead = refl
+begun_pattern kinds.WriteCOInitRead = refl
+begun_pattern kinds.WriteCORead = refl
+begun_pattern kinds.WriteHBInitRead = refl
+begun_pattern kinds.CyclicHB = refl
+begun_pattern kinds.CyclicCF = refl
+
+pub no_empty_pattern : (p : Pattern) → [] ≢ pattern_parts p
+no_empty_pattern p same = absurd cc
+
+pub no_pattern_unnamed : (d : Data) (more : List Data) → ((k : Kind) → d ≢ word_form kind_name k) → (p : Pattern) → d ∷ more ≢ pattern_parts p
+no_pattern_unnamed d more none p same = let first : d ≡ string (kind_name (kind_of p)) = cc in none (kind_of p) first
+
+module _ (es : List Data) where
+  -- a list that begins with the name of this kind is that of a pattern of it alone
+  abbrev IsNoPattern : Kind → Type 0
+  IsNoPattern k = (p : Pattern) → string (kind_name k) ∷ es ≢ pattern_parts p
+
+  pub no_causal_cycle : ((x : List OpId) → es ≢ one path_form x) → IsNoPattern kinds.CyclicCO
+  no_causal_cycle none (CyclicCO path) same = let rest : es ≡ path_form path ∷ [] = cc in none path rest
+  no_causal_cycle none p same = absurd (other_word (kind_name kinds.CyclicCO) (kind_name (kind_of p)) es (shown_parts p) refl refl same)
+
+  pub no_thin_air_read : ((x : OpId) → es ≢ one op_form x) → IsNoPattern kinds.ThinAirRead
+  no_thin_air_read none (ThinAirRead r) same = let rest : es ≡ op_form r ∷ [] = cc in none r rest
+  no_thin_air_read none p same = absurd (other_word (kind_name kinds.ThinAirRead) (kind_name (kind_of p)) es (shown_parts p) refl refl same)
+
+  pub no_initial_read : ((x : List OpId) → es ≢ one path_form x) → IsNoPattern kinds.WriteCOInitRead
+  no_initial_read none (WriteCOInitRead path) same = let rest : es ≡ path_form path ∷ [] = cc in none path rest
+  no_initial_read none p same = absurd (other_word (kind_name kinds.WriteCOInitRead) (kind_name (kind_of p)) es (shown_parts p) refl refl same)
+
+  pub no_overwritten_read : ((x : List OpId × List OpId) → es ≢ both path_form path_form x) → IsNoPattern kinds.WriteCORead
+  no_overwritten_read none (WriteCORead above below) same = let rest : es ≡ path_form above ∷ path_form below ∷ [] = cc in none (above, below) rest
+  no_overwritten_read none p same = absurd (other_word (kind_name kinds.WriteCORead) (kind_name (kind_of p)) es (shown_parts p) refl refl same)
+
+  pub no_derived_read : ((x : OpId × List Line) → es ≢ both op_form lines_form x) → IsNoPattern kinds.WriteHBInitRead
+  no_derived_read none (WriteHBInitRead o lines) same = let rest : es ≡ op_form o ∷ lines_form lines ∷ [] = cc in none (o, lines) rest
+  no_derived_read none p same = absurd (other_word (kind_name kinds.WriteHBInitRead) (kind_name (kind_of p)) es (shown_parts p) refl refl same)
+
+  pub no_derived_cycle : ((x : OpId × List Line) → es ≢ both op_form lines_form x) → IsNoPattern kinds.CyclicHB
+  no_derived_cycle none (CyclicHB o lines) same = let rest : es ≡ op_form o ∷ lines_form lines ∷ [] = cc in none (o, lines) rest
+  no_derived_cycle none p same = absurd (other_word (kind_name kinds.CyclicHB) (kind_name (kind_of p)) es (shown_parts p) refl refl same)
+
+  pub no_conflict_cycle : ((x : List Link) → es ≢ one links_form x) → IsNoPattern kinds.CyclicCF
+  no_conflict_cycle none (CyclicCF links) same = let rest : es ≡ links_form links ∷ [] = cc in none links rest
+  no_conflict_cycle none p same = absurd (other_word (kind_name kinds.CyclicCF) (kind_name (kind_of p)) es (shown_parts p) refl refl same)

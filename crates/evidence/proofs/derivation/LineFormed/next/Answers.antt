@@ -1,0 +1,10 @@
+use Rattle.operations.specs.Json.{list}
+use Rattle.evidence.specs.PatternForm.{line_form}
+use Rattle.evidence.specs.Steps.Taken.{line_parts}
+use Rattle.evidence.proofs.PatternForms.{value_read_as}
+use Rattle.evidence.proofs.LineParts.{line_list}
+use Rattle.evidence.proofs.derivation.LineFormed.next.Goals as goal
+
+pub returns-clause-read : goal.returns-clause-read
+returns-clause-read c =
+    value_read_as (λ line. list (line_parts line)) line_form line_list c.next_whole.result c.args.depth c.args.reader.now c.next_whole.new.reader c.next_whole.ensures.read

@@ -1,0 +1,10 @@
+use Rattle.operations.specs.Json.{list}
+use Rattle.evidence.specs.PatternForm.{form_of}
+use Rattle.evidence.specs.Steps.PatternTaken.{pattern_parts}
+use Rattle.evidence.proofs.PatternForms.{value_read_as}
+use Rattle.evidence.proofs.PatternParts.{pattern_list}
+use Rattle.evidence.proofs.pattern.next_pattern.Goals as goal
+
+pub returns-clause-read : goal.returns-clause-read
+returns-clause-read c =
+    value_read_as (λ pattern. list (pattern_parts pattern)) form_of pattern_list c.next_whole.result c.args.depth c.args.reader.now c.next_whole.new.reader c.next_whole.ensures.read

@@ -1,0 +1,121 @@
+//! Reading a text that is a list of a history and a certificate.
+
+ghost use Rattle.std.specs.Prelude.{◌≡◌, ◌<◌, List, length, IfOk, IfErr, OnOk};
+ghost use Rattle.serde_json.specs.Data.{Data};
+ghost use Rattle.bounded_json.specs.Steps.Reading.{IsRefused};
+ghost use Rattle.operations.specs.AnyForm.{form_of, IsAnyHistory, IsJson};
+ghost use Rattle.evidence.specs.Found.{IsFoundIn};
+ghost use Rattle.evidence.specs.Pairs.{pair_form, IsPairRefused};
+ghost use Rattle.evidence.specs.Steps.PairParts.{ArePairParts, IsNextPairPart, joined_of, pair_by};
+ghost use Rattle.token_reader.specs.Tokens.{IsValue};
+
+use crate::certificate::next_certificate;
+use crate::found::{FoundCertificate, found_of};
+use bounded_json::TextError;
+use json::Reader;
+use operations::{AnyHistory, ReadError};
+use std::alloc::Global;
+use std::mem;
+use token_reader::{Gather, gather_text, next_history, pass_value};
+
+/// A history with what was found after it, or the first refusal of the history.
+type Pair = Result<(AnyHistory, FoundCertificate), ReadError>;
+
+/// The elements of a pair so far.
+#[derive(Drop)]
+enum PairParts {
+    /// None.
+    Begun,
+    /// A history, or its first refusal.
+    History(Result<AnyHistory, ReadError>),
+    /// Both of them.
+    Both(Pair),
+}
+
+/// The history with what was found after it, unless it is refused.
+fn joined(history: Result<AnyHistory, ReadError>, found: FoundCertificate) -> Pair
+    ensures { result ≡ joined_of history found }
+{
+    Ok((history?, found))
+}
+
+/// The elements with the one that comes next, or none where no pair goes on so. It passes the value.
+fn next_part(
+    alloc: Global,
+    reader: &mut Reader<'_>,
+    depth: usize,
+    parts: PairParts,
+) -> Result<Option<PairParts>, TextError>
+    ensures read { IfOk result
+        (λ next. IsValue (λ d. (ds : List Data) → ArePairParts parts ds → IsNextPairPart next ds d) depth reader.old reader.new) }
+    ensures shorter { OnOk result (length reader.new < length reader.old) }
+    ensures refused { IfErr result (IsRefused depth reader.old) }
+{
+    match parts {
+        PairParts::Begun => {
+            let history = next_history(alloc, reader, depth)?;
+            Ok(Some(PairParts::History(history)))
+        }
+        PairParts::History(history) => {
+            let found = found_of(next_certificate(alloc, reader, depth)?);
+            Ok(Some(PairParts::Both(joined(history, found))))
+        }
+        PairParts::Both(_) => {
+            pass_value(alloc, reader, depth)?;
+            Ok(None)
+        }
+    }
+}
+
+impl Gather for PairParts {
+    ghost use Rattle.evidence.specs.Steps.PairParts.{ArePairParts, AreNoPair};
+
+    ghost is_of = { ArePairParts };
+
+    ghost refuses = { AreNoPair };
+
+    fn take_next(
+        &mut self,
+        alloc: Global,
+        reader: &mut Reader<'_>,
+        depth: usize,
+    ) -> Result<bool, TextError> {
+        let parts = mem::replace(self, PairParts::Begun);
+        match next_part(alloc, reader, depth, parts)? {
+            Some(next) => {
+                *self = next;
+                Ok(true)
+            }
+            None => Ok(false),
+        }
+    }
+}
+
+/// The pair of these elements of a whole list.
+fn pair_of(parts: PairParts) -> Pair
+    ensures { result ≡ pair_by parts }
+{
+    match parts {
+        PairParts::Both(pair) => pair,
+        PairParts::Begun | PairParts::History(_) => Err(ReadError::BadShape),
+    }
+}
+
+/// The history and the certificate in a text that is a JSON list of both.
+///
+/// `NotJson` where `serde_json` refuses the text, `BadShape` where it is no list of two elements, else the first refusal of the
+/// history. `Memory` only where an allocation was refused. A certificate of more sessions than a history has is
+/// [`TooLarge`](FoundCertificate::TooLarge): it has the shape of no history. O(n) for a text of n bytes.
+pub fn read_pair(alloc: Global, text: &[u8]) -> Result<(AnyHistory, FoundCertificate), ReadError>
+    ensures history { IfOk result (λ pair. IsAnyHistory pair.0) }
+    ensures read { IfOk result (λ pair. (d : Data) × IsJson text.now (pair_form (form_of pair.0) d) × IsFoundIn d pair.1) }
+    ensures refused { IfErr result (IsPairRefused text.now) }
+{
+    let mut parts = PairParts::Begun;
+    match gather_text(alloc, text, &mut parts) {
+        Ok(true) => pair_of(parts),
+        Ok(false) => Err(ReadError::BadShape),
+        Err(TextError::NotJson) => Err(ReadError::NotJson),
+        Err(TextError::Memory) => Err(ReadError::Memory),
+    }
+}

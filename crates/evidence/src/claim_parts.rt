@@ -1,0 +1,101 @@
+//! The three elements of a claim, taken one after the other.
+
+ghost use Rattle.std.specs.Prelude.{◌≡◌, ◌≢◌, ◌∷◌, [], List, IfOk, IfErr, MatchOption};
+ghost use Rattle.serde_json.specs.Data.{Data};
+ghost use Rattle.bounded_json.specs.Text.{IsJson, IsTextRefused};
+ghost use Rattle.operations.specs.Json.{list};
+ghost use Rattle.evidence.specs.declared.claim_parts.ClaimParts.TheVariants.{Whole};
+ghost use Rattle.evidence.specs.Steps.ClaimTaken.{IsClaimTaken, IsNotThree, IsThree};
+
+use crate::claim_history::ClaimHistory;
+use crate::pattern::next_pattern;
+use crate::violation::Violation;
+use crate::word::next_word;
+use bad_patterns::Pattern;
+use bounded_json::TextError;
+use cert_check::Criterion;
+use json::Reader;
+use std::alloc::Global;
+use std::mem;
+use token_reader::{Gather, gather_text, pass_value};
+
+/// What was taken of the elements of a claim.
+#[derive(Drop)]
+pub(crate) enum ClaimParts<H> {
+    /// None of them.
+    Nothing,
+    /// The history.
+    History(H),
+    /// The history, and the name of a criterion.
+    Named(H, Option<Criterion>),
+    /// All three.
+    Whole(H, Option<Criterion>, Option<Pattern>),
+}
+
+impl<H: ClaimHistory> Gather for ClaimParts<H> {
+    ghost is_of = { IsClaimTaken H.made_of };
+
+    ghost refuses = { IsNotThree };
+
+    fn take_next(
+        &mut self,
+        alloc: Global,
+        reader: &mut Reader<'_>,
+        depth: usize,
+    ) -> Result<bool, TextError> {
+        match mem::replace(self, ClaimParts::Nothing) {
+            ClaimParts::Nothing => {
+                *self = ClaimParts::History(H::next(alloc, reader, depth)?);
+                Ok(true)
+            }
+            ClaimParts::History(history) => {
+                *self = ClaimParts::Named(history, next_word(alloc, reader, depth)?);
+                Ok(true)
+            }
+            ClaimParts::Named(history, criterion) => {
+                let pattern = next_pattern(alloc, reader, depth)?;
+                *self = ClaimParts::Whole(history, criterion, pattern);
+                Ok(true)
+            }
+            ClaimParts::Whole(_, _, _) => {
+                pass_value(alloc, reader, depth)?;
+                Ok(false)
+            }
+        }
+    }
+}
+
+impl<H: ClaimHistory> ClaimParts<H> {
+    /// What was made of the three elements, where all of them were taken.
+    fn whole(self) -> Option<(H, Violation)>
+        ensures { (ds : List Data) → IsClaimTaken H.made_of self ds → MatchOption result (IsNotThree ds)
+            (λ three. IsClaimTaken H.made_of (Whole three.0 three.1.criterion three.1.pattern) ds) }
+    {
+        match self {
+            ClaimParts::Whole(history, criterion, pattern) => Some((
+                history,
+                Violation { criterion, pattern },
+            )),
+            ClaimParts::Nothing | ClaimParts::History(_) | ClaimParts::Named(_, _) => None,
+        }
+    }
+}
+
+/// What is made of the three elements of the list that a text is, or none where it is no list of three.
+///
+/// `NotJson` exactly where `serde_json` refuses the text, and `Memory` only where an allocation was refused. O(n) for a text of n bytes.
+pub(crate) fn read_three<H: ClaimHistory>(
+    alloc: Global,
+    text: &[u8],
+) -> Result<Option<(H, Violation)>, TextError>
+    ensures read { IfOk result
+        (λ three. (d : Data) × IsJson text.now d × MatchOption three ((h c p : Data) → d ≢ list (h ∷ c ∷ p ∷ []))
+        (λ t. IsThree H.made_of d t.0 t.1)) }
+    ensures refused { IfErr result (IsTextRefused text.now) }
+{
+    let mut parts: ClaimParts<H> = ClaimParts::Nothing;
+    if !gather_text(alloc, text, &mut parts)? {
+        return Ok(None);
+    }
+    Ok(parts.whole())
+}

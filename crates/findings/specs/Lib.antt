@@ -1,0 +1,4 @@
+pub mod Answers
+pub mod Findings
+pub mod Pieces
+pub mod Steps

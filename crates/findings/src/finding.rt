@@ -1,0 +1,68 @@
+//! What is known of a history and a criterion, and what shows it.
+
+ghost use Rattle.std.specs.Prelude.{◌≡◌};
+ghost use Rattle.findings.specs.Findings.{answer_for, answer_of, finding_for};
+
+use bad_patterns::{Kind, Pattern};
+use cert_check::{Certificate, Criterion};
+use collector::Answer;
+use history::OpId;
+
+/// What is known of a history and a criterion, and what shows it.
+#[derive(Debug, Drop)]
+pub enum Finding {
+    /// An order explains every known return: the history meets the criterion. With a certificate that shows it, if one is kept.
+    Met(Option<Certificate>),
+    /// This pattern is in the history: the history does not meet the criterion.
+    Shown(Pattern),
+    /// A pattern of this kind is in the history, which does not meet the criterion. The pattern is not at hand, or too long to write.
+    Present(Kind),
+    /// Whether the history meets the criterion is not known. With the first operation that the certificate does not explain, if one was
+    /// made, and that certificate, if it is kept.
+    Unexplained(Option<OpId>, Option<Certificate>),
+}
+
+impl Finding {
+    /// The answer that it gives.
+    pub fn answer(&self) -> Answer
+        ensures { result ≡ answer_of self.now }
+    {
+        match self {
+            Finding::Met(_) => Answer::Yes,
+            Finding::Shown(pattern) => Answer::No(pattern.kind()),
+            Finding::Present(kind) => Answer::No(*kind),
+            Finding::Unexplained(place, _) => Answer::Unknown(*place),
+        }
+    }
+}
+
+/// What is known of a history, for each criterion.
+#[derive(Debug, Drop)]
+pub struct Findings {
+    /// For causal consistency.
+    pub cc: Finding,
+    /// For causal memory.
+    pub cm: Finding,
+    /// For causal convergence.
+    pub ccv: Finding,
+}
+
+impl Findings {
+    /// The finding for a criterion.
+    pub fn finding(&self, criterion: Criterion) -> &Finding
+        ensures { result.now ≡ finding_for self.now criterion }
+    {
+        match criterion {
+            Criterion::Cc => &self.cc,
+            Criterion::Cm => &self.cm,
+            Criterion::Ccv => &self.ccv,
+        }
+    }
+
+    /// The answer for a criterion.
+    pub fn answer(&self, criterion: Criterion) -> Answer
+        ensures { result ≡ answer_for self.now criterion }
+    {
+        self.finding(criterion).answer()
+    }
+}

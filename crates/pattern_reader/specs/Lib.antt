@@ -1,3 +1,0 @@
-pub mod ClaimForm
-pub mod Steps
-pub mod Words

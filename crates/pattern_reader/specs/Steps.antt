@@ -1,5 +1,0 @@
--- What the functions say to one another: no statement of what is read names these.
-pub mod ClaimTaken
-pub mod PartWords
-pub mod PatternTaken
-pub mod Taken
