@@ -23,8 +23,11 @@ use Rattle.engine.specs.Lengths.{IsHistoryOf}
 use Rattle.engine.specs.ListingFaults.{AreFaultsIn, IsFaultReportOf, IsListedAs, fault_report_form}
 use Rattle.findings.specs.Answers.{LacksDistinctValues}
 use Rattle.engine.specs.Running.{IsOutput, IsOutputError}
-use Rattle.engine.specs.Steps.Listed.{IsListOf, IsLongOf}
-use Rattle.engine.specs.Steps.LongExplained.{IsExplainedAs}
+use Rattle.findings.specs.declared.finding.Findings.{Findings}
+use Rattle.findings.specs.Findings.{EachIsFinding}
+use Rattle.engine.specs.ExplainingInWords.{TellsEach}
+use Rattle.engine.specs.Steps.Listed.{AreLinesAfter, IsListInWords, IsListOf, IsLongOf}
+use Rattle.engine.specs.Steps.LongExplained.{IsExplainedAs, IsWordsOf}
 use Rattle.engine.specs.Steps.ReportErrors.{IsReportError}
 
 module _ (input : List ℕ) (history : AnyHistory) where
@@ -54,6 +57,17 @@ module _ (input : List ℕ) (history : AnyHistory) where
         → IfOk r (λ text. IsListedAs form long most input (bytes text))
     listed_outputs form long most (Ok text) is read said = listed_output form long most (bytes text) is read said
     listed_outputs form long most (Err e) is read said = tt
+
+-- what is put into words of findings of a history, and lines after it
+pub told_in_words : {T E : Type 0} (bytes : T → List ℕ) (history : AnyHistory) (findings : Findings) (r : Result T E) → EachIsFinding history findings
+    → IfOk r (λ text. TellsEach findings (bytes text)) → IfOk r (λ text. IsWordsOf history (bytes text))
+told_in_words bytes history findings (Ok text) found tells = (findings, found, tells)
+told_in_words bytes history findings (Err e) found tells = tt
+
+pub listed_in_words : {T E : Type 0} (bytes : T → List ℕ) (history : AnyHistory) (findings : Findings) (r : Result T E) → EachIsFinding history findings
+    → IfOk r (λ text. AreLinesAfter findings (bytes text)) → IfOk r (λ text. IsListInWords history (bytes text))
+listed_in_words bytes history findings (Ok text) found lines = (findings, found, lines)
+listed_in_words bytes history findings (Err e) found lines = tt
 
 -- the JSON text of a report lists its faults
 pub listed_as_json : {T E : Type 0} (bytes : T → List ℕ) (most : ℕ) (history : AnyHistory) (report : FaultReport) (r : Result T E)

@@ -148,7 +148,8 @@ fn drive_object<
     };
     let seals = drive::<O, P, T, G>(rt, alloc, history, plan, gate)?;
     let work = WorkerThreads::of(rt, order.workers);
-    Ok(text_of_seals(&work, alloc, history, seals.as_slice())?)
+    let text = text_of_seals(&work, alloc, history, seals.as_slice())?;
+    Ok(text)
 }
 
 // The texts of sealed histories, one after the other.
@@ -202,5 +203,5 @@ fn text_of_report<K: PieceWork>(
     let form = write_history(alloc, history)?;
     let report = report_on(work, alloc, history, advice)?;
     let lines = report_text(alloc, &report)?;
-    format!(in alloc; "{form}\n{lines}")
+    Ok(format!(in alloc; "{form}\n{lines}")?)
 }

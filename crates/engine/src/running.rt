@@ -20,7 +20,7 @@ use crate::output::write_output;
 use crate::refuting::refute;
 use crate::replaying::replay;
 use crate::report::report_text;
-use command_line::{Judging, Length, Order};
+use command_line::{Form, Judging, Length, Order};
 use json::Scratch;
 use lines::{MAX_READ_CALLS, Outcome, Source};
 use std::alloc::Global;
@@ -137,14 +137,8 @@ fn answer_and_outcome<T: Threads + Wait + Sync>(
     match order {
         Order::Judge(judging) => judge(rt, alloc, input, *judging),
         Order::JudgeLines(judging) => judge_each(rt, alloc, input, *judging),
-        Order::Check(workers) => {
-            let work = WorkerThreads::of(rt, *workers);
-            Ok(Answered::met(check(&work, alloc, input)?))
-        }
-        Order::Explain(form) => {
-            let work = WorkerThreads::of(rt, Workers::usual());
-            Ok(Answered::met(explain_as(&work, alloc, input, *form)?))
-        }
+        Order::Check(workers) => Ok(Answered::met(checked(rt, alloc, input, *workers)?)),
+        Order::Explain(form) => Ok(Answered::met(explained(rt, alloc, input, *form)?)),
         Order::ExplainLong(form) => Ok(Answered::met(explain_long(rt, alloc, input, *form)?)),
         Order::ListFaults(listing) => Ok(Answered::met(list_faults(rt, alloc, input, *listing)?)),
         Order::Refute(Length::Limited) => Ok(Answered::met(refute(alloc, input)?)),
@@ -152,6 +146,34 @@ fn answer_and_outcome<T: Threads + Wait + Sync>(
         Order::Replay => Ok(Answered::met(replay(alloc, input)?)),
         Order::Drive(drive) => Ok(Answered::met(drive_input(rt, alloc, input, *drive)?)),
     }
+}
+
+// The line on a certificate, whose pieces this many workers check.
+fn checked<T: Threads + Wait + Sync>(
+    rt: &T,
+    alloc: Global,
+    input: &[u8],
+    workers: Workers,
+) -> Result<String, RunError>
+    ensures output { IfOk result (λ text. IsOutput (Order.Check workers) input.now (string_bytes text)) }
+    ensures error { IfErr result (IsOutputError (Order.Check workers) input.now) }
+{
+    let work = WorkerThreads::of(rt, workers);
+    check(&work, alloc, input)
+}
+
+// What is found of a history, in a form.
+fn explained<T: Threads + Wait + Sync>(
+    rt: &T,
+    alloc: Global,
+    input: &[u8],
+    form: Form,
+) -> Result<String, RunError>
+    ensures output { IfOk result (λ text. IsOutput (Order.Explain form) input.now (string_bytes text)) }
+    ensures error { IfErr result (IsOutputError (Order.Explain form) input.now) }
+{
+    let work = WorkerThreads::of(rt, Workers::usual());
+    explain_as(&work, alloc, input, form)
 }
 
 // The report on a history, and what comes of it.

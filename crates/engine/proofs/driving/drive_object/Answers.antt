@@ -1,6 +1,5 @@
 use Rattle.std.proofs.Common.{subst, sym}
 use Rattle.std.specs.Prelude.{string_bytes}
-use Rattle.collector.proofs.JudgedLaws.{ok-follows}
 use Rattle.engine.specs.Driving.{sessions_in}
 use Rattle.engine.specs.Steps.SealedTexts.{AreSealedFrom, AreTrueTexts}
 use Rattle.engine.proofs.DriveOutcomes.{can_drive}
@@ -12,12 +11,11 @@ returns-clause-driven g c =
     let any = g.O.Drivable.any in
     let input = c.args.history.now in
     let order = c.args.order in
-    ok-follows c.text_of_seals.result
-    (λ text texts. texts_are_driven any input order c.in_ok-seals.seals.items (string_bytes text)
+    let text = string_bytes c.in_ok-text.text in
+    texts_are_driven any input order c.in_ok-seals.seals.items text
     (can_drive order.stop input (sessions_in (any input)) ((g.met.O.Drivable g.world.𝓛 g.world.𝓜 g.world.𝓡 ((λ s x. x), (λ x. x), (λ x. x), λ x. x)).sessions input) c.in_ok-seals.ensures.driven)
     (λ a b. (g.met.O.Drivable g.world.𝓛 g.world.𝓜 g.world.𝓡 ((λ s x. x), (λ x. x), (λ x. x), λ x. x)).repeats order.stop a b) c.in_ok-seals.ensures.many c.in_ok-seals.ensures.last
-    (subst (λ xs. AreTrueTexts any input xs (string_bytes text)) c.as_slice.ensures.value texts))
-    c.text_of_seals.ensures.texts
+    (subst (λ xs. AreTrueTexts any input xs text) c.as_slice.ensures.value c.in_ok-text.ensures)
 
 pub text_of_seals-requires-clause-sealed : goal.text_of_seals-requires-clause-sealed
 text_of_seals-requires-clause-sealed g c κs within =

@@ -9,5 +9,5 @@ returns g c =
     let input = c.args.input.now in
     let history = c.args.sealed.now.history in
     true_text (any input) (any history) c.in_ok-history.history (string_bytes c.in_ok-text.text) (c.in_ok-history.ensures ∙ ap any c.history.ensures)
-    ((g.met.O.Drivable g.world.𝓛 g.world.𝓜 g.world.𝓡 ((λ s x. x), (λ x. x), (λ x. x), λ x. x)).sealed_from input history c.requires.sealed)
+    (g.met.O.Drivable.sealed_from input history c.requires.sealed)
     c.in_ok-text.ensures
