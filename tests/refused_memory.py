@@ -205,9 +205,9 @@ REPEATING = (
     (
         "desks::abandoned",
         (
-            "Refused(8), Stands(Open(3)), Number(2)",
-            "Refused(8), Stands(Open(2)), Number(1)",
-            "Refused(8), Stands(Open(1)), Number(0)",
+            "Refused(8), Asked(Open(3)), Number(2)",
+            "Refused(8), Asked(Open(2)), Number(1)",
+            "Refused(8), Asked(Open(1)), Number(0)",
         ),
     ),
 )
