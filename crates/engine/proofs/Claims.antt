@@ -18,7 +18,7 @@ use Rattle.engine.specs.Failure.{failure_of}
 use Rattle.engine.specs.declared.failure.RunError.TheVariants.{NotThatPattern}
 use Rattle.command_line.specs.declared.length.Length.{Length}
 use Rattle.command_line.specs.declared.length.Length.TheVariants.{Limited}
-use Rattle.engine.specs.Lengths.{IsHistoryOf, first_refusal_of}
+use Rattle.explanations.specs.Lengths.{IsHistoryOf, first_refusal_of}
 use Rattle.engine.specs.Refuting.{claim_form, claim_refusal_at, HasNoSuchPatternAt, IsClaimError}
 use Rattle.findings.specs.Answers.{IsPatternOf}
 

@@ -11,9 +11,5 @@ pub mod ScriptOutcomes
 pub mod Outcomes
 pub mod Decided
 pub mod Reported
-pub mod FindingForms
-pub mod EachFinding
-pub mod FaultForms
-pub mod Indented
 pub mod SealedTexts
 pub mod DriveOutcomes

@@ -43,12 +43,12 @@ use Rattle.engine.specs.InputLengths.{length_for, most_bytes}
 use Rattle.evidence.specs.Pairs.{pair_form, pair_refusal}
 use Rattle.engine.specs.Checking.{HasOtherShape, IsCheckReport, IsPair, IsPairError}
 use Rattle.findings.specs.Pieces.{HasShape}
-use Rattle.engine.specs.ListingFaults.{IsListedAs}
+use Rattle.explanations.specs.ListingFaults.{IsListedAs}
 use Rattle.engine.specs.Refuting.{claim_form, claim_refusal_at, IsClaimErrorAt, IsRefutationAt}
 use Rattle.findings.specs.Answers.{IsPatternOf}
 use Rattle.engine.specs.Failure.{failure_status, refusal_status, script_status}
-use Rattle.engine.specs.Lengths.{IsHistoryOf, IsRefusedAs, first_refusal_of}
-use Rattle.engine.specs.Report.{IsReport, IsReportAt}
+use Rattle.explanations.specs.Lengths.{IsHistoryOf, IsRefusedAs, first_refusal_of}
+use Rattle.explanations.specs.Report.{IsReport, IsReportAt}
 use Rattle.engine.specs.Running.{Completes, Fails, IsOutput, IsOutputError, IsReplayReport}
 use Rattle.engine.proofs.NotRefused.{form_is_fine}
 use Rattle.engine.proofs.Claims.{refusal-claim}

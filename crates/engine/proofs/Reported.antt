@@ -19,7 +19,7 @@ use Rattle.engine.specs.Steps.ReportErrors.{IsReportError}
 use Rattle.findings.specs.declared.kept.Kept.TheVariants.{Answers}
 use Rattle.findings.specs.Findings.{EachIsFound, EachIsKnownOnDistinctValues, EachIsLongTrueOf, EachNamesUnexplained}
 use Rattle.findings.proofs.Each.{found-known, found-names, found-true}
-use Rattle.engine.specs.Report.{IsReportOnAt}
+use Rattle.explanations.specs.Report.{IsReportOnAt}
 
 -- what is found of the history that was read is a report on the input
 pub reported : (input : List ℕ) (history : AnyHistory) (report : Findings) → IsAnyHistory history → IsJson input (form_of history)

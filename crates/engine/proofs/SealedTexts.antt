@@ -16,7 +16,7 @@ use Rattle.findings.specs.declared.finding.Findings.{Findings}
 use Rattle.findings.specs.declared.kept.Kept.TheVariants.{Answers}
 use Rattle.findings.specs.Findings.{EachIsFound}
 use Rattle.findings.proofs.Each.{found-known, found-names, found-true}
-use Rattle.engine.specs.Report.{text_for}
+use Rattle.explanations.specs.Report.{text_for}
 use Rattle.engine.specs.Driving.{CanDrive, IsDriven, IsSealedFrom, IsTrueReport, Repeats, SealedReport, sessions_in, text_of}
 use Rattle.engine.specs.Steps.SealedTexts.{AreTrueReports, AreTrueTexts, IsReportedText, IsTrueText}
 

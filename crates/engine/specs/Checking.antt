@@ -15,7 +15,7 @@ use Rattle.engine.specs.declared.failure.RunError.TheVariants.{BadCertificate, S
 use Rattle.engine.specs.InputErrors.{IsTextError}
 use Rattle.findings.specs.Answers.{IsTrueOf}
 use Rattle.findings.specs.Pieces.{HasShape, IsShown}
-use Rattle.engine.specs.Report.{line_for}
+use Rattle.explanations.specs.Report.{line_for}
 use Rattle.board.specs.declared.answer.Answer.{Answer}
 
 -- a text of a pair of a history's form and another value

@@ -14,7 +14,7 @@ use Rattle.engine.specs.declared.failure.RunError.{RunError}
 use Rattle.engine.specs.declared.failure.RunError.TheVariants.{BadLimits, NoSuch, Memory}
 use Rattle.findings.specs.declared.finding.Findings.{Findings}
 use Rattle.findings.specs.Findings.{EachIsTrueOf, EachNamesUnexplained, EachIsKnownOnDistinctValues}
-use Rattle.engine.specs.Report.{text_for}
+use Rattle.explanations.specs.Report.{text_for}
 
 -- a fact about two histories of one object
 abbrev pub Relation : Type 1

@@ -9,7 +9,7 @@ use Rattle.lines.specs.Outcomes.{worse}
 use Rattle.findings.specs.declared.finding.Findings.{Findings}
 use Rattle.findings.specs.Findings.{answer_of}
 use Rattle.command_line.specs.declared.length.Length.{Length}
-use Rattle.engine.specs.Report.{IsReportOnAt, text_for}
+use Rattle.explanations.specs.Report.{IsReportOnAt, text_for}
 
 -- what comes of the answer for a criterion that is expected to be met, or isn't
 abbrev pub outcome_in : Bool → Answer → Outcome

@@ -16,8 +16,8 @@ use Rattle.findings.specs.declared.finding.Findings.{Findings}
 use Rattle.findings.specs.Findings.{answer_of}
 use Rattle.engine.specs.Expecting.{outcome_for}
 use Rattle.engine.specs.Failure.{failure_status, line_for as fault_line_for}
-use Rattle.engine.specs.Lengths.{IsRefusedAs}
-use Rattle.engine.specs.Report.{IsReportOnAt, line_for}
+use Rattle.explanations.specs.Lengths.{IsRefusedAs}
+use Rattle.explanations.specs.Report.{IsReportOnAt, line_for}
 
 -- a line without its line feed
 abbrev pub unended : List ℕ → List ℕ

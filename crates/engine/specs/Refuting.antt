@@ -17,9 +17,9 @@ use Rattle.engine.specs.declared.failure.RunError.TheVariants.{NotThatPattern}
 use Rattle.command_line.specs.declared.length.Length.{Length}
 use Rattle.command_line.specs.declared.length.Length.TheVariants.{Limited}
 use Rattle.engine.specs.InputErrors.{IsTextError}
-use Rattle.engine.specs.Lengths.{IsHistoryOf, first_refusal_of}
+use Rattle.explanations.specs.Lengths.{IsHistoryOf, first_refusal_of}
 use Rattle.findings.specs.Answers.{IsExcluded, IsPatternOf}
-use Rattle.engine.specs.Report.{line_for}
+use Rattle.explanations.specs.Report.{line_for}
 
 -- the form of a claim that a pattern shows that a history does not meet a criterion: the three in one JSON list
 abbrev pub claim_form : AnyHistory → Criterion → Pattern → Data

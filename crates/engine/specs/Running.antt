@@ -12,17 +12,17 @@ use Rattle.command_line.specs.declared.form.Form.TheVariants.{Words, Json, Certi
 use Rattle.command_line.specs.declared.form.LongForm.TheVariants as long_forms
 use Rattle.command_line.specs.declared.length.Length.TheVariants.{Any}
 use Rattle.command_line.specs.declared.order.Order.TheVariants.{Judge, JudgeLines, Check, Explain, ExplainLong, ListFaults, Refute, Replay, Drive}
-use Rattle.engine.specs.Lengths.{IsRefusedAs}
-use Rattle.engine.specs.Report.{IsReportAt}
+use Rattle.explanations.specs.Lengths.{IsRefusedAs}
+use Rattle.explanations.specs.Report.{IsReportAt}
 use Rattle.engine.specs.Expecting.{IsOutcomeOfReport}
 use Rattle.engine.specs.LineAnswers.{IsLineAnswer, IsLinesAnswer}
 use Rattle.engine.specs.Checking.{IsCheckReport, IsPairError, HasOtherShape}
 use Rattle.engine.specs.Refuting.{IsClaimErrorAt, IsRefutationAt}
-use Rattle.engine.specs.Certifying.{IsCertifiedExplanation}
-use Rattle.engine.specs.Explaining.{IsExplanation, IsExplanationAt}
-use Rattle.engine.specs.ListingFaults.{IsFaultReport}
-use Rattle.engine.specs.ExplainingInWords.{IsWorded, IsWordedAt}
-use Rattle.engine.specs.Picturing.{IsPicture, IsPictureAt}
+use Rattle.explanations.specs.Certifying.{IsCertifiedExplanation}
+use Rattle.explanations.specs.Explaining.{IsExplanation, IsExplanationAt}
+use Rattle.explanations.specs.ListingFaults.{IsFaultReport}
+use Rattle.explanations.specs.ExplainingInWords.{IsWorded, IsWordedAt}
+use Rattle.explanations.specs.Picturing.{IsPicture, IsPictureAt}
 use Rattle.engine.specs.Driving.{IsDriveReport, IsUndriven}
 use Rattle.engine.specs.InputLengths.{length_for, most_bytes}
 use Rattle.script.specs.declared.any_script.AnyScript.{AnyScript}

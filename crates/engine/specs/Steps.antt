@@ -3,6 +3,4 @@ pub mod Transfer
 pub mod SealedTexts
 pub mod LineRefusals
 pub mod ReportErrors
-pub mod LongExplained
-pub mod Listed
 pub mod LongClaims

@@ -7,10 +7,10 @@ ghost use Rattle.engine.specs.Running.{IsOutputError};
 ghost use Rattle.engine.specs.Checking.{IsCheckReport, IsPair, IsUnread};
 
 use crate::failure::RunError;
-use crate::report::report_line;
 use cert_check::{Certificate, DeskError};
 use command_line::Order;
 use evidence::{FoundCertificate, read_pair};
+use explanations::report_line;
 use findings::PieceWork;
 use operations::AnyHistory;
 use std::alloc::Global;

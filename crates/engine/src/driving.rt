@@ -8,10 +8,10 @@ ghost use Rattle.engine.specs.Steps.SealedTexts.{AreSealedFrom, AreTrueTexts, Is
 
 use crate::drivable::Drivable;
 use crate::failure::RunError;
-use crate::report::report_text;
 use causal_memory::AsTakenIn;
 use command_line::{Drive, Order, Store};
 use driver::{DrivePlan, drive};
+use explanations::report_text;
 use findings::{PieceWork, report_on};
 use history::Advice;
 use lamport_store::ByStamp;

@@ -2,7 +2,7 @@
 ghost use Rattle.std.specs.Prelude.{◌≡◌, IfErr, IfOk, IfSome};
 ghost use Rattle.engine.specs.Expecting.{outcome_for, outcome_in};
 ghost use Rattle.engine.specs.Steps.ReportErrors.{IsReportError};
-ghost use Rattle.engine.specs.Report.{IsReportOnAt};
+ghost use Rattle.explanations.specs.Report.{IsReportOnAt};
 
 use crate::failure::RunError;
 use crate::long_judging::report_on_long_input;

@@ -1,17 +1,21 @@
-//! Why a history meets each criterion, or does not, in each form.
+//! Why the history in an input meets each criterion, or does not, in each form.
 
 ghost use Rattle.std.specs.Prelude.{IfErr, IfOk, string_bytes};
-ghost use Rattle.command_line.specs.declared.form.Form.TheVariants.{Certificates, Json};
+ghost use Rattle.command_line.specs.declared.form.Form.TheVariants.{Certificates, Json, Picture, Words};
 ghost use Rattle.engine.specs.Running.{IsOutput, IsOutputError};
 
-use crate::explaining_in_words::explain_in_words;
 use crate::failure::RunError;
-use crate::finding_forms::{certified_text, findings_text};
-use crate::picturing::explain_as_picture;
-use command_line::{Form, Order};
+use command_line::{Form, LongForm, Order};
+use explanations::{
+    certified_text, explained_as, findings_text, picture_of_findings, words_of_history,
+};
 use findings::{Kept, PieceWork, findings_of};
+use long_reader::read_long;
 use operations::read_history;
 use std::alloc::Global;
+use std::sync::Wait;
+use std::thread::Threads;
+use wording::OwnNames;
 
 /// Why the history in the input meets each criterion or does not, in a form.
 ///
@@ -33,6 +37,17 @@ pub(crate) fn explain_as<W: PieceWork>(
         Form::Certificates => explain_with_certificates(work, alloc, input),
         Form::Picture => explain_as_picture(work, alloc, input),
     }
+}
+
+// What is found of the history in the input, in words.
+fn explain_in_words<W: PieceWork>(work: &W, alloc: Global, input: &[u8]) -> Result<String, RunError>
+    requires { W.can_check work.now }
+    ensures output { IfOk result (λ text. IsOutput (Order.Explain Words) input.now (string_bytes text)) }
+    ensures error { IfErr result (IsOutputError (Order.Explain Words) input.now) }
+{
+    let history = read_history(alloc, input)?;
+    let text = words_of_history(work, alloc, &history)?;
+    Ok(text)
 }
 
 /// The JSON text of what is found of the history in the input.
@@ -63,4 +78,37 @@ fn explain_with_certificates<W: PieceWork>(
     let history = read_history(alloc, input)?;
     let findings = findings_of(work, alloc, &history, Kept::Certificates)?;
     Ok(certified_text(alloc, &findings)?)
+}
+
+// What is found of the history in the input, as a picture.
+fn explain_as_picture<W: PieceWork>(
+    work: &W,
+    alloc: Global,
+    input: &[u8],
+) -> Result<String, RunError>
+    requires { W.can_check work.now }
+    ensures output { IfOk result (λ text. IsOutput (Order.Explain Picture) input.now (string_bytes text)) }
+    ensures error { IfErr result (IsOutputError (Order.Explain Picture) input.now) }
+{
+    let history = read_history(alloc, input)?;
+    let findings = findings_of(work, alloc, &history, Kept::Patterns)?;
+    Ok(picture_of_findings(alloc, &history, &OwnNames, &findings)?)
+}
+
+/// Why the memory history in the input, of any length, meets each criterion or does not, in a form.
+///
+/// For a history within the limits of [`History`](operations::History) it is the text of `explain`, except for the words after a yes.
+/// Refuses what is no such history, and fails for want of memory. The cost is that of reading it and of [`explained_as`].
+pub fn explain_long<T: Threads + Wait + Sync>(
+    rt: &T,
+    alloc: Global,
+    input: &[u8],
+    form: LongForm,
+) -> Result<String, RunError>
+    ensures output { IfOk result (λ text. IsOutput (Order.ExplainLong form) input.now (string_bytes text)) }
+    ensures error { IfErr result (IsOutputError (Order.ExplainLong form) input.now) }
+{
+    let history = read_long(alloc, input)?;
+    let text = explained_as(rt, alloc, &history, &OwnNames, form)?;
+    Ok(text)
 }

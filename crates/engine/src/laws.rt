@@ -12,7 +12,7 @@ ghost use Rattle.findings.specs.Findings.{answer_for};
 ghost use Rattle.engine.specs.Running.{Completes, Fails, IsOutput, IsOutputError};
 ghost use Rattle.command_line.specs.declared.length.Length.TheVariants.{Any};
 ghost use Rattle.long_history.specs.LongHistories.{IsLongHistory};
-ghost use Rattle.engine.specs.Report.{IsReport, IsReportAt};
+ghost use Rattle.explanations.specs.Report.{IsReport, IsReportAt};
 
 use crate::failure::RunError;
 use bad_patterns::Kind;

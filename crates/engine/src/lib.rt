@@ -1,46 +1,31 @@
 //! The engine of the program `causal_judge`: from an order and the bytes of an input to the bytes of an answer.
 //!
 //! It gives [`run`], which carries out an order over any source and writer, answers to inputs in memory by the calling thread alone, as
-//! [`judge_alone`], and [`laws`] of runs. It uses findings for what is known of a history, and the crates that read, drive, word and
-//! draw. Their order, and the words of an explanation, may change: callers rest on the contracts.
+//! [`judge_alone`], and [`laws`] of runs. It uses findings for what is known of a history, explanations for how that is shown, and
+//! the crates that read and drive. Their order may change: callers rest on the contracts.
 #![tactic(auto)]
 
 mod alone;
 mod answered;
 mod checking;
-mod core_names;
 mod drivable;
 mod driving;
-mod examined;
 mod expecting;
 mod explaining;
-mod explaining_in_words;
 mod failure;
-mod finding_forms;
-mod finding_lines;
 mod input;
 pub mod laws;
 mod line_answers;
 mod line_judge;
 mod listing_faults;
-mod long_explaining;
-mod long_forms;
 mod long_judging;
-mod long_picturing;
 mod long_refuting;
-mod long_repeated;
-mod long_words;
 mod output;
-mod part_lines;
-mod picturing;
 mod read_call;
 mod reading;
 mod refuting;
 mod replaying;
-mod report;
 mod running;
-mod three_findings;
-mod written;
 
 pub use alone::{check_alone, explain_alone, judge_alone, refute_alone};
 pub use answered::Answered;
@@ -52,6 +37,8 @@ pub use command_line::{
 pub use drivable::Drivable;
 pub use driving::drive_with;
 pub use expecting::outcome_of;
+pub use explaining::explain_long;
+pub use explanations::{explained_as, list_in_long, report_line, report_text};
 pub use failure::{RunError, fault_line, status_of};
 pub use findings::{
     Finding, Findings, Kept, PieceWork, findings_of, findings_of_memory, report_on, report_on_long,
@@ -62,10 +49,7 @@ pub use input::{
 pub use line_answers::joined_text;
 pub use line_judge::judge_lines;
 pub use lines::{MAX_READ_CALLS, Outcome, Source};
-pub use listing_faults::list_in_long;
 pub use long_decision::SessionWork;
-pub use long_forms::{explain_long, explained_as};
 pub use output::write_output;
-pub use report::{report_line, report_text};
 pub use running::{answer_to, run, run_keeping};
 pub use workers::{CallingThread, Gate, OpenGate, WorkerThreads, Workers};

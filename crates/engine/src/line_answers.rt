@@ -4,14 +4,14 @@ ghost use Rattle.lines.specs.Clerks.{AppendsAnswer};
 ghost use Rattle.lines.specs.Lines.{ended};
 ghost use Rattle.engine.specs.LineAnswers.{IsHistoryAnswer, IsLineAnswer, IsLineError, IsSkipped, joined_for, unended};
 ghost use Rattle.engine.specs.Steps.LineRefusals.{IsRefusalBy};
-ghost use Rattle.engine.specs.Report.{IsReportOnAt};
+ghost use Rattle.explanations.specs.Report.{IsReportOnAt};
 
 use crate::expecting::{outcome_of, report_on_input};
 use crate::failure::{RunError, fault_line, status_of};
 use crate::input::MAX_INPUT_BYTES;
-use crate::report::report_line;
 use cert_check::Criterion;
 use command_line::{BlankLines, Judging, Length, LineJudging};
+use explanations::report_line;
 use findings::Findings;
 use json::Scratch;
 use lines::{Fault, Outcome, is_blank};

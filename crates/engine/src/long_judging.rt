@@ -2,7 +2,7 @@
 
 ghost use Rattle.std.specs.Prelude.{IfErr, IfOk};
 ghost use Rattle.command_line.specs.declared.length.Length.TheVariants.{Any};
-ghost use Rattle.engine.specs.Report.{IsReportOnAt};
+ghost use Rattle.explanations.specs.Report.{IsReportOnAt};
 ghost use Rattle.engine.specs.Steps.ReportErrors.{IsReportError};
 
 use crate::failure::RunError;

@@ -9,13 +9,13 @@ ghost use Rattle.engine.specs.Refuting.{IsClaimErrorAt, claim_form};
 ghost use Rattle.engine.specs.Running.{IsOutput, IsOutputError};
 
 use crate::failure::RunError;
-use crate::report::report_line;
 use bad_patterns::Pattern;
 use bounded_json::TextError;
 use cert_check::Criterion;
 use collector::Answer;
 use command_line::{Length, Order};
 use evidence::{Violation, read_violation};
+use explanations::report_line;
 use long_history::LongHistory;
 use long_patterns::check_long_pattern;
 use long_reader::read_long_first;

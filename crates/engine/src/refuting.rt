@@ -8,12 +8,12 @@ ghost use Rattle.engine.specs.Running.{IsOutput, IsOutputError};
 ghost use Rattle.engine.specs.Refuting.{IsClaimError, claim_form};
 
 use crate::failure::RunError;
-use crate::report::report_line;
 use bad_patterns::{Pattern, check_pattern};
 use cert_check::Criterion;
 use collector::Answer;
 use command_line::{Length, Order};
 use evidence::{Claim as ClaimRead, read_claim};
+use explanations::report_line;
 use operations::AnyHistory;
 use std::alloc::{AllocError, Global};
 

@@ -10,10 +10,10 @@ use Rattle.lines.specs.declared.outcome.Outcome.{Outcome}
 use Rattle.lines.specs.declared.outcome.Outcome.TheVariants.{Met}
 use Rattle.operations.specs.AnyForm.{form_of}
 use Rattle.findings.specs.declared.finding.Findings.{Findings}
-use Rattle.engine.specs.Report.{text_for}
+use Rattle.explanations.specs.Report.{text_for}
 use Rattle.engine.specs.Expecting.{outcome_for}
-use Rattle.engine.specs.Steps.LongExplained.{IsExplainedAs}
-use Rattle.engine.specs.Steps.Listed.{IsListOf}
+use Rattle.explanations.specs.ExplanationTexts.{IsExplainedAs}
+use Rattle.explanations.specs.ListTexts.{IsListOf}
 use Rattle.event_reader.specs.Logs.{BeginsBy, IsLogOf, IsRefusedLog, Log}
 use Rattle.log_engine.specs.declared.failure.LogError.{LogError}
 use Rattle.log_engine.specs.declared.failure.LogError.TheVariants.{Refused, Memory, ReadFault, WriteFault}

@@ -12,7 +12,7 @@ use Rattle.events.specs.declared.event.Event.{Event}
 use Rattle.events.specs.Histories.{history_of}
 use Rattle.findings.specs.declared.finding.Findings.{Findings}
 use Rattle.findings.specs.Findings.{EachIsKnownOnDistinctValues, EachNamesUnexplained}
-use Rattle.engine.specs.Report.{EachIsTrueAt}
+use Rattle.explanations.specs.Report.{EachIsTrueAt}
 use Rattle.engine.specs.Expecting.{outcome_for}
 use Rattle.engine.specs.LineAnswers.{joined_for}
 

@@ -1,8 +1,8 @@
 //! Saying why the history of a log meets each criterion or does not, with the names that the log has.
 
 ghost use Rattle.std.specs.Prelude.{◌≡◌, IfErr, IfOk, string_bytes};
-ghost use Rattle.engine.specs.Steps.Listed.{IsListOf};
-ghost use Rattle.engine.specs.Steps.LongExplained.{IsExplainedAs};
+ghost use Rattle.explanations.specs.ListTexts.{IsListOf};
+ghost use Rattle.explanations.specs.ExplanationTexts.{IsExplainedAs};
 ghost use Rattle.log_engine.specs.Reports.{any_history_of};
 
 use crate::failure::LogError;

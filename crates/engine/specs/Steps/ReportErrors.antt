@@ -3,7 +3,7 @@ use Rattle.std.specs.Prelude.{⊤, ℕ, List}
 use Rattle.command_line.specs.declared.length.Length.{Length}
 use Rattle.engine.specs.declared.failure.RunError.{RunError}
 use Rattle.engine.specs.declared.failure.RunError.TheVariants.{History, Memory}
-use Rattle.engine.specs.Lengths.{IsRefusedAs}
+use Rattle.explanations.specs.Lengths.{IsRefusedAs}
 
 -- its history is refused, or memory ran out
 abbrev pub IsReportError : Length → List ℕ → RunError → Type 0

@@ -1,10 +1,10 @@
 use Rattle.std.specs.Prelude.{string_bytes}
 use Rattle.command_line.specs.declared.length.Length.TheVariants.{Limited}
-use Rattle.engine.proofs.LongOutputs.{listed_outputs}
+use Rattle.engine.proofs.LongOutputs.{listed_output}
 use Rattle.engine.proofs.listing_faults.list_in_limited_input.Goals as goal
 
 pub returns-clause-list : goal.returns-clause-list
 returns-clause-list g c =
     let read = c.in_ok-history.ensures in
-    listed_outputs c.args.input.now c.in_ok-history.history string_bytes c.args.form Limited c.args.most c.list_in_limited.result
-    read.is_history read.form c.list_in_limited.ensures.list
+    listed_output c.args.input.now c.in_ok-history.history c.args.form Limited c.args.most (string_bytes c.in_ok-text.text) read.is_history read.form
+    c.in_ok-text.ensures

@@ -4,7 +4,7 @@ use Rattle.board.specs.declared.answer.Answer.TheVariants.{No}
 use Rattle.command_line.specs.declared.length.Length.TheVariants.{Any}
 use Rattle.operations.specs.declared.any_history.AnyHistory.TheVariants as histories
 use Rattle.engine.specs.Refuting.{claim_form}
-use Rattle.engine.specs.Report.{line_for}
+use Rattle.explanations.specs.Report.{line_for}
 use Rattle.engine.proofs.Claims.{claim_not_shown}
 use Rattle.engine.proofs.long_refuting.refute_long.Goals as goal
 

@@ -1,0 +1,59 @@
+-- What is written of findings, and of faults in a list, is written of the history that they are of.
+use Rattle.std.proofs.Common.{◌≡◌, ◌++◌, ℕ, List, Option, Some, None, Result, Ok, Err, subst}
+use Rattle.std.specs.Prelude.{codes, IfOk, OnOk}
+use Rattle.serde_json.specs.Written.{compact_text}
+use Rattle.command_line.specs.declared.form.ListForm.TheVariants as list_forms
+use Rattle.operations.specs.declared.any_history.AnyHistory.{AnyHistory}
+use Rattle.operations.specs.declared.any_history.AnyHistory.TheVariants as histories
+use Rattle.operations.specs.AnyForm.{IsJson}
+use Rattle.memory_order.specs.Memory.{MemoryHistory}
+use Rattle.long_faults.specs.declared.tally.Faults.{Faults}
+use Rattle.findings.specs.Answers.{LacksDistinctValues}
+use Rattle.findings.specs.declared.finding.Findings.{Findings}
+use Rattle.findings.specs.Findings.{EachIsFinding}
+use Rattle.explanations.specs.declared.fault_lists.FaultReport.{FaultReport}
+use Rattle.explanations.specs.ExplainingInWords.{TellsEach}
+use Rattle.explanations.specs.ListingFaults.{AreFaultsIn, IsFaultReportOf, fault_report_form}
+use Rattle.explanations.specs.ListTexts.{AreLinesAfter, IsListInWords, IsListOf, IsLongOf}
+use Rattle.explanations.specs.ExplanationTexts.{IsWordsOf}
+
+-- what is put into words of findings of a history, and lines after it
+pub told_in_words : {T E : Type 0} (bytes : T → List ℕ) (history : AnyHistory) (findings : Findings) (r : Result T E) → EachIsFinding history findings
+    → IfOk r (λ text. TellsEach findings (bytes text)) → IfOk r (λ text. IsWordsOf history (bytes text))
+told_in_words bytes history findings (Ok text) found tells = (findings, found, tells)
+told_in_words bytes history findings (Err e) found tells = tt
+
+pub listed_in_words : {T E : Type 0} (bytes : T → List ℕ) (history : AnyHistory) (findings : Findings) (r : Result T E) → EachIsFinding history findings
+    → IfOk r (λ text. AreLinesAfter findings (bytes text)) → IfOk r (λ text. IsListInWords history (bytes text))
+listed_in_words bytes history findings (Ok text) found lines = (findings, found, lines)
+listed_in_words bytes history findings (Err e) found lines = tt
+
+-- the JSON text of a report lists its faults
+pub listed_as_json : {T E : Type 0} (bytes : T → List ℕ) (most : ℕ) (history : AnyHistory) (report : FaultReport) (r : Result T E)
+    → IsFaultReportOf most history report → IfOk r (λ text. bytes text ≡ compact_text (fault_report_form report) ++ codes "\n")
+    → OnOk r (IsJson (compact_text (fault_report_form report)) (fault_report_form report))
+    → IfOk r (λ text. IsListOf list_forms.Json most history (bytes text))
+listed_as_json bytes most history report (Ok text) is whole json = (report, is, json, whole)
+listed_as_json bytes most history report (Err e) is whole json = tt
+
+-- the faults of a memory as one of any length are those of the memory; of another object none are given
+pub faults_of_long : {E : Type 0} (most : ℕ) (history : AnyHistory) (g : MemoryHistory) (r : Result (Option Faults) E) → IsLongOf history (Some g)
+    → IfOk r (AreFaultsIn most (histories.Memory g)) → IfOk r (AreFaultsIn most history)
+faults_of_long most (histories.Memory h) g r same are = subst (λ (x : MemoryHistory). IfOk r (AreFaultsIn most (histories.Memory x))) same are
+faults_of_long most (histories.Register h) g r same are = absurd same
+faults_of_long most (histories.Counter h) g r same are = absurd same
+faults_of_long most (histories.Set h) g r same are = absurd same
+faults_of_long most (histories.Queue h) g r same are = absurd same
+faults_of_long most (histories.Counters h) g r same are = absurd same
+faults_of_long most (histories.Sets h) g r same are = absurd same
+faults_of_long most (histories.Queues h) g r same are = absurd same
+
+pub no_faults : (history : AnyHistory) → IsLongOf history None → LacksDistinctValues history
+no_faults (histories.Memory h) same = absurd same
+no_faults (histories.Register h) same = tt
+no_faults (histories.Counter h) same = tt
+no_faults (histories.Set h) same = tt
+no_faults (histories.Queue h) same = tt
+no_faults (histories.Counters h) same = tt
+no_faults (histories.Sets h) same = tt
+no_faults (histories.Queues h) same = tt

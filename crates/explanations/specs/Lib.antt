@@ -1,0 +1,9 @@
+pub mod Lengths
+pub mod Report
+pub mod Explaining
+pub mod Certifying
+pub mod ExplainingInWords
+pub mod ExplanationTexts
+pub mod Picturing
+pub mod ListingFaults
+pub mod ListTexts
