@@ -92,7 +92,8 @@ fn explain_as_picture<W: PieceWork>(
 {
     let history = read_history(alloc, input)?;
     let findings = findings_of(work, alloc, &history, Kept::Patterns)?;
-    Ok(picture_of_findings(alloc, &history, &OwnNames, &findings)?)
+    let svg = picture_of_findings(alloc, &history, &OwnNames, &findings)?;
+    Ok(svg)
 }
 
 /// Why the memory history in the input, of any length, meets each criterion or does not, in a form.

@@ -51,7 +51,8 @@ fn list_in_limited_input<T: Threads + Wait + Sync>(
 {
     let history = read_history(alloc, input)?;
     let long = long_of(alloc, input, &history)?;
-    Ok(list_in_limited(rt, alloc, history, long.as_ref(), &OwnNames, most, form)?)
+    let text = list_in_limited(rt, alloc, history, long.as_ref(), &OwnNames, most, form)?;
+    Ok(text)
 }
 
 // The history in an input as one of any length, where it is one of a memory.
