@@ -7,9 +7,9 @@ ghost use Rattle.engine.specs.Running.{IsOutput, IsOutputError};
 use crate::failure::RunError;
 use command_line::{Form, LongForm, Order};
 use explanations::{
-    certified_text, explained_as, findings_text, picture_of_findings, words_of_history,
+    certified_json_of_history, drawing_of_history, explained_as, json_of_history, words_of_history,
 };
-use findings::{Kept, PieceWork, findings_of};
+use findings::PieceWork;
 use long_reader::read_long;
 use operations::read_history;
 use std::alloc::Global;
@@ -19,8 +19,8 @@ use wording::OwnNames;
 
 /// Why the history in the input meets each criterion or does not, in a form.
 ///
-/// Refuses what is no history, and fails for want of memory. It costs what [`findings_of`] and the form take, and O(n) for n bytes that are
-/// read and written.
+/// Refuses what is no history, and fails for want of memory. It costs what [`findings_of`](crate::findings_of) and the form take, and O(n)
+/// for n bytes that are read and written.
 pub(crate) fn explain_as<W: PieceWork>(
     work: &W,
     alloc: Global,
@@ -61,8 +61,8 @@ pub(crate) fn explain_as_json<W: PieceWork>(
     ensures error { IfErr result (IsOutputError (Order.Explain Json) input.now) }
 {
     let history = read_history(alloc, input)?;
-    let findings = findings_of(work, alloc, &history, Kept::Patterns)?;
-    Ok(findings_text(alloc, &findings)?)
+    let text = json_of_history(work, alloc, &history)?;
+    Ok(text)
 }
 
 // The JSON text of what is found of the history in the input, with certificates of what is met. Causal memory may have none.
@@ -76,8 +76,8 @@ fn explain_with_certificates<W: PieceWork>(
     ensures error { IfErr result (IsOutputError (Order.Explain Certificates) input.now) }
 {
     let history = read_history(alloc, input)?;
-    let findings = findings_of(work, alloc, &history, Kept::Certificates)?;
-    Ok(certified_text(alloc, &findings)?)
+    let text = certified_json_of_history(work, alloc, &history)?;
+    Ok(text)
 }
 
 // What is found of the history in the input, as a picture.
@@ -91,8 +91,7 @@ fn explain_as_picture<W: PieceWork>(
     ensures error { IfErr result (IsOutputError (Order.Explain Picture) input.now) }
 {
     let history = read_history(alloc, input)?;
-    let findings = findings_of(work, alloc, &history, Kept::Patterns)?;
-    let svg = picture_of_findings(alloc, &history, &OwnNames, &findings)?;
+    let svg = drawing_of_history(work, alloc, &history, &OwnNames)?;
     Ok(svg)
 }
 

@@ -15,13 +15,27 @@ use Rattle.explanations.specs.declared.fault_lists.FaultReport.{FaultReport}
 use Rattle.explanations.specs.ExplainingInWords.{TellsEach}
 use Rattle.explanations.specs.ListingFaults.{AreFaultsIn, IsFaultReportOf, fault_report_form}
 use Rattle.explanations.specs.ListTexts.{AreLinesAfter, IsListInWords, IsListOf, IsLongOf}
-use Rattle.explanations.specs.ExplanationTexts.{IsWordsOf}
+use Rattle.explanations.specs.ExplanationTexts.{IsCertifiedJsonOf, IsJsonOf, IsWordsOf}
+use Rattle.explanations.specs.Explaining.{findings_form}
+use Rattle.explanations.specs.Certifying.{EachIsEvidence, certified_form}
 
 -- what is put into words of findings of a history, and lines after it
 pub told_in_words : {T E : Type 0} (bytes : T → List ℕ) (history : AnyHistory) (findings : Findings) (r : Result T E) → EachIsFinding history findings
     → IfOk r (λ text. TellsEach findings (bytes text)) → IfOk r (λ text. IsWordsOf history (bytes text))
 told_in_words bytes history findings (Ok text) found tells = (findings, found, tells)
 told_in_words bytes history findings (Err e) found tells = tt
+
+pub told_as_json : {T E : Type 0} (bytes : T → List ℕ) (history : AnyHistory) (findings : Findings) (r : Result T E) → EachIsFinding history findings
+    → IfOk r (λ text. bytes text ≡ compact_text (findings_form findings) ++ codes "\n")
+    → OnOk r (IsJson (compact_text (findings_form findings)) (findings_form findings)) → IfOk r (λ text. IsJsonOf history (bytes text))
+told_as_json bytes history findings (Ok text) found whole json = (findings, found, json, whole)
+told_as_json bytes history findings (Err e) found whole json = tt
+
+pub told_with_certificates : {T E : Type 0} (bytes : T → List ℕ) (history : AnyHistory) (findings : Findings) (r : Result T E)
+    → EachIsEvidence history findings → IfOk r (λ text. bytes text ≡ compact_text (certified_form findings) ++ codes "\n")
+    → OnOk r (IsJson (compact_text (certified_form findings)) (certified_form findings)) → IfOk r (λ text. IsCertifiedJsonOf history (bytes text))
+told_with_certificates bytes history findings (Ok text) found whole json = (findings, found, json, whole)
+told_with_certificates bytes history findings (Err e) found whole json = tt
 
 pub listed_in_words : {T E : Type 0} (bytes : T → List ℕ) (history : AnyHistory) (findings : Findings) (r : Result T E) → EachIsFinding history findings
     → IfOk r (λ text. AreLinesAfter findings (bytes text)) → IfOk r (λ text. IsListInWords history (bytes text))

@@ -6,12 +6,12 @@ ghost use Rattle.explanations.specs.ExplanationTexts.{IsExplainedAs, IsWordsOf};
 
 use crate::examined::Examined;
 use crate::finding_forms::findings_text;
+use crate::history_forms::{drawing_of_history, json_of_history};
 use crate::long_explaining::{LongFindings, findings_of_long};
 use crate::long_picturing::picture_of_long;
 use crate::long_words::{text_of_long, text_of_small};
-use crate::picturing::picture_of_findings;
 use command_line::LongForm;
-use findings::{Kept, PieceWork, findings_of, findings_of_memory};
+use findings::{Kept, PieceWork, findings_of_memory};
 use long_decision::SessionWork;
 use long_history::LongHistory;
 use long_reader::small;
@@ -94,13 +94,15 @@ fn small_as<W: PieceWork, N: Names>(
         LongForm::Words => words_of_small(work, alloc, history, &small, names),
         LongForm::Json => {
             let small = AnyHistory::Memory(small);
-            let findings = findings_of(work, alloc, &small, Kept::Patterns)?;
-            findings_text(alloc, &findings)
+            let text = json_of_history(work, alloc, &small);
+            drop(small);
+            text
         }
         LongForm::Picture => {
             let small = AnyHistory::Memory(small);
-            let findings = findings_of(work, alloc, &small, Kept::Patterns)?;
-            picture_of_findings(alloc, &small, names, &findings)
+            let svg = drawing_of_history(work, alloc, &small, names);
+            drop(small);
+            svg
         }
     }
 }
@@ -118,5 +120,7 @@ fn words_of_small<W: PieceWork, N: Names>(
 {
     let memory = IndexedMemory::of(alloc, small)?;
     let findings = findings_of_memory(work, alloc, &memory, Kept::Reasons)?;
-    text_of_small(alloc, history, Examined::Memory(&memory), names, &findings)
+    let text = text_of_small(alloc, history, Examined::Memory(&memory), names, &findings);
+    drop(findings);
+    text
 }

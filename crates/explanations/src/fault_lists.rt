@@ -129,14 +129,16 @@ fn words_on_memory<W: PieceWork, N: Names>(
 {
     let memory = IndexedMemory::of(alloc, history)?;
     let findings = findings_of_memory(work, alloc, &memory, Kept::Reasons)?;
-    words_on_findings(
+    let text = words_on_findings(
         alloc,
         Examined::Memory(&memory),
         long,
         names,
         &findings,
         most,
-    )
+    );
+    drop(findings);
+    text
 }
 
 // That list of another object in words.
@@ -152,14 +154,16 @@ fn words_on_object<W: PieceWork, N: Names>(
     ensures { IfOk result (λ text. IsListInWords history.now (string_bytes text)) }
 {
     let findings = findings_of(work, alloc, history, Kept::Reasons)?;
-    words_on_findings(
+    let text = words_on_findings(
         alloc,
         Examined::Object(history),
         long,
         names,
         &findings,
         most,
-    )
+    );
+    drop(findings);
+    text
 }
 
 // That list in words, with these findings.
@@ -191,9 +195,12 @@ fn json_in_limited<W: PieceWork>(
     requires long { IsLongOf history.now (option_map (λ g. g.now) long) }
     ensures { IfOk result (λ text. IsListOf ListForm.Json most history.now (string_bytes text)) }
 {
-    let findings = findings_of(work, alloc, history, Kept::Patterns)?;
     let faults = faults_of_any(alloc, history, long, most)?;
-    text_of_report(alloc, &FaultReport { findings, faults })
+    let findings = findings_of(work, alloc, history, Kept::Patterns)?;
+    let report = FaultReport { findings, faults };
+    let text = text_of_report(alloc, &report);
+    drop(report);
+    text
 }
 
 // The list of a history over the limits.

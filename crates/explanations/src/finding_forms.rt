@@ -19,7 +19,7 @@ use std::alloc::{AllocError, Global};
 /// The JSON text of findings without certificates, and a line feed.
 ///
 /// Fails for want of memory alone. O(n) for n bytes of the text.
-pub fn findings_text(alloc: Global, findings: &Findings) -> Result<String, AllocError>
+pub(crate) fn findings_text(alloc: Global, findings: &Findings) -> Result<String, AllocError>
     ensures whole { IfOk result (λ text. string_bytes text ≡ compact_text (findings_form findings.now) ++ codes "\n") }
     ensures json { OnOk result (IsJson (compact_text (findings_form findings.now)) (findings_form findings.now)) }
 {
@@ -30,7 +30,7 @@ pub fn findings_text(alloc: Global, findings: &Findings) -> Result<String, Alloc
 /// The JSON text of findings with their certificates, and a line feed.
 ///
 /// Fails for want of memory alone. O(n) for n bytes of the text.
-pub fn certified_text(alloc: Global, findings: &Findings) -> Result<String, AllocError>
+pub(crate) fn certified_text(alloc: Global, findings: &Findings) -> Result<String, AllocError>
     ensures whole { IfOk result (λ text. string_bytes text ≡ compact_text (certified_form findings.now) ++ codes "\n") }
     ensures json { OnOk result (IsJson (compact_text (certified_form findings.now)) (certified_form findings.now)) }
 {

@@ -51,7 +51,9 @@ fn words_of_memory<W: PieceWork>(
 {
     let memory = IndexedMemory::of(alloc, history)?;
     let findings = findings_of_memory(work, alloc, &memory, Kept::Reasons)?;
-    text_of_examined(alloc, Examined::Memory(&memory), &findings)
+    let text = text_of_examined(alloc, Examined::Memory(&memory), &findings);
+    drop(findings);
+    text
 }
 
 // The same for another object.
@@ -64,7 +66,9 @@ fn words_of_object<W: PieceWork>(
     ensures { IfOk result (λ text. IsWordsOf history.now (string_bytes text)) }
 {
     let findings = findings_of(work, alloc, history, Kept::Reasons)?;
-    text_of_examined(alloc, Examined::Object(history), &findings)
+    let text = text_of_examined(alloc, Examined::Object(history), &findings);
+    drop(findings);
+    text
 }
 
 // The text of what is found of a history.

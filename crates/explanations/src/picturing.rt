@@ -17,7 +17,7 @@ use wording::Names;
 /// other than a memory no patterns are known.
 ///
 /// Fails for want of memory alone. It costs what drawing takes.
-pub fn picture_of_findings<N: Names>(
+pub(crate) fn picture_of_findings<N: Names>(
     alloc: Global,
     history: &AnyHistory,
     names: &N,

@@ -11,6 +11,6 @@ use Rattle.explanations.proofs.explained.words_of_small.Goals as goal
 pub returns : goal.returns
 returns g c =
     let findings = c.in_ok-findings.findings in
-    told_in_words string_bytes (histories.Memory c.args.small.now) findings c.text_of_small.result
+    told_in_words string_bytes (histories.Memory c.args.small.now) findings c.text_of_small-text.result
     (subst (λ (h : MemoryHistory). EachIsFinding (histories.Memory h) findings) c.in_ok-memory.ensures
-    (found-is Reasons (histories.Memory c.in_ok-memory.memory) findings c.in_ok-findings.ensures)) c.text_of_small.ensures
+    (found-is Reasons (histories.Memory c.in_ok-memory.memory) findings c.in_ok-findings.ensures)) c.text_of_small-text.ensures

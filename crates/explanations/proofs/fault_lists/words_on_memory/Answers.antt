@@ -11,6 +11,6 @@ use Rattle.explanations.proofs.fault_lists.words_on_memory.Goals as goal
 pub returns : goal.returns
 returns g c =
     let findings = c.in_ok-findings.findings in
-    listed_in_words string_bytes (histories.Memory c.args.history.now) findings c.words_on_findings.result
+    listed_in_words string_bytes (histories.Memory c.args.history.now) findings c.words_on_findings-text.result
     (subst (λ (h : MemoryHistory). EachIsFinding (histories.Memory h) findings) c.in_ok-memory.ensures
-    (found-is Reasons (histories.Memory c.in_ok-memory.memory) findings c.in_ok-findings.ensures)) c.words_on_findings.ensures
+    (found-is Reasons (histories.Memory c.in_ok-memory.memory) findings c.in_ok-findings.ensures)) c.words_on_findings-text.ensures

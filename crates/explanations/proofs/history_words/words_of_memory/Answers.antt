@@ -11,6 +11,6 @@ use Rattle.explanations.proofs.history_words.words_of_memory.Goals as goal
 pub returns : goal.returns
 returns g c =
     let findings = c.in_ok-findings.findings in
-    told_in_words string_bytes (histories.Memory c.args.history.now) findings c.text_of_examined.result
+    told_in_words string_bytes (histories.Memory c.args.history.now) findings c.text_of_examined-text.result
     (subst (λ (h : MemoryHistory). EachIsFinding (histories.Memory h) findings) c.in_ok-memory.ensures
-    (found-is Reasons (histories.Memory c.in_ok-memory.memory) findings c.in_ok-findings.ensures)) c.text_of_examined.ensures
+    (found-is Reasons (histories.Memory c.in_ok-memory.memory) findings c.in_ok-findings.ensures)) c.text_of_examined-text.ensures
