@@ -55,12 +55,22 @@ fn answer_to<T: Threads + Wait + Sync>(
 {
     match order {
         LogOrder::Judge(judging) => judged_log(rt, alloc, reader, *judging),
-        LogOrder::Explain(form) => Ok(Answered::met(explained_log(rt, alloc, &reader, *form)?)),
+        LogOrder::Explain(form) => {
+            let text = explained_log(rt, alloc, &reader, *form);
+            drop(reader);
+            Ok(Answered::met(text?))
+        }
         LogOrder::ListFaults(most, form) => {
-            Ok(Answered::met(listed_log(rt, alloc, &reader, *most, *form)?))
+            let text = listed_log(rt, alloc, &reader, *most, *form);
+            drop(reader);
+            Ok(Answered::met(text?))
         }
         LogOrder::WriteHistory => Ok(Answered::met(history_text(alloc, reader)?)),
-        LogOrder::WriteNames => Ok(Answered::met(names_text(alloc, &reader)?)),
+        LogOrder::WriteNames => {
+            let text = names_text(alloc, &reader);
+            drop(reader);
+            Ok(Answered::met(text?))
+        }
     }
 }
 
