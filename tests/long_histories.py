@@ -5,7 +5,7 @@
 
 - MEMORIES random inputs, most of them small memories and many spoilt, with random options: where `judge` takes what `--long` takes, status
   and both outputs are those of `judge`, and else what reading.py and plain_long_judge.py say. So are those of each memory in
-  crates/cases/data, and of all that stand in a line together by `--lines`.
+  tests/cases, and of all that stand in a line together by `--lines`.
 - As many small memories, to which sessions of one write of a key of its own are added until there are 17: the lines are those that
   `judge` says without these, but for the kind of a `cm no`, and those of the plain judge.
 - A history for each fault of planted.py and each of some stores, of more sessions and of more operations than `judge` takes, and one
@@ -191,7 +191,7 @@ def memories_of_cases():
 
 
 def same_answers_to_cases(program):
-    """The memories in crates/cases/data."""
+    """The memories in tests/cases."""
     cases = [beside_judge(program, data) for data in dict.fromkeys(memories_of_cases())]
     yield from cases
     yield from lines_together(program, cases, 2)

@@ -71,7 +71,7 @@ def of_examples(program):
 
 
 def of_tables(program):
-    """The pages of the histories in the tables of crates/cases that `explain --json` is tried on."""
+    """The pages of the histories in the tables of tests/cases that `explain --json` is tried on."""
     cases = [case for table in ("explain_json.cases", "listed_faults_json.cases") for case in tables.read_table(tables.DATA, table)]
     pages = [page_of(program, case.name, case.input, [word for word in case.commands[0] if word == "--long"]) for case in cases]
     return [page for page in pages if page]

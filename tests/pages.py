@@ -5,7 +5,7 @@
 
 - The pieces: they are ASCII, nothing in them ends an element, the hashes in the policy are those of the style and the script, and the
   script has no call that would make markup of a text.
-- Node: of the histories of the tables of crates/cases and of COUNT random ones, each number is kept exactly, the faults are those of
+- Node: of the histories of the tables of tests/cases and of COUNT random ones, each number is kept exactly, the faults are those of
   `explain --all`, the words are those of `explain`, each step is an edge, and in the picture no link crosses a box (page_model.py). Views
   zoom and move by a plain rule (page_views.py).
 - Chromium: the pages of the examples open without a message, at 1,280 and 390 pixels; clicks, keys, the search, filters and print work;

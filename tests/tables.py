@@ -1,5 +1,5 @@
 #!/usr/bin/env python3
-"""Runs a program on each case of the tables of crates/cases/data, and compares the status and both outputs byte for byte.
+"""Runs a program on each case of the tables of tests/cases, and compares the status and both outputs byte for byte.
 
     python3 tests/tables.py [--data DIR] [--threads N] [--only WORD] -- PROGRAM
 
@@ -32,7 +32,7 @@ from typing import NamedTuple
 from command_words import with_program
 from counting import end
 
-DATA = pathlib.Path(__file__).resolve().parent.parent / "crates" / "cases" / "data"
+DATA = pathlib.Path(__file__).resolve().parent / "cases"
 MARKS = ("$", "<", "<<", ">", ">>", "!", "!!", "=")
 MOST_CHARACTERS = 1000
 MOST_SECONDS = 120
@@ -177,6 +177,18 @@ def outcome(program, words, data):
 def run_of(program, case, words):
     """A run of a command line of a case."""
     return Run(case, words, (case.status, case.output, case.errors), outcome(program, words, case.input))
+
+
+def write_inputs(cases, folder):
+    """Writes the words, the input and the wanted output of each command line as files that `rt try --cases` reads, and gives for each of
+    their names the case and the words."""
+    asked = [(case, words) for case in cases for words in case.commands]
+    named = {f"{number:05}": run for number, run in enumerate(asked)}
+    for name, (case, words) in named.items():
+        (folder / name).write_bytes(case.input)
+        (folder / f"{name}.args").write_text("".join(f"{word}\n" for word in words))
+        (folder / f"{name}.stdout").write_bytes(case.output)
+    return named
 
 
 def lines_of(text):

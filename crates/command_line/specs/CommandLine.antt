@@ -32,16 +32,20 @@ top =
     let app = new_app (codes "causal_judge") in
     record app { top = record app.top { subcommand_required = true; has_version = true } }
 
+-- an option whose value is a number within these bounds
+abbrev pub number_option : Text → ℕ → ℕ → Rule
+number_option name least most = record (new_rule name) {
+  long = Some name;
+  action = Some Set;
+  parser = Some (Unsigned least most);
+  value_names = 1;
+}
+
 -- the command `judge` takes the options `--workers N`, `--expect LIST`, `--lines`, `--skip-blank`, `--long`, `--events` and `--every N`,
 -- `check` takes `--workers N`, `explain` takes `--json`, `--certificates`, `--svg`, `--html`, `--long`, `--all N` and `--events`, `refute`
 -- takes `--long`, `drive` takes the name of a store and four options, and `events` takes `--names`. All but `events` take `--why`
 abbrev pub workers : Rule
-workers = record (new_rule (codes "workers")) {
-  long = Some (codes "workers");
-  action = Some Set;
-  parser = Some (Unsigned 1 MAX_WORKERS);
-  value_names = 1;
-}
+workers = number_option (codes "workers") 1 MAX_WORKERS
 
 abbrev pub expect : Rule
 expect = record (new_rule (codes "expect")) { long = Some (codes "expect"); action = Some Set; value_names = 1 }
@@ -63,12 +67,7 @@ abbrev pub lengthening : App
 lengthening = with_rule (with_rule lining (flag (codes "long"))) (flag (codes "events"))
 
 abbrev pub every : Rule
-every = record (new_rule (codes "every")) {
-  long = Some (codes "every");
-  action = Some Set;
-  parser = Some (Unsigned 1 MAX_EVERY);
-  value_names = 1;
-}
+every = number_option (codes "every") 1 MAX_EVERY
 
 abbrev pub judge : App
 judge = with_rule (with_rule lengthening every) why
@@ -84,12 +83,7 @@ abbrev pub drawing : App
 drawing = with_rule (with_rule certifying (flag (codes "svg"))) (flag (codes "html"))
 
 abbrev pub all : Rule
-all = record (new_rule (codes "all")) {
-  long = Some (codes "all");
-  action = Some Set;
-  parser = Some (Unsigned 1 MAX_LISTED);
-  value_names = 1;
-}
+all = number_option (codes "all") 1 MAX_LISTED
 
 abbrev pub listing : App
 listing = with_rule (with_rule drawing (flag (codes "long"))) all
@@ -106,23 +100,15 @@ replay = with_rule (new_app (codes "replay")) why
 abbrev pub store : Rule
 store = record (new_rule (codes "store")) { action = Some Set; value_names = 1; required = true }
 
-abbrev pub number_option : Text → ℕ → Rule
-number_option name most = record (new_rule name) {
-  long = Some name;
-  action = Some Set;
-  parser = Some (Unsigned 0 most);
-  value_names = 1;
-}
-
 -- the command `drive` with the store and when updates are taken in; with the seals and the workers besides; and whole
 abbrev pub storing : App
 storing = with_rule (with_rule (new_app (codes "drive")) store) (flag (codes "eager"))
 
 abbrev pub sealing : App
-sealing = with_rule (with_rule storing (number_option (codes "seals") MAX_SEALS)) workers
+sealing = with_rule (with_rule storing (number_option (codes "seals") 0 MAX_SEALS)) workers
 
 abbrev pub drive : App
-drive = with_rule (with_rule sealing (number_option (codes "stop") (MAX_SESSIONS - 1))) why
+drive = with_rule (with_rule sealing (number_option (codes "stop") 0 (MAX_SESSIONS - 1))) why
 
 abbrev pub judging : App
 judging = with_subcommand (with_subcommand top judge.top) check.top

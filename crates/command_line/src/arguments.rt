@@ -44,19 +44,39 @@ pub fn why_option<'a>(alloc: Global) -> Arg<'a>
     flag_option(alloc, "why", WHY)
 }
 
+// An option whose value is a number within bounds.
+fn number_option<'a>(
+    alloc: Global,
+    name: &'a str,
+    value: &'a str,
+    least: u64,
+    most: u64,
+    help: &'a str,
+) -> Arg<'a>
+    ensures rule { rule_of result ≡ number_option name.now least most }
+    ensures local { result.global ≡ false }
+{
+    Arg::new(alloc, name)
+        .long(name)
+        .value_name(value)
+        .action(ArgAction::Set)
+        .value_parser(ValueParser::unsigned(least, most))
+        .help(help)
+}
+
 /// How many workers there are.
 pub fn workers_option<'a>(alloc: Global) -> Arg<'a>
     ensures rule { rule_of result ≡ workers }
     ensures local { result.global ≡ false }
 {
-    Arg::new(alloc, "workers")
-        .long("workers")
-        .value_name("N")
-        .action(ArgAction::Set)
-        .value_parser(ValueParser::unsigned(1, MAX_WORKERS as u64))
-        .help(
-            "How many threads check the pieces of a certificate, from 1 to 16; 2 where none is given",
-        )
+    number_option(
+        alloc,
+        "workers",
+        "N",
+        1,
+        MAX_WORKERS as u64,
+        "How many threads check the pieces of a certificate, from 1 to 16; 2 where none is given",
+    )
 }
 
 /// The criteria that are expected to be met.
@@ -75,32 +95,32 @@ pub fn expect_option<'a>(alloc: Global) -> Arg<'a>
 
 /// How many seals are taken while clients run.
 pub fn seals_option<'a>(alloc: Global) -> Arg<'a>
-    ensures rule { rule_of result ≡ number_option (codes "seals") MAX_SEALS }
+    ensures rule { rule_of result ≡ number_option (codes "seals") 0 MAX_SEALS }
     ensures local { result.global ≡ false }
 {
-    Arg::new(alloc, "seals")
-        .long("seals")
-        .value_name("N")
-        .action(ArgAction::Set)
-        .value_parser(ValueParser::unsigned(0, MAX_SEALS as u64))
-        .help(
-            "How many histories are sealed while clients run, from 0 to 8; 0 where none is given. They need not come in the order of time",
-        )
+    number_option(
+        alloc,
+        "seals",
+        "N",
+        0,
+        MAX_SEALS as u64,
+        "How many histories are sealed while clients run, from 0 to 8; 0 where none is given. They need not come in the order of time",
+    )
 }
 
 /// The session whose client never ends its last call.
 pub fn stop_option<'a>(alloc: Global) -> Arg<'a>
-    ensures rule { rule_of result ≡ number_option (codes "stop") (MAX_SESSIONS - 1) }
+    ensures rule { rule_of result ≡ number_option (codes "stop") 0 (MAX_SESSIONS - 1) }
     ensures local { result.global ≡ false }
 {
-    Arg::new(alloc, "stop")
-        .long("stop")
-        .value_name("S")
-        .action(ArgAction::Set)
-        .value_parser(ValueParser::unsigned(0, MAX_SESSIONS as u64 - 1))
-        .help(
-            "The session whose client never ends its last call, from 0 to 15; none where none is given",
-        )
+    number_option(
+        alloc,
+        "stop",
+        "S",
+        0,
+        MAX_SESSIONS as u64 - 1,
+        "The session whose client never ends its last call, from 0 to 15; none where none is given",
+    )
 }
 
 /// How many reads that show a fault are listed.
@@ -108,14 +128,14 @@ pub fn all_option<'a>(alloc: Global) -> Arg<'a>
     ensures rule { rule_of result ≡ all }
     ensures local { result.global ≡ false }
 {
-    Arg::new(alloc, "all")
-        .long("all")
-        .value_name("N")
-        .action(ArgAction::Set)
-        .value_parser(ValueParser::unsigned(1, MAX_LISTED as u64))
-        .help(
-            "Lists up to N reads that show a fault, from 1 to 1000000, and counts them by kind and by session",
-        )
+    number_option(
+        alloc,
+        "all",
+        "N",
+        1,
+        MAX_LISTED as u64,
+        "Lists up to N reads that show a fault, from 1 to 1000000, and counts them by kind and by session",
+    )
 }
 
 /// The number of events after which a log is judged again.
@@ -123,10 +143,5 @@ pub fn every_option<'a>(alloc: Global) -> Arg<'a>
     ensures rule { rule_of result ≡ every }
     ensures local { result.global ≡ false }
 {
-    Arg::new(alloc, "every")
-        .long("every")
-        .value_name("N")
-        .action(ArgAction::Set)
-        .value_parser(ValueParser::unsigned(1, MAX_EVERY as u64))
-        .help(EVERY)
+    number_option(alloc, "every", "N", 1, MAX_EVERY as u64, EVERY)
 }
