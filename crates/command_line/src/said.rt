@@ -116,74 +116,28 @@ impl Said {
     fn with(&self, setting: &Setting) -> Said
         ensures { result ≡ with_setting self.now setting.now }
     {
+        let mut said = *self;
         match setting {
-            Setting::Store(store) => Said {
-                store: Some(*store),
-                ..*self
-            },
-            Setting::Eager => Said {
-                eager: true,
-                ..*self
-            },
-            Setting::Seals(seals) => Said {
-                seals: Some(*seals),
-                ..*self
-            },
-            Setting::Workers(workers) => Said {
-                workers: Some(*workers),
-                ..*self
-            },
-            Setting::Stop(session) => Said {
-                stop: Some(*session),
-                ..*self
-            },
-            Setting::Expect(expected) => Said {
-                expected: Some(*expected),
-                ..*self
-            },
-            Setting::Lines => Said {
-                lines: true,
-                ..*self
-            },
-            Setting::SkipBlank => Said {
-                skip_blank: true,
-                ..*self
-            },
-            Setting::Long => Said {
-                long: true,
-                ..*self
-            },
-            Setting::All(most) => Said {
-                all: Some(*most),
-                ..*self
-            },
-            Setting::Json => Said {
-                json: true,
-                ..*self
-            },
-            Setting::Certificates => Said {
-                certificates: true,
-                ..*self
-            },
-            Setting::Svg => Said { svg: true, ..*self },
-            Setting::Html => Said {
-                html: true,
-                ..*self
-            },
-            Setting::Events => Said {
-                events: true,
-                ..*self
-            },
-            Setting::Every(events) => Said {
-                every: Some(*events),
-                ..*self
-            },
-            Setting::Names => Said {
-                names: true,
-                ..*self
-            },
-            Setting::Why => Said { why: true, ..*self },
+            Setting::Store(store) => said.store = Some(*store),
+            Setting::Eager => said.eager = true,
+            Setting::Seals(seals) => said.seals = Some(*seals),
+            Setting::Workers(workers) => said.workers = Some(*workers),
+            Setting::Stop(session) => said.stop = Some(*session),
+            Setting::Expect(expected) => said.expected = Some(*expected),
+            Setting::Lines => said.lines = true,
+            Setting::SkipBlank => said.skip_blank = true,
+            Setting::Long => said.long = true,
+            Setting::All(most) => said.all = Some(*most),
+            Setting::Json => said.json = true,
+            Setting::Certificates => said.certificates = true,
+            Setting::Svg => said.svg = true,
+            Setting::Html => said.html = true,
+            Setting::Events => said.events = true,
+            Setting::Every(events) => said.every = Some(*events),
+            Setting::Names => said.names = true,
+            Setting::Why => said.why = true,
         }
+        said
     }
 
     /// The task that was given; none where a store is missing, or what was said doesn't go together.
