@@ -88,7 +88,9 @@ fn report_of(alloc: Global, input: &[u8]) -> Result<String, RunError>
 {
     let mut scratch = Scratch::new(alloc);
     let report = report_on_input(&CallingThread, alloc, &mut scratch, input, Length::Limited)?;
-    Ok(report_text(alloc, &report)?)
+    let text = report_text(alloc, &report);
+    drop(report);
+    Ok(text?)
 }
 
 // The line on the certificate in the input.

@@ -70,7 +70,9 @@ pub fn drive_input<T: Threads + Wait + Sync>(
     ensures error { IfErr result (IsOutputError (Order.Drive drive) input.now) }
 {
     let history = read_history(alloc, input)?;
-    drive_store(rt, alloc, &history, drive, &OpenGate)
+    let text = drive_store(rt, alloc, &history, drive, &OpenGate);
+    drop(history);
+    text
 }
 
 // What a drive of its store writes for a history.
@@ -186,8 +188,9 @@ fn text_of_seal<O: Drivable, K: PieceWork>(
     ensures { IfOk result (λ text. IsTrueText (O.any input.now) (O.any sealed.now.history) (string_bytes text)) }
 {
     let history = O::copy_as_any(alloc, sealed.history())?;
-    let text = text_of_report(work, alloc, &history, sealed.advice())?;
-    Ok(text)
+    let text = text_of_report(work, alloc, &history, sealed.advice());
+    drop(history);
+    text
 }
 
 // The form of a history, and the lines of the report on it.
@@ -202,6 +205,8 @@ fn text_of_report<K: PieceWork>(
 {
     let form = write_history(alloc, history)?;
     let report = report_on(work, alloc, history, advice)?;
-    let lines = report_text(alloc, &report)?;
+    let lines = report_text(alloc, &report);
+    drop(report);
+    let lines = lines?;
     Ok(format!(in alloc; "{form}\n{lines}")?)
 }

@@ -52,8 +52,9 @@ fn report_on_limited_input<W: PieceWork>(
         return Ok(report);
     }
     let history = read_within_limits(alloc, input)?;
-    let answers = report_on(work, alloc, &history, &[])?;
-    Ok(answers)
+    let answers = report_on(work, alloc, &history, &[]);
+    drop(history);
+    Ok(answers?)
 }
 
 // The report on a history of a memory within the limits, if what is decided of it says it of each criterion. Else none, and then the input
@@ -67,7 +68,11 @@ fn report_decided_on(
     ensures error { IfErr result (IsReportError Length.Limited input.now) }
 {
     match read_short_memory(alloc, scratch, input)? {
-        Some(history) => Ok(report_decided(alloc, &history)?),
+        Some(history) => {
+            let known = report_decided(alloc, &history);
+            drop(history);
+            Ok(known?)
+        }
         None => Ok(None),
     }
 }

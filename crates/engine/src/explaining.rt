@@ -46,8 +46,9 @@ fn explain_in_words<W: PieceWork>(work: &W, alloc: Global, input: &[u8]) -> Resu
     ensures error { IfErr result (IsOutputError (Order.Explain Words) input.now) }
 {
     let history = read_history(alloc, input)?;
-    let text = words_of_history(work, alloc, &history)?;
-    Ok(text)
+    let text = words_of_history(work, alloc, &history);
+    drop(history);
+    Ok(text?)
 }
 
 /// The JSON text of what is found of the history in the input.
@@ -61,8 +62,9 @@ pub(crate) fn explain_as_json<W: PieceWork>(
     ensures error { IfErr result (IsOutputError (Order.Explain Json) input.now) }
 {
     let history = read_history(alloc, input)?;
-    let text = json_of_history(work, alloc, &history)?;
-    Ok(text)
+    let text = json_of_history(work, alloc, &history);
+    drop(history);
+    Ok(text?)
 }
 
 // The JSON text of what is found of the history in the input, with certificates of what is met. Causal memory may have none.
@@ -76,8 +78,9 @@ fn explain_with_certificates<W: PieceWork>(
     ensures error { IfErr result (IsOutputError (Order.Explain Certificates) input.now) }
 {
     let history = read_history(alloc, input)?;
-    let text = certified_json_of_history(work, alloc, &history)?;
-    Ok(text)
+    let text = certified_json_of_history(work, alloc, &history);
+    drop(history);
+    Ok(text?)
 }
 
 // What is found of the history in the input, as a picture.
@@ -91,8 +94,9 @@ fn explain_as_picture<W: PieceWork>(
     ensures error { IfErr result (IsOutputError (Order.Explain Picture) input.now) }
 {
     let history = read_history(alloc, input)?;
-    let svg = drawing_of_history(work, alloc, &history, &OwnNames)?;
-    Ok(svg)
+    let svg = drawing_of_history(work, alloc, &history, &OwnNames);
+    drop(history);
+    Ok(svg?)
 }
 
 /// Why the memory history in the input, of any length, meets each criterion or does not, in a form.
@@ -109,6 +113,7 @@ pub fn explain_long<T: Threads + Wait + Sync>(
     ensures error { IfErr result (IsOutputError (Order.ExplainLong form) input.now) }
 {
     let history = read_long(alloc, input)?;
-    let text = explained_as(rt, alloc, &history, &OwnNames, form)?;
-    Ok(text)
+    let text = explained_as(rt, alloc, &history, &OwnNames, form);
+    drop(history);
+    Ok(text?)
 }

@@ -67,8 +67,11 @@ fn append_answer_on_history(
 {
     match report_on_line(alloc, scratch, line, judging.length) {
         Ok(report) => {
-            append_report(alloc, &report, text)?;
-            Ok(outcome_of(&report, judging.expected))
+            let appended = append_report(alloc, &report, text);
+            let outcome = outcome_of(&report, judging.expected);
+            drop(report);
+            appended?;
+            Ok(outcome)
         }
         Err(error) => append_refusal(alloc, &error, text),
     }

@@ -87,6 +87,7 @@ fn list_in_long_input<T: Threads + Wait + Sync>(
     ensures error { IfErr result (IsReportError Length.Any input.now) }
 {
     let history = read_long(alloc, input)?;
-    let text = list_in_long(rt, alloc, &history, &OwnNames, most, form)?;
-    Ok(text)
+    let text = list_in_long(rt, alloc, &history, &OwnNames, most, form);
+    drop(history);
+    Ok(text?)
 }

@@ -24,6 +24,7 @@ pub(crate) fn report_on_long_input<W: SessionWork>(
     ensures error { IfErr result (IsReportError Any input.now) }
 {
     let history = read_long(alloc, input)?;
-    let report = report_on_long(work, alloc, &history)?;
-    Ok(report)
+    let report = report_on_long(work, alloc, &history);
+    drop(history);
+    Ok(report?)
 }

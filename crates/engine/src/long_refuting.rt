@@ -36,9 +36,12 @@ pub(crate) fn refute_long(alloc: Global, input: &[u8]) -> Result<String, RunErro
     ensures error { IfErr result (IsOutputError (Order.Refute Length.Any) input.now) }
 {
     let claim = long_claim_in(alloc, input)?;
-    if check_long_pattern(alloc, &claim.history, claim.criterion, &claim.pattern)? {
-        let answer = Answer::No(claim.pattern.kind());
-        Ok(report_line(alloc, claim.criterion, answer)?)
+    let is_shown = check_long_pattern(alloc, &claim.history, claim.criterion, &claim.pattern);
+    let criterion = claim.criterion;
+    let answer = Answer::No(claim.pattern.kind());
+    drop(claim);
+    if is_shown? {
+        Ok(report_line(alloc, criterion, answer)?)
     } else {
         Err(RunError::NotThatPattern)
     }

@@ -31,9 +31,12 @@ pub fn refute(alloc: Global, input: &[u8]) -> Result<String, RunError>
     ensures error { IfErr result (IsOutputError (Order.Refute Length.Limited) input.now) }
 {
     let claim = claim_in(alloc, input)?;
-    if is_pattern_of(alloc, &claim.history, claim.criterion, &claim.pattern)? {
-        let answer = Answer::No(claim.pattern.kind());
-        Ok(report_line(alloc, claim.criterion, answer)?)
+    let is_shown = is_pattern_of(alloc, &claim.history, claim.criterion, &claim.pattern);
+    let criterion = claim.criterion;
+    let answer = Answer::No(claim.pattern.kind());
+    drop(claim);
+    if is_shown? {
+        Ok(report_line(alloc, criterion, answer)?)
     } else {
         Err(RunError::NotThatPattern)
     }

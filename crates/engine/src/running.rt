@@ -191,9 +191,11 @@ fn judge<T: Threads + Wait + Sync>(
     let work = WorkerThreads::of(rt, judging.workers);
     let mut scratch = Scratch::new(alloc);
     let report = report_on_input(&work, alloc, &mut scratch, input, judging.length)?;
-    let text = report_text(alloc, &report)?;
+    let text = report_text(alloc, &report);
+    let outcome = outcome_of(&report, expected);
+    drop(report);
     Ok(Answered {
-        text,
-        outcome: outcome_of(&report, expected),
+        text: text?,
+        outcome,
     })
 }

@@ -37,30 +37,19 @@ impl StepWord {
     pub fn named(word: &str) -> Option<StepWord>
         ensures { IsRead name_of word.now result }
     {
-        if word == "begin" {
-            Some(StepWord::Begin)
-        } else if word == "end" {
-            Some(StepWord::End)
-        } else if word == "start" {
-            Some(StepWord::Start)
-        } else if word == "look" {
-            Some(StepWord::Look)
-        } else if word == "show" {
-            Some(StepWord::Show)
-        } else if word == "file" {
-            Some(StepWord::File)
-        } else if word == "take" {
-            Some(StepWord::Take)
-        } else if word == "work" {
-            Some(StepWord::Work)
-        } else if word == "put" {
-            Some(StepWord::Put)
-        } else if word == "refute" {
-            Some(StepWord::Refute)
-        } else if word == "ask" {
-            Some(StepWord::Ask)
-        } else {
-            None
+        match word {
+            "begin" => Some(StepWord::Begin),
+            "end" => Some(StepWord::End),
+            "start" => Some(StepWord::Start),
+            "look" => Some(StepWord::Look),
+            "show" => Some(StepWord::Show),
+            "file" => Some(StepWord::File),
+            "take" => Some(StepWord::Take),
+            "work" => Some(StepWord::Work),
+            "put" => Some(StepWord::Put),
+            "refute" => Some(StepWord::Refute),
+            "ask" => Some(StepWord::Ask),
+            _ => None,
         }
     }
 }
