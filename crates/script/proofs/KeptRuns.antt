@@ -17,7 +17,7 @@ use Rattle.board.specs.declared.board.TheConstants.{MAX_CASES}
 use Rattle.board.specs.declared.piece.Piece.{Piece}
 use Rattle.board.specs.declared.answer.Answer.{Answer as Standing}
 use Rattle.board.specs.declared.answer.Answer.TheVariants.{Yes, No, Unknown, Open}
-use Rattle.snapshot.specs.Plans.{Plan, fresh_plan, after_looks}
+use Rattle.cut_plan.specs.Plans.{Plan, fresh_plan, after_looks}
 use Rattle.snapshot.specs.Runs.{Event, looks, sealed_sessions}
 use Rattle.snapshot.proofs.Filtered.{take-from}
 use Rattle.snapshot.proofs.FoundLooks.{after_is}

@@ -8,13 +8,13 @@ use Rattle.std.proofs.lemmas.Option.{slice_get_within}
 use Rattle.history.specs.declared.op_id.OpId.{OpId}
 use Rattle.history.specs.History.{HistoryValue, IsOp, session}
 use Rattle.recorder.specs.Sessions.{session_operation}
-use Rattle.snapshot.specs.declared.cell.Cell.TheVariants.{Call}
-use Rattle.snapshot.specs.Plans.{Look, Plan, seen_at, was_full, return_cell, call_cell, returns_found, calls_found, next_return, next_call, next_cell, fresh_plan, after_looks, Follows, IsFinished}
+use Rattle.cut_plan.specs.declared.cell.Cell.TheVariants.{Call}
+use Rattle.cut_plan.specs.Plans.{Look, Plan, seen_at, was_full, return_cell, call_cell, returns_found, calls_found, next_return, next_call, next_cell, fresh_plan, after_looks, Follows, IsFinished}
+use Rattle.cut_plan.specs.Walks.{Stands, WalksToTheEnd}
+use Rattle.cut_plan.specs.Steps.PlanStates.{PlanState}
 use Rattle.snapshot.specs.Runs.{Event, call_of, return_of, look_of, begun, ended, looks, IsAt, IsRun, HasSealed, operations, sealed, sealed_session, sealed_sessions}
 use Rattle.snapshot.specs.Runs.Event.{Ended, Started, Looked}
 use Rattle.snapshot.specs.Seals.{known_returns}
-use Rattle.snapshot.specs.Walks.{Stands, WalksToTheEnd}
-use Rattle.snapshot.specs.Steps.PlanStates.{PlanState}
 use Rattle.snapshot.specs.Cuts.{HasReturn, IsConsistentCut}
 use Rattle.snapshot.proofs.Filtered.{take-from, take-stands, picked_more, picked_whole, picked_front}
 use Rattle.snapshot.proofs.FoundPlaces.{first_from, first_below, full_is, looks_are, returns_over, calls_over, returns_over_at, return_behind, call_behind, returns_stay}

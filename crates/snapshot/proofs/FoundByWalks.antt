@@ -4,11 +4,11 @@ use Rattle.std.specs.Prelude.{Some, slice_get}
 use Rattle.history.specs.History.{HistoryValue}
 use Rattle.recorder.specs.Lanes.{Cells}
 use Rattle.recorder.specs.Sessions.{LanesState, ReceiptState}
-use Rattle.snapshot.specs.Plans.{Look, Plan, Follows, IsFinished, after_looks, fresh_plan}
+use Rattle.cut_plan.specs.Plans.{Look, Plan, Follows, IsFinished, after_looks, fresh_plan}
+use Rattle.cut_plan.specs.Steps.PlanStates.{PlanState}
+use Rattle.cut_plan.specs.Walks.{Stands, WalksToTheEnd}
 use Rattle.snapshot.specs.Seals.{AreToldBy, HoldsFound, IsFoundByWalk, LookerState, plan_after, plan_before}
 use Rattle.snapshot.specs.Steps.Looking.{KeepsLanes}
-use Rattle.snapshot.specs.Steps.PlanStates.{PlanState}
-use Rattle.snapshot.specs.Walks.{Stands, WalksToTheEnd}
 
 module _ {S C R : Type 0} where
   pub found_by_walk : (lanes : LanesState S) (rs : List (ReceiptState C R)) (h : HistoryValue S C R) (a b : LookerState S C R) (st st' : PlanState) (k cap : ℕ) (told : List ℕ)

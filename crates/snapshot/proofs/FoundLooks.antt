@@ -7,15 +7,15 @@ use Rattle.std.proofs.lemmas.Option.{slice_get_past, slice_get_within, slice_get
 use Rattle.history.specs.declared.op_id.OpId.{OpId}
 use Rattle.recorder.specs.Lanes.{Entry}
 use Rattle.recorder.specs.Sessions.{LanesState, ReceiptState}
-use Rattle.snapshot.specs.declared.cell.Cell.{Cell}
-use Rattle.snapshot.specs.declared.cell.Cell.TheVariants.{Return, Call}
+use Rattle.cut_plan.specs.declared.cell.Cell.{Cell}
+use Rattle.cut_plan.specs.declared.cell.Cell.TheVariants.{Return, Call}
+use Rattle.cut_plan.specs.Plans.{Look, Plan, seen_at, was_read, was_full, same_op, same_cell, return_cell, call_cell, first_failing, last_failing, first_named, named_at, or_else, next_return, next_call, next_cell, looked_at, after_looks, told_of, Follows}
+use Rattle.cut_plan.proofs.Seen.{seen_other, seen_new, same_op_itself, other_index, other_session}
+use Rattle.cut_plan.proofs.Columns.{first_is}
+use Rattle.cut_plan.proofs.ListPlaces.{get_set_same, get_set_other}
 use Rattle.snapshot.specs.declared.longest.LongestReceipt.{LongestReceipt}
-use Rattle.snapshot.specs.Plans.{Look, Plan, seen_at, was_read, was_full, same_op, same_cell, return_cell, call_cell, first_failing, last_failing, first_named, named_at, or_else, next_return, next_call, next_cell, looked_at, after_looks, told_of, Follows}
 use Rattle.snapshot.specs.Seals.{AreToldBy}
 use Rattle.snapshot.specs.Steps.Tables.{TableState, IsLongest, RunsTo, TellsLooks, was_found, is_note, has_note}
-use Rattle.snapshot.proofs.Seen.{seen_other, seen_new, same_op_itself, other_index, other_session}
-use Rattle.snapshot.proofs.Columns.{first_is}
-use Rattle.snapshot.proofs.Standing.{get_set_same, get_set_other}
 
 -- one more look
 found_empty : (ls : List Look) (c d : Cell) → was_found (ls ++ (c, false) ∷ []) d ≡ was_found ls d

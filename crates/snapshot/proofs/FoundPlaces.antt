@@ -4,9 +4,9 @@ use Rattle.std.specs.Prelude.{Bool, true, false, not, ◌&&◌, Option, Some, No
 use Rattle.std.specs.List.{filter_map, cons_option}
 use Rattle.std.proofs.lemmas.Bool.{cases_lt, cases_eq, lt-ltb}
 use Rattle.history.specs.declared.op_id.OpId.{OpId}
-use Rattle.snapshot.specs.declared.cell.Cell.{Cell}
-use Rattle.snapshot.specs.declared.cell.Cell.TheVariants.{Return, Call}
-use Rattle.snapshot.specs.Plans.{Look, Plan, seen_at, same_op, same_cell, return_cell, call_cell, was_read, was_full, named_at, or_else, first_named, first_failing, last_failing, told_of, returns_found, calls_found, unread_at, next_return, next_call, next_cell, looked_at, after_looks, Follows}
+use Rattle.cut_plan.specs.declared.cell.Cell.{Cell}
+use Rattle.cut_plan.specs.declared.cell.Cell.TheVariants.{Return, Call}
+use Rattle.cut_plan.specs.Plans.{Look, Plan, seen_at, same_op, same_cell, return_cell, call_cell, was_read, was_full, named_at, or_else, first_named, first_failing, last_failing, told_of, returns_found, calls_found, unread_at, next_return, next_call, next_cell, looked_at, after_looks, Follows}
 
 -- the first place that fails a test
 module _ (test : ℕ → Bool) where

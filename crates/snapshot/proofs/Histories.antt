@@ -9,8 +9,8 @@ use Rattle.history.specs.declared.advice.Advice.{Advice}
 use Rattle.recorder.specs.Lanes.{Cells, IsLane, Returned}
 use Rattle.recorder.specs.Sessions.{ReceiptState, LanesState}
 use Rattle.recorder.proofs.Telling.{get_map, get_push_cases}
+use Rattle.cut_plan.specs.Plans.{Look, Plan, seen_at, was_full, return_cell, call_cell, first_failing, after_looks, fresh_plan, returns_found, calls_found, Follows}
 use Rattle.snapshot.specs.declared.longest.LongestReceipt.{LongestReceipt}
-use Rattle.snapshot.specs.Plans.{Look, Plan, seen_at, was_full, return_cell, call_cell, first_failing, after_looks, fresh_plan, returns_found, calls_found, Follows}
 use Rattle.snapshot.specs.Seals.{AdvisesAll, AreReceiptsOf, HoldsAll, HoldsFound, IsSealOf}
 use Rattle.snapshot.specs.Steps.Tables.{SealedNotes, TableState, IsSealedSession, IsTable, IsLongest, RunsTo, TellsLooks, advised, names, was_found}
 use Rattle.snapshot.specs.Steps.Sealing.{AreSealedSessions, AreLanesFound, IsLaneFound, IsLaneSealed, IsOfTable, AreLanesSealed, IsShown, IsToldBy}

@@ -2,13 +2,13 @@
 use Rattle.std.proofs.Common.{◌≡◌, ℕ, zero, suc, ◌<◌, ◌-◌, List, [], ◌∷◌, inl, inr, refl, sym, ◌∙◌, ap, subst, arith}
 use Rattle.std.specs.Prelude.{Bool, true, false, not, ◌&&◌, Option, Some, None, if◌then◌else◌, nat_lt, slice_get}
 use Rattle.history.specs.declared.op_id.OpId.{OpId}
-use Rattle.snapshot.specs.declared.cell.Cell.{Cell}
-use Rattle.snapshot.specs.declared.cell.Cell.TheVariants.{Return, Call}
+use Rattle.cut_plan.specs.declared.cell.Cell.{Cell}
+use Rattle.cut_plan.specs.declared.cell.Cell.TheVariants.{Return, Call}
+use Rattle.cut_plan.specs.Plans.{Look, Plan, return_cell, was_read, was_full, first_failing, last_failing, named_at, or_else, first_named, told_of, next_return, next_call, next_cell, looked_at, fresh_plan, after_looks, Follows}
+use Rattle.cut_plan.specs.Walks.{Stands, StandsForLooks, Walks}
+use Rattle.cut_plan.specs.Steps.PlanStates.{PlanState}
+use Rattle.cut_plan.proofs.Seen.{seen_other}
 use Rattle.snapshot.specs.LookOrder.{ReturnsComeFirst, GrewByReturnsFirst}
-use Rattle.snapshot.specs.Plans.{Look, Plan, return_cell, was_read, was_full, first_failing, last_failing, named_at, or_else, first_named, told_of, next_return, next_call, next_cell, looked_at, fresh_plan, after_looks, Follows}
-use Rattle.snapshot.specs.Walks.{Stands, StandsForLooks, Walks}
-use Rattle.snapshot.specs.Steps.PlanStates.{PlanState}
-use Rattle.snapshot.proofs.Seen.{seen_other}
 use Rattle.snapshot.proofs.FoundPlaces.{or_some, is_return, named_alike, next_is_return, next_is_call}
 
 -- the next return cell of a lane, from what was seen of its return cells

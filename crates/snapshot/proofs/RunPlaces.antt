@@ -7,9 +7,9 @@ use Rattle.std.proofs.lemmas.Option.{slice_get_within}
 use Rattle.history.specs.declared.op_id.OpId.{OpId}
 use Rattle.recorder.specs.Sessions.{session_operation}
 use Rattle.recorder.proofs.Telling.{get_pushed, get_push_cases}
-use Rattle.snapshot.specs.declared.cell.Cell.{Cell}
-use Rattle.snapshot.specs.declared.cell.Cell.TheVariants.{Return, Call}
-use Rattle.snapshot.specs.Plans.{Look, Plan, seen_at, next_cell, after_looks, Follows}
+use Rattle.cut_plan.specs.declared.cell.Cell.{Cell}
+use Rattle.cut_plan.specs.declared.cell.Cell.TheVariants.{Return, Call}
+use Rattle.cut_plan.specs.Plans.{Look, Plan, seen_at, next_cell, after_looks, Follows}
 use Rattle.snapshot.specs.Runs.{Event, call_of, return_of, counts_of, look_of, begun, ended, sealers, looks, IsAt, HasBegun, HasEnded, CanFollow, IsRun}
 use Rattle.snapshot.specs.Runs.Event.{Began, Ended, Started, Looked}
 use Rattle.snapshot.proofs.Meetings.{get_in}

@@ -2,7 +2,7 @@
 use Rattle.std.proofs.Common.{◌≡◌, ℕ, zero, suc, ◌+◌, ◌<◌, ◌≤◌, List, [], ◌∷◌, length, refl, ◌∙◌, ap, arith}
 use Rattle.std.specs.Prelude.{Option, Some, None, map, slice_get, slice_index_or}
 use Rattle.std.specs.List.{filter_map}
-use Rattle.snapshot.specs.Plans.{Plan}
+use Rattle.cut_plan.specs.Plans.{Plan}
 use Rattle.snapshot.specs.Runs.{Event, operations, sealed_session, sealed_sessions}
 
 module _ {C R : Type 0} where

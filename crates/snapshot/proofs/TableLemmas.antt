@@ -7,21 +7,17 @@ use Rattle.history.specs.declared.advice.Advice.{Advice}
 use Rattle.recorder.specs.Lanes.{Cells, Entry, IsLane, IsFitting, Returned, shown}
 use Rattle.recorder.specs.Sessions.{LanesState, ReceiptState}
 use Rattle.recorder.proofs.Telling.{get_push_cases}
+use Rattle.cut_plan.specs.declared.cell.Cell.{Cell}
+use Rattle.cut_plan.specs.Plans.{Look, call_cell, return_cell}
+use Rattle.cut_plan.proofs.ListPlaces.{read_at, get_set_same, get_set_other}
 use Rattle.snapshot.specs.declared.longest.LongestReceipt.{LongestReceipt}
-use Rattle.snapshot.specs.declared.cell.Cell.{Cell}
-use Rattle.snapshot.specs.Plans.{Look, call_cell, return_cell}
 use Rattle.snapshot.specs.Seals.{AreReceiptsOf, AreToldBy}
 use Rattle.snapshot.specs.Steps.Tables.{TableState, IsTable, AreTables, IsReturnFound, IsCallFound, IsLongest, IsLooker, TellsLooks}
 use Rattle.snapshot.proofs.FoundLooks.{tells_empty, tells_return, tells_call}
-use Rattle.snapshot.proofs.Standing.{get_set_same, get_set_other}
 
 module _ {A : Type 0} where
   pub some_same : (x y : A) → Some x ≡ Some y → x ≡ y
   some_same x y e = cc
-
-  -- what was read at a place stands there
-  pub read_at : (xs : List A) (i : ℕ) (x : A) → i < length xs → x ≡ get_or xs i x → slice_get xs i ≡ Some x
-  read_at xs i x h e = slice_get-get_or xs i x h ∙ ap Some (sym e)
 
   -- past the end there is nothing
   pub none_past : (xs : List A) (i : ℕ) → slice_get xs i ≡ None → length xs ≤ i

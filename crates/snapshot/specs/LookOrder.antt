@@ -1,8 +1,8 @@
 -- In which order cells are looked at. (This project's profile.)
 use Rattle.std.specs.Prelude.{◌≡◌, ℕ, ◌<◌, ◌++◌, Bool, List, Some, slice_get}
 use Rattle.history.specs.declared.op_id.OpId.{OpId}
-use Rattle.snapshot.specs.declared.cell.Cell.TheVariants.{Return, Call}
-use Rattle.snapshot.specs.Plans.{Look}
+use Rattle.cut_plan.specs.declared.cell.Cell.TheVariants.{Return, Call}
+use Rattle.cut_plan.specs.Plans.{Look}
 
 -- of these looks, oldest first, each at a return cell comes before each at a call cell
 abbrev pub ReturnsComeFirst : List Look → Type 0

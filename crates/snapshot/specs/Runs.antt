@@ -3,9 +3,9 @@ use Rattle.std.specs.Prelude.{◌≡◌, ℕ, ◌+◌, ◌<◌, ◌≤◌, ◌==
 use Rattle.std.specs.List.{filter_map}
 use Rattle.history.specs.declared.op_id.OpId.{OpId}
 use Rattle.history.specs.History.{HistoryValue}
-use Rattle.snapshot.specs.declared.cell.Cell.{Cell}
-use Rattle.snapshot.specs.declared.cell.Cell.TheVariants.{Return, Call}
-use Rattle.snapshot.specs.Plans.{Look, Plan, fresh_plan, after_looks, returns_found, calls_found, Follows, IsFinished}
+use Rattle.cut_plan.specs.declared.cell.Cell.{Cell}
+use Rattle.cut_plan.specs.declared.cell.Cell.TheVariants.{Return, Call}
+use Rattle.cut_plan.specs.Plans.{Look, Plan, fresh_plan, after_looks, returns_found, calls_found, Follows, IsFinished}
 
 -- an event: an operation began, with its call, or ended, with its return; or a sealer started, and was told of so many
 -- operations of each session, or looked at a cell and was answered whether it is full

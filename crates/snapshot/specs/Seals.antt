@@ -6,7 +6,7 @@ use Rattle.history.specs.declared.advice.Advice.{Advice}
 use Rattle.history.specs.declared.op_id.OpId.{OpId}
 use Rattle.recorder.specs.Lanes.{Cells}
 use Rattle.recorder.specs.Sessions.{LanesState, ReceiptState, SessionState, begun, session_operation}
-use Rattle.snapshot.specs.Plans.{Look, Plan, after_looks, calls_found, fresh_plan, returns_found, Follows, IsFinished}
+use Rattle.cut_plan.specs.Plans.{Look, Plan, after_looks, calls_found, fresh_plan, returns_found, Follows, IsFinished}
 
 -- a seal: its history, for each session the cells whose returns it holds and those whose calls it holds behind them, and for
 -- each operation of each session the store's advice, if it has a return

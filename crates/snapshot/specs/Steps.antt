@@ -2,6 +2,5 @@
 pub mod Comparing
 pub mod InLanes
 pub mod Looking
-pub mod PlanStates
 pub mod Sealing
 pub mod Tables

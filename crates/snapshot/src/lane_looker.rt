@@ -2,18 +2,18 @@
 
 ghost use Rattle.std.specs.Prelude.{◌≡◌, ℕ, ◌<◌, ◌≤◌, ◌++◌, ◌∷◌, [], length, IfOk, IfSome, OnErr, Some, slice_get, slice_index};
 ghost use Rattle.recorder.specs.Lanes.{Cells};
-ghost use Rattle.snapshot.specs.Plans.{return_cell};
+ghost use Rattle.cut_plan.specs.Plans.{return_cell};
 ghost use Rattle.snapshot.specs.Seals.{AreReceiptsOf, AreToldBy};
 ghost use Rattle.snapshot.specs.Steps.InLanes.{AreWithin, HasReceipt, IsCallFoundAt, IsReturnFoundAt};
 ghost use Rattle.snapshot.specs.Steps.Tables.{AreTables, TellsLooks};
 ghost use Rattle.snapshot.specs.Steps.Looking.{Looked, NotLooked};
 
-use crate::cell::Cell;
 use crate::finding::{find_call, find_return};
 use crate::found::Found;
 use crate::lane_table::LaneTable;
 use crate::longest::longest;
 use crate::looker::Looker;
+use cut_plan::Cell;
 use history::OpId;
 use recorder::{Lanes, Receipt, Recorded, ReturnRecord};
 use std::alloc::{AllocError, Global};

@@ -3,16 +3,16 @@
 ghost use Rattle.std.specs.Prelude.{◌≡◌, ◌↔◌, ℕ, ◌+◌, ◌<◌, ◌≤◌, ◌++◌, ◌∷◌, [], Bool, List, Some, length, slice_get, slice_index, take};
 ghost use Rattle.history.specs.History.{session};
 ghost use Rattle.recorder.specs.Sessions.{session_operation};
+ghost use Rattle.cut_plan.specs.Plans.{Look, Plan, fresh_plan, after_looks, next_cell, returns_found, calls_found, Follows};
+ghost use Rattle.cut_plan.specs.Walks.{Stands, Walks, WalksToTheEnd};
+ghost use Rattle.cut_plan.specs.Steps.PlanStates.{PlanState};
 ghost use Rattle.snapshot.specs.LookOrder.{ReturnsComeFirst};
-ghost use Rattle.snapshot.specs.Plans.{Look, Plan, fresh_plan, after_looks, next_cell, returns_found, calls_found, Follows};
 ghost use Rattle.snapshot.specs.Seals.{known_returns};
-ghost use Rattle.snapshot.specs.Walks.{Stands, Walks, WalksToTheEnd};
-ghost use Rattle.snapshot.specs.Steps.PlanStates.{PlanState};
 ghost use Rattle.snapshot.specs.Runs.{CanFollow, Event, HasBegun, HasEnded, HasSealed, IsAt, IsRun, begun, ended, looks, sealed, sealers};
 ghost use Rattle.snapshot.specs.Runs.Event.{Looked, Started};
 ghost use Rattle.snapshot.specs.Cuts.{HasReturn, IsConsistentCut};
 
-use crate::cell::Cell;
+use cut_plan::Cell;
 use history::OpId;
 use object_trait::SeqObject;
 

@@ -1,17 +1,15 @@
-//! Seals of what a recorder holds: which cells a sealer looks at, in which order, and what it finds.
+//! Seals of what a recorder holds: what a sealer finds where it looks at the cells that a plan names.
 //!
 //! [`seal`] gives a [`Sealed`], [`meet`] says how far it and a session hold the same, and [`laws`] has what holds of every run.
-//! [`walk`] follows a [`CutPlan`] with any [`Looker`]. It uses object_trait, history, recorder, once_cell and thiserror.
+//! [`walk`] follows a [`CutPlan`] of cut_plan with any [`Looker`]. It uses object_trait, history, recorder, cut_plan, once_cell
+//! and thiserror.
 //! How finds are kept in tables and how receipts are compared may change: callers rest on the contracts alone.
 #![tactic(auto)]
 
-mod cell;
 mod comparing;
-mod cut_plan;
 mod finding;
 mod found;
 mod lane_looker;
-mod lane_plan;
 mod lane_table;
 pub mod laws;
 mod longest;
@@ -23,8 +21,7 @@ mod sealing;
 mod sealing_lane;
 mod walking;
 
-pub use cell::Cell;
-pub use cut_plan::CutPlan;
+pub use cut_plan::{Cell, CutPlan};
 pub use lane_looker::LaneLooker;
 pub use looker::Looker;
 pub use meeting::{Met, meet};

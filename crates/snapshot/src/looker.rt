@@ -1,9 +1,9 @@
 //! What a looker does: it looks at cells, and keeps the list of its looks with what each saw.
 
 ghost use Rattle.std.specs.Prelude.{◌≡◌, ◌++◌, ◌∷◌, [], List, IfOk, OnErr};
-ghost use Rattle.snapshot.specs.Plans.{Look};
+ghost use Rattle.cut_plan.specs.Plans.{Look};
 
-use crate::cell::Cell;
+use cut_plan::Cell;
 use std::alloc::AllocError;
 
 /// Looks at cells, and keeps the list of its looks with what each saw.

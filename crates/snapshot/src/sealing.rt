@@ -2,20 +2,20 @@
 
 ghost use Rattle.std.specs.Prelude.{◌≡◌, ◌<◌, ℕ, IfOk, IfErr, length, map, slice_get, Some};
 ghost use Rattle.std.specs.List.{flat_map};
+ghost use Rattle.cut_plan.specs.Plans.{Follows};
 ghost use Rattle.snapshot.specs.Steps.Tables.{advised};
 ghost use Rattle.snapshot.specs.Seals.{AdvisesAll, AreReceiptsOf, HoldsAll, HoldsFound, IsFoundByWalk, IsSealOf, plan_after, plan_before};
-ghost use Rattle.snapshot.specs.Plans.{Follows};
 ghost use Rattle.snapshot.specs.Steps.Comparing.{SharesCells};
 ghost use Rattle.snapshot.specs.Steps.Sealing.{AreLanesFound, AreLanesSealed, IsShown};
 
 use crate::comparing::compare_receipt;
-use crate::cut_plan::CutPlan;
 use crate::lane_looker::LaneLooker;
 use crate::longest::longest;
 use crate::sealed::Sealed;
 use crate::sealed_lane::SealedLane;
 use crate::sealing_lane::seal_lane;
 use crate::walking::walk;
+use cut_plan::CutPlan;
 use history::{Advice, History};
 use object_trait::SeqObject;
 use recorder::{Lanes, Receipt, RecordError, Recorded};

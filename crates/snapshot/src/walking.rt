@@ -1,11 +1,11 @@
 //! A walk over the cells that a plan names, which looks at each of them once.
 
 ghost use Rattle.std.specs.Prelude.{IfOk, OnErr};
+ghost use Rattle.cut_plan.specs.Walks.{Walks, WalksToTheEnd};
 ghost use Rattle.snapshot.specs.LookOrder.{GrewByReturnsFirst};
-ghost use Rattle.snapshot.specs.Walks.{Walks, WalksToTheEnd};
 
-use crate::cut_plan::CutPlan;
 use crate::looker::Looker;
+use cut_plan::CutPlan;
 use std::alloc::AllocError;
 
 /// Looks at each cell that the plan names, once, in the plan's order: the return cells before the call cells, whatever looks

@@ -2,7 +2,7 @@
 use Rattle.std.proofs.Common.{◌≡◌, ℕ, zero, suc, ◌≤◌, List, [], ◌∷◌, ◌++◌, length, get_or, refl, sym, ap, arith, subst}
 use Rattle.std.specs.Prelude.{Bool, Some, slice_get}
 use Rattle.std.proofs.lemmas.List.{get_or_past}
-use Rattle.snapshot.specs.Steps.PlanStates.{PlanState}
+use Rattle.cut_plan.specs.Steps.PlanStates.{PlanState}
 use Rattle.world.specs.Steps.Recordings.{State, IsLane, IsState, Shows, lane_of}
 use Rattle.world.proofs.Kept.{empty_lane}
 use Rattle.world.proofs.RunsRecorded.{recorded_none}

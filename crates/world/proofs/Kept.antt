@@ -7,7 +7,7 @@ use Rattle.std.proofs.lemmas.List.{get_or-set_other, length-append, length-take-
 use Rattle.std.proofs.lemmas.Option.{slice_get_within, slice_get-get_or, get_or_from_slice_get}
 use Rattle.history.specs.History.{IsSession}
 use Rattle.recorder.proofs.Telling.{get_push_cases}
-use Rattle.snapshot.specs.Plans.{Plan, returns_found, calls_found}
+use Rattle.cut_plan.specs.Plans.{Plan, returns_found, calls_found}
 use Rattle.snapshot.specs.Runs.{operations}
 use Rattle.snapshot.proofs.Filtered.{take-from}
 use Rattle.snapshot.proofs.SealedSessions.{operations_many}

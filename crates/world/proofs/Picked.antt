@@ -5,8 +5,8 @@ use Rattle.std.specs.List.{filter_map, cons_option}
 use Rattle.std.proofs.lemmas.List.{append-nil}
 use Rattle.std.proofs.lemmas.List.Elements.{filter_map-append}
 use Rattle.history.specs.declared.op_id.OpId.{OpId}
-use Rattle.snapshot.specs.declared.cell.Cell.{Cell}
-use Rattle.snapshot.specs.Plans.{Look}
+use Rattle.cut_plan.specs.declared.cell.Cell.{Cell}
+use Rattle.cut_plan.specs.Plans.{Look}
 use Rattle.snapshot.specs.Runs.{Event, call_of, return_of, look_of, begun, ended, looks}
 use Rattle.snapshot.specs.Runs.Event.{Began, Ended, Looked}
 

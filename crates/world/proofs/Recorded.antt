@@ -3,7 +3,7 @@ use Rattle.std.proofs.Common.{◌≡◌, ℕ, ◌<◌, ◌≤◌, ◌==◌, inl,
 use Rattle.std.specs.Prelude.{Bool, true, false, Some, None, if◌then◌else◌, slice_get}
 use Rattle.std.proofs.lemmas.Bool.{cases_eq}
 use Rattle.recorder.proofs.Telling.{get_push_cases}
-use Rattle.snapshot.specs.Plans.{Look, Plan, fresh_plan, after_looks, looked_at, next_cell, Follows}
+use Rattle.cut_plan.specs.Plans.{Look, Plan, fresh_plan, after_looks, looked_at, next_cell, Follows}
 use Rattle.snapshot.specs.Runs.{Event, counts_of, look_of, sealers, looks, CanFollow, IsRun}
 use Rattle.snapshot.specs.Runs.Event.{Began, Ended, Started, Looked}
 use Rattle.snapshot.proofs.Filtered.{picked_at, picked_whole}

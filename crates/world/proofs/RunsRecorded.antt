@@ -7,8 +7,8 @@ use Rattle.history.specs.History.{HistoryValue}
 use Rattle.causal_order.specs.Orders.{op}
 use Rattle.cert_check.specs.declared.criterion.Criterion.{Criterion}
 use Rattle.bad_patterns.specs.declared.pattern.Pattern.{Pattern}
-use Rattle.snapshot.specs.declared.cell.Cell.{Cell}
-use Rattle.snapshot.specs.Plans.{fresh_plan, after_looks, next_cell}
+use Rattle.cut_plan.specs.declared.cell.Cell.{Cell}
+use Rattle.cut_plan.specs.Plans.{fresh_plan, after_looks, next_cell}
 use Rattle.snapshot.specs.Runs.{Event, begun, ended, sealers, looks}
 use Rattle.snapshot.specs.Runs.Event.{Began, Ended, Started, Looked}
 use Rattle.snapshot.proofs.Filtered.{take-from}

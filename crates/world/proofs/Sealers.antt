@@ -6,15 +6,16 @@ use Rattle.std.proofs.lemmas.List.{length-append}
 use Rattle.std.proofs.lemmas.Option.{slice_get_within}
 use Rattle.history.specs.History.{HistoryValue}
 use Rattle.recorder.proofs.Telling.{get_push_cases}
-use Rattle.snapshot.specs.declared.cell.Cell.{Cell}
-use Rattle.snapshot.specs.declared.cell.Cell.TheVariants.{Return, Call}
-use Rattle.snapshot.specs.Plans.{Look, Plan, fresh_plan, after_looks, looked_at, next_cell}
-use Rattle.snapshot.specs.Walks.{Stands}
-use Rattle.snapshot.specs.Steps.PlanStates.{PlanState}
+use Rattle.cut_plan.specs.declared.cell.Cell.{Cell}
+use Rattle.cut_plan.specs.declared.cell.Cell.TheVariants.{Return, Call}
+use Rattle.cut_plan.specs.Plans.{Look, Plan, fresh_plan, after_looks, looked_at, next_cell}
+use Rattle.cut_plan.specs.Walks.{Stands}
+use Rattle.cut_plan.specs.Steps.PlanStates.{PlanState}
+use Rattle.cut_plan.proofs.ListPlaces.{get_set_same, get_set_other}
+use Rattle.cut_plan.proofs.Standing.{next_is}
 use Rattle.snapshot.specs.Runs.{Event, call_of, return_of, counts_of, look_of, begun, ended, sealers, looks, IsFull}
 use Rattle.snapshot.specs.Runs.Event.{Started, Looked}
 use Rattle.snapshot.proofs.RunPlaces.{begun_counted, begun_there, ended_counted, ended_there}
-use Rattle.snapshot.proofs.Standing.{next_is, get_set_same, get_set_other}
 use Rattle.snapshot.proofs.TableLemmas.{none_past}
 use Rattle.world.specs.declared.step.StepOf.TheVariants.{Start, Look as Looking}
 use Rattle.world.specs.declared.reply.ReplyOf.{ReplyOf}

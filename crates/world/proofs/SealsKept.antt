@@ -6,8 +6,8 @@ use Rattle.std.proofs.Math.Seq.{take-append_seam}
 use Rattle.std.proofs.lemmas.List.{append-nil}
 use Rattle.std.proofs.lemmas.List.Elements.{filter_map-append}
 use Rattle.history.specs.History.{HistoryValue}
-use Rattle.snapshot.specs.declared.cell.Cell.{Cell}
-use Rattle.snapshot.specs.Plans.{Look, Plan, fresh_plan, after_looks, looked_at, next_cell, Follows}
+use Rattle.cut_plan.specs.declared.cell.Cell.{Cell}
+use Rattle.cut_plan.specs.Plans.{Look, Plan, fresh_plan, after_looks, looked_at, next_cell, Follows}
 use Rattle.snapshot.specs.Runs.{Event, counts_of, look_of, sealers, looks, sealed, HasSealed}
 use Rattle.snapshot.specs.Cuts.{IsConsistentCut}
 use Rattle.snapshot.proofs.RunPlaces.{sealer_started}

@@ -8,8 +8,8 @@ use Rattle.std.proofs.lemmas.Option.{slice_get_within}
 use Rattle.history.specs.declared.op_id.OpId.{OpId}
 use Rattle.history.specs.History.{HistoryValue}
 use Rattle.causal_order.specs.Orders.{op}
-use Rattle.snapshot.specs.Plans.{Look, fresh_plan, after_looks}
-use Rattle.snapshot.specs.Walks.{Stands}
+use Rattle.cut_plan.specs.Plans.{Look, fresh_plan, after_looks}
+use Rattle.cut_plan.specs.Walks.{Stands}
 use Rattle.snapshot.specs.Runs.{Event, call_of, return_of, counts_of, look_of, begun, ended, CanFollow, IsRun}
 use Rattle.snapshot.specs.Runs.Event.{Began, Ended}
 use Rattle.snapshot.proofs.RunPlaces.{ended_fewer, one_pending}

@@ -3,13 +3,13 @@ use Rattle.std.proofs.Common.{◌≡◌, ℕ, zero, suc, ◌+◌, ◌<◌, ◌�
 use Rattle.std.specs.Prelude.{Bool, Option, Some, None, option_map, slice_get}
 use Rattle.std.proofs.lemmas.Option.{slice_get_within}
 use Rattle.history.specs.History.{HistoryValue}
-use Rattle.snapshot.specs.declared.cell.Cell.{Cell}
-use Rattle.snapshot.specs.Plans.{Look, Plan, fresh_plan, after_looks, next_cell, returns_found, calls_found}
-use Rattle.snapshot.specs.Walks.{Stands}
-use Rattle.snapshot.specs.Steps.PlanStates.{PlanState, state_next}
+use Rattle.cut_plan.specs.declared.cell.Cell.{Cell}
+use Rattle.cut_plan.specs.Plans.{Look, Plan, fresh_plan, after_looks, next_cell, returns_found, calls_found}
+use Rattle.cut_plan.specs.Walks.{Stands}
+use Rattle.cut_plan.specs.Steps.PlanStates.{PlanState, state_next}
+use Rattle.cut_plan.proofs.Standing.{next_is}
 use Rattle.snapshot.specs.Runs.{Event, begun, ended, sealers, looks, operations, sealed, sealed_sessions}
 use Rattle.snapshot.proofs.FoundPlaces.{looks_are}
-use Rattle.snapshot.proofs.Standing.{next_is}
 use Rattle.snapshot.proofs.TableLemmas.{none_past}
 use Rattle.world.specs.declared.step.StepOf.TheVariants.{Show}
 use Rattle.world.specs.declared.reply.ReplyOf.{ReplyOf}

@@ -3,8 +3,8 @@ use Rattle.std.specs.Prelude.{◌≡◌, ◌↔◌, ◌⊎◌, ℕ, ◌≤◌, B
 use Rattle.history.specs.declared.limits.TheConstants.{MAX_OPERATIONS}
 use Rattle.history.specs.History.{HistoryValue}
 use Rattle.causal_order.specs.Orders.{op}
-use Rattle.snapshot.specs.declared.cell.Cell.{Cell}
-use Rattle.snapshot.specs.Plans.{Plan, fresh_plan, after_looks, next_cell}
+use Rattle.cut_plan.specs.declared.cell.Cell.{Cell}
+use Rattle.cut_plan.specs.Plans.{Plan, fresh_plan, after_looks, next_cell}
 use Rattle.snapshot.specs.Runs.{Event, begun, ended, sealers, looks, sealed, IsFull}
 use Rattle.world.specs.declared.step.StepOf.{StepOf}
 use Rattle.world.specs.declared.step.StepOf.TheVariants.{Begin, End, Start, Look, Show}

@@ -1,9 +1,9 @@
 //! The recorder of the world, its sessions and its sealers, and the steps that change them.
 
 ghost use Rattle.std.specs.Prelude.{◌≡◌, ◌↔◌, ◌<◌, ◌≤◌, ℕ, [], length, option_copied, slice_get, IfOk, IsTrue, OnOk, None};
-ghost use Rattle.snapshot.specs.Plans.{Plan, fresh_plan};
-ghost use Rattle.snapshot.specs.Walks.{Stands};
-ghost use Rattle.snapshot.specs.Steps.PlanStates.{PlanState};
+ghost use Rattle.cut_plan.specs.Plans.{Plan, fresh_plan};
+ghost use Rattle.cut_plan.specs.Walks.{Stands};
+ghost use Rattle.cut_plan.specs.Steps.PlanStates.{PlanState};
 ghost use Rattle.world.specs.LaneReplies.{begin_refusal, end_refusal};
 ghost use Rattle.world.specs.Steps.Recordings.{Gave, IsTellableIn, Shows, Takes, done_in, found_in, is_full_in, lane_of, next_in};
 ghost use Rattle.world.specs.Steps.Worlds.{IsSealIn};

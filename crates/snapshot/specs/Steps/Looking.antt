@@ -1,7 +1,7 @@
 -- What one look of a looker at lanes does.
 use Rattle.std.specs.Prelude.{◌≡◌, ◌++◌, ◌∷◌, [], Bool}
 use Rattle.std.proofs.Common.{◌∙◌}
-use Rattle.snapshot.specs.declared.cell.Cell.{Cell}
+use Rattle.cut_plan.specs.declared.cell.Cell.{Cell}
 use Rattle.snapshot.specs.Seals.{LookerState}
 
 module _ {S C R : Type 0} where

@@ -3,10 +3,10 @@ use Rattle.std.specs.Prelude.{◌≡◌, ℕ, ◌+◌, ◌<◌, ◌≤◌, ◌++
 use Rattle.history.specs.declared.limits.TheConstants.{MAX_OPERATIONS}
 use Rattle.recorder.specs.Lanes.{Cells, Entry, shown}
 use Rattle.recorder.specs.Sessions.{ReceiptState}
+use Rattle.cut_plan.specs.Plans.{Look, call_cell, return_cell}
 use Rattle.snapshot.specs.declared.longest.LongestReceipt.{LongestReceipt}
 use Rattle.history.specs.History.{HistoryValue, session}
 use Rattle.history.specs.declared.advice.Advice.{Advice}
-use Rattle.snapshot.specs.Plans.{Look, call_cell, return_cell}
 use Rattle.snapshot.specs.Steps.Tables.{IsReturnedAs, SealedNotes, TableState, IsSealedSession, AreNotesOf, RunsTo, has_note, was_found}
 use Rattle.snapshot.specs.Steps.Comparing.{ReturnAgrees}
 

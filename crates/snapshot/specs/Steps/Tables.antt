@@ -3,9 +3,9 @@ use Rattle.std.specs.Prelude.{◌≡◌, ℕ, ◌+◌, ◌<◌, ◌≤◌, ◌&&
 use Rattle.history.specs.declared.advice.Advice.{Advice}
 use Rattle.recorder.specs.Lanes.{Cells, Entry, Returned, shown}
 use Rattle.recorder.specs.Sessions.{LanesState, ReceiptState}
+use Rattle.cut_plan.specs.declared.cell.Cell.{Cell}
+use Rattle.cut_plan.specs.Plans.{Look, call_cell, return_cell, same_cell}
 use Rattle.snapshot.specs.declared.longest.LongestReceipt.{LongestReceipt}
-use Rattle.snapshot.specs.declared.cell.Cell.{Cell}
-use Rattle.snapshot.specs.Plans.{Look, call_cell, return_cell, same_cell}
 use Rattle.snapshot.specs.Seals.{AreReceiptsOf, AreToldBy}
 
 -- one of these looks found the cell full

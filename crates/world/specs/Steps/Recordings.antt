@@ -2,11 +2,11 @@
 use Rattle.std.specs.Prelude.{◌≡◌, ℕ, ◌+◌, ◌≤◌, Bool, true, List, [], ◌∷◌, ◌++◌, length, take, Option, Some, None, slice_get, slice_index, slice_index_or, slice_set, nat_lt, zero, suc}
 use Rattle.history.specs.declared.limits.TheConstants.{MAX_OPERATIONS, MAX_SESSIONS}
 use Rattle.history.specs.History.{HistoryValue}
-use Rattle.snapshot.specs.declared.cell.Cell.{Cell}
-use Rattle.snapshot.specs.declared.cell.Cell.TheVariants.{Return, Call}
-use Rattle.snapshot.specs.Plans.{Plan, fresh_plan, after_looks, looked_at, next_cell, returns_found, calls_found, Follows}
-use Rattle.snapshot.specs.Walks.{Stands}
-use Rattle.snapshot.specs.Steps.PlanStates.{PlanState, state_next}
+use Rattle.cut_plan.specs.declared.cell.Cell.{Cell}
+use Rattle.cut_plan.specs.declared.cell.Cell.TheVariants.{Return, Call}
+use Rattle.cut_plan.specs.Plans.{Plan, fresh_plan, after_looks, looked_at, next_cell, returns_found, calls_found, Follows}
+use Rattle.cut_plan.specs.Walks.{Stands}
+use Rattle.cut_plan.specs.Steps.PlanStates.{PlanState, state_next}
 use Rattle.snapshot.specs.Runs.{Event, begun, ended, sealers, looks, operations, IsRun}
 use Rattle.world.specs.declared.step.StepOf.{StepOf}
 use Rattle.world.specs.declared.reply.ReplyOf.{ReplyOf}

@@ -1,5 +1,6 @@
 use Rattle.std.proofs.Common.{◌≤◌, rules, sym, ◌∙◌, subst, length}
-use Rattle.snapshot.proofs.TableLemmas.{count_most, count_reached, count_within, read_at, best_place, best_some, some_same}
+use Rattle.cut_plan.proofs.ListPlaces.{read_at}
+use Rattle.snapshot.proofs.TableLemmas.{count_most, count_reached, count_within, best_place, best_some, some_same}
 use Rattle.recorder.specs.Lanes.{IsLane}
 use Rattle.snapshot.proofs.lane_looker.told_count.Goals as goal
 

@@ -1,4 +1,4 @@
-use Rattle.snapshot.specs.Plans.{fresh_plan}
+use Rattle.cut_plan.specs.Plans.{fresh_plan}
 use Rattle.snapshot.proofs.ReturnsFirst.{returns_first, fresh_first}
 use Rattle.snapshot.proofs.laws.returns_come_before_calls.Goals as goal
 

@@ -1,4 +1,4 @@
-use Rattle.snapshot.specs.Plans.{fresh_plan, after_looks}
+use Rattle.cut_plan.specs.Plans.{fresh_plan, after_looks}
 use Rattle.snapshot.specs.Runs.{looks}
 use Rattle.snapshot.proofs.ConsistentCuts.{seals_are_cuts, walks_seal}
 use Rattle.snapshot.proofs.laws.walks_give_consistent_cuts.Goals as goal

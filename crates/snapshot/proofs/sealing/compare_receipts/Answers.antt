@@ -1,8 +1,9 @@
 use Rattle.std.proofs.Common.{◌<◌, ◌≤◌, rules, arith, sym, ◌∙◌, ap, subst, length}
 use Rattle.std.specs.Prelude.{slice_get}
 use Rattle.std.proofs.lemmas.Option.{slice_get_within}
+use Rattle.cut_plan.proofs.ListPlaces.{read_at}
 use Rattle.snapshot.specs.Steps.Comparing.{SharesCells}
-use Rattle.snapshot.proofs.TableLemmas.{read_at, some_same}
+use Rattle.snapshot.proofs.TableLemmas.{some_same}
 use Rattle.snapshot.proofs.Histories.{shown_more}
 use Rattle.snapshot.proofs.sealing.compare_receipts.Goals as goal
 

@@ -3,7 +3,8 @@ use Rattle.std.specs.Prelude.{map, Some, slice_get}
 use Rattle.std.proofs.lemmas.List.{map-append}
 use Rattle.std.proofs.lemmas.Option.{slice_get_within}
 use Rattle.recorder.proofs.Telling.{length_push, length_map}
-use Rattle.snapshot.proofs.TableLemmas.{table_at, lanes_many, read_at}
+use Rattle.cut_plan.proofs.ListPlaces.{read_at}
+use Rattle.snapshot.proofs.TableLemmas.{table_at, lanes_many}
 use Rattle.snapshot.proofs.Histories.{count_in, lanes_more, lane_found, lanes_found_more}
 use Rattle.snapshot.specs.Steps.Sealing.{IsLaneFound}
 use Rattle.snapshot.proofs.Advising.{lanes_advised_more}

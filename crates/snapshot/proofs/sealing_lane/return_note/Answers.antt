@@ -1,7 +1,7 @@
 use Rattle.std.proofs.Common.{ap, sym, ◌∙◌, subst}
 use Rattle.std.specs.Prelude.{Some}
+use Rattle.cut_plan.proofs.ListPlaces.{read_at}
 use Rattle.snapshot.specs.Steps.Tables.{IsReturnFound}
-use Rattle.snapshot.proofs.TableLemmas.{read_at}
 use Rattle.snapshot.proofs.Sealings.{told_place, told_found}
 use Rattle.snapshot.proofs.sealing_lane.return_note.Goals as goal
 

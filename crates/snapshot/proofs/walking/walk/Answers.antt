@@ -1,7 +1,7 @@
 use Rattle.std.proofs.Common.{sym, subst}
-use Rattle.snapshot.specs.Walks.{Walks}
+use Rattle.cut_plan.specs.Walks.{Walks}
+use Rattle.cut_plan.proofs.Walked.{walks_more}
 use Rattle.snapshot.proofs.ReturnsFirst.{walk_looks_first}
-use Rattle.snapshot.proofs.Walked.{walks_more}
 use Rattle.snapshot.proofs.walking.walk.Goals as goal
 
 pub loop-cell-preserved : goal.loop-cell-preserved

@@ -1,5 +1,5 @@
-use Rattle.snapshot.specs.Walks.{Walks}
-use Rattle.snapshot.specs.Steps.PlanStates.{looks_left}
+use Rattle.cut_plan.specs.Walks.{Walks}
+use Rattle.cut_plan.specs.Steps.PlanStates.{looks_left}
 use Rattle.snapshot.proofs.walking.walk.Given as goal
 
 abbrev pub invariant-loop-cell : goal.invariant-loop-cell

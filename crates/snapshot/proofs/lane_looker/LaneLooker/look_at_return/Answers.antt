@@ -1,6 +1,6 @@
 use Rattle.std.proofs.Common.{◌≡◌, arith, subst, sym}
 use Rattle.std.specs.Prelude.{Some, slice_get}
-use Rattle.snapshot.specs.declared.cell.Cell.TheVariants.{Return}
+use Rattle.cut_plan.specs.declared.cell.Cell.TheVariants.{Return}
 use Rattle.snapshot.proofs.TableLemmas.{return_place, keeps_return, keeps_empty, lanes_many}
 use Rattle.snapshot.proofs.lane_looker.LaneLooker.look_at_return.Goals as goal
 

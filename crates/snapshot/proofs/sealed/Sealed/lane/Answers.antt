@@ -1,8 +1,8 @@
 use Rattle.std.proofs.Common.{◌<◌, length, ap, sym, ◌∙◌, subst}
 use Rattle.history.specs.History.{session}
 use Rattle.recorder.proofs.Telling.{length_map}
+use Rattle.cut_plan.proofs.ListPlaces.{read_at}
 use Rattle.snapshot.specs.Steps.Tables.{IsSealedSession, names}
-use Rattle.snapshot.proofs.TableLemmas.{read_at}
 use Rattle.snapshot.proofs.sealed.Sealed.lane.Goals as goal
 
 pub returns-clause-session : goal.returns-clause-session

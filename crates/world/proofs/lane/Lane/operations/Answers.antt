@@ -1,6 +1,6 @@
 use Rattle.std.proofs.Common.{rules, ◌≡◌, ◌<◌, length, take, slice_get, subst}
 use Rattle.std.specs.Prelude.{Some}
-use Rattle.snapshot.proofs.TableLemmas.{read_at}
+use Rattle.cut_plan.proofs.ListPlaces.{read_at}
 use Rattle.world.proofs.Kept.{operations_pushed}
 use Rattle.world.proofs.lane.Lane.operations.Goals as goal
 

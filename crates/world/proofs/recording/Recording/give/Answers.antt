@@ -1,7 +1,7 @@
 use Rattle.std.proofs.Common.{◌≡◌, ap, subst, sym, ◌∙◌, slice_get}
 use Rattle.std.specs.Prelude.{Some}
 use Rattle.std.proofs.lemmas.Option.{get_or_from_slice_get}
-use Rattle.snapshot.specs.Walks.{Stands}
+use Rattle.cut_plan.specs.Walks.{Stands}
 use Rattle.world.specs.Steps.Recordings.{with_look}
 use Rattle.world.proofs.recording.Recording.give.Goals as goal
 

@@ -1,7 +1,7 @@
 use Rattle.std.proofs.Common.{◌≡◌, ℕ, get_or, length, [], map}
 use Rattle.history.specs.History.{IsSession}
-use Rattle.snapshot.specs.Plans.{Plan}
-use Rattle.snapshot.specs.Walks.{Stands}
+use Rattle.cut_plan.specs.Plans.{Plan}
+use Rattle.cut_plan.specs.Walks.{Stands}
 use Rattle.world.specs.Steps.Recordings.{found_lanes}
 use Rattle.world.proofs.recording.Recording.sealed.Given as goal
 
