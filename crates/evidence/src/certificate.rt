@@ -39,10 +39,18 @@ pub fn certificate_from(
     ensures refused { IfErr result (IsRefused depth (token_of token.entry ∷ reader.old)) }
 {
     let mut parts = Parts::Begun;
-    if gather_list(alloc, token, reader, depth, &mut parts)? {
-        Ok(whole_of(parts))
-    } else {
-        Ok(None)
+    let gathered = gather_list(alloc, token, reader, depth, &mut parts);
+    let whole = whole_of(parts);
+    match gathered {
+        Ok(true) => Ok(whole),
+        Ok(false) => {
+            drop(whole);
+            Ok(None)
+        }
+        Err(error) => {
+            drop(whole);
+            Err(error)
+        }
     }
 }
 

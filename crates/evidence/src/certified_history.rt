@@ -1,6 +1,6 @@
 //! Reading a text that is a list of a history and a certificate.
 
-ghost use Rattle.std.specs.Prelude.{◌≡◌, ◌<◌, List, length, IfOk, IfErr, OnOk};
+ghost use Rattle.std.specs.Prelude.{◌≡◌, ◌<◌, Err, List, length, IfOk, IfErr, OnOk};
 ghost use Rattle.serde_json.specs.Data.{Data};
 ghost use Rattle.bounded_json.specs.Steps.Reading.{IsRefused};
 ghost use Rattle.operations.specs.AnyForm.{form_of, IsAnyHistory, IsJson};
@@ -56,11 +56,15 @@ fn next_part(
             let history = next_history(alloc, reader, depth)?;
             Ok(Some(PairParts::History(history)))
         }
-        PairParts::History(history) => {
-            let found = found_of(next_certificate(alloc, reader, depth)?);
-            Ok(Some(PairParts::Both(joined(history, found))))
-        }
-        PairParts::Both(_) => {
+        PairParts::History(history) => match next_certificate(alloc, reader, depth) {
+            Ok(read) => Ok(Some(PairParts::Both(joined(history, found_of(read))))),
+            Err(error) => {
+                drop(history);
+                Err(error)
+            }
+        },
+        PairParts::Both(pair) => {
+            drop(pair);
             pass_value(alloc, reader, depth)?;
             Ok(None)
         }
@@ -83,7 +87,7 @@ impl Gather for PairParts {
         let parts = mem::replace(self, PairParts::Begun);
         match next_part(alloc, reader, depth, parts)? {
             Some(next) => {
-                *self = next;
+                drop(mem::replace(self, next));
                 Ok(true)
             }
             None => Ok(false),
@@ -101,6 +105,14 @@ fn pair_of(parts: PairParts) -> Pair
     }
 }
 
+// The error, in the place of what was read before it.
+fn without(pair: Pair, error: ReadError) -> Pair
+    ensures { result ≡ Err error }
+{
+    drop(pair);
+    Err(error)
+}
+
 /// The history and the certificate in a text that is a JSON list of both.
 ///
 /// `NotJson` where `serde_json` refuses the text, `BadShape` where it is no list of two elements, else the first refusal of the
@@ -112,10 +124,12 @@ pub fn read_pair(alloc: Global, text: &[u8]) -> Result<(AnyHistory, FoundCertifi
     ensures refused { IfErr result (IsPairRefused text.now) }
 {
     let mut parts = PairParts::Begun;
-    match gather_text(alloc, text, &mut parts) {
-        Ok(true) => pair_of(parts),
-        Ok(false) => Err(ReadError::BadShape),
-        Err(TextError::NotJson) => Err(ReadError::NotJson),
-        Err(TextError::Memory) => Err(ReadError::Memory),
+    let gathered = gather_text(alloc, text, &mut parts);
+    let pair = pair_of(parts);
+    match gathered {
+        Ok(true) => pair,
+        Ok(false) => without(pair, ReadError::BadShape),
+        Err(TextError::NotJson) => without(pair, ReadError::NotJson),
+        Err(TextError::Memory) => without(pair, ReadError::Memory),
     }
 }

@@ -45,19 +45,32 @@ impl<H: ClaimHistory> Gather for ClaimParts<H> {
     ) -> Result<bool, TextError> {
         match mem::replace(self, ClaimParts::Nothing) {
             ClaimParts::Nothing => {
-                *self = ClaimParts::History(H::next(alloc, reader, depth)?);
+                let history = H::next(alloc, reader, depth)?;
+                drop(mem::replace(self, ClaimParts::History(history)));
                 Ok(true)
             }
-            ClaimParts::History(history) => {
-                *self = ClaimParts::Named(history, next_word(alloc, reader, depth)?);
-                Ok(true)
-            }
-            ClaimParts::Named(history, criterion) => {
-                let pattern = next_pattern(alloc, reader, depth)?;
-                *self = ClaimParts::Whole(history, criterion, pattern);
-                Ok(true)
-            }
-            ClaimParts::Whole(_, _, _) => {
+            ClaimParts::History(history) => match next_word(alloc, reader, depth) {
+                Ok(criterion) => {
+                    drop(mem::replace(self, ClaimParts::Named(history, criterion)));
+                    Ok(true)
+                }
+                Err(error) => {
+                    drop(history);
+                    Err(error)
+                }
+            },
+            ClaimParts::Named(history, criterion) => match next_pattern(alloc, reader, depth) {
+                Ok(pattern) => {
+                    drop(mem::replace(self, ClaimParts::Whole(history, criterion, pattern)));
+                    Ok(true)
+                }
+                Err(error) => {
+                    drop(history);
+                    Err(error)
+                }
+            },
+            ClaimParts::Whole(history, _, pattern) => {
+                drop((history, pattern));
                 pass_value(alloc, reader, depth)?;
                 Ok(false)
             }
@@ -94,8 +107,17 @@ pub(crate) fn read_three<H: ClaimHistory>(
     ensures refused { IfErr result (IsTextRefused text.now) }
 {
     let mut parts: ClaimParts<H> = ClaimParts::Nothing;
-    if !gather_text(alloc, text, &mut parts)? {
-        return Ok(None);
+    let gathered = gather_text(alloc, text, &mut parts);
+    let whole = parts.whole();
+    match gathered {
+        Ok(true) => Ok(whole),
+        Ok(false) => {
+            drop(whole);
+            Ok(None)
+        }
+        Err(error) => {
+            drop(whole);
+            Err(error)
+        }
     }
-    Ok(parts.whole())
 }

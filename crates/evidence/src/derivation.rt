@@ -14,6 +14,7 @@ use bounded_json::TextError;
 use history::OpId;
 use json::Reader;
 use std::alloc::Global;
+use std::mem;
 use token_reader::Gather;
 
 /// The words of lines.
@@ -85,7 +86,7 @@ impl Gather for LineParts {
                 let Some(word) = next_word(alloc, reader, depth)? else {
                     return Ok(false);
                 };
-                *self = LineParts::begun(word);
+                drop(mem::replace(self, LineParts::begun(word)));
                 Ok(true)
             }
             LineParts::Co(pair) => pair.take_next(alloc, reader, depth),

@@ -14,6 +14,7 @@ use bounded_json::TextError;
 use history::OpId;
 use json::Reader;
 use std::alloc::Global;
+use std::mem;
 use token_reader::Gather;
 
 /// The words of links.
@@ -78,7 +79,7 @@ impl Gather for LinkParts {
                 let Some(word) = next_word(alloc, reader, depth)? else {
                     return Ok(false);
                 };
-                *self = LinkParts::begun(word);
+                drop(mem::replace(self, LinkParts::begun(word)));
                 Ok(true)
             }
             LinkParts::Co(pair) => pair.take_next(alloc, reader, depth),

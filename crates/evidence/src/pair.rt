@@ -37,17 +37,25 @@ impl<A: Formed, B: Formed> Gather for Pair<A, B> {
                 let Some(first) = A::next(alloc, reader, depth)? else {
                     return Ok(false);
                 };
-                *self = Pair::First(first);
+                drop(mem::replace(self, Pair::First(first)));
                 Ok(true)
             }
-            Pair::First(first) => {
-                let Some(second) = B::next(alloc, reader, depth)? else {
-                    return Ok(false);
-                };
-                *self = Pair::Both(first, second);
-                Ok(true)
-            }
-            Pair::Both(_, _) => {
+            Pair::First(first) => match B::next(alloc, reader, depth) {
+                Ok(Some(second)) => {
+                    drop(mem::replace(self, Pair::Both(first, second)));
+                    Ok(true)
+                }
+                Ok(None) => {
+                    drop(first);
+                    Ok(false)
+                }
+                Err(error) => {
+                    drop(first);
+                    Err(error)
+                }
+            },
+            Pair::Both(first, second) => {
+                drop((first, second));
                 pass_value(alloc, reader, depth)?;
                 Ok(false)
             }

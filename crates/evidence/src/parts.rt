@@ -75,7 +75,8 @@ fn next_part(
             Some(explained) => Ok(Some(Parts::All(certificate_of(vectors, explained)))),
             None => Ok(None),
         },
-        Parts::All(_) => {
+        Parts::All(certificate) => {
+            drop(certificate);
             pass_value(alloc, reader, depth)?;
             Ok(None)
         }
@@ -98,7 +99,7 @@ impl Gather for Parts {
         let parts = mem::replace(self, Parts::Begun);
         match next_part(alloc, reader, depth, parts)? {
             Some(next) => {
-                *self = next;
+                drop(mem::replace(self, next));
                 Ok(true)
             }
             None => Ok(false),

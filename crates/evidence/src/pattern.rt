@@ -17,6 +17,7 @@ use bounded_json::TextError;
 use history::OpId;
 use json::Reader;
 use std::alloc::Global;
+use std::mem;
 use token_reader::Gather;
 
 /// What was taken of the parts of a pattern. [`next_pattern`] takes the parts one after the other, and makes the pattern of them.
@@ -73,7 +74,7 @@ impl Gather for PatternParts {
                 let Some(kind) = next_word(alloc, reader, depth)? else {
                     return Ok(false);
                 };
-                *self = PatternParts::begun(kind);
+                drop(mem::replace(self, PatternParts::begun(kind)));
                 Ok(true)
             }
             PatternParts::CyclicCO(only) => only.take_next(alloc, reader, depth),

@@ -34,10 +34,13 @@ pub fn list_value<T: Written>(alloc: Global, items: &[T]) -> Result<Value, Alloc
 pub fn worded_one(alloc: Global, word: &str, part: Value) -> Result<Value, AllocError>
     ensures { IfOk result (λ value. view value ≡ worded word.now (view part ∷ [])) }
 {
-    let mut values = Vec::new(alloc);
-    values.push(Value::String(String::from_str(alloc, word)?))?;
-    values.push(part)?;
-    Ok(Value::Array(values))
+    match String::from_str(alloc, word) {
+        Ok(word) => Ok(Value::Array(vec![in alloc; Value::String(word), part]?)),
+        Err(no_memory) => {
+            drop(part);
+            Err(no_memory)
+        }
+    }
 }
 
 /// The list of a word and two things. Fails for want of memory alone.
@@ -49,9 +52,11 @@ pub fn worded_two(
 ) -> Result<Value, AllocError>
     ensures { IfOk result (λ value. view value ≡ worded word.now (view first ∷ view second ∷ [])) }
 {
-    let mut values = Vec::new(alloc);
-    values.push(Value::String(String::from_str(alloc, word)?))?;
-    values.push(first)?;
-    values.push(second)?;
-    Ok(Value::Array(values))
+    match String::from_str(alloc, word) {
+        Ok(word) => Ok(Value::Array(vec![in alloc; Value::String(word), first, second]?)),
+        Err(no_memory) => {
+            drop((first, second));
+            Err(no_memory)
+        }
+    }
 }

@@ -35,7 +35,10 @@ pub(crate) fn finding_by_certificate<W: PieceWork>(
 {
     match made {
         Some(certificate) => shown_by(work, alloc, history, criterion, certificate, kept),
-        None => Ok(Finding::Unexplained(None, None)),
+        None => {
+            drop(history);
+            Ok(Finding::Unexplained(None, None))
+        }
     }
 }
 
@@ -54,10 +57,19 @@ fn shown_by<W: PieceWork>(
     ensures found { IfOk result (IsFoundByCertificate history _criterion) }
     ensures keeps { kept ≡ Certificates → IfOk result (KeepsCertificate history _criterion) }
 {
-    let copy = copied(alloc, &certificate, kept)?;
-    match work.answer_of(alloc, history, certificate) {
-        Ok(answer) => Ok(finding_of(answer, copy, kept)),
-        Err(_no_memory) => Err(AllocError),
+    match copied(alloc, &certificate, kept) {
+        Ok(copy) => match work.answer_of(alloc, history, certificate) {
+            Ok(answer) => Ok(finding_of(answer, copy, kept)),
+            Err(_no_memory) => {
+                drop(copy);
+                Err(AllocError)
+            }
+        },
+        Err(no_memory) => {
+            drop(history);
+            drop(certificate);
+            Err(no_memory)
+        }
     }
 }
 
@@ -81,11 +93,17 @@ fn finding_of(answer: Answer, copy: Option<Certificate>, kept: Kept) -> Finding
 {
     match answer {
         Answer::Yes => Finding::Met(kept_of_met(copy, kept)),
-        Answer::No(kind) => Finding::Present(kind),
+        Answer::No(kind) => {
+            drop(copy);
+            Finding::Present(kind)
+        }
         Answer::Unknown(Some(op)) => {
             Finding::Unexplained(Some(op), kept_of_unexplained(copy, kept))
         }
-        Answer::Unknown(None) | Answer::Open(_) => Finding::Unexplained(None, None),
+        Answer::Unknown(None) | Answer::Open(_) => {
+            drop(copy);
+            Finding::Unexplained(None, None)
+        }
     }
 }
 
@@ -95,7 +113,10 @@ fn kept_of_met(copy: Option<Certificate>, kept: Kept) -> Option<Certificate>
 {
     match kept {
         Kept::Certificates => copy,
-        Kept::Answers | Kept::Patterns | Kept::Reasons => None,
+        Kept::Answers | Kept::Patterns | Kept::Reasons => {
+            drop(copy);
+            None
+        }
     }
 }
 
@@ -105,6 +126,9 @@ fn kept_of_unexplained(copy: Option<Certificate>, kept: Kept) -> Option<Certific
 {
     match kept {
         Kept::Reasons => copy,
-        Kept::Answers | Kept::Patterns | Kept::Certificates => None,
+        Kept::Answers | Kept::Patterns | Kept::Certificates => {
+            drop(copy);
+            None
+        }
     }
 }

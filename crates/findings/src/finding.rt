@@ -1,12 +1,13 @@
 //! What is known of a history and a criterion, and what shows it.
 
-ghost use Rattle.std.specs.Prelude.{◌≡◌};
+ghost use Rattle.std.specs.Prelude.{◌≡◌, IfOk, Ok};
 ghost use Rattle.findings.specs.Findings.{answer_for, answer_of, finding_for};
 
 use bad_patterns::{Kind, Pattern};
 use cert_check::{Certificate, Criterion};
 use collector::Answer;
 use history::OpId;
+use std::alloc::AllocError;
 
 /// What is known of a history and a criterion, and what shows it.
 #[derive(Debug, Drop)]
@@ -45,6 +46,48 @@ pub struct Findings {
     pub cm: Finding,
     /// For causal convergence.
     pub ccv: Finding,
+}
+
+/// The three findings, where memory ran out for none of them.
+pub(crate) fn together(
+    cc: Result<Finding, AllocError>,
+    cm: Result<Finding, AllocError>,
+    ccv: Result<Finding, AllocError>,
+) -> Result<Findings, AllocError>
+    ensures cc { IfOk result (λ findings. cc ≡ Ok findings.cc) }
+    ensures cm { IfOk result (λ findings. cm ≡ Ok findings.cm) }
+    ensures ccv { IfOk result (λ findings. ccv ≡ Ok findings.ccv) }
+{
+    match both(both(cc, cm), ccv) {
+        Ok(three) => {
+            let ((cc, cm), ccv) = three;
+            Ok(Findings { cc, cm, ccv })
+        }
+        Err(no_memory) => Err(no_memory),
+    }
+}
+
+// Both values, where memory ran out for none of them.
+fn both<A: Drop, B: Drop>(
+    first: Result<A, AllocError>,
+    second: Result<B, AllocError>,
+) -> Result<(A, B), AllocError>
+    ensures first { IfOk result (λ values. first ≡ Ok values.0) }
+    ensures second { IfOk result (λ values. second ≡ Ok values.1) }
+{
+    match first {
+        Ok(first) => match second {
+            Ok(second) => Ok((first, second)),
+            Err(no_memory) => {
+                drop(first);
+                Err(no_memory)
+            }
+        },
+        Err(no_memory) => {
+            drop(second);
+            Err(no_memory)
+        }
+    }
 }
 
 impl Findings {

@@ -6,7 +6,7 @@ ghost use Rattle.findings.specs.Answers.{LacksDistinctValues};
 ghost use Rattle.findings.specs.Findings.{EachIsFound, IsFound};
 
 use crate::by_certificate::finding_by_certificate;
-use crate::finding::{Finding, Findings};
+use crate::finding::{Finding, Findings, together};
 use crate::kept::Kept;
 use crate::of_memory::{findings_of_memory, report_on_memory};
 use crate::piece_work::PieceWork;
@@ -99,10 +99,10 @@ fn findings_of_object<W: PieceWork>(
     requires open { LacksDistinctValues history.now }
     ensures { IfOk result (EachIsFound kept history.now) }
 {
-    let cc = finding_of_object(work, alloc, history, advice, Criterion::Cc, kept)?;
-    let cm = finding_of_object(work, alloc, history, advice, Criterion::Cm, kept)?;
-    let ccv = finding_of_object(work, alloc, history, advice, Criterion::Ccv, kept)?;
-    Ok(Findings { cc, cm, ccv })
+    let cc = finding_of_object(work, alloc, history, advice, Criterion::Cc, kept);
+    let cm = finding_of_object(work, alloc, history, advice, Criterion::Cm, kept);
+    let ccv = finding_of_object(work, alloc, history, advice, Criterion::Ccv, kept);
+    together(cc, cm, ccv)
 }
 
 // What is found of one criterion.
@@ -119,6 +119,11 @@ fn finding_of_object<W: PieceWork>(
     ensures { IfOk result (IsFound kept history.now criterion) }
 {
     let made = certificate_for(alloc, history, advice, criterion)?;
-    let copy = copy_of(alloc, history)?;
-    finding_by_certificate(work, alloc, copy, criterion, made, kept)
+    match copy_of(alloc, history) {
+        Ok(copy) => finding_by_certificate(work, alloc, copy, criterion, made, kept),
+        Err(no_memory) => {
+            drop(made);
+            Err(no_memory)
+        }
+    }
 }

@@ -11,7 +11,7 @@ ghost use Rattle.findings.specs.declared.kept.Kept.TheVariants.{Answers};
 ghost use Rattle.findings.specs.Findings.{EachIsFound, IsFound};
 
 use crate::by_certificate::finding_by_certificate;
-use crate::finding::{Finding, Findings};
+use crate::finding::{Finding, Findings, together};
 use crate::kept::Kept;
 use crate::made_certificates::{certificate_of, certificate_of_met};
 use crate::piece_work::PieceWork;
@@ -143,10 +143,10 @@ fn findings_of_decisions<W: PieceWork>(
     ensures { IfOk result (EachIsFound kept (AnyHistory.Memory memory.now)) }
 {
     let Decisions { cc, cm, ccv } = decisions;
-    let cc = finding_of_decision(work, alloc, memory, advice, Criterion::Cc, cc, kept)?;
-    let cm = finding_of_decision(work, alloc, memory, advice, Criterion::Cm, cm, kept)?;
-    let ccv = finding_of_decision(work, alloc, memory, advice, Criterion::Ccv, ccv, kept)?;
-    Ok(Findings { cc, cm, ccv })
+    let cc = finding_of_decision(work, alloc, memory, advice, Criterion::Cc, cc, kept);
+    let cm = finding_of_decision(work, alloc, memory, advice, Criterion::Cm, cm, kept);
+    let ccv = finding_of_decision(work, alloc, memory, advice, Criterion::Ccv, ccv, kept);
+    together(cc, cm, ccv)
 }
 
 // What is found of a criterion: what its decision says if values are distinct, and else what the pieces of a certificate show.
@@ -226,7 +226,11 @@ fn finding_of_pattern(
 {
     bad_patterns_exclude_criteria();
     match kept {
-        Kept::Answers => Ok(Finding::Present(pattern.kind())),
+        Kept::Answers => {
+            let kind = pattern.kind();
+            drop(pattern);
+            Ok(Finding::Present(kind))
+        }
         Kept::Patterns | Kept::Reasons | Kept::Certificates => {
             let history = memory.history();
             let fewest = with_fewest_operations(alloc, history, criterion, pattern)?;
@@ -249,6 +253,14 @@ fn finding_on_repeated_values<W: PieceWork>(
     ensures { IfOk result (IsFound kept (AnyHistory.Memory memory.now) criterion) }
 {
     let made = certificate_of(alloc, memory, advice, criterion)?;
-    let history = AnyHistory::Memory(memory.history().copy(alloc)?);
-    finding_by_certificate(work, alloc, history, criterion, made, kept)
+    match memory.history().copy(alloc) {
+        Ok(copy) => {
+            let history = AnyHistory::Memory(copy);
+            finding_by_certificate(work, alloc, history, criterion, made, kept)
+        }
+        Err(no_memory) => {
+            drop(made);
+            Err(no_memory)
+        }
+    }
 }

@@ -87,8 +87,11 @@ fn judged_log<T: Threads + Wait + Sync>(
 {
     let work = WorkerThreads::of(rt, judging.workers);
     let report = report_on_last_log(&work, alloc, reader.into_log())?;
+    let text = report_text(alloc, &report);
+    let outcome = outcome_of(&report, judging.expected);
+    drop(report);
     Ok(Answered {
-        text: report_text(alloc, &report)?,
-        outcome: outcome_of(&report, judging.expected),
+        text: text?,
+        outcome,
     })
 }

@@ -29,9 +29,12 @@ pub(crate) fn write_cut<K: SessionWork, W: Write>(
     ensures refused { IfErr result (λ e. (e ≡ LogError.Memory) ⊎ (e ≡ LogError.WriteFault)) }
 {
     let report = report_on_log(work, alloc, log)?;
-    let line = line_of_cut(alloc, log.events(), &report)?;
+    let line = line_of_cut(alloc, log.events(), &report);
+    let outcome = outcome_of(&report, expected);
+    drop(report);
+    let line = line?;
     write_output(writer, line.as_slice())?;
-    Ok(outcome_of(&report, expected))
+    Ok(outcome)
 }
 
 // The number of events, and the joined lines of a report.

@@ -1,8 +1,8 @@
 use Rattle.evidence.proofs.CertificateParts.{explained_more, no_vectors}
 use Rattle.evidence.proofs.parts.next_part.Goals as goal
 
-pub returns-in-Named-clause-read : goal.returns-in-Named-clause-read
-returns-in-Named-clause-read c =
+pub returns-in-None-2-clause-read : goal.returns-in-None-2-clause-read
+returns-in-None-2-clause-read c =
     let read = rw c.in-None-2.is at c.in_ok-vectors-in-Named.ensures.read in
     (read.0, read.1, λ ds so_far more. no_vectors c.in-Named.criterion read.0 ds more (rw c.in-Named.is at so_far) read.2)
 
