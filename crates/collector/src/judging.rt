@@ -57,7 +57,11 @@ pub fn judge<O: Judged + Send + Sync, R: Threads + Wait + Sync, G: Gate>(
     let decision = O::decide(alloc, &h, criterion)?;
     match decision {
         Decision::Meets => Ok(Answer::Yes),
-        Decision::Excluded(pattern) => Ok(Answer::No(pattern.kind())),
+        Decision::Excluded(pattern) => {
+            let kind = pattern.kind();
+            drop(pattern);
+            Ok(Answer::No(kind))
+        }
         Decision::ExcludedBy(kind) => Ok(Answer::No(kind)),
         Decision::Open => judge_by_certificate(rt, alloc, h, advice, criterion, workers, gate),
     }

@@ -314,10 +314,22 @@ fn fault_lines_of<N: Names>(
             "A read does not name its write, since values are not distinct: so no fault is known.",
         );
     };
-    let found = find_faults(alloc, &index, most as usize)?;
+    let lines = lines_of_index(alloc, &index, names, most);
+    drop(index);
+    lines
+}
+
+// The same of a history whose reads name their writes.
+fn lines_of_index<N: Names>(
+    alloc: Global,
+    index: &LongIndex,
+    names: &N,
+    most: u32,
+) -> Result<Vec<String>, AllocError> {
+    let found = find_faults(alloc, index, most as usize)?;
     let mut lines = count_lines(alloc, names, &found)?;
     for fault in &found.listed {
-        lines.push(fault_line(alloc, &index, names, fault)?)?;
+        lines.push(fault_line(alloc, index, names, fault)?)?;
     }
     Ok(lines)
 }

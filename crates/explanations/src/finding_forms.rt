@@ -130,9 +130,6 @@ fn list_of_three(
 ) -> Result<Value, AllocError>
     ensures { IfOk result (λ value. view value ≡ list (view first ∷ view second ∷ view third ∷ [])) }
 {
-    let mut values = Vec::new(alloc);
-    values.push(first)?;
-    values.push(second)?;
-    values.push(third)?;
+    let values = vec![in alloc; first, second, third]?;
     Ok(Value::Array(values))
 }

@@ -145,18 +145,30 @@ fn lines_of_object<N: Names>(
         alloc,
         "No patterns are known of this object: only a certificate can decide, and only for a yes.",
     )?;
-    let more = &mut lines;
-    match history {
-        AnyHistory::Register(plain) => push_certificate(alloc, more, plain.history(), names, shown),
-        AnyHistory::Counter(plain) => push_certificate(alloc, more, plain.history(), names, shown),
-        AnyHistory::Set(plain) => push_certificate(alloc, more, plain.history(), names, shown),
-        AnyHistory::Queue(plain) => push_certificate(alloc, more, plain.history(), names, shown),
-        AnyHistory::Memory(history) => push_certificate(alloc, more, history, names, shown),
-        AnyHistory::Counters(history) => push_certificate(alloc, more, history, names, shown),
-        AnyHistory::Sets(history) => push_certificate(alloc, more, history, names, shown),
-        AnyHistory::Queues(history) => push_certificate(alloc, more, history, names, shown),
-    }?;
+    push_certificate_of_any(alloc, &mut lines, history, names, shown)?;
     Ok(lines)
+}
+
+// Adds what the certificate that was made of a history of any object does not explain.
+fn push_certificate_of_any<N: Names>(
+    alloc: Global,
+    lines: &mut Vec<String>,
+    history: &AnyHistory,
+    names: &N,
+    shown: Option<(OpId, Option<&Certificate>)>,
+) -> Result<(), AllocError> {
+    match history {
+        AnyHistory::Register(plain) => {
+            push_certificate(alloc, lines, plain.history(), names, shown)
+        }
+        AnyHistory::Counter(plain) => push_certificate(alloc, lines, plain.history(), names, shown),
+        AnyHistory::Set(plain) => push_certificate(alloc, lines, plain.history(), names, shown),
+        AnyHistory::Queue(plain) => push_certificate(alloc, lines, plain.history(), names, shown),
+        AnyHistory::Memory(history) => push_certificate(alloc, lines, history, names, shown),
+        AnyHistory::Counters(history) => push_certificate(alloc, lines, history, names, shown),
+        AnyHistory::Sets(history) => push_certificate(alloc, lines, history, names, shown),
+        AnyHistory::Queues(history) => push_certificate(alloc, lines, history, names, shown),
+    }
 }
 
 // Adds a line.

@@ -1,6 +1,6 @@
 //! Why a memory history of any length meets each criterion, or does not.
 
-ghost use Rattle.std.specs.Prelude.{◌≡◌, IfOk, IfSome};
+ghost use Rattle.std.specs.Prelude.{◌≡◌, IfOk, IfSome, IsTrue};
 ghost use Rattle.bad_patterns.specs.Patterns.{IsShownBy, kind_of};
 ghost use Rattle.long_decision.specs.LongDecisions.{AreDecided, IsLongDecided};
 ghost use Rattle.findings.specs.Findings.{EachIsFinding, IsFinding};
@@ -161,9 +161,32 @@ fn pattern_of(
         return Ok(None);
     };
     let pattern = core.pattern_in_whole(alloc)?;
-    if pattern.kind() == kind && is_shown_in_long(alloc, index, &pattern)? {
-        Ok(Some(pattern))
+    match shows_kind(alloc, index, kind, &pattern) {
+        Ok(true) => Ok(Some(pattern)),
+        Ok(false) => {
+            drop(pattern);
+            Ok(None)
+        }
+        Err(no_memory) => {
+            drop(pattern);
+            Err(no_memory)
+        }
+    }
+}
+
+// Whether a pattern is one of this kind that shows it in a history.
+fn shows_kind(
+    alloc: Global,
+    index: &LongIndex,
+    kind: Kind,
+    pattern: &Pattern,
+) -> Result<bool, AllocError>
+    ensures shown { IfOk result (λ yes. IsTrue yes → IsShownBy index.now.history pattern.now) }
+    ensures kind { IfOk result (λ yes. IsTrue yes → kind_of pattern.now ≡ kind) }
+{
+    if pattern.kind() == kind {
+        is_shown_in_long(alloc, index, pattern)
     } else {
-        Ok(None)
+        Ok(false)
     }
 }

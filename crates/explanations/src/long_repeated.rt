@@ -81,14 +81,9 @@ fn line_of<N: Names>(
     before: Option<LongWrite>,
     write: LongWrite,
 ) -> Result<Option<String>, AllocError> {
-    let LongWrite { key, value, op } = write;
+    let LongWrite { key, value, op: _ } = write;
     if value == initial_value(history, key) {
-        let name = names.operation(alloc, op)?;
-        let variable = names.variable(alloc, key)?;
-        let value = names.value(alloc, key, value)?;
-        return Ok(Some(format!(in alloc;
-            "{name} writes {value} to {variable}, which is its initial value"
-        )?));
+        return Ok(Some(line_of_initial(alloc, names, write)?));
     }
     match before {
         Some(other) if other.key == key && other.value == value => {
@@ -96,6 +91,19 @@ fn line_of<N: Names>(
         }
         _ => Ok(None),
     }
+}
+
+// The line on a write of the initial value.
+fn line_of_initial<N: Names>(
+    alloc: Global,
+    names: &N,
+    write: LongWrite,
+) -> Result<String, AllocError> {
+    let LongWrite { key, value, op } = write;
+    let name = names.operation(alloc, op)?;
+    let variable = names.variable(alloc, key)?;
+    let value = names.value(alloc, key, value)?;
+    format!(in alloc; "{name} writes {value} to {variable}, which is its initial value")
 }
 
 // The line on two writes of one value.

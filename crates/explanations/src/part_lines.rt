@@ -43,9 +43,11 @@ pub(crate) fn push_without_variables<N: Names>(
     let variables = repeated_variables(alloc, memory)?;
     match excluded_without(alloc, history, &variables, criterion)? {
         Some(excluded) => {
-            push_excluded(
+            let pushed = push_excluded(
                 alloc, lines, history, names, criterion, &variables, &excluded,
-            )
+            );
+            drop(excluded);
+            pushed
         }
         None => Ok(()),
     }
@@ -64,8 +66,7 @@ fn push_excluded<N: Names>(
     match &excluded.decision {
         Decision::Excluded(pattern) => {
             lines.push(words_without_variables(alloc, names, variables, pattern.kind())?)?;
-            let renamed = pattern_in_whole(alloc, history, variables, pattern)?;
-            push_all(lines, words_of_pattern(alloc, history, names, &renamed)?)?;
+            push_in_whole(alloc, lines, history, names, variables, pattern)?;
             push_core(alloc, lines, &excluded.part, &OwnNames, criterion, pattern)
         }
         Decision::ExcludedBy(kind) => {
@@ -74,6 +75,21 @@ fn push_excluded<N: Names>(
         }
         Decision::Meets | Decision::Open => Ok(()),
     }
+}
+
+// Adds the words of a pattern of a part, with the operations as the whole numbers them.
+fn push_in_whole<N: Names>(
+    alloc: Global,
+    lines: &mut Vec<String>,
+    history: &History<Memory>,
+    names: &N,
+    variables: &[u32],
+    pattern: &Pattern,
+) -> Result<(), AllocError> {
+    let renamed = pattern_in_whole(alloc, history, variables, pattern)?;
+    let words = words_of_pattern(alloc, history, names, &renamed);
+    drop(renamed);
+    push_all(lines, words?)
 }
 
 // Adds the core of a pattern, if it has one.

@@ -98,13 +98,24 @@ fn picture_of_whole<O: Labelled, N: Names>(
 ) -> Result<String, AllocError>
     ensures { IfOk result (λ svg. IsSvgElement (string_bytes svg)) }
 {
+    let marked = first_unexplained(findings);
+    let lines = lines_above(alloc, names, findings, marked)?;
+    picture_of_history(alloc, history, names, lines.as_slice(), marked)
+}
+
+// The lines above a whole history: the title, and the sentence on the operation that is marked.
+fn lines_above<N: Names>(
+    alloc: Global,
+    names: &N,
+    findings: &Findings,
+    marked: Option<OpId>,
+) -> Result<Vec<String>, AllocError> {
     let mut lines = Vec::new(alloc);
     lines.push(title_of(alloc, findings)?)?;
-    let marked = first_unexplained(findings);
     if let Some(op) = marked {
         lines.push(sentence_about(alloc, names, op)?)?;
     }
-    picture_of_history(alloc, history, names, lines.as_slice(), marked)
+    Ok(lines)
 }
 
 /// The lines of a report, joined to one line.

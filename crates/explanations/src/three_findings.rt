@@ -29,11 +29,26 @@ pub(crate) fn text_of_findings<N: Names>(
 ) -> Result<String, AllocError>
     ensures { IfOk result (λ text. TellsEach findings.now (string_bytes text)) }
 {
-    let FindingLines { cc, cm, mut ccv } = given_once(alloc, lines)?;
-    names.push_remarks(alloc, &mut ccv)?;
-    let cc = text_with_lines(alloc, Criterion::Cc, &findings.cc, &cc)?;
-    let cm = text_with_lines(alloc, Criterion::Cm, &findings.cm, &cm)?;
-    let ccv = text_with_lines(alloc, Criterion::Ccv, &findings.ccv, &ccv)?;
+    let mut once = given_once(alloc, lines)?;
+    let text = match names.push_remarks(alloc, &mut once.ccv) {
+        Ok(()) => text_of_lines(alloc, findings, &once),
+        Err(no_memory) => Err(no_memory),
+    };
+    drop(once);
+    text
+}
+
+// The text of findings with these lines.
+fn text_of_lines(
+    alloc: Global,
+    findings: &Findings,
+    lines: &FindingLines,
+) -> Result<String, AllocError>
+    ensures { IfOk result (λ text. TellsEach findings.now (string_bytes text)) }
+{
+    let cc = text_with_lines(alloc, Criterion::Cc, &findings.cc, &lines.cc)?;
+    let cm = text_with_lines(alloc, Criterion::Cm, &findings.cm, &lines.cm)?;
+    let ccv = text_with_lines(alloc, Criterion::Ccv, &findings.ccv, &lines.ccv)?;
     format!(in alloc; "{cc}{cm}{ccv}")
 }
 
