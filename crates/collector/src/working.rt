@@ -26,10 +26,16 @@ pub fn answer_of_file<O: Refutable + Send + Sync, R: Threads + Wait + Sync, G: G
     ensures error { IfErr result (λ e. e ≡ DeskError.Memory) }
 {
     if file.certificate().is_none() {
+        drop(file);
         return Ok(Answer::Unknown(None));
     }
-    let shelf = Shelf::new(alloc)?;
-    answer_on::<O, Brand, R, G>(rt, alloc, shelf, file, workers, gate)
+    match Shelf::new(alloc) {
+        Ok(shelf) => answer_on::<O, Brand, R, G>(rt, alloc, shelf, file, workers, gate),
+        Err(_no_memory) => {
+            drop(file);
+            Err(DeskError::Memory)
+        }
+    }
 }
 
 /// The same at a desk on a shelf that is named. Where the desk has no room for the case, its pieces are checked here.
@@ -51,10 +57,48 @@ fn answer_on<
     ensures said { IfOk result (IsSaidOfFile O.answer file) }
     ensures error { IfErr result (λ e. e ≡ DeskError.Memory) }
 {
-    let desk = Desk::<O, K>::on(alloc, shelf)?;
+    match Desk::<O, K>::on(alloc, shelf) {
+        Ok(desk) => {
+            let answer = answer_at(rt, alloc, &desk, file, workers, gate);
+            drop(desk);
+            answer
+        }
+        Err(_no_memory) => {
+            drop(file);
+            Err(DeskError::Memory)
+        }
+    }
+}
+
+// The same at a desk.
+fn answer_at<
+    O: Refutable + Send + Sync,
+    K: ShelfName + Send + Sync,
+    R: Threads + Wait + Sync,
+    G: Gate,
+>(
+    rt: &R,
+    alloc: Global,
+    desk: &Desk<O, K>,
+    file: CaseFile<O>,
+    workers: usize,
+    gate: &G,
+) -> Result<Answer, DeskError>
+    requires { IsSome file.2 }
+    ensures said { IfOk result (IsSaidOfFile O.answer file) }
+    ensures error { IfErr result (λ e. e ≡ DeskError.Memory) }
+{
     match desk.file_or_back(rt, file) {
-        Ok(ticket) => answer_of_ticket(rt, alloc, &desk, &ticket, workers, gate),
-        Err(Some(file)) => answer_of_pieces(alloc, &file),
+        Ok(ticket) => {
+            let answer = answer_of_ticket(rt, alloc, desk, &ticket, workers, gate);
+            drop(ticket);
+            answer
+        }
+        Err(Some(file)) => {
+            let answer = answer_of_pieces(alloc, &file);
+            drop(file);
+            answer
+        }
         Err(None) => Err(DeskError::Memory),
     }
 }
@@ -78,7 +122,8 @@ fn answer_of_ticket<
     ensures said { IfOk result (IsSaidOfFile O.answer ticket.now.file) }
     ensures error { IfErr result (λ e. e ≡ DeskError.Memory) }
 {
-    let _put = thread::map_indices(rt, alloc, workers, &|_| desk.work(rt, gate))?;
+    let put = thread::map_indices(rt, alloc, workers, &|_| desk.work(rt, gate))?;
+    drop(put);
     desk.settle(rt, ticket)?;
     match desk.ask(rt, ticket) {
         Answer::Yes => Ok(Answer::Yes),

@@ -11,27 +11,27 @@ returns-in-Meets-clause-founded g c = c.in_ok-decision.ensures.meets c.in-Meets.
 
 pub returns-in-Excluded-clause-founded : goal.returns-in-Excluded-clause-founded
 returns-in-Excluded-clause-founded g c =
-    at-pattern (g.O.Refutable.excluded c.args.h c.args.criterion) c.in_ok-decision.decision c.in-Excluded.pattern c.kind.result c.in-Excluded.is
-    c.kind.ensures c.in_ok-decision.ensures.excluded
+    at-pattern (g.O.Refutable.excluded c.args.h c.args.criterion) c.in_ok-decision.decision c.in-Excluded.pattern c.kind-kind.result c.in-Excluded.is
+    c.kind-kind.ensures c.in_ok-decision.ensures.excluded
 
 pub returns-in-Excluded-clause-not_met : goal.returns-in-Excluded-clause-not_met
 returns-in-Excluded-clause-not_met g c = λ kind same.
-    at-pattern (λ (k : Kind). ¬ Meets g.O.SeqObject.answer c.args.h c.args.criterion) c.in_ok-decision.decision c.in-Excluded.pattern c.kind.result
-    c.in-Excluded.is c.kind.ensures c.in_ok-decision.ensures.not_met
+    at-pattern (λ (k : Kind). ¬ Meets g.O.SeqObject.answer c.args.h c.args.criterion) c.in_ok-decision.decision c.in-Excluded.pattern c.kind-kind.result
+    c.in-Excluded.is c.kind-kind.ensures c.in_ok-decision.ensures.not_met
 
 pub returns-in-Excluded-clause-kind : goal.returns-in-Excluded-clause-kind
 returns-in-Excluded-clause-kind g c = λ kind same.
-    let no : c.kind.result ≡ kind = cc in
+    let no : c.kind-kind.result ≡ kind = cc in
     subst (λ (k : Kind). g.O.Judged.finds c.args.h c.args.criterion k) no
-    (at-pattern (g.O.Judged.finds c.args.h c.args.criterion) c.in_ok-decision.decision c.in-Excluded.pattern c.kind.result c.in-Excluded.is
-    c.kind.ensures c.in_ok-decision.ensures.kind)
+    (at-pattern (g.O.Judged.finds c.args.h c.args.criterion) c.in_ok-decision.decision c.in-Excluded.pattern c.kind-kind.result c.in-Excluded.is
+    c.kind-kind.ensures c.in_ok-decision.ensures.kind)
 
 pub returns-in-Excluded-clause-first : goal.returns-in-Excluded-clause-first
 returns-in-Excluded-clause-first g c = λ kind same.
-    let no : c.kind.result ≡ kind = cc in
+    let no : c.kind-kind.result ≡ kind = cc in
     subst (λ (k : Kind). g.O.Judged.names c.args.h c.args.criterion k) no
-    (at-pattern (g.O.Judged.names c.args.h c.args.criterion) c.in_ok-decision.decision c.in-Excluded.pattern c.kind.result c.in-Excluded.is
-    c.kind.ensures c.in_ok-decision.ensures.first)
+    (at-pattern (g.O.Judged.names c.args.h c.args.criterion) c.in_ok-decision.decision c.in-Excluded.pattern c.kind-kind.result c.in-Excluded.is
+    c.kind-kind.ensures c.in_ok-decision.ensures.first)
 
 pub returns-in-ExcludedBy-clause-founded : goal.returns-in-ExcludedBy-clause-founded
 returns-in-ExcludedBy-clause-founded g c =
