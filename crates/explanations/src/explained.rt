@@ -57,7 +57,9 @@ fn larger_as<W: SessionWork, N: Names>(
     ensures { IfOk result (λ text. IsExplainedAs form (AnyHistory.Memory history.now) (string_bytes text)) }
 {
     let said = findings_of_long(work, alloc, history)?;
-    text_of_larger(alloc, history, names, &said, form)
+    let text = text_of_larger(alloc, history, names, &said, form);
+    drop(said);
+    text
 }
 
 // The text of what is found of a history over the limits.

@@ -85,10 +85,12 @@ pub fn list_in_limited<T: Threads + Wait + Sync, N: Names>(
     ensures { IfOk result (λ text. IsListOf form most history (string_bytes text)) }
 {
     let work = WorkerThreads::of(rt, Workers::usual());
-    match form {
+    let text = match form {
         ListForm::Words => words_in_limited(&work, alloc, &history, long, names, most),
         ListForm::Json => json_in_limited(&work, alloc, &history, long, most),
-    }
+    };
+    drop(history);
+    text
 }
 
 // That list in words.
@@ -217,8 +219,16 @@ fn list_in_larger<W: SessionWork, N: Names>(
 {
     let said = findings_of_long(work, alloc, history)?;
     match form {
-        ListForm::Words => words_in_larger(alloc, history, names, &said, most),
-        ListForm::Json => json_in_larger(alloc, history, said.findings, most),
+        ListForm::Words => {
+            let text = words_in_larger(alloc, history, names, &said, most);
+            drop(said);
+            text
+        }
+        ListForm::Json => {
+            let LongFindings { findings, found } = said;
+            drop(found);
+            json_in_larger(alloc, history, findings, most)
+        }
     }
 }
 
@@ -248,8 +258,18 @@ fn json_in_larger(
     requires { EachIsFinding (AnyHistory.Memory history.now) findings }
     ensures { IfOk result (λ text. IsListOf ListForm.Json most (AnyHistory.Memory history.now) (string_bytes text)) }
 {
-    let faults = faults_of(alloc, history, most)?;
-    text_of_report(alloc, &FaultReport { findings, faults })
+    match faults_of(alloc, history, most) {
+        Ok(faults) => {
+            let report = FaultReport { findings, faults };
+            let text = text_of_report(alloc, &report);
+            drop(report);
+            text
+        }
+        Err(no_memory) => {
+            drop(findings);
+            Err(no_memory)
+        }
+    }
 }
 
 // The text of findings, and lines after it.

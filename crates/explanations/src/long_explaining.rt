@@ -76,13 +76,16 @@ fn findings_of_indexed<W: SessionWork>(
 {
     let decisions = decide_indexed(work, alloc, index)?;
     let found = found_of(alloc, index, &decisions)?;
-    let cc = finding_of(alloc, index, Criterion::Cc, decisions.cc, &found)?;
-    let cm = finding_of(alloc, index, Criterion::Cm, decisions.cm, &found)?;
-    let ccv = finding_of(alloc, index, Criterion::Ccv, decisions.ccv, &found)?;
-    Ok(LongFindings {
-        findings: Findings { cc, cm, ccv },
-        found,
-    })
+    let cc = finding_of(alloc, index, Criterion::Cc, decisions.cc, &found);
+    let cm = finding_of(alloc, index, Criterion::Cm, decisions.cm, &found);
+    let ccv = finding_of(alloc, index, Criterion::Ccv, decisions.ccv, &found);
+    match Findings::together(cc, cm, ccv) {
+        Ok(findings) => Ok(LongFindings { findings, found }),
+        Err(no_memory) => {
+            drop(found);
+            Err(no_memory)
+        }
+    }
 }
 
 // What is gathered of the kinds that the decisions name, each once.

@@ -119,10 +119,18 @@ fn lines_of_core<N: Names>(
         whole: names,
     };
     let mut lines = words_of_pattern(alloc, core.history(), &names, core.pattern())?;
-    let text = write_history(alloc, &AnyHistory::Memory(core.history().copy(alloc)?))?;
+    let text = text_of_history(alloc, core.history())?;
     lines.push(format!(in alloc; "These operations alone are a no: {text}")?)?;
     lines.push(words_of_places(alloc, core.history(), &names)?)?;
     Ok(lines)
+}
+
+// The text of a history of a memory.
+fn text_of_history(alloc: Global, history: &History<Memory>) -> Result<String, AllocError> {
+    let copy = AnyHistory::Memory(history.copy(alloc)?);
+    let text = write_history(alloc, &copy);
+    drop(copy);
+    text
 }
 
 /// The text of what is found of a history within the limits, which was asked for as one of any length.

@@ -48,22 +48,42 @@ pub struct Findings {
     pub ccv: Finding,
 }
 
-/// The three findings, where memory ran out for none of them.
-pub(crate) fn together(
-    cc: Result<Finding, AllocError>,
-    cm: Result<Finding, AllocError>,
-    ccv: Result<Finding, AllocError>,
-) -> Result<Findings, AllocError>
-    ensures cc { IfOk result (λ findings. cc ≡ Ok findings.cc) }
-    ensures cm { IfOk result (λ findings. cm ≡ Ok findings.cm) }
-    ensures ccv { IfOk result (λ findings. ccv ≡ Ok findings.ccv) }
-{
-    match both(both(cc, cm), ccv) {
-        Ok(three) => {
-            let ((cc, cm), ccv) = three;
-            Ok(Findings { cc, cm, ccv })
+impl Findings {
+    /// The three findings. Fails for want of memory where one of them did, and then lets go of the others.
+    pub fn together(
+        cc: Result<Finding, AllocError>,
+        cm: Result<Finding, AllocError>,
+        ccv: Result<Finding, AllocError>,
+    ) -> Result<Findings, AllocError>
+        ensures cc { IfOk result (λ findings. cc ≡ Ok findings.cc) }
+        ensures cm { IfOk result (λ findings. cm ≡ Ok findings.cm) }
+        ensures ccv { IfOk result (λ findings. ccv ≡ Ok findings.ccv) }
+    {
+        match both(both(cc, cm), ccv) {
+            Ok(three) => {
+                let ((cc, cm), ccv) = three;
+                Ok(Findings { cc, cm, ccv })
+            }
+            Err(no_memory) => Err(no_memory),
         }
-        Err(no_memory) => Err(no_memory),
+    }
+
+    /// The finding for a criterion.
+    pub fn finding(&self, criterion: Criterion) -> &Finding
+        ensures { result.now ≡ finding_for self.now criterion }
+    {
+        match criterion {
+            Criterion::Cc => &self.cc,
+            Criterion::Cm => &self.cm,
+            Criterion::Ccv => &self.ccv,
+        }
+    }
+
+    /// The answer for a criterion.
+    pub fn answer(&self, criterion: Criterion) -> Answer
+        ensures { result ≡ answer_for self.now criterion }
+    {
+        self.finding(criterion).answer()
     }
 }
 
@@ -87,25 +107,5 @@ fn both<A: Drop, B: Drop>(
             drop(second);
             Err(no_memory)
         }
-    }
-}
-
-impl Findings {
-    /// The finding for a criterion.
-    pub fn finding(&self, criterion: Criterion) -> &Finding
-        ensures { result.now ≡ finding_for self.now criterion }
-    {
-        match criterion {
-            Criterion::Cc => &self.cc,
-            Criterion::Cm => &self.cm,
-            Criterion::Ccv => &self.ccv,
-        }
-    }
-
-    /// The answer for a criterion.
-    pub fn answer(&self, criterion: Criterion) -> Answer
-        ensures { result ≡ answer_for self.now criterion }
-    {
-        self.finding(criterion).answer()
     }
 }

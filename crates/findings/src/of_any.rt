@@ -6,7 +6,7 @@ ghost use Rattle.findings.specs.Answers.{LacksDistinctValues};
 ghost use Rattle.findings.specs.Findings.{EachIsFound, IsFound};
 
 use crate::by_certificate::finding_by_certificate;
-use crate::finding::{Finding, Findings, together};
+use crate::finding::{Finding, Findings};
 use crate::kept::Kept;
 use crate::of_memory::{findings_of_memory, report_on_memory};
 use crate::piece_work::PieceWork;
@@ -102,7 +102,7 @@ fn findings_of_object<W: PieceWork>(
     let cc = finding_of_object(work, alloc, history, advice, Criterion::Cc, kept);
     let cm = finding_of_object(work, alloc, history, advice, Criterion::Cm, kept);
     let ccv = finding_of_object(work, alloc, history, advice, Criterion::Ccv, kept);
-    together(cc, cm, ccv)
+    Findings::together(cc, cm, ccv)
 }
 
 // What is found of one criterion.

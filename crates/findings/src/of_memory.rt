@@ -11,7 +11,7 @@ ghost use Rattle.findings.specs.declared.kept.Kept.TheVariants.{Answers};
 ghost use Rattle.findings.specs.Findings.{EachIsFound, IsFound};
 
 use crate::by_certificate::finding_by_certificate;
-use crate::finding::{Finding, Findings, together};
+use crate::finding::{Finding, Findings};
 use crate::kept::Kept;
 use crate::made_certificates::{certificate_of, certificate_of_met};
 use crate::piece_work::PieceWork;
@@ -146,7 +146,7 @@ fn findings_of_decisions<W: PieceWork>(
     let cc = finding_of_decision(work, alloc, memory, advice, Criterion::Cc, cc, kept);
     let cm = finding_of_decision(work, alloc, memory, advice, Criterion::Cm, cm, kept);
     let ccv = finding_of_decision(work, alloc, memory, advice, Criterion::Ccv, ccv, kept);
-    together(cc, cm, ccv)
+    Findings::together(cc, cm, ccv)
 }
 
 // What is found of a criterion: what its decision says if values are distinct, and else what the pieces of a certificate show.
