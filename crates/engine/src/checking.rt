@@ -43,7 +43,13 @@ fn pair_in(alloc: Global, input: &[u8]) -> Result<(AnyHistory, Certificate), Run
     let (history, found) = read_pair(alloc, input)?;
     match found {
         FoundCertificate::Certificate(certificate) => Ok((history, certificate)),
-        FoundCertificate::TooLarge => Err(RunError::ShapeMismatch),
-        FoundCertificate::NoForm => Err(RunError::BadCertificate),
+        FoundCertificate::TooLarge => {
+            drop((history, found));
+            Err(RunError::ShapeMismatch)
+        }
+        FoundCertificate::NoForm => {
+            drop((history, found));
+            Err(RunError::BadCertificate)
+        }
     }
 }

@@ -77,14 +77,18 @@ fn claim_in(alloc: Global, input: &[u8]) -> Result<Claim, RunError>
         pattern,
     } = read_claim(alloc, input)?;
     let Some(criterion) = criterion else {
+        drop((history, pattern));
         return Err(RunError::NotThatPattern);
     };
-    let Some(pattern) = pattern else {
-        return Err(RunError::NotThatPattern);
-    };
-    Ok(Claim {
-        history,
-        criterion,
-        pattern,
-    })
+    match pattern {
+        Some(pattern) => Ok(Claim {
+            history,
+            criterion,
+            pattern,
+        }),
+        None => {
+            drop(history);
+            Err(RunError::NotThatPattern)
+        }
+    }
 }

@@ -14,7 +14,8 @@ use cert_check::Criterion;
 use findings::{Finding, Findings};
 use long_cores::{Gathered, LongCore};
 use long_history::LongHistory;
-use operations::{AnyHistory, write_history};
+use objects::Memory;
+use operations::{AnyHistory, History, write_history};
 use std::alloc::{AllocError, Global};
 use wording::{Names, words_of_long_yes, words_of_operations, words_of_pattern, words_of_places};
 

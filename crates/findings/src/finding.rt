@@ -1,6 +1,6 @@
 //! What is known of a history and a criterion, and what shows it.
 
-ghost use Rattle.std.specs.Prelude.{◌≡◌, IfOk, Ok};
+ghost use Rattle.std.specs.Prelude.{◌≡◌, IfOk, IsOk, Ok};
 ghost use Rattle.findings.specs.Findings.{answer_for, answer_of, finding_for};
 
 use bad_patterns::{Kind, Pattern};
@@ -49,7 +49,7 @@ pub struct Findings {
 }
 
 impl Findings {
-    /// The three findings. Fails for want of memory where one of them did, and then lets go of the others.
+    /// The findings for the three criteria. Fails exactly where one of them is missing for want of memory. O(1).
     pub fn together(
         cc: Result<Finding, AllocError>,
         cm: Result<Finding, AllocError>,
@@ -58,6 +58,7 @@ impl Findings {
         ensures cc { IfOk result (λ findings. cc ≡ Ok findings.cc) }
         ensures cm { IfOk result (λ findings. cm ≡ Ok findings.cm) }
         ensures ccv { IfOk result (λ findings. ccv ≡ Ok findings.ccv) }
+        ensures all { IsOk cc → IsOk cm → IsOk ccv → IsOk result }
     {
         match both(both(cc, cm), ccv) {
             Ok(three) => {
@@ -94,6 +95,7 @@ fn both<A: Drop, B: Drop>(
 ) -> Result<(A, B), AllocError>
     ensures first { IfOk result (λ values. first ≡ Ok values.0) }
     ensures second { IfOk result (λ values. second ≡ Ok values.1) }
+    ensures all { IsOk first → IsOk second → IsOk result }
 {
     match first {
         Ok(first) => match second {
