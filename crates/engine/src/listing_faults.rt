@@ -50,9 +50,16 @@ fn list_in_limited_input<T: Threads + Wait + Sync>(
     ensures error { IfErr result (IsReportError Length.Limited input.now) }
 {
     let history = read_history(alloc, input)?;
-    let long = long_of(alloc, input, &history)?;
-    let text = list_in_limited(rt, alloc, history, long.as_ref(), &OwnNames, most, form)?;
-    Ok(text)
+    match long_of(alloc, input, &history) {
+        Ok(long) => {
+            let long = long.as_ref();
+            Ok(list_in_limited(rt, alloc, history, long, &OwnNames, most, form)?)
+        }
+        Err(error) => {
+            drop(history);
+            Err(error)
+        }
+    }
 }
 
 // The history in an input as one of any length, where it is one of a memory.
