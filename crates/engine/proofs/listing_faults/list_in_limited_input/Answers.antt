@@ -3,8 +3,8 @@ use Rattle.command_line.specs.declared.length.Length.TheVariants.{Limited}
 use Rattle.engine.proofs.LongOutputs.{listed_output}
 use Rattle.engine.proofs.listing_faults.list_in_limited_input.Goals as goal
 
-pub returns-clause-list : goal.returns-clause-list
-returns-clause-list g c =
+pub returns-in_ok-list_in_limited-in-Ok-clause-list : goal.returns-in_ok-list_in_limited-in-Ok-clause-list
+returns-in_ok-list_in_limited-in-Ok-clause-list g c =
     let read = c.in_ok-history.ensures in
-    listed_output c.args.input.now c.in_ok-history.history c.args.form Limited c.args.most (string_bytes c.in_ok-text.text) read.is_history read.form
-    c.in_ok-text.ensures
+    listed_output c.args.input.now c.in_ok-history.history c.args.form Limited c.args.most (string_bytes c.in_ok-list_in_limited-in-Ok.field-0) read.is_history read.form
+    c.in_ok-list_in_limited-in-Ok.ensures

@@ -8,10 +8,10 @@ use Rattle.explanations.specs.Report.{line_for}
 use Rattle.engine.proofs.Claims.{claim_not_shown}
 use Rattle.engine.proofs.long_refuting.refute_long.Goals as goal
 
-pub returns-then-branch-clause-output : goal.returns-then-branch-clause-output
-returns-then-branch-clause-output c =
+pub returns-in_ok-report_line-clause-output : goal.returns-in_ok-report_line-clause-output
+returns-in_ok-report_line-clause-output c =
     let claim = c.in_ok-claim.claim in
-    let tested = c.in_ok-check_long_pattern.ensures in
+    let tested = c.in_ok-is_shown.ensures in
     record {
       history = histories.Memory claim.history;
       criterion = claim.criterion;
@@ -23,11 +23,11 @@ returns-then-branch-clause-output c =
       line = c.in_ok-report_line.ensures ∙ ap (λ kind. line_for claim.criterion (No kind)) c.kind.ensures;
     }
 
-pub returns-clause-error : goal.returns-clause-error
-returns-clause-error c =
+pub returns-else-branch-clause-error : goal.returns-else-branch-clause-error
+returns-else-branch-clause-error c =
     let claim = c.in_ok-claim.claim in (
       claim_form (histories.Memory claim.history) claim.criterion claim.pattern,
       c.in_ok-claim.ensures.read,
       claim_not_shown Any (histories.Memory claim.history) claim.criterion claim.pattern c.in_ok-claim.ensures.history
-          (λ shown. let yes : IsTrue c.in_ok-check_long_pattern.field-0 = c.in_ok-check_long_pattern.ensures.exact.1 shown in let no = c.if-branch.false in absurd cc),
+          (λ shown. let yes : IsTrue c.in_ok-is_shown.field-0 = c.in_ok-is_shown.ensures.exact.1 shown in let no = c.if-branch.false in absurd cc),
     )

@@ -4,11 +4,11 @@ use Rattle.engine.specs.Refuting.{claim_form}
 use Rattle.engine.proofs.Claims.{claim_not_shown}
 use Rattle.engine.proofs.refuting.refute.Goals as goal
 
-pub returns-clause-error : goal.returns-clause-error
-returns-clause-error c =
+pub returns-else-branch-clause-error : goal.returns-else-branch-clause-error
+returns-else-branch-clause-error c =
     let claim = c.in_ok-claim.claim in (
       claim_form claim.history claim.criterion claim.pattern,
       c.in_ok-claim.ensures.read,
       claim_not_shown Limited claim.history claim.criterion claim.pattern c.in_ok-claim.ensures.history
-          (λ shown. let yes : IsTrue c.in_ok-is_pattern_of.field-0 = c.in_ok-is_pattern_of.ensures.exact.1 shown in let no = c.if-branch.false in absurd cc),
+          (λ shown. let yes : IsTrue c.in_ok-is_shown.field-0 = c.in_ok-is_shown.ensures.exact.1 shown in let no = c.if-branch.false in absurd cc),
     )
