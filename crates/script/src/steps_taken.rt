@@ -55,7 +55,7 @@ fn with_step<F: StepForms>(
     }
 }
 
-/// Steps that leave room for so many more, with one more, or the refusal where there are too many.
+/// The steps with one more, or its refusal where it expands to more steps than there is room for.
 fn with_fine_step<F: StepForms>(
     mut steps: Vec<StepFor<F>>,
     room: usize,
