@@ -1,5 +1,5 @@
 -- The elements of a script, of which its steps are taken.
-use Rattle.std.proofs.Common.{◌≡◌, ℕ, List, [], ◌∷◌, ◌++◌, true, length, Option, Some, None, refl, ap, sym, subst, ◌∙◌, arith}
+use Rattle.std.proofs.Common.{◌≡◌, ◌≢◌, ℕ, List, [], ◌∷◌, ◌++◌, true, false, length, Option, Some, None, refl, ap, sym, subst, ◌∙◌, arith}
 use Rattle.std.proofs.lemmas.List.{append-nil, length-append}
 use Rattle.std.proofs.lemmas.Option.{same_Some}
 use Rattle.serde_json.specs.Data.{Data, string}
@@ -11,7 +11,7 @@ use Rattle.token_reader.specs.Gathers.{IsTakenList as IsGathered}
 use Rattle.evidence.proofs.CertificateForms.{list_taken}
 use Rattle.script.specs.declared.script_error.ScriptError.{ScriptError}
 use Rattle.script.specs.declared.script_steps.Passed.{Passed}
-use Rattle.script.specs.declared.script_steps.Passed.TheVariants.{Sessions, Steps}
+use Rattle.script.specs.declared.script_steps.Passed.TheVariants.{Nothing, Name, Sessions, Steps}
 use Rattle.script.specs.declared.steps_taken.StepsTaken.{StepsTaken}
 use Rattle.script.specs.declared.steps_taken.StepsTaken.TheVariants.{Refused}
 use Rattle.script.specs.declared.written_step.WrittenStep.{WrittenStep}
@@ -45,6 +45,27 @@ one_value text d e first second = same_Some d e (sym first.1 ∙ second.1)
 
 module _ {C R : Type 0} (call_form : C → Data) (return_form : R → Data) (is_call : C → Type 0) where
   -- ---- one element more
+
+  module _ (ds : List Data) (d : Data) where
+    pub name_passed : ArePassed call_form return_form is_call Nothing ds → ArePassed call_form return_form is_call Name (ds ++ d ∷ [])
+    name_passed so_far = (d, ap (λ (es : List Data). es ++ d ∷ []) so_far)
+
+    pub sessions_passed : ArePassed call_form return_form is_call Name ds → (k : ℕ) → d ≡ number_form k
+        → ArePassed call_form return_form is_call (Sessions k) (ds ++ d ∷ [])
+    sessions_passed so_far k is =
+        (so_far.0, ap (λ (es : List Data). es ++ d ∷ []) so_far.1 ∙ ap (λ (x : Data). so_far.0 ∷ x ∷ []) is)
+
+    pub no_sessions : ArePassed call_form return_form is_call Name ds → ((n : ℕ) → d ≢ number_form n) → (more : List Data) → AreNoScript (ds ++ d ∷ more)
+    no_sessions so_far none more = λ a n cs others same.
+        let e : so_far.0 ∷ d ∷ more ≡ a ∷ number_form n ∷ list cs ∷ others = ap (λ (es : List Data). es ++ d ∷ more) (sym so_far.1) ∙ same in
+        let is : d ≡ number_form n = cc in
+        none n is
+
+    pub no_steps_list : (k : ℕ) → ArePassed call_form return_form is_call (Sessions k) ds → elements d ≡ None → (more : List Data) → AreNoScript (ds ++ d ∷ more)
+    no_steps_list k so_far none more = λ a n cs others same.
+        let e : so_far.0 ∷ number_form k ∷ d ∷ more ≡ a ∷ number_form n ∷ list cs ∷ others = ap (λ (es : List Data). es ++ d ∷ more) (sym so_far.1) ∙ same in
+        let is : d ≡ list cs = cc in
+        let f : ◌≡◌ {A = Option (List Data)} None (Some cs) = sym none ∙ ap elements is ∙ elements-list cs in absurd cc
 
   module _ (ds : List Data) (d : Data) (k : ℕ) (taken : StepsTaken C R) where
     third : (a : Data) (o : Option (List Data)) → elements d ≡ o → ds ≡ a ∷ number_form k ∷ [] → IsTakenList call_form return_form is_call k (Some taken) o
@@ -96,3 +117,20 @@ module _ {C R : Type 0} (call_form : C → Data) (return_form : R → Data) (is_
 
       pub these_refused : (e : ScriptError) → AreTaken call_form return_form is_call p.sessions (Refused e) p.steps → IsStepsRefusal call_form return_form is_call p.sessions p.steps e
       these_refused e refused = subst (λ (ds : List Data). IsStepsRefusal call_form return_form is_call p.sessions ds e) (append-nil p.steps) (refused [])
+
+      -- its elements are wanted
+      pub all_wanted : IsGathered (λ (s : Unit {0}). λ (ds : List Data). ⊥) AreNoScript tt false (elements d) → ⊥
+      all_wanted refused = subst (IsGathered (λ (s : Unit {0}). λ (ds : List Data). ⊥) AreNoScript tt false) has refused (string p.name) p.sessions p.steps p.rest refl
+
+      -- its steps were taken
+      no_steps_of : (passed : Passed C R) → ((k : ℕ) (taken : StepsTaken C R) → passed ≢ Steps k taken)
+          → ArePassed call_form return_form is_call passed (string p.name ∷ number_form p.sessions ∷ list p.steps ∷ p.rest) → ⊥
+      no_steps_of Nothing other are = absurd cc
+      no_steps_of Name other are = let e : string p.name ∷ number_form p.sessions ∷ list p.steps ∷ p.rest ≡ are.0 ∷ [] = are.1 in absurd cc
+      no_steps_of (Sessions k) other are =
+          let e : string p.name ∷ number_form p.sessions ∷ list p.steps ∷ p.rest ≡ are.0 ∷ number_form k ∷ [] = are.1 in absurd cc
+      no_steps_of (Steps k taken) other are = absurd (other k taken refl)
+
+      pub no_steps : (passed : Passed C R) → ((k : ℕ) (taken : StepsTaken C R) → passed ≢ Steps k taken)
+          → IsGathered (λ (s : Unit {0}). ArePassed call_form return_form is_call passed) AreNoScript tt true (elements d) → ⊥
+      no_steps passed other are = no_steps_of passed other (all_passed passed are)

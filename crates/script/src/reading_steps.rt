@@ -270,10 +270,10 @@ fn next_part<F: StepForms>(
     alloc: Global,
     reader: &mut Reader<'_>,
     depth: usize,
-    parts: PartsOf<F>,
+    parts: &PartsOf<F>,
 ) -> Result<Option<PartsOf<F>>, TextError>
     ensures read { IfOk result
-        (λ next. IsValue (λ d. (ds : List Data) → ArePartsOf F.call_form F.return_form F.is_call parts ds
+        (λ next. IsValue (λ d. (ds : List Data) → ArePartsOf F.call_form F.return_form F.is_call parts.now ds
         → IsNextPart F.call_form F.return_form F.is_call next ds d) depth reader.old reader.new) }
     ensures shorter { OnOk result (length reader.new < length reader.old) }
     ensures refused { IfErr result (IsRefused depth reader.old) }
@@ -283,9 +283,9 @@ fn next_part<F: StepForms>(
             Some(word) => Ok(Some(StepParts::Word(word))),
             None => Ok(None),
         },
-        StepParts::Word(word) => after_word::<F>(alloc, reader, depth, word),
-        StepParts::Number(word, number) => after_number::<F>(alloc, reader, depth, word, number),
-        StepParts::Piece(case, session) => piece_of::<F>(alloc, reader, depth, case, session),
+        StepParts::Word(word) => after_word::<F>(alloc, reader, depth, *word),
+        StepParts::Number(word, number) => after_number::<F>(alloc, reader, depth, *word, *number),
+        StepParts::Piece(case, session) => piece_of::<F>(alloc, reader, depth, *case, *session),
         StepParts::Whole(_) => {
             pass_value(alloc, reader, depth)?;
             Ok(None)
@@ -312,10 +312,9 @@ impl<F: StepForms> Gather for StepReader<F> {
         reader: &mut Reader<'_>,
         depth: usize,
     ) -> Result<bool, TextError> {
-        let parts = mem::replace(&mut self.parts, StepParts::Nothing);
-        match next_part::<F>(alloc, reader, depth, parts)? {
+        match next_part::<F>(alloc, reader, depth, &self.parts)? {
             Some(next) => {
-                self.parts = next;
+                drop(mem::replace(&mut self.parts, next));
                 Ok(true)
             }
             None => Ok(false),
@@ -341,6 +340,7 @@ fn step_for<F: StepForms>(k: usize, step: StepFor<F>) -> Option<StepFor<F>>
     if has_counts(k, &step) {
         Some(step)
     } else {
+        drop(step);
         None
     }
 }
@@ -365,11 +365,18 @@ pub(crate) fn next_step<F: StepForms>(
     let mut step = StepReader::<F> {
         parts: StepParts::Nothing,
     };
-    if !next_list(alloc, reader, depth, &mut step)? {
-        return Ok(None);
-    }
-    match step.parts.whole() {
-        Some(step) => Ok(step_for::<F>(k, step)),
-        None => Ok(None),
+    match next_list(alloc, reader, depth, &mut step) {
+        Ok(true) => match step.parts.whole() {
+            Some(step) => Ok(step_for::<F>(k, step)),
+            None => Ok(None),
+        },
+        Ok(false) => {
+            drop(step);
+            Ok(None)
+        }
+        Err(error) => {
+            drop(step);
+            Err(error)
+        }
     }
 }

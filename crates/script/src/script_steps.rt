@@ -61,10 +61,13 @@ fn next_passed<F: StepForms>(
             Some(steps) => Ok(Some(Passed::Steps(sessions, steps))),
             None => Ok(None),
         },
-        Passed::Steps(sessions, steps) => {
-            pass_value(alloc, reader, depth)?;
-            Ok(Some(Passed::Steps(sessions, steps)))
-        }
+        Passed::Steps(sessions, steps) => match pass_value(alloc, reader, depth) {
+            Ok(()) => Ok(Some(Passed::Steps(sessions, steps))),
+            Err(error) => {
+                drop(steps);
+                Err(error)
+            }
+        },
     }
 }
 

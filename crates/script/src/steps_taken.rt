@@ -1,8 +1,9 @@
 //! The steps of a script that were read so far, or why they are refused.
 
-ghost use Rattle.std.specs.Prelude.{◌≡◌, ◌∷◌, ◌++◌, ◌<◌, ◌≤◌, ℕ, [], List, length, IfOk, IfErr, OnOk};
+ghost use Rattle.std.specs.Prelude.{◌≡◌, ◌∷◌, ◌++◌, ◌<◌, ◌≤◌, ℕ, [], List, Some, length, IfOk, IfErr, OnOk};
 ghost use Rattle.serde_json.specs.Data.{Data};
 ghost use Rattle.bounded_json.specs.Steps.Reading.{AreRefused, IsRefused};
+ghost use Rattle.script.specs.declared.steps_taken.StepsTaken.TheVariants.{Fine};
 ghost use Rattle.script.specs.Steps.StepParts.{IsStepIn};
 ghost use Rattle.script.specs.Steps.StepsTaken.{AreTaken, IsTakenList};
 ghost use Rattle.token_reader.specs.Tokens.{IsList, IsRest};
@@ -38,15 +39,36 @@ fn with_step<F: StepForms>(
     ensures { IfOk result (λ more. (k : ℕ) (ds : List Data) (d : Data) → AreTaken F.call_form F.return_form F.is_call k taken ds
         → IsStepIn F.call_form F.return_form F.is_call k d step → AreTaken F.call_form F.return_form F.is_call k more (ds ++ d ∷ [])) }
 {
-    let (mut steps, room) = match taken {
-        StepsTaken::Fine(steps, room) => (steps, room),
-        StepsTaken::Refused(error) => return Ok(StepsTaken::Refused(error)),
-    };
-    let Some(step) = step else {
-        return Ok(StepsTaken::Refused(ScriptError::BadStep(steps.len())));
-    };
+    match taken {
+        StepsTaken::Fine(steps, room) => match step {
+            Some(step) => with_fine_step::<F>(steps, room, step),
+            None => {
+                let place = steps.len();
+                drop(steps);
+                Ok(StepsTaken::Refused(ScriptError::BadStep(place)))
+            }
+        },
+        StepsTaken::Refused(error) => {
+            drop(step);
+            Ok(StepsTaken::Refused(error))
+        }
+    }
+}
+
+/// The steps with one more, or its refusal where it expands to more steps than there is room for.
+fn with_fine_step<F: StepForms>(
+    mut steps: Vec<StepFor<F>>,
+    room: usize,
+    step: StepFor<F>,
+) -> Result<TakenOf<F>, AllocError>
+    ensures { IfOk result (λ more. (k : ℕ) (ds : List Data) (d : Data)
+        → AreTaken F.call_form F.return_form F.is_call k (Fine steps room) ds
+        → IsStepIn F.call_form F.return_form F.is_call k d (Some step) → AreTaken F.call_form F.return_form F.is_call k more (ds ++ d ∷ [])) }
+{
     let more = step.count();
     if more > room {
+        drop(steps);
+        drop(step);
         return Ok(StepsTaken::Refused(ScriptError::TooManySteps));
     }
     steps.push(step)?;

@@ -1,7 +1,8 @@
 use Rattle.std.proofs.Common.{◌≡◌, ◌∙◌, subst, sym}
 use Rattle.script.specs.declared.steps_taken.StepsTaken.TheVariants.{Fine, Refused}
+use Rattle.script.specs.ScriptForm.{parts_form}
 use Rattle.script.specs.Steps.StepsTaken.{AreTaken}
-use Rattle.script.proofs.PassedScripts.{few_for, some_steps, these_refused, these_steps}
+use Rattle.script.proofs.PassedScripts.{all_wanted, few_for, no_steps, some_steps, these_refused, these_steps}
 use Rattle.script.proofs.StepLists.{all_taken, kept_few}
 use Rattle.script.proofs.script_steps.read_steps.Goals as goal
 
@@ -27,3 +28,16 @@ returns-in-Refused-clause-read g c = λ p json.
     let taken = these_steps g.F.StepForms.call_form g.F.StepForms.return_form g.F.StepForms.is_call c.args.text.now read.0 read.1 p json c.in-Steps.field-0 c.in-Steps.taken (rw c.in-Steps.is at read.2) in
     let is : c.in-Steps.taken ≡ Refused c.in-Refused.error = sym c.in-Steps.taken-is ∙ c.in-Refused.is in
     these_refused g.F.StepForms.call_form g.F.StepForms.return_form g.F.StepForms.is_call c.args.text.now read.0 read.1 p json c.in-Refused.error (subst (λ t. AreTaken g.F.StepForms.call_form g.F.StepForms.return_form g.F.StepForms.is_call p.sessions t p.steps) is taken)
+
+pub returns-in-Ok-false-clause-read : goal.returns-in-Ok-false-clause-read
+returns-in-Ok-false-clause-read g c = λ p json.
+    let read = rw c.in-Ok-false.field-0-test at c.in-Ok-false.ensures.read in
+    absurd (all_wanted g.F.StepForms.call_form g.F.StepForms.return_form g.F.StepForms.is_call c.args.text.now read.0 read.1 p json read.2)
+
+pub returns-in_default-clause-read : goal.returns-in_default-clause-read
+returns-in_default-clause-read g c = λ p json.
+    let read = rw c.in-Ok-true.field-0-test at c.in-Ok-true.ensures.read in
+    absurd (no_steps g.F.StepForms.call_form g.F.StepForms.return_form g.F.StepForms.is_call c.args.text.now read.0 read.1 p json c.gather_text.new.gathered.passed c.in_default.not-Steps read.2)
+
+pub returns-in-Err-NotJson-clause-read : goal.returns-in-Err-NotJson-clause-read
+returns-in-Err-NotJson-clause-read g c = λ p json. absurd ((rw c.in-Err-NotJson.field-0-is at c.in-Err-NotJson.ensures.refused) (parts_form p) json)
