@@ -2,8 +2,8 @@
 //! objects, parts of histories, certificates from advice, clients that run at the same time, and what is found where memory was refused
 //! before; and of whole runs over readers and writers in memory, which give or take some bytes a call, or fail.
 //!
-//! The tables of `tests/cases` test what the words of a command line and an input give. Some rows here try what a contract says of every input: they
-//! fail where a contract is wrong and its body with it.
+//! The tables of `tests/cases` test what the words of a command line and an input give. Some rows here try what a contract says of every
+//! input: they fail where a contract is wrong and its body with it.
 #![tactic(auto)]
 
 #[cfg(test)]
