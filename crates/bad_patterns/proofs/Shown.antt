@@ -16,7 +16,7 @@ use Rattle.bad_patterns.specs.declared.link.Link.{Link}
 use Rattle.bad_patterns.specs.declared.link.Link.TheVariants.{Co, Cf}
 use Rattle.bad_patterns.specs.declared.pattern.Pattern.{Pattern}
 use Rattle.bad_patterns.specs.declared.pattern.Pattern.TheVariants.{CyclicCO, ThinAirRead, WriteCOInitRead, WriteCORead, WriteHBInitRead, CyclicHB, CyclicCF}
-use Rattle.bad_patterns.specs.Kinds.{is_against, Shows, IsTrueNo}
+use Rattle.bad_patterns.specs.Kinds.{is_against, Shows, IsPresent, IsTrueNo}
 use Rattle.bad_patterns.specs.Paths.{begin_of, end_of, IsLink, IsCycle}
 use Rattle.bad_patterns.specs.Patterns.{kind_of, IsShownBy, IsBadPattern}
 use Rattle.bad_patterns.proofs.Derived.{derivation-sound}
@@ -127,10 +127,13 @@ module _ (h : MemoryHistory) where
     kind-excludes distinct Cm kinds.CyclicCF against shown met = absurd cc
     kind-excludes distinct Ccv kinds.CyclicCF against shown met = convergence-excluded h distinct shown met
 
-    -- so does a bad pattern
-    pub pattern-excludes : (criterion : Criterion) (pattern : Pattern) → IsBadPattern h criterion pattern → IsTrueNo h criterion (kind_of pattern)
-    pattern-excludes criterion pattern bad = record {
-      against = bad.against;
-      present = (bad.differentiated, pattern-shows pattern bad.shown);
-      not_met = kind-excludes bad.differentiated criterion (kind_of pattern) bad.against (pattern-shows pattern bad.shown);
-    }
+  -- so does a bad pattern, where each kind that is present excludes the criteria that it is against
+  pub pattern-excludes : ((criterion : Criterion) (kind : Kind) → IsTrue (is_against kind criterion) → IsPresent h kind → ¬ Meets memory_answer h criterion)
+      → (criterion : Criterion) (pattern : Pattern) → IsBadPattern h criterion pattern → IsTrueNo h criterion (kind_of pattern)
+  pattern-excludes kinds_exclude criterion pattern bad =
+      let present : IsPresent h (kind_of pattern) = (bad.differentiated, pattern-shows pattern bad.shown) in
+      record {
+        against = bad.against;
+        present = present;
+        not_met = kinds_exclude criterion (kind_of pattern) bad.against present;
+      }

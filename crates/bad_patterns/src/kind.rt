@@ -60,22 +60,15 @@ impl Kind {
     pub fn named(word: &str) -> Option<Kind>
         ensures { IsRead kind_name word.now result }
     {
-        if word == "CyclicCO" {
-            Some(Kind::CyclicCO)
-        } else if word == "ThinAirRead" {
-            Some(Kind::ThinAirRead)
-        } else if word == "WriteCOInitRead" {
-            Some(Kind::WriteCOInitRead)
-        } else if word == "WriteCORead" {
-            Some(Kind::WriteCORead)
-        } else if word == "WriteHBInitRead" {
-            Some(Kind::WriteHBInitRead)
-        } else if word == "CyclicHB" {
-            Some(Kind::CyclicHB)
-        } else if word == "CyclicCF" {
-            Some(Kind::CyclicCF)
-        } else {
-            None
+        match word {
+            "CyclicCO" => Some(Kind::CyclicCO),
+            "ThinAirRead" => Some(Kind::ThinAirRead),
+            "WriteCOInitRead" => Some(Kind::WriteCOInitRead),
+            "WriteCORead" => Some(Kind::WriteCORead),
+            "WriteHBInitRead" => Some(Kind::WriteHBInitRead),
+            "CyclicHB" => Some(Kind::CyclicHB),
+            "CyclicCF" => Some(Kind::CyclicCF),
+            _ => None,
         }
     }
 }

@@ -19,8 +19,7 @@ pub fn bad_patterns_exclude_criteria()
     ensures { (h : MemoryHistory) (criterion : Criterion) (pattern : Pattern)
         → IsBadPattern h criterion pattern → IsTrueNo h criterion (kind_of pattern) }
 {
-    causal_memory_is_causally_consistent::<Memory>();
-    causal_convergence_is_causally_consistent::<Memory>();
+    present_kinds_exclude_criteria();
 }
 
 /// A kind that is against a criterion and present in a history excludes the criterion.

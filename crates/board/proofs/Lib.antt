@@ -1,3 +1,4 @@
 pub mod BoardsLaws
 pub mod Due
+pub mod InPlace
 pub mod Verdicts

@@ -65,7 +65,14 @@ impl<M: Mark> Board<M> {
     pub fn mark(&self, number: usize) -> Option<&M>
         ensures { option_copied result ≡ option_map (λ (s : CaseState M). s.mark) (slice_get self.now number) }
     {
-        Some(self.cases.get(number)?.mark())
+        Some(self.case(number)?.mark())
+    }
+
+    /// The case of this number, where there is one.
+    fn case(&self, number: usize) -> Option<&FiledCase<M>>
+        ensures { option_copied result ≡ slice_get self.now number }
+    {
+        self.cases.get(number)
     }
 
     /// Files a case with these rows, and gives its number.
@@ -160,7 +167,7 @@ impl<M: Mark> Board<M> {
     fn put_refusal(&self, number: usize, mark: &M, op: OpId) -> Option<BoardError>
         ensures { result ≡ put_refusal M.place (slice_get self.now number) mark.now op }
     {
-        match self.cases.get(number) {
+        match self.case(number) {
             None => Some(BoardError::NoSuch),
             Some(filed) => filed.put_refusal(mark, op),
         }
@@ -184,6 +191,7 @@ impl<M: Mark> Board<M> {
         ensures unchanged { OnErr result (self.new ≡ self.old) }
     {
         if let Some(refusal) = self.refute_refusal(number, mark, passes) {
+            drop(pattern);
             return Err(refusal);
         }
         self.cases[number].refute(pattern);
@@ -194,7 +202,7 @@ impl<M: Mark> Board<M> {
     fn refute_refusal(&self, number: usize, mark: &M, passes: bool) -> Option<BoardError>
         ensures { result ≡ refute_refusal M.place (slice_get self.now number) mark.now passes }
     {
-        match self.cases.get(number) {
+        match self.case(number) {
             None => Some(BoardError::NoSuch),
             Some(filed) => filed.refute_refusal(mark, passes),
         }
@@ -209,12 +217,29 @@ impl<M: Mark> Board<M> {
         ensures standing { IfOk result (λ a. (s : CaseState M) → slice_get self.now number ≡ Some s → IsStanding s a) }
         ensures refused { IfErr result (λ e. ask_refusal M.place (slice_get self.now number) mark.now ≡ Some e) }
     {
-        let Some(filed) = self.cases.get(number) else {
+        let Some(filed) = self.case(number) else {
             return Err(BoardError::NoSuch);
         };
         match filed.ask_refusal(mark) {
             Some(refusal) => Err(refusal),
             None => Ok(filed.standing()),
+        }
+    }
+
+    /// The case of a question.
+    ///
+    /// Refused in this order: `NoSuch` where there is no such case, `Stranger` where its mark is of another place.
+    fn asked(&self, number: usize, mark: &M) -> Result<&FiledCase<M>, BoardError>
+        ensures accepted { IfOk result (λ _. ask_refusal M.place (slice_get self.now number) mark.now ≡ None) }
+        ensures filed { IfOk result (λ c. slice_get self.now number ≡ Some c.now) }
+        ensures refused { IfErr result (λ e. ask_refusal M.place (slice_get self.now number) mark.now ≡ Some e) }
+    {
+        let Some(filed) = self.case(number) else {
+            return Err(BoardError::NoSuch);
+        };
+        match filed.ask_refusal(mark) {
+            Some(refusal) => Err(refusal),
+            None => Ok(filed),
         }
     }
 
@@ -226,13 +251,7 @@ impl<M: Mark> Board<M> {
         ensures pattern { IfOk result (λ p. (s : CaseState M) → slice_get self.now number ≡ Some s → option_copied p ≡ s.pattern) }
         ensures refused { IfErr result (λ e. ask_refusal M.place (slice_get self.now number) mark.now ≡ Some e) }
     {
-        let Some(filed) = self.cases.get(number) else {
-            return Err(BoardError::NoSuch);
-        };
-        match filed.ask_refusal(mark) {
-            Some(refusal) => Err(refusal),
-            None => Ok(filed.pattern()),
-        }
+        Ok(self.asked(number, mark)?.pattern())
     }
 
     /// The row of an operation of a case, where there is one: the outcome of its piece, or `None` until a verdict comes.
@@ -248,12 +267,6 @@ impl<M: Mark> Board<M> {
         ensures row { IfOk result (λ r. (s : CaseState M) → slice_get self.now number ≡ Some s → r ≡ row_of s op) }
         ensures refused { IfErr result (λ e. ask_refusal M.place (slice_get self.now number) mark.now ≡ Some e) }
     {
-        let Some(filed) = self.cases.get(number) else {
-            return Err(BoardError::NoSuch);
-        };
-        match filed.ask_refusal(mark) {
-            Some(refusal) => Err(refusal),
-            None => Ok(filed.row(op)),
-        }
+        Ok(self.asked(number, mark)?.row(op))
     }
 }

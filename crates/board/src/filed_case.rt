@@ -142,9 +142,7 @@ impl<M: Mark> FiledCase<M> {
     pub(crate) fn refute(&mut self, pattern: Pattern)
         ensures { self.new ≡ refuted self.old pattern }
     {
-        if self.pattern.is_none() {
-            self.pattern = Some(pattern);
-        }
+        self.pattern.get_or_insert(pattern);
     }
 
     /// Why a question is refused.

@@ -35,7 +35,9 @@ fn read_elements<P: Place>(
     let limit = place.limit();
     let mut elements = Vec::new(alloc);
     'items: while limit != Some(elements.len()) {
-        let token = reader.next().ok_or(TextError::NotJson)?;
+        let Some(token) = reader.next() else {
+            return Err(TextError::NotJson);
+        };
         if let Token::EndArray = token {
             return Ok(elements);
         }
@@ -88,16 +90,23 @@ pub fn read_value<P: Place>(
     }
 }
 
-/// The value that makes up the whole text.
-fn read_whole<P: Place>(alloc: Global, text: &str, place: P) -> Result<Value, TextError>
+/// The value that makes up the whole text, which is read in the scratch.
+fn read_whole<P: Place>(
+    alloc: Global,
+    text: &str,
+    scratch: &mut Scratch<Global>,
+    place: P,
+) -> Result<Value, TextError>
     ensures read { IfOk result (λ v. IsWholeCut P.limit P.inside place text.now (view v)) }
     ensures refused { IfErr result (IsWholeRefused text.now) }
 {
-    let mut scratch = Scratch::new(alloc);
-    let mut reader = Reader::new(text, &mut scratch)?;
-    let token = reader.next().ok_or(TextError::NotJson)?;
+    let mut reader = Reader::new(text, scratch)?;
+    let Some(token) = reader.next() else {
+        return Err(TextError::NotJson);
+    };
     let value = read_value(alloc, token, &mut reader, place, MAX_DEPTH)?;
     if reader.next().is_some() {
+        drop(value);
         return Err(TextError::NotJson);
     }
     Ok(value)
@@ -113,7 +122,7 @@ pub fn read_bounded<P: Place>(alloc: Global, text: &[u8], place: P) -> Result<Va
     ensures refused { IfErr result (IsTextRefused text.now) }
 {
     match simdutf8::compat::from_utf8(text) {
-        Ok(text) => read_whole(alloc, text, place),
+        Ok(text) => read_whole(alloc, text, &mut Scratch::new(alloc), place),
         Err(_) => Err(TextError::NotJson),
     }
 }

@@ -13,7 +13,9 @@ fn walk(reader: &mut Reader<'_>, depth: usize) -> Result<(), Invalid>
         (λ _. behind_value depth reader.old ≡ None) }
     ensures shorter { OnOk result (length reader.new < length reader.old) }
 {
-    let token = reader.next().ok_or(Invalid)?;
+    let Some(token) = reader.next() else {
+        return Err(Invalid);
+    };
     match token {
         Token::String(_) | Token::Bool(_) | Token::Null => Ok(()),
         Token::Number(text) => match number_at(text) {

@@ -1,6 +1,6 @@
 -- Lists by operation, gathered one after another.
 use Rattle.std.specs.Prelude.{◌≡◌, ◌≢◌, ℕ, ◌+◌, ◌<◌, ◌≤◌, List, [], ◌∷◌, ◌++◌, length, IfOk}
-use Rattle.std.proofs.Common.{arith, get_or, sym, ap, subst, ◌∙◌, ⊎_elim, refl, Result, Ok, Err}
+use Rattle.std.proofs.Common.{arith, get_or, sym, ap, subst, subst₂, ◌∙◌, ⊎_elim, refl, Result, Ok, Err}
 use Rattle.std.proofs.lemmas.Bool.{cases_eq, cases_lt}
 use Rattle.std.proofs.lemmas.List.{get_or_append_left, get_or_past, length_push, get_or_push, length-set}
 use Rattle.std.proofs.lemmas.Result.{IfOk-weaker}
@@ -141,6 +141,20 @@ module _ {S C R A : Type 0} (h : HistoryValue S C R) (holds : OpId → List A �
 
   pub sessions-each : (o : OpId) → IsOp h o → holds o (list_of lists o)
   sessions-each o is_op = (each o.session (listed-length h.1 o.session o.index is_op)).each o.index is_op
+
+-- the lists of one session more
+pub made-push : {A E : Type 0} (gives : ℕ → Result (List (List A)) E → Type 0) (n : ℕ) (lists : ByOperation A) (rows : List (List A))
+    → AreMadeBy gives n lists → gives n (Ok rows) → AreMadeBy gives (n + 1) (lists ++ rows ∷ [])
+made-push {A} gives n lists rows before made = record {
+  sessions = length_push lists rows ∙ ap (λ k. k + 1) before.sessions;
+  each = λ s below. ⊎_elim
+      (λ (same : s ≡ n).
+      subst₂ (λ (k : ℕ) (xs : List (List A)). gives k (Ok xs)) (sym same) (sym (get_or_push lists rows [] s (before.sessions ∙ sym same))) made)
+      (λ (apart : s ≢ n).
+      let inside : s < length lists = let same = before.sessions in omega arith in
+      subst (λ (xs : List (List A)). gives s (Ok xs)) (sym (get_or_append_left lists (rows ∷ []) [] s inside)) (before.each s (omega arith)))
+      (cases_eq s n);
+}
 
 -- lists that were made session by session
 module _ {S C R A E : Type 0} (h : HistoryValue S C R) (holds : OpId → List A → Type 0) (gives : ℕ → Result (List (List A)) E → Type 0) (n : ℕ)

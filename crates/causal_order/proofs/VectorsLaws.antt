@@ -1,10 +1,10 @@
 -- What follows for vectors.
 use Rattle.std.proofs.Common.{arith, get_or, subst, lt_of_not-le}
 use Rattle.history.specs.declared.op_id.OpId.{OpId}
-use Rattle.history.specs.History.{HistoryValue, IsOp}
+use Rattle.history.specs.History.{HistoryValue, IsOp, session}
 use Rattle.causal_order.proofs.OrdersLaws.{session-of_history}
-use Rattle.causal_order.specs.Vectors.{ByOperation, HasListOf, HasOneEach, Counts, IsCounted, IsListed}
-use Rattle.std.specs.Prelude.{ℕ, ◌<◌, ◌≤◌, List, [], length}
+use Rattle.causal_order.specs.Vectors.{ByOperation, HasListOf, HasOneEach, Counts, IsCounted, IsListed, IsPastLastOf, IsPastPredecessor, IsVectorOk, count}
+use Rattle.std.specs.Prelude.{◌≡◌, ◌≢◌, ℕ, ◌+◌, ◌<◌, ◌≤◌, List, [], length}
 use Rattle.std.proofs.lemmas.List.{get_or_past}
 
 -- what has no vector counts nothing
@@ -22,3 +22,19 @@ module _ {S C R : Type 0} (h : HistoryValue S C R) where
       let sessions = one_each.sessions in
       let operations = one_each.operations o.session in
       record { session = omega arith; index = omega arith }
+
+module _ {S C R : Type 0} (h : HistoryValue S C R) (v : Counts) (o : OpId) where
+  -- what is asked of a vector, from its parts
+  pub vector_ok-made : count v o o.session ≡ o.index + 1 → ((s : ℕ) → count v o s ≤ length (session h s)) → IsPastPredecessor v o
+      → ((s : ℕ) → s ≢ o.session → IsPastLastOf v o s) → IsVectorOk h v o
+  vector_ok-made own existing predecessor others = record {
+    own = own;
+    existing = existing;
+    predecessor = predecessor;
+    others = λ s i last. (others s last.0 i last.1).0;
+    uncounted = λ s i last. (others s last.0 i last.1).1;
+  }
+
+  -- and its part on the other sessions
+  pub vector_ok-others : IsVectorOk h v o → (s : ℕ) → s ≢ o.session → IsPastLastOf v o s
+  vector_ok-others ok s apart i last = (ok.others s i (apart, last), ok.uncounted s i (apart, last))

@@ -74,14 +74,19 @@ impl<O: Refutable, K: ShelfName> Cases<O, K> {
         ensures unchanged { OnErr result (self.new ≡ self.old) }
     {
         if self.is_full() {
+            drop(rows);
             return Err(Some(file));
         }
         let Ok(token) = shelf.place(rt, file) else {
+            drop(rows);
             return Err(None);
         };
         match self.file(token.again(), rows) {
             Ok(number) => Ok(Ticket::of(number as u32, token)),
-            Err(_full) => Err(None),
+            Err(_full) => {
+                drop(token);
+                Err(None)
+            }
         }
     }
 

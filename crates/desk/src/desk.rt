@@ -91,7 +91,10 @@ impl<O: Refutable, K: ShelfName> Desk<O, K> {
     {
         match self.file_or_back(rt, file) {
             Ok(ticket) => Ok(ticket),
-            Err(Some(_file)) => Err(DeskError::Full),
+            Err(Some(file)) => {
+                drop(file);
+                Err(DeskError::Full)
+            }
             Err(None) => Err(DeskError::Memory),
         }
     }
@@ -111,7 +114,10 @@ impl<O: Refutable, K: ShelfName> Desk<O, K> {
                 .cases
                 .lock(rt)
                 .file_or_back(rt, &self.shelf, file, rows),
-            Err(_no_memory) => Err(None),
+            Err(_no_memory) => {
+                drop(file);
+                Err(None)
+            }
         }
     }
 
@@ -157,10 +163,27 @@ impl<O: Refutable, K: ShelfName> Desk<O, K> {
         ensures stranger { ¬ IsSameCase verdict.case_of ticket.now → result ≡ Err DeskError.Stranger }
         ensures refused { IfErr result (RefusesVerdict ticket.now verdict) }
     {
+        let put = self.put_lent(rt, ticket, &verdict);
+        drop(verdict);
+        put
+    }
+
+    /// The same for a verdict that the caller keeps.
+    fn put_lent(
+        &self,
+        rt: &impl Wait,
+        ticket: &Ticket<O, K>,
+        verdict: &Verdict<O, K>,
+    ) -> Result<(), DeskError>
+        ensures accepted { IfOk result (λ _. IsSameCase verdict.now.case_of ticket.now) }
+        ensures stranger { ¬ IsSameCase verdict.now.case_of ticket.now → result ≡ Err DeskError.Stranger }
+        ensures refused { IfErr result (RefusesVerdict ticket.now verdict.now) }
+    {
         if !verdict.ticket().is_same_case(ticket) {
             return Err(DeskError::Stranger);
         }
-        match self.cases.lock(rt).put(&self.shelf, &verdict) {
+        let put = self.cases.lock(rt).put(&self.shelf, verdict);
+        match put {
             Ok(()) => Ok(()),
             Err(_not_put) => Err(DeskError::Doubled),
         }
@@ -180,10 +203,31 @@ impl<O: Refutable, K: ShelfName> Desk<O, K> {
         ensures refused { IfErr result (RefusesPattern (PassesFor O.passes ticket.now.file pattern)) }
     {
         let file = ticket.file(self);
-        if !O::check_pattern(self.alloc, file.history(), file.criterion(), &pattern)? {
-            return Err(DeskError::NotThatPattern);
+        match O::check_pattern(self.alloc, file.history(), file.criterion(), &pattern) {
+            Ok(true) => self.accept(rt, ticket, pattern),
+            Ok(false) => {
+                drop(pattern);
+                Err(DeskError::NotThatPattern)
+            }
+            Err(_no_memory) => {
+                drop(pattern);
+                Err(DeskError::Memory)
+            }
         }
-        match self.cases.lock(rt).refute(&self.shelf, ticket, pattern) {
+    }
+
+    /// Takes a pattern that passes its test against a case.
+    fn accept(
+        &self,
+        rt: &impl Wait,
+        ticket: &Ticket<O, K>,
+        pattern: Pattern,
+    ) -> Result<(), DeskError>
+        requires { PassesFor O.passes ticket.now.file pattern }
+        ensures { IfErr result (λ e. e ≡ DeskError.Memory) }
+    {
+        let taken = self.cases.lock(rt).refute(&self.shelf, ticket, pattern);
+        match taken {
             Ok(()) => Ok(()),
             Err(_no_such_case) => Err(DeskError::Memory),
         }

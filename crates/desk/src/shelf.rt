@@ -45,7 +45,10 @@ impl<O: SeqObject> Shelf<O> {
     {
         match self.files.push_shown(rt, file) {
             Ok(pushed) => Ok(Token::of(pushed)),
-            Err(_back) => Err(AllocError),
+            Err(back) => {
+                drop(back);
+                Err(AllocError)
+            }
         }
     }
 

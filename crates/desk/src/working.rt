@@ -1,6 +1,6 @@
 //! What workers do at a desk.
 
-ghost use Rattle.std.specs.Prelude.{◌≡◌, ◌≤◌, IfErr, IfOk, IsSome};
+ghost use Rattle.std.specs.Prelude.{◌≡◌, ◌≤◌, IfErr, IfOk, IfSome, IsSome};
 ghost use Rattle.board.specs.CaseFiles.{HasPiece};
 
 use crate::case_checker::CaseChecker;
@@ -40,6 +40,7 @@ impl<O: Refutable, K: ShelfName> Desk<O, K> {
                 put += 1;
             }
         }
+        drop(held);
         Ok(put)
     }
 
@@ -52,8 +53,15 @@ impl<O: Refutable, K: ShelfName> Desk<O, K> {
         held: Option<CaseChecker<'a, O, K>>,
     ) -> Result<Option<(CaseChecker<'a, O, K>, bool)>, AllocError> {
         match self.take(rt) {
-            None => Ok(None),
-            Some((ticket, op)) => Ok(Some(self.work_on(rt, gate, held, &ticket, op)?)),
+            None => {
+                drop(held);
+                Ok(None)
+            }
+            Some((ticket, op)) => {
+                let worked = self.work_on(rt, gate, held, &ticket, op);
+                drop(ticket);
+                worked.map(Some)
+            }
         }
     }
 
@@ -84,8 +92,13 @@ impl<O: Refutable, K: ShelfName> Desk<O, K> {
         requires { HasPiece ticket.now.file op }
     {
         let mut checker = self.checker_of(held, ticket)?;
-        let verdict = check_between(self.alloc(), gate, &mut checker, op)?;
-        Ok((checker, verdict))
+        match check_between(self.alloc(), gate, &mut checker, op) {
+            Ok(verdict) => Ok((checker, verdict)),
+            Err(no_memory) => {
+                drop(checker);
+                Err(no_memory)
+            }
+        }
     }
 
     /// The checker that a worker holds, where it is of the case of a ticket, or else one of that case.
@@ -97,13 +110,29 @@ impl<O: Refutable, K: ShelfName> Desk<O, K> {
         requires { IsSome ticket.now.file.2 }
         ensures { IfOk result (λ checker. checker.file ≡ ticket.now.file) }
     {
-        if let Some(checker) = held {
-            if checker.ticket().is_same_case(ticket) {
-                self.agree(checker.ticket(), ticket);
-                return Ok(checker);
-            }
+        match self.held_of(held, ticket) {
+            Some(checker) => Ok(checker),
+            None => CaseChecker::of(self.alloc(), self, ticket),
         }
-        CaseChecker::of(self.alloc(), self, ticket)
+    }
+
+    /// The checker that a worker holds, where it is of the case of a ticket.
+    fn held_of<'a>(
+        &self,
+        held: Option<CaseChecker<'a, O, K>>,
+        ticket: &Ticket<O, K>,
+    ) -> Option<CaseChecker<'a, O, K>>
+        ensures { IfSome result (λ checker. checker.file ≡ ticket.now.file) }
+    {
+        let Some(checker) = held else {
+            return None;
+        };
+        if !checker.ticket().is_same_case(ticket) {
+            drop(checker);
+            return None;
+        }
+        self.agree(checker.ticket(), ticket);
+        Some(checker)
     }
 
     /// Checks each piece of a case whose row has no verdict yet, outside the lock, and puts the verdicts.

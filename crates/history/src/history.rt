@@ -30,6 +30,17 @@ impl<O: SeqObject> Model for History<O> {
     ghost invariant = { λ h. IsHistory O.is_start O.matches (h.start, map (λ s. s.items) h.sessions.items) };
 }
 
+/// Equal sessions.
+fn copy_sessions<E: Copy>(alloc: Global, sessions: &[Vec<E>]) -> Result<Vec<Vec<E>>, AllocError>
+    ensures { IfOk result (λ copies. map (λ s. s.items) copies.items ≡ map (λ s. s.items) sessions.now) }
+{
+    let mut copies = Vec::new(alloc);
+    for operations in sessions {
+        copies.push(Vec::from_slice(alloc, operations)?)?;
+    }
+    Ok(copies)
+}
+
 impl<O: SeqObject> History<O> {
     /// The history with this start and these sessions.
     pub fn of(start: O::Start, sessions: Vec<Vec<(O::Call, Option<O::Ret>)>>) -> History<O>
@@ -112,11 +123,8 @@ impl<O: SeqObject> History<O> {
     pub fn copy(&self, alloc: Global) -> Result<History<O>, AllocError>
         ensures { IfOk result (λ h. h ≡ self.now) }
     {
-        let mut sessions = Vec::new(alloc);
-        for operations in &self.sessions {
-            sessions.push(Vec::from_slice(alloc, operations)?)?;
-        }
         let start = O::copy_start(alloc, &self.start)?;
+        let sessions = copy_sessions(alloc, &self.sessions)?;
         Ok(History { start, sessions })
     }
 }

@@ -1,10 +1,11 @@
 -- Numbers for keys.
-use Rattle.std.specs.Prelude.{◌≡◌, ◌⊎◌, ℕ, ◌<◌, All, List, Contains, IsPermutation, Option, Some, length, option_map, slice_get}
+use Rattle.std.specs.Prelude.{◌≡◌, ◌⊎◌, ℕ, ◌<◌, ◌≤◌, All, List, [], ◌∷◌, ◌++◌, Contains, IsPermutation, Option, Some, length, option_map, slice_get}
 use Rattle.std.specs.List.{dedup}
 use Rattle.std.specs.List.Sorted.{IsNonDecreasingBy, IsPartitionPoint, IsStrictlyIncreasing}
 use Rattle.std.proofs.Common.{arith, ap, eqb, get_or, ltb, true, false, subst, sym, ◌∙◌, ⊎_elim}
-use Rattle.std.proofs.lemmas.Bool.{cases_eq, cases_order}
+use Rattle.std.proofs.lemmas.Bool.{cases_eq, cases_lt, cases_order}
 use Rattle.std.proofs.lemmas.Bool.Decides.{nat_tests}
+use Rattle.std.proofs.lemmas.List.{get_or_append_left, get_or_push, length_push}
 use Rattle.std.proofs.lemmas.List.Elements.{Contains-get_or}
 use Rattle.std.proofs.lemmas.List.Kept.{AllPairs-from_increasing, Contains-dedup_nat}
 use Rattle.std.proofs.lemmas.List.Sorted.{Contains-permutation}
@@ -110,3 +111,20 @@ distinct-each keys copied sorted kept same moved is k d below =
     subst (λ (xs : List ℕ). Contains xs (get_or keys k d)) (sym same) (Contains-get_or keys k d below) in
     subst (λ (xs : List ℕ). Contains xs (get_or keys k d)) (sym is)
     (Contains-dedup_nat sorted _ (Contains-permutation copied sorted _ moved inside))
+
+-- the place of one key more
+pub places-push : (distinct keys places : List ℕ) (i d place : ℕ) → i < length keys → length places ≡ i
+    → ((n p : ℕ) → slice_get places n ≡ Some p → slice_get distinct p ≡ slice_get keys n) → slice_get distinct place ≡ Some (get_or keys i d)
+    → (n p : ℕ) → slice_get (places ++ place ∷ []) n ≡ Some p → slice_get distinct p ≡ slice_get keys n
+places-push distinct keys places i d place below count each this n p at =
+    let here = get_or_from_slice_get (places ++ place ∷ []) n p 0 at in
+    let within = slice_get_within (places ++ place ∷ []) n p at in
+    let size = length_push places place in
+    ⊎_elim
+    (λ (old : n < length places).
+    each n p (slice_get-get_or places n 0 old ∙ ap (λ (z : ℕ). Some z) (sym (get_or_append_left places (place ∷ []) 0 n old) ∙ here)))
+    (λ (new : length places ≤ n).
+    let last : n ≡ i = omega arith in
+    let same : place ≡ p = sym (get_or_push places place 0 n (omega arith)) ∙ here in
+    ap (slice_get distinct) (sym same) ∙ this ∙ sym (slice_get-get_or keys i d below) ∙ ap (slice_get keys) (sym last))
+    (cases_lt n (length places))

@@ -1,6 +1,6 @@
 -- What follows for lists by the numbers of operations.
 use Rattle.std.specs.Prelude.{◌≡◌, ℕ, ◌+◌, ◌<◌, ◌≤◌, List, [], ◌∷◌, ◌++◌, Option, Some, length, option_map, slice_get}
-use Rattle.std.proofs.Common.{arith, ap, get_or, length-append, subst, sym, ◌∙◌, ⊎_elim}
+use Rattle.std.proofs.Common.{arith, ap, get_or, length-append, refl, subst, sym, ◌∙◌, ⊎_elim}
 use Rattle.std.proofs.lemmas.Bool.{cases_lt}
 use Rattle.std.proofs.lemmas.List.{get_or_append_left, get_or_push}
 use Rattle.std.proofs.lemmas.Option.{same_Some, slice_get-get_or, slice_get_within}
@@ -26,6 +26,14 @@ module _ (h : MemoryHistory) (es : List (MemoryCall × Option RegisterRet)) (s i
   key-at d = ap (option_map (λ (e : MemoryCall × Option RegisterRet). e.0.key)) (entry-at d)
 
 module _ {X : Type 0} (h : MemoryHistory) (is_of : OpId → X → Type 0) where
+  -- before the first session there is no entry
+  pub each-none : ListsEach h is_of (many_before h 0) []
+  each-none = record { count = refl; each = λ o x is_op at. absurd cc }
+
+  -- those of all sessions
+  pub each-all : (s : ℕ) (xs : List X) → s ≡ length h.1 → ListsEach h is_of (many_before h s) xs → ListsEach h is_of (many h) xs
+  each-all s xs ended before = subst (λ (n : ℕ). ListsEach h is_of (many_before h n) xs) ended before
+
   -- the entry of one operation more
   pub each-push : (s i : ℕ) (x : X) (xs : List X) → IsOp h (op s i) → is_of (op s i) x → ListsEach h is_of (many_before h s + i) xs
       → ListsEach h is_of (many_before h s + (i + 1)) (xs ++ x ∷ [])

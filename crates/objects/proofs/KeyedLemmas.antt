@@ -1,13 +1,15 @@
 -- One call more of a keyed object: the state at its key takes it in, and the others stay.
-use Rattle.std.specs.Prelude.{◌==◌, MatchOption}
+use denote.Ref.{Bor}
+use Rattle.std.specs.Prelude.{◌==◌, MatchOption, IfSome, option_copied, unwrap_or}
 use Rattle.std.proofs.Common.{◌≡◌, ℕ, Bool, true, false, cond, List, [], ◌∷◌, ◌++◌, Option, Some, None, nat_cmp, sym, ◌∙◌, ap, subst, ⊎_elim}
 use Rattle.std.specs.BTreeMap.{is_at}
 use Rattle.std.specs.Map.{lookup}
 use Rattle.std.specs.Cmp.{unsigned_tied}
 use Rattle.std.proofs.lemmas.Bool.{eqb-true, cases_Bool}
 use Rattle.std.proofs.lemmas.List.{append-nil}
+use Rattle.std.proofs.lemmas.Map.Entries.{All-lookup}
 use Rattle.objects.specs.declared.keyed.KeyedCall.{KeyedCall}
-use Rattle.objects.specs.Table.{value_at, start_at}
+use Rattle.objects.specs.Table.{value_at, start_at, IsTable}
 use Rattle.objects.specs.Keyed.{calls_at, Stands}
 use Rattle.objects.specs.Laws.Keyed.{calls_at-append, calls_at-here, calls_at-apart}
 use Rattle.objects.proofs.TableLemmas.{value_at-by_cmp}
@@ -74,3 +76,20 @@ module _ {S C O : Type 0} (plain : S) (stands : O → S → List C → Type 0) w
 
       at_key : (key : ℕ) → StandsAt (value_at new key) (start_at plain start key) (calls_at key (calls ++ c ∷ []))
       at_key key = ⊎_elim (at_same key) (at_other key) (cases_Bool (c.key == key))
+
+module _ {S : Type 0} (plain : S) (table : List (ℕ × S)) (key : ℕ) where
+  -- what was found at a key, or else the plain start, is the start there
+  pub start_or_plain : (found : Option (Bor S)) (default chosen : Bor S) → chosen ≡ unwrap_or found default
+      → option_copied found ≡ value_at table key → default.now ≡ plain → chosen.now ≡ start_at plain table key
+  start_or_plain None default chosen is here same = ap (λ (b : Bor S). b.now) is ∙ same ∙ ap (λ (o : Option S). unwrap_or o plain) here
+  start_or_plain (Some there) default chosen is here same = ap (λ (b : Bor S). b.now) is ∙ ap (λ (o : Option S). unwrap_or o plain) here
+
+module _ {S : Type 0} (plain : S) (is_start : S → Type 0) where
+  chosen_is_start : (found : Option S) → is_start plain → IfSome found is_start → is_start (unwrap_or found plain)
+  chosen_is_start None plain_is here = plain_is
+  chosen_is_start (Some s) plain_is here = here
+
+  -- the start at a key of a table is one
+  pub start_at_is_start : (table : List (ℕ × S)) (key : ℕ) → is_start plain → IsTable plain is_start table → is_start (start_at plain table key)
+  start_at_is_start table key plain_is is =
+      chosen_is_start (value_at table key) plain_is (All-lookup is_start (λ k. k == key) table is.each_start)

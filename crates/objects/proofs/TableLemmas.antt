@@ -1,6 +1,6 @@
 -- What a search by key finds in entries whose keys rise.
 use Rattle.std.specs.Prelude.{◌==◌}
-use Rattle.std.proofs.Common.{◌≡◌, ℕ, ◌<◌, ◌+◌, false, List, [], ◌∷◌, length, get_or, cond, Some, None, Equal, Less, Greater, nat_cmp, refl, sym, ◌∙◌, ap, subst, arith, ◌≢◌, ◌≤◌, ◌^◌, ◌++◌, ⊎_elim, length-append, append_assoc, suc}
+use Rattle.std.proofs.Common.{◌≡◌, ℕ, ◌<◌, ◌+◌, false, List, [], ◌∷◌, length, get_or, cond, Some, None, Equal, Less, Greater, nat_cmp, refl, sym, ◌∙◌, ap, subst, arith, ◌≢◌, ◌≤◌, ◌^◌, ◌++◌, ⊎_elim, length-append, append_assoc, suc, take, take_all}
 use Rattle.std.specs.Cmp.{nat_eq_equiv, nat_cmp_total, unsigned_tied, eq_by_cmp_equiv, nat_cmp_is}
 use Rattle.std.specs.Ordering.{is_lt, is_eq, eq_by_cmp, ordering_index, ordering_reverse}
 use Rattle.std.specs.BTreeMap.{insert_entry, is_at}
@@ -8,7 +8,7 @@ use Rattle.std.specs.Map.{lookup, keys_of}
 use Rattle.std.specs.List.{slice_get, HoldsAt, IsDistinct, All}
 use Rattle.std.specs.List.Sorted.{IsStrictlySortedBy, IsPartitionPoint, IsNonDecreasingBy, IsStrictlyIncreasing}
 use Rattle.std.proofs.lemmas.Bool.{eqb-true, cases_lt}
-use Rattle.std.proofs.lemmas.List.{get_or-map, get_or_append_left, map-append}
+use Rattle.std.proofs.lemmas.List.{append-nil, get_or-map, get_or_append_left, map-append, take_more}
 use Rattle.std.proofs.lemmas.List.Elements.{All-nil, All-cons, All-append, All-get_or}
 use Rattle.std.proofs.Math.Seq.{get_or-append_seam}
 use Rattle.std.proofs.lemmas.List.Sorted.{searchable_from_sorted}
@@ -152,3 +152,23 @@ entries_more {X} all es es' left left' k v w rising so_far next same inserted =
     let behind : es' ≡ es ++ (k, v) ∷ [] = inserted ∙ ap (λ (x : X). insert_entry nat_cmp es k x) same
     ∙ insert_entry-last es left' k v (subst (λ (l : List (ℕ × X)). IsStrictlySortedBy nat_cmp (keys_of l)) (sym whole) rising) in
     ap (λ (l : List (ℕ × X)). l ++ left') behind ∙ append_assoc es ((k, v) ∷ []) left' ∙ whole
+
+-- the copies of a table's entries, with one more
+pub copied_more : {X : Type 0} (all items copy copy' : List (ℕ × X)) (i : ℕ) (item : ℕ × X) (v : X) → items ≡ all → copy ≡ take i all → i < length items
+    → item ≡ get_or items i item → v ≡ item.1 → copy' ≡ copy ++ (item.0, v) ∷ [] → copy' ≡ take (i + 1) all
+copied_more {X} all items copy copy' i item v same so_far below is value pushed =
+    pushed ∙ ap (λ (es : List (ℕ × X)). es ++ (item.0, v) ∷ []) so_far ∙ ap (λ (w : X). take i all ++ (item.0, w) ∷ []) value
+    ∙ ap (λ (e : ℕ × X). take i all ++ e ∷ []) (is ∙ ap (λ (es : List (ℕ × X)). get_or es i item) same)
+    ∙ sym (take_more all i item (subst (λ (es : List (ℕ × X)). i < length es) same below))
+
+-- all entries are copied
+pub copied_all : {X : Type 0} (all items copy : List (ℕ × X)) (i : ℕ) → items ≡ all → copy ≡ take i all → length items ≤ i → copy ≡ all
+copied_all {X} all items copy i same so_far ended =
+    so_far ∙ take_all i all (subst (λ (es : List (ℕ × X)). length es ≤ i) same ended)
+
+-- the copies with none left
+pub copies_all : {S X : Type 0} (value : S × List (ℕ × X)) (start inside : S) (es left inner : List (ℕ × X)) → (inside, inner) ≡ value → start ≡ inside
+    → es ++ left ≡ value.1 → left ≡ [] → (start, es) ≡ value
+copies_all {S} {X} value start inside es left inner view same so_far none =
+    let entries : es ≡ value.1 = sym (append-nil es) ∙ ap (λ (l : List (ℕ × X)). es ++ l) (sym none) ∙ so_far in
+    ap (λ (l : List (ℕ × X)). (start, l)) entries ∙ ap (λ (s : S). (s, value.1)) (same ∙ ap (λ (v : S × List (ℕ × X)). v.0) view)

@@ -1,6 +1,8 @@
 //! An object for each key, which together are one object with a sequential specification.
 
-ghost use Rattle.std.specs.Prelude.{◌≡◌, ℕ, List, [], IfOk};
+ghost use Rattle.std.specs.Prelude.{◌≡◌, ℕ, List, [], Some, IfOk, OnOk, OnErr};
+ghost use Rattle.std.specs.BTreeMap.{insert_entry, Updates};
+ghost use Rattle.std.specs.Ordering.{nat_cmp};
 ghost use Rattle.objects.specs.Table.{IsTable, start_at};
 ghost use Rattle.objects.specs.Keyed.{answer as keyed_answer, calls_at, depends as keyed_depends, settles as keyed_settles, Stands};
 ghost use Rattle.objects.specs.Laws.Keyed.{empty_is_table, equal_keyed_calls};
@@ -38,6 +40,16 @@ impl<O: SeqObject> Model for Keyed<O> {
     ghost view = { λ keyed. (keyed.start, keyed.states.entries) };
 
     ghost invariant = { λ keyed. IsTable O.plain_start O.is_start keyed.start };
+}
+
+/// Puts a state at a key. A refusal leaves the states unchanged.
+fn put<V: Drop>(states: &mut BTreeMap<u32, V>, key: u32, state: V) -> Result<(), AllocError>
+    ensures entries { OnOk result (states.new.entries ≡ insert_entry nat_cmp states.old.entries key state) }
+    ensures updates { OnOk result (Updates nat_cmp states.old states.new key (Some state)) }
+    ensures err { OnErr result (states.new.entries ≡ states.old.entries) }
+{
+    states.insert(key, state)?;
+    Ok(())
 }
 
 impl<O: SeqObject> SeqObject for Keyed<O> {
@@ -96,11 +108,10 @@ impl<O: SeqObject> SeqObject for Keyed<O> {
         start: &Table<O::Start>,
         call: &KeyedCall<O::Call>,
     ) -> Result<Table<O::Start>, AllocError> {
-        let mut entry = Table::new(alloc);
-        if let Some(value) = start.get(call.key) {
-            entry.push(call.key, O::copy_start(alloc, value)?)?;
+        match start.get(call.key) {
+            Some(value) => Table::of_entry(alloc, call.key, O::copy_start(alloc, value)?),
+            None => Ok(Table::new(alloc)),
         }
-        Ok(entry)
     }
 
     fn fresh(alloc: Global, start: &Table<O::Start>) -> Result<Keyed<O>, AllocError> {
@@ -116,7 +127,7 @@ impl<O: SeqObject> SeqObject for Keyed<O> {
         let mut states = BTreeMap::new(alloc);
         for (key, state) in &self.states {
             let copy = state.again(alloc)?;
-            states.insert(*key, copy)?;
+            put(&mut states, *key, copy)?;
         }
         Ok(Keyed {
             start,
@@ -129,12 +140,12 @@ impl<O: SeqObject> SeqObject for Keyed<O> {
         if let Some(state) = self.states.get_mut(&call.key) {
             return state.apply(call.call);
         }
-        let mut state = match self.start.get(call.key) {
-            Some(start) => O::fresh(self.alloc, start)?,
-            None => O::fresh(self.alloc, &O::plain(self.alloc)?)?,
+        let mut state = {
+            let plain = O::plain(self.alloc)?;
+            O::fresh(self.alloc, self.start.get(call.key).unwrap_or(&plain))?
         };
         let answer = state.apply(call.call)?;
-        self.states.insert(call.key, state)?;
+        put(&mut self.states, call.key, state)?;
         Ok(answer)
     }
 

@@ -1,6 +1,6 @@
 //! A table of initial values by key, for the start of a keyed object.
 
-ghost use Rattle.std.specs.Prelude.{◌≡◌, ◌↔◌, ◌++◌, ◌∷◌, [], ℕ, List, length, IsTrue, OnOk, OnErr};
+ghost use Rattle.std.specs.Prelude.{◌≡◌, ◌↔◌, ◌++◌, ◌∷◌, [], ℕ, List, length, IsTrue, IfOk, OnOk, OnErr};
 ghost use Rattle.std.specs.Cmp.{on_per};
 ghost use Rattle.std.specs.Option.{option_copied};
 ghost use Rattle.objects.specs.Table.{IsRising, value_at, equal_tables};
@@ -68,6 +68,15 @@ impl<S> Table<S> {
 }
 
 impl<S: Drop> Table<S> {
+    /// A table with one entry.
+    pub(crate) fn of_entry(alloc: Global, key: u32, start: S) -> Result<Table<S>, AllocError>
+        ensures { IfOk result (λ table. table ≡ (key, start) ∷ []) }
+    {
+        let mut table = Table::new(alloc);
+        table.push(key, start)?;
+        Ok(table)
+    }
+
     /// Appends an entry.
     ///
     /// Fails for want of memory alone, and the table is then as it was. O(1), on average.

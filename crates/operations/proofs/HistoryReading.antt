@@ -1,8 +1,8 @@
 -- Reading the sessions of a history, one after the other.
-use Rattle.std.proofs.Common.{◌≡◌, ℕ, zero, suc, ◌+◌, ◌<◌, ◌≤◌, Bool, List, [], ◌∷◌, ◌++◌, length, map, take, get_or, Option, Some, None, refl, sym, ap, ◌∙◌, arith}
+use Rattle.std.proofs.Common.{◌≡◌, ℕ, zero, suc, ◌+◌, ◌<◌, ◌≤◌, Bool, List, [], ◌∷◌, ◌++◌, length, map, take, get_or, Option, Some, None, refl, sym, subst, ap, ◌∙◌, arith}
 use Rattle.std.specs.Prelude.{slice_get}
 use Rattle.std.proofs.lemmas.Bool.{le-ltb}
-use Rattle.std.proofs.lemmas.List.{take_more, map_push}
+use Rattle.std.proofs.lemmas.List.{take_all, take_more, map_push}
 use Rattle.std.proofs.lemmas.Option.{slice_get_within, get_or_from_slice_get}
 use Rattle.serde_json.specs.Data.{Data}
 use Rattle.operations.specs.declared.read_error.ReadError.{ReadError}
@@ -56,6 +56,14 @@ module _ {C R : Type 0} (operation_at : Data → Option (C × Option R)) (fits :
 
   pub few_sessions : (ds : List Data) → length ds ≤ 16 → sessions_refusal operation_at ds ≡ first_among (length ds) (session_refusal operation_at ds)
   few_sessions ds few = rw (le-ltb 16 (length ds) few) refl
+
+  -- the last of them was read
+  pub all_read : (ds : List Data) (ss : List (List (C × Option R))) (s : ℕ) → length ds ≤ s → AreReadUpTo operation_at fits ds ss s → ReadAs operation_at ds ss
+  all_read ds ss s end so_far = subst (λ (xs : List Data). ReadAs operation_at xs ss) (take_all s ds end) so_far.read
+
+  pub all_fine : (ds : List Data) (ss : List (List (C × Option R))) (s : ℕ) → length ds ≤ 16 → length ds ≡ s → AreReadUpTo operation_at fits ds ss s
+      → sessions_refusal operation_at ds ≡ None
+  all_fine ds ss s few end so_far = few_sessions ds few ∙ ap (λ (n : ℕ). first_among n (session_refusal operation_at ds)) end ∙ so_far.none
 
 -- a first refusal of a part is one of the whole
 pub IsFirst-moves : (part whole : Option ReadError) (e : ReadError) → ((x : ReadError) → part ≡ Some x → whole ≡ Some x) → IsFirst part e → IsFirst whole e

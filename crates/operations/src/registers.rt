@@ -46,13 +46,13 @@ impl Spelled for Register {
     }
 
     fn read_call<'a>(word: &str, values: &'a [Value]) -> Option<(RegisterCall, &'a [Value])> {
-        if word == "w" {
-            let (value, rest) = first_number(values)?;
-            Some((RegisterCall::Write(value), rest))
-        } else if word == "r" {
-            Some((RegisterCall::Read, values))
-        } else {
-            None
+        match word {
+            "w" => {
+                let (value, rest) = first_number(values)?;
+                Some((RegisterCall::Write(value), rest))
+            }
+            "r" => Some((RegisterCall::Read, values)),
+            _ => None,
         }
     }
 

@@ -48,17 +48,12 @@ impl Spelled for AddRemoveSet {
     }
 
     fn read_call<'a>(word: &str, values: &'a [Value]) -> Option<(SetCall, &'a [Value])> {
-        if word == "add" {
-            let (element, rest) = first_number(values)?;
-            Some((SetCall::Add(element), rest))
-        } else if word == "rem" {
-            let (element, rest) = first_number(values)?;
-            Some((SetCall::Remove(element), rest))
-        } else if word == "has" {
-            let (element, rest) = first_number(values)?;
-            Some((SetCall::Has(element), rest))
-        } else {
-            None
+        let (element, rest) = first_number(values)?;
+        match word {
+            "add" => Some((SetCall::Add(element), rest)),
+            "rem" => Some((SetCall::Remove(element), rest)),
+            "has" => Some((SetCall::Has(element), rest)),
+            _ => None,
         }
     }
 

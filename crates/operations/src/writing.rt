@@ -1,12 +1,13 @@
 //! Writing a history of a named object as a JSON value.
 
-ghost use Rattle.std.specs.Prelude.{◌≡◌, ◌<◌, ◌≤◌, length, map, IfOk, OnOk};
+ghost use Rattle.std.specs.Prelude.{◌≡◌, ◌<◌, ◌≤◌, ◌++◌, length, map, option_to_list, IfOk, OnOk};
 ghost use Rattle.serde_json.specs.View.{view};
 ghost use Rattle.operations.specs.Form.{history_form, session_form, AreCalls, AreSessions, EachCall};
 ghost use Rattle.history.specs.History.{session, IsHistory};
 ghost use Rattle.operations.specs.Json.{list};
 
 use crate::named::Named;
+use crate::words::word_alone;
 use history::{History, MAX_SESSIONS};
 use serde_json::Value;
 use std::alloc::{AllocError, Global};
@@ -42,6 +43,17 @@ fn write_sessions<O: Named>(alloc: Global, history: &History<O>) -> Result<Value
     Ok(Value::Array(values))
 }
 
+/// Appends the form of a start, where there is one.
+fn push_start(values: &mut Vec<Value>, start: Option<Value>) -> Result<(), AllocError>
+    ensures { IfOk result (λ _. map view values.new.items
+        ≡ map view values.old.items ++ map view (option_to_list start)) }
+{
+    match start {
+        Some(value) => Ok(values.push(value)?),
+        None => Ok(()),
+    }
+}
+
 /// The form of a history.
 ///
 /// The function visits each part of the history, so its contract says what the type of each part guarantees. O(n) for n operations.
@@ -50,12 +62,8 @@ pub fn write_parts<O: Named>(alloc: Global, history: &History<O>) -> Result<Valu
     ensures is_history { OnOk result (IsHistory O.is_start O.matches history.now) }
     ensures calls { OnOk result (EachCall O.is_call history.now.1) }
 {
-    let name = String::from_str(alloc, O::name())?;
-    let mut values = Vec::new(alloc);
-    values.push(Value::String(name))?;
+    let mut values = word_alone(alloc, O::name())?;
     values.push(write_sessions::<O>(alloc, history)?)?;
-    if let Some(start) = O::write_start(alloc, history.start())? {
-        values.push(start)?;
-    }
+    push_start(&mut values, O::write_start(alloc, history.start())?)?;
     Ok(Value::Array(values))
 }

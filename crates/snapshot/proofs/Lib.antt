@@ -5,7 +5,9 @@ pub mod ConsistentCuts
 pub mod Filtered
 pub mod FoundPlaces
 pub mod Histories
+pub mod LongestReceipts
 pub mod Meetings
+pub mod NothingFound
 pub mod Sealings
 pub mod TableLemmas
 pub mod RunPlaces

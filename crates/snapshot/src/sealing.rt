@@ -75,10 +75,10 @@ impl<'a, O: SeqObject> LaneLooker<'a, O> {
         ensures found { IfOk result (λ s.
             Follows (plan_before self.entry) self.entry.looks → HoldsFound (plan_after self.entry) s.history) }
     {
+        let start = O::copy_start(self.alloc, self.lanes.start())?;
         let (sessions, lanes, advice) = seal_lanes(&self)?;
         compare_receipts(self.alloc, self.receipts, &lanes);
         let _few = self.lanes.len();
-        let start = O::copy_start(self.alloc, self.lanes.start())?;
         let history = History::of(start, sessions);
         Ok(Sealed::of(self.alloc, history, advice, lanes))
     }

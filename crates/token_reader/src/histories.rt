@@ -25,5 +25,7 @@ pub fn next_history(
     ensures refused { IfErr result (IsRefused depth reader.old) }
 {
     let value = next_value(alloc, reader, HistoryPlace::Whole, depth)?;
-    Ok(history_of(alloc, &value))
+    let read = history_of(alloc, &value);
+    drop(value);
+    Ok(read)
 }

@@ -43,5 +43,7 @@ pub fn next_whole_number(
         return Ok(Some(number));
     }
     let value = read_value(alloc, token, reader, HistoryPlace::Scalar, depth)?;
-    Ok(value.as_u64())
+    let number = value.as_u64();
+    drop(value);
+    Ok(number)
 }

@@ -54,7 +54,8 @@ pub fn pass_value(alloc: Global, reader: &mut Reader<'_>, depth: usize) -> Resul
     ensures shorter { OnOk result (length reader.new < length reader.old) }
     ensures refused { IfErr result (IsRefused depth reader.old) }
 {
-    let _value = next_value(alloc, reader, HistoryPlace::Scalar, depth)?;
+    let value = next_value(alloc, reader, HistoryPlace::Scalar, depth)?;
+    drop(value);
     Ok(())
 }
 
@@ -72,6 +73,7 @@ pub fn pass_no_list(
     ensures shorter { OnOk result (length reader.new ≤ length reader.old) }
     ensures refused { IfErr result (IsRefused depth (token_of token.entry ∷ reader.old)) }
 {
-    let _value = read_value(alloc, token, reader, HistoryPlace::Scalar, depth)?;
+    let value = read_value(alloc, token, reader, HistoryPlace::Scalar, depth)?;
+    drop(value);
     Ok(())
 }

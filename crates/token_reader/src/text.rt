@@ -8,23 +8,26 @@ ghost use Rattle.bounded_json.specs.Text.{IsJson, IsTextRefused};
 ghost use Rattle.operations.specs.Json.{elements};
 ghost use Rattle.token_reader.specs.Gathers.{IsTakenList};
 
-use crate::gather::{Gather, gather_list};
-use crate::passing::next_token;
+use crate::gather::{Gather, next_list};
 use bounded_json::{MAX_DEPTH, TextError};
 use json::{Reader, Scratch};
 use std::alloc::Global;
 
-/// Takes the elements of the list that the text is, and returns whether it is a list, and its elements are wanted.
-fn gather_whole<G: Gather>(alloc: Global, text: &str, gathered: &mut G) -> Result<bool, TextError>
+/// Takes the elements of the list that the text is, and returns whether it is a list, and its elements are wanted. It reads in the
+/// scratch.
+fn gather_whole<G: Gather>(
+    alloc: Global,
+    text: &str,
+    scratch: &mut Scratch<Global>,
+    gathered: &mut G,
+) -> Result<bool, TextError>
     requires empty { G.is_of gathered.old [] }
     ensures read { IfOk result
         (λ taken. (d : Data) × (read text.now ≡ Some d) × IsTakenList G.is_of G.refuses gathered.new taken (elements d)) }
     ensures refused { IfErr result (IsWholeRefused text.now) }
 {
-    let mut scratch = Scratch::new(alloc);
-    let mut reader = Reader::new(text, &mut scratch)?;
-    let token = next_token(&mut reader)?;
-    let taken = gather_list(alloc, token, &mut reader, MAX_DEPTH, gathered)?;
+    let mut reader = Reader::new(text, scratch)?;
+    let taken = next_list(alloc, &mut reader, MAX_DEPTH, gathered)?;
     if reader.next().is_some() {
         return Err(TextError::NotJson);
     }
@@ -46,7 +49,7 @@ pub fn gather_text<G: Gather>(
     ensures refused { IfErr result (IsTextRefused text.now) }
 {
     match simdutf8::compat::from_utf8(text) {
-        Ok(text) => gather_whole(alloc, text, gathered),
+        Ok(text) => gather_whole(alloc, text, &mut Scratch::new(alloc), gathered),
         Err(_) => Err(TextError::NotJson),
     }
 }

@@ -1,11 +1,6 @@
-use Rattle.std.proofs.Common.{◌≡◌, None, arith}
-use Rattle.std.proofs.lemmas.Result.{err_from_is_err_and}
-use Rattle.serde_json.specs.Read.{read}
-use Rattle.bounded_json.proofs.Stopping.{stops_for, nothing_whole}
+use Rattle.std.proofs.Common.{arith}
+use Rattle.bounded_json.proofs.Stopping.{nothing_whole}
 use Rattle.bounded_json.proofs.read.read_whole.Goals as goal
 
-pub returns-in_err-token-clause-refused : goal.returns-in_err-token-clause-refused
-returns-in_err-token-clause-refused g c =
-    let none : read c.args.text.now ≡ None = nothing_whole c.args.text.now (grind arith) in
-    let p = err_from_is_err_and c.from_residual-in_err-token.result c.from_residual-in_err-token.ensures.1 in
-    rw (p.1, p.2) (stops_for _ none c.in_err-token.field-0.0)
+pub returns-in_default-clause-refused : goal.returns-in_default-clause-refused
+returns-in_default-clause-refused g c = nothing_whole c.args.text.now (grind arith)

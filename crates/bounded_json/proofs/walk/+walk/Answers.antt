@@ -8,57 +8,57 @@ use Rattle.bounded_json.proofs.Tokens.{at_end, at_number, behind_list, behind_ob
 use Rattle.bounded_json.proofs.Walking.{passing_item, passing_refused, passing_over, passing_no_member, passing_member, passing_no_key, passing_bad_member, passing_all_members}
 use Rattle.bounded_json.proofs.walk.+walk.Goals as goal
 
-pub walk-returns-in_err-token-clause-value : goal.walk-returns-in_err-token-clause-value
-walk-returns-in_err-token-clause-value t c =
+pub walk-returns-in_default-clause-value : goal.walk-returns-in_default-clause-value
+walk-returns-in_default-clause-value t c =
     let empty : c.args.reader.now ≡ [] = grind arith in
     let none : behind_value c.args.depth c.args.reader.now ≡ None = ap (behind_value c.args.depth) empty ∙ ap left (at_end c.args.depth) in
     grind (arith, none)
 
 pub walk-returns-in-String-clause-value : goal.walk-returns-in-String-clause-value
 walk-returns-in-String-clause-value t c =
-    let first : c.args.reader.now ≡ token_of c.in_ok-token.token ∷ c.next.new.self = grind arith in
+    let first : c.args.reader.now ≡ token_of c.in-Some.token ∷ c.next.new.self = grind arith in
     rw (value_is c.args.depth c.args.reader.now, first) (grind arith)
 
 pub walk-returns-in-EndObject-clause-value : goal.walk-returns-in-EndObject-clause-value
 walk-returns-in-EndObject-clause-value t c =
-    let first : c.args.reader.now ≡ token_of c.in_ok-token.token ∷ c.next.new.self = grind arith in
+    let first : c.args.reader.now ≡ token_of c.in-Some.token ∷ c.next.new.self = grind arith in
     rw (value_is c.args.depth c.args.reader.now, first) (grind arith)
 
-pub walk-returns-in-Some-clause-value : goal.walk-returns-in-Some-clause-value
-walk-returns-in-Some-clause-value t c =
-    let first : c.args.reader.now ≡ token_of c.in_ok-token.token ∷ c.next.new.self = grind arith in
+pub walk-returns-in-Some-number_at-clause-value : goal.walk-returns-in-Some-number_at-clause-value
+walk-returns-in-Some-number_at-clause-value t c =
+    let first : c.args.reader.now ≡ token_of c.in-Some.token ∷ c.next.new.self = grind arith in
     let is : c.args.reader.now ≡ Token.number c.in-Number.text.now ∷ c.next.new.self = grind (arith, first) in
-    ap (behind_value c.args.depth) is ∙ ap left (at_number c.args.depth c.next.new.self c.in-Number.text.now) ∙ rw (← c.in-Some.ensures)
+    ap (behind_value c.args.depth) is ∙ ap left (at_number c.args.depth c.next.new.self c.in-Number.text.now) ∙ rw (← c.in-Some-number_at.ensures)
 
 pub walk-returns-in-None-clause-value : goal.walk-returns-in-None-clause-value
 walk-returns-in-None-clause-value t c =
-    let first : c.args.reader.now ≡ token_of c.in_ok-token.token ∷ c.next.new.self = grind arith in
+    let first : c.args.reader.now ≡ token_of c.in-Some.token ∷ c.next.new.self = grind arith in
     let is : c.args.reader.now ≡ Token.number c.in-Number.text.now ∷ c.next.new.self = grind (arith, first) in
     ap (behind_value c.args.depth) is ∙ ap left (at_number c.args.depth c.next.new.self c.in-Number.text.now) ∙ rw (← c.in-None.ensures)
 
 pub walk-returns-then-depth-eq0-clause-value : goal.walk-returns-then-depth-eq0-clause-value
 walk-returns-then-depth-eq0-clause-value t c =
-    let first : c.args.reader.now ≡ token_of c.in_ok-token.token ∷ c.next.new.self = grind arith in
+    let first : c.args.reader.now ≡ token_of c.in-Some.token ∷ c.next.new.self = grind arith in
     let is : c.args.reader.now ≡ Token.begin_array ∷ c.next.new.self = grind (arith, first) in
     let none : c.args.depth ≡ 0 = omega arith in
     rw (none, is) (ap left (no_list c.next.new.self))
 
 pub walk-returns-then-depth-eq0-2-clause-value : goal.walk-returns-then-depth-eq0-2-clause-value
 walk-returns-then-depth-eq0-2-clause-value t c =
-    let first : c.args.reader.now ≡ token_of c.in_ok-token.token ∷ c.next.new.self = grind arith in
+    let first : c.args.reader.now ≡ token_of c.in-Some.token ∷ c.next.new.self = grind arith in
     let is : c.args.reader.now ≡ Token.begin_object ∷ c.next.new.self = grind (arith, first) in
     let none : c.args.depth ≡ 0 = omega arith in
     rw (none, is) (ap left (no_object c.next.new.self))
 
 pub walk-returns-else-depth-eq0-clause-value : goal.walk-returns-else-depth-eq0-clause-value
 walk-returns-else-depth-eq0-clause-value t c =
-    let first : c.args.reader.now ≡ token_of c.in_ok-token.token ∷ c.next.new.self = grind arith in
+    let first : c.args.reader.now ≡ token_of c.in-Some.token ∷ c.next.new.self = grind arith in
     let is : c.args.reader.now ≡ Token.begin_array ∷ c.next.new.self = grind (arith, first) in
     rw (is, behind_list c.args.depth c.next.new.self (omega arith)) c.walk_items.ensures.value
 
 pub walk-returns-else-depth-eq0-2-clause-value : goal.walk-returns-else-depth-eq0-2-clause-value
 walk-returns-else-depth-eq0-2-clause-value t c =
-    let first : c.args.reader.now ≡ token_of c.in_ok-token.token ∷ c.next.new.self = grind arith in
+    let first : c.args.reader.now ≡ token_of c.in-Some.token ∷ c.next.new.self = grind arith in
     let is : c.args.reader.now ≡ Token.begin_object ∷ c.next.new.self = grind (arith, first) in
     rw (is, behind_object c.args.depth c.next.new.self (omega arith)) c.walk_members.ensures.value
 

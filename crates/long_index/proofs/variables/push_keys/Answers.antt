@@ -1,5 +1,6 @@
 use Rattle.long_index.specs.Lists.{IsKeyOf}
-use Rattle.long_index.proofs.ListsLaws.{each-push, key-at, op-at}
+use Rattle.std.proofs.Common.{arith}
+use Rattle.long_index.proofs.ListsLaws.{each-push, each-session, key-at, op-at}
 use Rattle.long_index.proofs.variables.push_keys.Goals as goal
 
 pub loop-call-preserved : goal.loop-call-preserved
@@ -10,3 +11,10 @@ loop-call-preserved c =
     (op-at c.args.h.now _ _ _ c.session-call-items.ensures below)
     (key-at c.args.h.now _ _ _ c.session-call-items.ensures below _)
     c.loop-call.invariant)
+
+pub returns : goal.returns
+returns c =
+    let up_to = c.loop-call.auto.call-index-end in
+    let ended = c.loop-call-test.false in
+    each-session c.args.h.now (IsKeyOf c.args.h.now) _ c.args.session _ _ c.requires.exists c.session-call-items.ensures (omega arith)
+    c.loop-call.invariant

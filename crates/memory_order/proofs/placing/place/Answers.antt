@@ -9,3 +9,6 @@ returns-clause-so_far c = on_ok_weaker c.push.result
     c.in_ok-row.ensures.counts (rw c.at-op.ensures at c.in_ok-row.ensures.own) (rw c.at-op.ensures at c.in_ok-row.ensures.others)
     c.deref.ensures.value)
     c.push.ensures.ok
+
+pub returns-clause-placed : goal.returns-clause-placed
+returns-clause-placed c = on_ok_weaker c.push.result (λ same. (c.deref.result.now, same)) c.push.ensures.ok

@@ -1,11 +1,11 @@
-use Rattle.std.proofs.Common.{◌≡◌, ◌∙◌, ◌++◌, ◌∷◌, [], map, length, ap}
+use Rattle.std.proofs.Common.{◌≡◌, ◌∙◌, ◌++◌, ◌∷◌, [], map, length, ap, arith, ◌≤◌}
 use Rattle.std.proofs.lemmas.List.{length-map, map_push}
 use Rattle.std.proofs.lemmas.Result.{err_from_is_err_and}
 use Rattle.serde_json.specs.View.{view}
 use Rattle.operations.specs.Json.{elements}
 use Rattle.operations.specs.Reading.{operations_refusal, sessions_refusal, first_among, session_refusal}
 use Rattle.operations.proofs.ListLaws.{slice_get-mapped}
-use Rattle.operations.proofs.HistoryReading.{reads_on, refused_there, few_sessions, IsFirst-moves}
+use Rattle.operations.proofs.HistoryReading.{all_fine, all_read, reads_no_session, reads_on, refused_there, few_sessions, IsFirst-moves}
 use Rattle.operations.proofs.reading.read_sessions.Goals as goal
 
 pub returns-in_err-session-clause-refused : goal.returns-in_err-session-clause-refused
@@ -32,3 +32,21 @@ loop-s-preserved g c =
     let e : map (λ es. es.items) c.push.new.self.items ≡ ss ++ es ∷ [] = rw c.in_ok-push.ensures.items (map_push (λ es. es.items) c.loop-s.sessions.items c.in_ok-session.session) in
     rw e (reads_on g.O.Named.operation_at g.O.SeqObject.matches ds ss es c.loop-s.s (view v)
     c.loop-s.invariant here c.in_ok-session.ensures.read c.in_ok-session.ensures.is_session c.in_ok-session.ensures.nothing_refused)
+
+pub loop-s-init : goal.loop-s-init
+loop-s-init g c = rw c.new-sessions.ensures.items (reads_no_session g.O.Named.operation_at g.O.SeqObject.matches (map view c.args.values.now))
+
+pub returns-clause-read : goal.returns-clause-read
+returns-clause-read g c =
+    let ds = map view c.args.values.now in
+    let many : length ds ≡ length c.args.values.now = length-map c.args.values.now view in
+    let end : length ds ≤ c.loop-s.s = let stop = c.loop-s-test.false in omega (arith, many, stop) in
+    all_read g.O.Named.operation_at g.O.SeqObject.matches ds _ c.loop-s.s end c.loop-s.invariant
+
+pub returns-clause-nothing_refused : goal.returns-clause-nothing_refused
+returns-clause-nothing_refused g c =
+    let ds = map view c.args.values.now in
+    let many : length ds ≡ length c.args.values.now = length-map c.args.values.now view in
+    let few : length ds ≤ 16 = let most = c.if-values-gt-MAX_SESSIONS.false in omega (arith, many, most) in
+    let end : length ds ≡ c.loop-s.s = let stop = c.loop-s-test.false in let inside = c.loop-s.auto.s-end in omega (arith, many, stop, inside) in
+    all_fine g.O.Named.operation_at g.O.SeqObject.matches ds _ c.loop-s.s few end c.loop-s.invariant

@@ -1,5 +1,7 @@
-use Rattle.std.proofs.Common.{◌≡◌, ◌≤◌, length, sym, subst, arith}
-use Rattle.snapshot.specs.Steps.Tables.{IsSealedSession, AreNotesOf, RunsTo, has_note}
+use Rattle.std.proofs.Common.{◌≡◌, ◌∙◌, ◌++◌, ◌≤◌, List, Option, length, map, ap, sym, subst, arith}
+use Rattle.std.proofs.lemmas.List.{append_assoc}
+use Rattle.history.specs.declared.advice.Advice.{Advice}
+use Rattle.snapshot.specs.Steps.Tables.{IsSealedSession, AreNotesOf, RunsTo, advice_shown, advised, has_note, no_advice}
 use Rattle.snapshot.specs.Steps.Sealing.{IsOfTable}
 use Rattle.snapshot.proofs.Sealings.{session_sealed, notes_sealed}
 use Rattle.snapshot.proofs.sealing_lane.seal_lane.Goals as goal
@@ -18,3 +20,31 @@ returns-clause-found g c = subst (λ l. IsOfTable c.args.table.now c.args.best.c
       let short : length c.in_ok-returns.returns.list ≤ length c.args.lane.now.calls = c.in_ok-returns.ensures.short in
       subst (λ n. RunsTo (has_note c.args.table.now.calls) n (length c.seal_calls.new.operations.items) (length c.args.table.now.calls)) many (c.in_ok-calls.ensures.found (omega arith));
 })
+
+pub returns-clause-advised : goal.returns-clause-advised
+returns-clause-advised g c =
+    c.in_ok-calls.ensures.advised
+    ∙ (ap (λ (xs : List (Option Advice)). xs ++ map no_advice c.in_ok-calls.calls.list) c.in_ok-returns.ensures.advised
+    ∙ (append_assoc c.args.advice.now.items (map advice_shown c.in_ok-returns.returns.list) (map no_advice c.in_ok-calls.calls.list)
+    ∙ sym (ap (λ l. c.args.advice.now.items ++ advised l) c.of.ensures)))
+
+pub returns-clause-short : goal.returns-clause-short
+returns-clause-short g c =
+    let many : length c.seal_returns.new.operations.items ≡ length c.in_ok-returns.returns.list = c.in_ok-returns.ensures.read.many in
+    let within : length c.in_ok-returns.returns.list ≤ length c.args.lane.now.calls = c.in_ok-returns.ensures.short in
+    let front : length c.seal_returns.new.operations.items ≤ length c.args.lane.now.calls = omega (arith, many, within) in
+    let all : length c.seal_calls.new.operations.items ≤ length c.args.lane.now.calls = c.in_ok-calls.ensures.short front in
+    let few : length c.args.lane.now.calls ≤ 256 = c.places-places.ensures.lane.short in
+    let short : length c.seal_calls.new.operations.items ≤ 256 = omega (arith, all, few) in short
+
+pub returns-clause-told : goal.returns-clause-told
+returns-clause-told g c = subst (λ l. c.args.best.count ≤ length l.returns) (sym c.of.ensures) c.in_ok-returns.ensures.told
+
+pub returns-clause-lane : goal.returns-clause-lane
+returns-clause-lane g c = c.places-places.ensures.lane
+
+pub seal_returns-requires-clause-empty : goal.seal_returns-requires-clause-empty
+seal_returns-requires-clause-empty g c = c.new-operations.ensures.items
+
+pub seal_calls-requires : goal.seal_calls-requires
+seal_calls-requires g c = record { table = c.requires.table }

@@ -11,4 +11,4 @@ returns-in_err-token-clause-refused c =
 pub returns-clause-read : goal.returns-clause-read
 returns-clause-read c =
     let found = c.in_ok-value.ensures.read in
-    (found.0, rw c.in_ok-token.ensures.token found.1, number_of_cut found.0 (view c.in_ok-value.value) c.as_u64.result found.2 c.as_u64.ensures)
+    (found.0, rw c.in_ok-token.ensures.token found.1, number_of_cut found.0 (view c.in_ok-value.value) c.as_u64-number.result found.2 c.as_u64-number.ensures)

@@ -10,6 +10,12 @@ use Rattle.memory_order.proofs.Stale.{raised-none}
 use Rattle.memory_order.proofs.growing_order.GrowingOrder.add_behind.Goals as goal
 use Rattle.memory_order.proofs.growing_order.GrowingOrder.add_behind.Goals.{then-index-from+in_ok-raise_from, else-index-from}
 
+pub raise_from-requires-clause-held : goal.raise_from-requires-clause-held
+raise_from-requires-clause-held c =
+    let value = c.count-count.ensures in
+    let held = c.requires.growing.counts.held c.args.raised.op c.args.raised.session c.requires.is_op in
+    omega arith
+
 pub first_behind-index-requires-clause-monotone : goal.first_behind-index-requires-clause-monotone
 first_behind-index-requires-clause-monotone c =
     (settled-within c.args.h.now NoReads (λ e. e ≡ c.args.raised) c.args.self.now c.loop-session.self c.loop-session.invariant.within c.requires.settled).monotone

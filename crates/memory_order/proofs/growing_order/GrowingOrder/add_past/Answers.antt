@@ -1,4 +1,4 @@
-use Rattle.std.proofs.Common.{◌<◌, ◌≤◌, ℕ, List, arith, inl, inr, ⊎_elim, subst, sym}
+use Rattle.std.proofs.Common.{◌<◌, ◌≤◌, ℕ, List, arith, get_or, inl, inr, refl, ⊎_elim, subst, subst₂, sym, zero}
 use Rattle.std.specs.Prelude.{slice_index}
 use Rattle.std.proofs.lemmas.Bool.{cases_lt}
 use Rattle.history.specs.History.{Precedes}
@@ -8,6 +8,27 @@ use Rattle.memory_order.proofs.GrowthLaws.{within-then}
 use Rattle.memory_order.proofs.GrowingSteps.{past-more}
 use Rattle.memory_order.proofs.Raises.{grows-rises}
 use Rattle.memory_order.proofs.growing_order.GrowingOrder.add_past.Goals as goal
+
+pub returns-then-is_at_most-clause-within : goal.returns-then-is_at_most-clause-within
+returns-then-is_at_most-clause-within c =
+    record { grows = record { growing = c.requires.growing; steps = zero; made = refl }; past = refl }
+
+pub returns-then-is_at_most-clause-past : goal.returns-then-is_at_most-clause-past
+returns-then-is_at_most-clause-past c =
+    subst₂ (λ (xs ys : List ℕ). (z : ℕ) → get_or xs z 0 ≤ get_or ys z 0) c.get.ensures c.get-2.ensures
+    (c.is_at_most.ensures.0 c.if-is_at_most.true)
+
+pub loop-session-init : goal.loop-session-init
+loop-session-init c = record {
+  within = record { grows = record { growing = c.requires.growing; steps = zero; made = refl }; past = refl };
+  past = λ z below. absurd (omega arith);
+}
+
+pub raise_from-requires-clause-held : goal.raise_from-requires-clause-held
+raise_from-requires-clause-held c =
+    let value = c.count-count.ensures in
+    let held = c.loop-session.invariant.within.grows.growing.counts.held c.args.before c.in-Some.session c.requires.before in
+    omega arith
 
 pub loop-session-preserved : goal.loop-session-preserved
 loop-session-preserved c =

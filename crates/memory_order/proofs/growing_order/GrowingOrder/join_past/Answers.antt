@@ -14,6 +14,12 @@ loop-session-preserved c =
     joined-next c.args.h.now c.args.self.now c.loop-session.self c.args.op c.args.before c.loop-session.from c.requires.apart c.loop-session.invariant
     c.raise_alone.new.self c.in-Some.session c.count-count.result c.in-Some.ensures.0 c.count-count.ensures c.in-Some.ensures.2 c.in_ok-raise_alone.ensures
 
+pub raise_alone-requires-clause-held : goal.raise_alone-requires-clause-held
+raise_alone-requires-clause-held c =
+    let value = c.count-count.ensures in
+    let held = c.loop-session.invariant.grows.growing.counts.held c.args.before c.in-Some.session c.requires.before in
+    omega arith
+
 pub raise_alone-requires-clause-cause : goal.raise_alone-requires-clause-cause
 raise_alone-requires-clause-cause c =
     let value = c.count-count.ensures in (

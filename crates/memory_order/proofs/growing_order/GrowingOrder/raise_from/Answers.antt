@@ -60,3 +60,39 @@ returns-else-session-other-clause-within c = λ reads cause.
           (cause (omega arith)) refl refl (rw c.at-op.ensures at c.in_ok-push.ensures.items) refl refl refl (inl (refl, c.if-session-other.false))));
       past = raised.past;
     }
+
+pub returns-then-session-other-clause-growing : goal.returns-then-session-other-clause-growing
+returns-then-session-other-clause-growing c =
+    let h = c.args.h.now in
+    let raised = c.in_ok-end.ensures.raised in
+    let from = raised.from in
+    let apart = c.if-end-index.false in
+    let some : c.args.index < c.in_ok-end.end = omega arith in
+    let inside = raised.inside some in
+    let most = c.requires.growing.past c.args.session in
+    let is_op : IsOp h (op c.args.session c.args.index) = omega arith in
+    growing-pushed h c.args.self.now c.raise_up_to.new.self _ c.args.session c.args.index c.in_ok-end.end c.args.other c.args.number c.args.cause raised some is_op
+    c.requires.other refl refl (rw c.at-op.ensures at c.in_ok-push.ensures.items) refl
+
+pub returns-then-session-other-clause-raised : goal.returns-then-session-other-clause-raised
+returns-then-session-other-clause-raised c =
+    raised-from c.args.h.now c.args.self.now c.raise_up_to.new.self c.args.session c.args.index c.in_ok-end.end c.args.other c.args.number c.args.cause
+    c.in_ok-end.ensures.raised c.in_ok-end.ensures.stopped
+
+pub returns-else-session-other-clause-growing : goal.returns-else-session-other-clause-growing
+returns-else-session-other-clause-growing c =
+    let h = c.args.h.now in
+    let raised = c.in_ok-end.ensures.raised in
+    let from = raised.from in
+    let apart = c.if-end-index.false in
+    let some : c.args.index < c.in_ok-end.end = omega arith in
+    let inside = raised.inside some in
+    let most = c.requires.growing.past c.args.session in
+    let is_op : IsOp h (op c.args.session c.args.index) = omega arith in
+    growing-pushed h c.args.self.now c.raise_up_to.new.self _ c.args.session c.args.index c.in_ok-end.end c.args.other c.args.number c.args.cause raised some is_op
+    c.requires.other refl refl (rw c.at-op.ensures at c.in_ok-push.ensures.items) refl
+
+pub returns-else-session-other-clause-raised : goal.returns-else-session-other-clause-raised
+returns-else-session-other-clause-raised c =
+    raised-from c.args.h.now c.args.self.now c.raise_up_to.new.self c.args.session c.args.index c.in_ok-end.end c.args.other c.args.number c.args.cause
+    c.in_ok-end.ensures.raised c.in_ok-end.ensures.stopped

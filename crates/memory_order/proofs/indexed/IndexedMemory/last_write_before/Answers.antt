@@ -3,9 +3,12 @@ use Rattle.std.proofs.Common.{subst, sym}
 use Rattle.memory_order.specs.declared.writes.Write.{Write}
 use Rattle.memory_order.specs.Memory.{MemoryHistory}
 use Rattle.memory_order.specs.Steps.Indexed.{HasNoWriteBefore, IsLastWriteBefore}
-use Rattle.memory_order.specs.Steps.Written.{ListsWrites}
+use Rattle.memory_order.specs.Steps.Written.{AreByVariable, ListsWrites}
 use Rattle.memory_order.proofs.IndexedLaws.{last-before}
 use Rattle.memory_order.proofs.indexed.IndexedMemory.last_write_before.Goals as goal
+
+pub last_write_before-requires : goal.last_write_before-requires
+last_write_before-requires c = subst (λ (ws : List Write). AreByVariable ws) (sym c.deref.ensures.value) c.self.invariant.sorted_by_variable
 
 pub returns : goal.returns
 returns c =

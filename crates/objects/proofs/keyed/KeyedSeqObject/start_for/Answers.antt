@@ -1,25 +1,21 @@
 -- The start at one key is the table with its entry there, or the empty one.
-use Rattle.std.proofs.Common.{sym}
+use Rattle.std.proofs.Common.{sym, subst}
 use Rattle.std.specs.Prelude.{◌==◌}
 use Rattle.std.proofs.lemmas.Map.Entries.{All-lookup}
-use Rattle.objects.specs.Laws.Keyed.{empty_is_table}
+use Rattle.std.proofs.lemmas.Result.{IfOk-weaker}
+use Rattle.objects.specs.Table.{IsTable}
 use Rattle.objects.proofs.TableLemmas.{entry_is_table}
 use Rattle.objects.proofs.keyed.KeyedSeqObject.start_for.Goals as goal
-use Rattle.objects.proofs.keyed.KeyedSeqObject.start_for.Goals.{in-Some+in_ok-copy_start+in_ok-push, in_default}
 
 pub copy_start-requires : goal.copy_start-requires
 copy_start-requires g c =
     let every = All-lookup g.O.SeqObject.is_start (λ k. k == c.args.call.now.key) c.args.start.now c.requires.each_start in
     rw (sym c.in-Some.ensures) at every
 
-pub returns-clause-start : goal.returns-clause-start
-returns-clause-start g c =
+pub returns-in_ok-copy_start-in-Some-clause-start : goal.returns-in_ok-copy_start-in-Some-clause-start
+returns-in_ok-copy_start-in-Some-clause-start g c =
     let plain = g.O.SeqObject.plain_start in
     let is_start = g.O.SeqObject.is_start in
-    let key = c.args.call.now.key in
-    elim c.match-get.branch [
-      | in-Some+in_ok-copy_start+in_ok-push w ↦
-          let one = entry_is_table plain is_start c.args.start.now key w.in-Some.value.now c.requires (sym w.in-Some.ensures) in
-          rw (w.entry-is, w.in_ok-push.ensures.ok, c.new-entry.ensures, w.in_ok-copy_start.ensures) one
-      | in_default w ↦ rw (w.entry-is, c.new-entry.ensures) (empty_is_table plain is_start)
-    ]
+    let one = entry_is_table plain is_start c.args.start.now c.args.call.now.key c.in-Some.value.now c.requires (sym c.in-Some.ensures) in
+    let one_there = rw (sym c.in_ok-copy_start-in-Some.ensures) at one in
+    IfOk-weaker c.of_entry.result _ _ (λ table entry. subst (λ t. IsTable plain is_start t) (sym entry) one_there) c.of_entry.ensures

@@ -1,0 +1,22 @@
+-- What is changed in its place on a board.
+use Rattle.std.proofs.Common.{◌≡◌, ℕ, ◌<◌, List, length, get_or, Some, slice_get, set, sym, ap, subst, ◌∙◌}
+use Rattle.std.proofs.lemmas.Option.{get_or_from_slice_get, slice_get-get_or}
+use Rattle.history.specs.declared.op_id.OpId.{OpId}
+use Rattle.board.specs.Boards.{CaseState}
+use Rattle.board.specs.Events.{IsChanged, IsRow}
+use Rattle.board.specs.Steps.InSessions.{HasRowAt}
+
+module _ {M : Type 0} (cases board : List (CaseState M)) (n : ℕ) (was : CaseState M) (viewed : cases ≡ board) (read : was ≡ get_or cases n was) where
+  -- the case that is lent has the row
+  pub row_in_place : (o : OpId) → n < length board → HasRowAt board n o → IsRow was o
+  row_in_place o filed inside =
+      let at : slice_get cases n ≡ Some was =
+      slice_get-get_or cases n was (subst (λ (cs : List (CaseState M)). n < length cs) (sym viewed) filed) ∙ ap Some (sym read) in
+      inside was (subst (λ (cs : List (CaseState M)). slice_get cs n ≡ Some was) viewed at)
+
+  -- it became what f says
+  pub changed_in_place : (f : CaseState M → CaseState M) (is : CaseState M) → is ≡ f was → IsChanged n f board (set cases n is)
+  changed_in_place f is changed s at =
+      let here : slice_get cases n ≡ Some s = subst (λ (cs : List (CaseState M)). slice_get cs n ≡ Some s) (sym viewed) at in
+      let same : was ≡ s = read ∙ get_or_from_slice_get cases n s was here in
+      ap (λ (cs : List (CaseState M)). set cs n is) viewed ∙ ap (λ (c : CaseState M). set board n c) (changed ∙ ap f same)
