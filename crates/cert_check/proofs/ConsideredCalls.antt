@@ -92,6 +92,10 @@ module _ {S C R : Type 0} (depends : C → C → Bool) (h : HistoryValue S C R) 
   more_behind ops k next d found there adds behind =
       ap (considered depends h v o c) (drop_at ops k next there) ∙ adds (drop (k + 1) ops) ∙ ap (λ (xs : List C). d ∷ xs) (sym behind)
 
+  pub pushed_behind : (ops : List OpId) (k : ℕ) (d : C) (found pushed : List C) → pushed ≡ found ++ d ∷ []
+      → considered depends h v o c (drop k ops) ≡ d ∷ reverse found → reverse pushed ≡ considered depends h v o c (drop k ops)
+  pushed_behind ops k d found pushed push behind = ap reverse push ∙ reverse_push found d ∙ sym behind
+
   pub same_behind : (ops : List OpId) (k : ℕ) (next : OpId) (found : List C) → slice_get ops k ≡ Some next
       → ((xs : List OpId) → considered depends h v o c (next ∷ xs) ≡ considered depends h v o c xs)
       → reverse found ≡ considered depends h v o c (drop (k + 1) ops) → reverse found ≡ considered depends h v o c (drop k ops)
@@ -107,3 +111,9 @@ module _ {S C R : Type 0} (depends : C → C → Bool) (h : HistoryValue S C R) 
         sym (ap (λ (xs : List OpId). answer s (considered depends h v o c xs) c) (sym (take-append-drop k ops))
         ∙ ap (λ (xs : List C). answer s xs c) (considered-append (take k ops) (drop k ops) ∙ ap (λ (xs : List C). considered depends h v o c (take k ops) ++ xs) behind)
         ∙ final s (considered depends h v o c (take k ops)) after d c settles_it)
+
+    -- and where it was found last first, pushed to what was found behind it, and the whole then turned round
+    pub settled_found : (s : S) (ops : List OpId) (k : ℕ) (d : C) (found pushed turned : List C) (told : Bool) → told ≡ settles c d → told ≡ true → pushed ≡ found ++ d ∷ [] → turned ≡ reverse pushed
+        → considered depends h v o c (drop k ops) ≡ d ∷ reverse found → answer s turned c ≡ answer s (considered depends h v o c ops) c
+    settled_found s ops k d found pushed turned told tells settled push turn behind =
+        ap (λ (xs : List C). answer s xs c) (turn ∙ ap reverse push ∙ reverse_push found d) ∙ settled_behind s ops k d (reverse found) (sym tells ∙ settled) behind

@@ -20,3 +20,4 @@ pub mod CertificateForms
 pub mod CriterionNames
 pub mod ConvergentLaws
 pub mod FilteredLaws
+pub mod Firsts

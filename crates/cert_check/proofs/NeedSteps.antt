@@ -1,9 +1,9 @@
 -- What an operation needs to have been named before it: where all that was named came after what its own vector counts,
 -- the need is met exactly where all others that the vector counts were named.
-use Rattle.std.proofs.Common.{◌≡◌, ◌≢◌, ℕ, zero, suc, ◌+◌, ◌<◌, ◌≤◌, ◌↔◌, ◌⊎◌, List, [], length, take, get_or, set, sym, ap, refl, subst, arith, ⊎_elim}
+use Rattle.std.proofs.Common.{◌≡◌, ◌≢◌, ℕ, zero, suc, ◌+◌, ◌<◌, ◌≤◌, ◌↔◌, ◌⊎◌, List, [], ◌∷◌, ◌++◌, length, take, get_or, set, sym, ap, refl, subst, subst₂, arith, ◌∙◌, ⊎_elim}
 use Rattle.std.specs.Prelude.{Some, slice_get}
 use Rattle.std.proofs.lemmas.Bool.{cases_eq, cases_lt}
-use Rattle.std.proofs.lemmas.List.{get_or_past}
+use Rattle.std.proofs.lemmas.List.{get_or_append_left, get_or_past, get_or_push, length_push}
 use Rattle.history.specs.declared.op_id.OpId.{OpId}
 use Rattle.history.specs.History.{HistoryValue, IsOp}
 use Rattle.causal_order.proofs.Placed.{placed-up}
@@ -18,6 +18,20 @@ use Rattle.cert_check.specs.Steps.Needs.{vector_before, AreNeedsOf, IsCovered, I
 use Rattle.cert_check.specs.Steps.Namings.{AreCountsAt, AreNamedWell, IsNamedWell}
 use Rattle.cert_check.proofs.Named.{placed-next, placed-none, named_is, counted_from_before, before_from_counted}
 use Rattle.cert_check.proofs.NamingSteps.{after_from_within, within_from_after, counting, named_here, naming-well}
+
+-- the need of one operation of a session more
+pub needs-push : (v : Counts) (s n : ℕ) (needs : List Need) (need : Need) → length needs ≡ n
+    → ((i : ℕ) → i < n → IsNeedOf v (op s i) (get_or needs i Everything)) → IsNeedOf v (op s n) need
+    → (length (needs ++ need ∷ []) ≡ n + 1) × ((i : ℕ) → i < n + 1 → IsNeedOf v (op s i) (get_or (needs ++ need ∷ []) i Everything))
+needs-push v s n needs need size before here = (
+  length_push needs need ∙ ap (λ (k : ℕ). k + 1) size,
+  λ i below. ⊎_elim
+      (λ (old : i < n). subst (IsNeedOf v (op s i)) (sym (get_or_append_left needs (need ∷ []) Everything i (let same = size in omega arith))) (before i old))
+      (λ (new : n ≤ i).
+      let last : n ≡ i = omega arith in
+      subst₂ (λ (k : ℕ) (x : Need). IsNeedOf v (op s k) x) last (sym (get_or_push needs need Everything i (size ∙ last))) here)
+      (cases_lt i n),
+)
 
 -- what is listed for no operation needs nothing to be known
 pub needs_from_lists : (v : Counts) (needs : List (List Need))

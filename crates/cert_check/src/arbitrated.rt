@@ -1,14 +1,17 @@
 //! The check of one piece of a certificate for causal convergence, against the one list of all operations.
 
-ghost use Rattle.std.specs.Prelude.{◌≡◌, ◌↔◌, ℕ, length, IfOk, IsTrue};
+ghost use Rattle.std.specs.Prelude.{◌≡◌, ◌+◌, ◌<◌, ◌↔◌, ℕ, length, filter, take, IfOk, IsTrue};
 ghost use Rattle.history.specs.History.{session, IsOp};
 ghost use Rattle.causal_order.specs.Vectors.{AreVectorsOf};
-ghost use Rattle.cert_check.specs.Certificates.{IsArbitratedPiece};
+ghost use Rattle.cert_check.specs.Certificates.{counted, IsArbitratedPiece};
 ghost use Rattle.causal_order.specs.Schedules.{placed};
+ghost use Rattle.cert_check.specs.Schedules.{named};
 ghost use Rattle.cert_check.specs.Steps.Namings.{AreCountsAt};
+ghost use Rattle.cert_check.specs.Steps.Replays.{IsAnsweredAfter, NamesOperations};
 
 use crate::considered::is_answered_at;
 use crate::list_walk::ListWalk;
+use crate::naming::Naming;
 use causal_order::{Vectors, vector_ok};
 use history::{History, OpId};
 use object_trait::SeqObject;
@@ -41,10 +44,34 @@ pub fn is_arbitrated_piece<O: SeqObject>(
     if !walk.naming.has_named_all(v, op) {
         return Ok(false);
     }
+    is_answered_there(alloc, &walk.naming, h, v, list, place, op)
+}
+
+/// Whether the return of the operation at a place of the list, where it is known, is the answer after those before it that its
+/// vector counts.
+fn is_answered_there<O: SeqObject>(
+    alloc: Global,
+    behind: &Naming,
+    h: &History<O>,
+    v: &Vectors,
+    list: &[u8],
+    place: usize,
+    op: OpId,
+) -> Result<bool, AllocError>
+    requires shape { AreVectorsOf h.now v.now }
+    requires names { NamesOperations h.now list.now }
+    requires is_op { IsOp h.now op }
+    requires within { place < length list.now }
+    requires counts { AreCountsAt list.now (place + 1) (length h.now.1) behind.now.counts.items }
+    ensures { IfOk result (λ yes. IsTrue yes
+        ↔ IsAnsweredAfter O.answer h.now (filter (counted v.now op) (take place (named list.now))) op) }
+{
     if h.ret(op).is_none() {
         return Ok(true);
     }
-    let mut naming = walk.naming.copy(alloc)?;
+    let mut naming = behind.copy(alloc)?;
     naming.back(list, place);
-    is_answered_at(alloc, h, v, list, &mut naming, place, op)
+    let answered = is_answered_at(alloc, h, v, list, &mut naming, place, op);
+    drop(naming);
+    answered
 }

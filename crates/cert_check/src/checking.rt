@@ -38,7 +38,9 @@ pub fn check_piece<O: SeqObject>(
     ensures { IfOk result (λ outcome. (outcome ≡ Outcome.Explained) ↔ IsExplainedIn O.answer file.now op) }
 {
     let mut checker = PieceChecker::of_one(alloc, file)?;
-    checker.check(alloc, op)
+    let outcome = checker.check(alloc, op);
+    drop(checker);
+    outcome
 }
 
 /// The first operation, by session and then by index, that the certificate's piece does not explain.
@@ -58,8 +60,21 @@ pub fn first_unexplained<O: SeqObject>(
     explained_certificates_show_their_criterion::<O>();
     let _is_case_file = file.certificate();
     let mut checker = PieceChecker::new(alloc, file)?;
-    for session in 0..file.history().sessions() {
-        let found = first_of_session(alloc, &mut checker, session)?;
+    let first = first_of_history(alloc, &mut checker);
+    drop(checker);
+    first
+}
+
+/// The first operation of the history that the certificate's piece does not explain.
+fn first_of_history<'a, O: SeqObject>(
+    alloc: Global,
+    checker: &mut PieceChecker<'a, O>,
+) -> Result<Option<OpId>, AllocError>
+    ensures { IfOk result (λ first. (c : AnyCertificate) → checker.old.2 ≡ Some c → MatchOption first
+        (IsExplainedThroughout O.answer checker.old.0 c) (IsFirstUnexplained O.answer checker.old.0 c)) }
+{
+    for session in 0..checker.history().sessions() {
+        let found = first_of_session(alloc, checker, session)?;
         if found.is_some() {
             return Ok(found);
         }

@@ -16,6 +16,7 @@ use history::{History, OpId};
 use object_trait::SeqObject;
 use std::alloc::{AllocError, Global};
 use std::marker::Model;
+use std::mem;
 
 /// Checks the known returns in schedules of a history, one schedule after another. It checks each only from where it parts from the
 /// one before, or continues a replay from the end of the one before if the schedule begins with that one.
@@ -79,7 +80,7 @@ impl<'a, O: SeqObject> PastReplay<'a, O> {
     {
         match self.asked_back(alloc, v, schedule, op)? {
             Some(true) => {
-                self.keep(schedule, op);
+                self.keep(None, schedule, op);
                 Ok(true)
             }
             Some(false) => Ok(false),
@@ -120,13 +121,16 @@ impl<'a, O: SeqObject> PastReplay<'a, O> {
         }
     }
 
-    /// Keeps a schedule that explains the known returns of its session up to an operation.
-    fn keep(&mut self, schedule: &'a [u8], op: OpId)
+    /// Keeps a schedule that explains the known returns of its session up to an operation, and the replay at its end if it was
+    /// replayed.
+    fn keep(&mut self, replay: Option<Replay<O>>, schedule: &'a [u8], op: OpId)
         requires good { (v : Counts) × IsVectorOk self.old v op × IsSchedule self.old v op schedule.now }
         requires answered { AreAnswered O.answer self.old (program_past op) schedule.now (length schedule.now) }
+        requires replayed { IfSome replay (λ r. IsReplayAt O.stands self.old schedule.now (length schedule.now) (named schedule.now)
+            r.naming.counts.items r.object) }
         ensures { self.new ≡ self.old }
     {
-        self.replay = None;
+        drop(mem::replace(&mut self.replay, replay));
         self.schedule = schedule;
         self.session = op.session;
     }
@@ -139,13 +143,16 @@ impl<'a, O: SeqObject> PastReplay<'a, O> {
         ensures same { self.new ≡ self.old }
     {
         let (mut replay, from) = self.begun(alloc, schedule, op)?;
-        let yes = replay.go_through(self.history, schedule, from, Kept::ProgramPast(op))?;
-        if yes {
-            self.replay = Some(replay);
-            self.schedule = schedule;
-            self.session = op.session;
+        match replay.go_through(self.history, schedule, from, Kept::ProgramPast(op)) {
+            Ok(true) => {
+                self.keep(Some(replay), schedule, op);
+                Ok(true)
+            }
+            unanswered => {
+                drop(replay);
+                unanswered
+            }
         }
-        Ok(yes)
     }
 
     /// A replay at a place of a schedule, with the known returns of its session up to an operation answered before that place. The

@@ -49,7 +49,25 @@ fn keep<O: SeqObject>(
         receipt,
         seals: mut own,
     } = played;
-    seals.append(&mut own)?;
+    let appended = seals.append(&mut own);
+    drop(own);
+    match appended {
+        Ok(()) => keep_receipt(receipt, receipts),
+        Err(refused) => {
+            drop(receipt);
+            Err(DriveError::from(refused))
+        }
+    }
+}
+
+/// Appends the receipt that a client leaves, if it leaves one.
+fn keep_receipt<O: SeqObject>(
+    receipt: Option<Receipt<O>>,
+    receipts: &mut Vec<Receipt<O>>,
+) -> Result<(), DriveError>
+    ensures receipts { OnOk result (receipts.new.items ≡ receipts.old.items ++ option_to_list receipt) }
+    ensures refused { IfErr result IsGivenUp }
+{
     if let Some(receipt) = receipt {
         receipts.push(receipt)?;
     }

@@ -36,14 +36,47 @@ pub fn play<O: SeqObject, P: UpdateOrder, R: Wait, G: Gate>(
     ensures played { IfOk result (λ played. IsPlayed run.now.lanes.now run.now.plan.stop run.now.input.now s played) }
     ensures refused { IfErr result IsGivenUp }
 {
-    let ended = ended_calls(run.input, run.plan.stop, s);
-    let mut seals = Vec::new(run.alloc);
     let mut client = client_of::<O, P>(run, s, own)?;
-    let receipt = play_ended(rt, run, gate, s, ended, &mut client, &mut seals)?;
-    play_open(rt, run, gate, s, ended, &mut client, &mut seals)?;
-    Ok(Played { receipt, seals })
+    let mut seals = Vec::new(run.alloc);
+    let receipt = play_calls(rt, run, gate, s, &mut client, &mut seals);
+    drop(client);
+    match receipt {
+        Ok(receipt) => Ok(Played { receipt, seals }),
+        Err(refused) => {
+            drop(seals);
+            Err(refused)
+        }
+    }
 }
 
+/// Plays all calls of a session, and returns the receipt of the last one that ended, if there is one.
+fn play_calls<O: SeqObject, P: UpdateOrder, R: Wait, G: Gate>(
+    rt: &R,
+    run: &Run<O>,
+    gate: &G,
+    s: usize,
+    client: &mut Client<O, P>,
+    seals: &mut Vec<NumberedSeal<O>>,
+) -> Result<Option<Receipt<O>>, DriveError>
+    requires start { IsAt run.now.lanes.now run.now.input.now s 0 client.old.session client.old.replica }
+    requires seals { AreSealsOf run.now.lanes.now seals.old.items }
+    requires within { s < length run.now.input.now.1 }
+    ensures played { IfOk result (λ receipt. IsPlayed run.now.lanes.now run.now.plan.stop run.now.input.now s
+        (record { receipt = receipt; seals = seals.new.items })) }
+    ensures refused { IfErr result IsGivenUp }
+{
+    let ended = ended_calls(run.input, run.plan.stop, s);
+    let receipt = play_ended(rt, run, gate, s, ended, client, seals)?;
+    match play_open(rt, run, gate, s, ended, client, seals) {
+        Ok(()) => Ok(receipt),
+        Err(refused) => {
+            drop(receipt);
+            Err(refused)
+        }
+    }
+}
+
+/// A client that has called nothing yet, with a replica of its own.
 fn client_of<O: SeqObject, P: UpdateOrder>(
     run: &Run<O>,
     s: usize,

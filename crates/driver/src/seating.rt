@@ -32,14 +32,16 @@ impl<O: SeqObject, K: RunName<O::Start, O::Call, O::Ret>> Seat<O, K> {
         ensures left { IfOk result (K.left s) }
         ensures refused { IfErr result IsGivenUp }
     {
-        let Seat {
-            own: _own,
-            left,
-            of: _of,
-        } = self;
-        match left {
-            Some((at, played)) if at == s => Ok(played),
-            _ => Err(DriveError::CellGaveBack),
+        let Seat { own, left, of: _of } = self;
+        drop(own);
+        let Some((at, played)) = left else {
+            return Err(DriveError::CellGaveBack);
+        };
+        if at == s {
+            Ok(played)
+        } else {
+            drop(played);
+            Err(DriveError::CellGaveBack)
         }
     }
 }

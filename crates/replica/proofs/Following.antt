@@ -7,7 +7,7 @@ use Rattle.std.proofs.lemmas.List.Edits.{insert_end, length-insert}
 use Rattle.std.proofs.lemmas.Option.{slice_get_within, get_or_from_slice_get}
 use Rattle.std.proofs.Math.Seq.{take-suc, take-length}
 use Rattle.replica.specs.declared.update.UpdateOf.{UpdateOf}
-use Rattle.replica.specs.Updates.{calls}
+use Rattle.replica.specs.Updates.{calls, writers}
 use Rattle.replica.specs.Replaying.{SameUpdates}
 use Rattle.replica.specs.Steps.Logs.{HasTaken, Serves}
 
@@ -73,6 +73,10 @@ module _ {C : Type 0} where
   -- the calls of one more of the first updates
   pub calls-more : (us : List (UpdateOf C)) (i : ℕ) (u : UpdateOf C) → slice_get us i ≡ Some u → calls (take (i + 1) us) ≡ calls (take i us) ++ u.call ∷ []
   calls-more us i u e = ap calls (rw add-one (take-suc us i u (slice_get_within us i u e) ∙ ap (λ (y : UpdateOf C). take i us ++ y ∷ []) (get_or_from_slice_get us i u u e))) ∙ map-append (λ (v : UpdateOf C). v.call) (take i us) (u ∷ [])
+
+  -- the sessions of one more of the first updates
+  pub writers-more : (us : List (UpdateOf C)) (i : ℕ) (u : UpdateOf C) → slice_get us i ≡ Some u → writers (take (i + 1) us) ≡ writers (take i us) ++ u.session ∷ []
+  writers-more us i u e = ap writers (rw add-one (take-suc us i u (slice_get_within us i u e) ∙ ap (λ (y : UpdateOf C). take i us ++ y ∷ []) (get_or_from_slice_get us i u u e))) ∙ map-append (λ (v : UpdateOf C). v.session) (take i us) (u ∷ [])
 
   take_at_length : (us : List (UpdateOf C)) (u : UpdateOf C) → take (length us + 1) (us ++ u ∷ []) ≡ us ++ u ∷ []
   take_at_length us u = take_all (length us + 1) (us ++ u ∷ []) (omega (arith, length-append us (u ∷ [])))

@@ -1,19 +1,18 @@
-use Rattle.std.proofs.Common.{Bool, not, refl, ap, take, ◌∙◌}
+use Rattle.std.proofs.Common.{Bool, take}
 use Rattle.std.specs.Prelude.{IsTrue, ◌↔◌, filter}
 use Rattle.std.proofs.lemmas.Bool.{both_ways}
 use Rattle.std.proofs.lemmas.Result.{IfOk-weaker}
 use Rattle.cert_check.specs.Certificates.{counted, IsArbitratedPiece}
 use Rattle.cert_check.specs.Schedules.{named}
 use Rattle.cert_check.specs.Steps.Replays.{IsAnsweredAfter}
-use Rattle.cert_check.proofs.CutSteps.{arbitrated-from, arbitrated-tests, arbitrated-within, whole_names}
-use Rattle.cert_check.proofs.ReplaySteps.{unknown_return}
+use Rattle.cert_check.proofs.CutSteps.{arbitrated-tests, arbitrated-within, whole_names}
 use Rattle.cert_check.proofs.arbitrated.is_arbitrated_piece.Goals as goal
 
 pub go_behind-place-requires-clause-names : goal.go_behind-place-requires-clause-names
 go_behind-place-requires-clause-names g c = λ _ _. whole_names c.args.h.now c.args.list.now c.requires.whole
 
-pub is_answered_at-requires-clause-names : goal.is_answered_at-requires-clause-names
-is_answered_at-requires-clause-names g c = λ _ _. whole_names c.args.h.now c.args.list.now c.requires.whole
+pub is_answered_there-requires-clause-names : goal.is_answered_there-requires-clause-names
+is_answered_there-requires-clause-names g c = λ _ _. whole_names c.args.h.now c.args.list.now c.requires.whole
 
 pub returns-then-not-has_named_all-clause-exact : goal.returns-then-not-has_named_all-clause-exact
 returns-then-not-has_named_all-clause-exact g c =
@@ -23,17 +22,6 @@ returns-then-not-has_named_all-clause-exact g c =
       λ piece. absurd (both_ways c.has_named_all.result c.if-not-has_named_all.true
           (c.has_named_all.ensures.1 (arbitrated-within g.O.SeqObject.answer c.args.h.now c.args.v.now c.args.list.now c.args.op good
           c.go_behind-place.result reached.stands c.go_behind-place.new.self.naming.counts.items reached.counts piece))),
-    )
-
-pub returns-then-is_none-clause-exact : goal.returns-then-is_none-clause-exact
-returns-then-is_none-clause-exact g c =
-    let good = c.vector_ok.ensures.0 c.if-not-vector_ok.false in
-    let reached = c.go_behind-place.ensures in (
-      (λ _. arbitrated-from g.O.SeqObject.answer c.args.h.now c.args.v.now c.args.list.now c.args.op good
-          c.go_behind-place.result reached.stands c.go_behind-place.new.self.naming.counts.items reached.counts
-          (c.has_named_all.ensures.0 c.if-not-has_named_all.false)
-          (λ call r known. absurd (unknown_return c.args.h.now c.args.op c.ret.result c.ret.ensures (c.is_none.ensures ∙ ap not c.if-is_none.true) c.args.op refl call r known))),
-      λ _. refl,
     )
 
 pub returns-clause-exact : goal.returns-clause-exact
@@ -46,11 +34,11 @@ returns-clause-exact g c =
     let good = c.vector_ok.ensures.0 c.if-not-vector_ok.false in
     let reached = c.go_behind-place.ensures in
     let place = c.go_behind-place.result in
-    IfOk-weaker c.is_answered_at.result
+    IfOk-weaker c.is_answered_there.result
     (λ (yes : Bool). IsTrue yes ↔ IsAnsweredAfter answer h (filter (counted v o) (take place (named list))) o)
     (λ (yes : Bool). IsTrue yes ↔ IsArbitratedPiece answer h v list o)
     (λ yes after.
     let tests = arbitrated-tests answer h v list o good place reached.stands c.go_behind-place.new.self.naming.counts.items reached.counts
     c.has_named_all.result yes c.has_named_all.ensures after in
     ((λ t. tests.0 (c.if-not-has_named_all.false, t)), λ piece. (tests.1 piece).1))
-    c.is_answered_at.ensures
+    c.is_answered_there.ensures

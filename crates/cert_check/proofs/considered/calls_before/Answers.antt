@@ -6,7 +6,7 @@ use Rattle.cert_check.specs.Certificates.{counted}
 use Rattle.cert_check.specs.Schedules.{named}
 use Rattle.cert_check.specs.Steps.Namings.{AreCountsAt}
 use Rattle.cert_check.specs.Steps.Replays.{considered}
-use Rattle.cert_check.proofs.ConsideredCalls.{more_behind, none_kept, reverse_push, same_behind, settled_behind}
+use Rattle.cert_check.proofs.ConsideredCalls.{more_behind, none_kept, pushed_behind, same_behind, settled_found}
 use Rattle.cert_check.proofs.considered.calls_before.Goals as goal
 
 pub returns-then-not-depends_on_any-clause-found : goal.returns-then-not-depends_on_any-clause-found
@@ -33,9 +33,8 @@ returns-then-is_settled_by-clause-found g c =
     let found = c.loop-at.found.items in
     let behind = more_behind depends h v o asked ops k c.back-next.result c.in-Some.call found there c.in-Some.ensures
     (subst (λ (n : ℕ). reverse found ≡ considered depends h v o asked (drop n ops)) again c.loop-at.invariant.2) in
-    ap (λ (xs : List _). g.O.SeqObject.answer h.0 xs asked) (c.reverse.ensures.items ∙ ap reverse c.in_ok-push.ensures.items ∙ reverse_push found c.in-Some.call)
-    ∙ settled_behind depends h v o asked g.O.SeqObject.answer g.O.SeqObject.settles g.met.O.SeqObject.settled h.0 ops k c.in-Some.call (reverse found)
-    (sym c.is_settled_by.ensures ∙ c.if-is_settled_by.true) behind
+    settled_found depends h v o asked g.O.SeqObject.answer g.O.SeqObject.settles g.met.O.SeqObject.settled h.0 ops k c.in-Some.call found c.push.new.self.items _
+    c.is_settled_by.result c.is_settled_by.ensures c.if-is_settled_by.true c.in_ok-push.ensures.items c.reverse.ensures.items behind
 
 pub loop-at-preserved-else-is_settled_by : goal.loop-at-preserved-else-is_settled_by
 loop-at-preserved-else-is_settled_by g c =
@@ -55,7 +54,7 @@ loop-at-preserved-else-is_settled_by g c =
     (subst (λ (n : ℕ). reverse found ≡ considered depends h v o asked (drop n ops)) again c.loop-at.invariant.2) in (
       omega arith,
       subst (λ (n : ℕ). AreCountsAt c.args.list.now k n c.back-next.new.self.counts.items) c.loop-at.invariant.1.width c.back-next.ensures.counts,
-      ap reverse c.in_ok-push.ensures.items ∙ reverse_push found c.in-Some.call ∙ sym behind,
+      pushed_behind depends h v o asked ops k c.in-Some.call found c.push.new.self.items c.in_ok-push.ensures.items behind,
     )
 
 pub loop-at-preserved : goal.loop-at-preserved

@@ -1,9 +1,10 @@
-use Rattle.std.proofs.Common.{take, ◌∙◌, sym}
+use Rattle.std.proofs.Common.{◌≡◌, take, ◌∙◌, sym}
 use Rattle.std.specs.Prelude.{filter}
 use Rattle.std.proofs.lemmas.Option.{MatchOption-at_some}
 use Rattle.history.specs.History.{calls}
 use Rattle.cert_check.specs.Certificates.{counted}
 use Rattle.cert_check.specs.Schedules.{named}
+use Rattle.cert_check.specs.Steps.Replays.{considered}
 use Rattle.cert_check.proofs.ConsideredCalls.{answered_alike, dropped}
 use Rattle.cert_check.proofs.considered.is_answered_back_to.Goals as goal
 
@@ -15,7 +16,8 @@ returns-clause-exact g c =
     let asked = c.call-asked.result in
     let ops = filter (counted c.args.v.now c.args.of) (take c.args.place (named c.args.list.now)) in
     let before = c.in-Some.before.items in
-    let found = MatchOption-at_some _ _ c.in-Some.before c.in-Some.is c.in_ok-before.ensures.found in
+    let found = MatchOption-at_some _ (λ vec. answer h.0 vec.items asked ≡ answer h.0 (considered g.O.SeqObject.depends h c.args.v.now c.args.of asked (take c.args.place (named c.args.list.now))) asked)
+    c.in-Some.before c.in-Some.is c.in_ok-before.ensures.found in
     let same = found ∙ dropped answer g.O.SeqObject.depends g.met.O.SeqObject.others_change_nothing h.0 asked (calls h ops) in
     let answered = rw (c.deref.ensures.value) at c.in_ok-yes.ensures in (
       (λ t. answered_alike answer h o asked c.call-asked.ensures (calls h ops) before (sym same) (answered.0 t)),

@@ -1,5 +1,6 @@
-use Rattle.std.proofs.Common.{Bool, length, subst}
+use Rattle.std.proofs.Common.{Bool, length, subst, sym}
 use Rattle.std.specs.Prelude.{IsTrue, ◌↔◌}
+use Rattle.std.proofs.lemmas.Bool.{both_ways}
 use Rattle.std.proofs.lemmas.Result.{IfOk-weaker}
 use Rattle.history.specs.History.{HistoryValue}
 use Rattle.causal_order.specs.Orders.{program_past}
@@ -28,3 +29,11 @@ returns-clause-exact g c =
     piece_exactly answer h v o list kept good.0 good.1 yes
     ((λ t. explains-from answer h kept list (answered.0 t)), λ explains. answered.1 (explains-answered answer h kept list explains)))
     c.explains.ensures.exact
+
+pub returns-then-not-is_schedule-clause-exact : goal.returns-then-not-is_schedule-clause-exact
+returns-then-not-is_schedule-clause-exact g c = (
+  (λ t. absurd cc),
+  λ piece. absurd (both_ways c.is_schedule.result c.if-not-is_schedule.true
+      (c.is_schedule.ensures.exact.1 (subst (λ (w : HistoryValue g.row.O-Start.Denot g.row.O-Call.Denot g.row.O-Ret.Denot × Counts).
+      IsVectorOk w.0 w.1 c.args.op × IsSchedule w.0 w.1 c.args.op c.args.schedule.now) (sym c.requires.walk) (piece.vector, piece.schedules)))),
+)

@@ -3,7 +3,7 @@ use Rattle.serde_json.specs.View.{view}
 use Rattle.operations.specs.Reads.{number_form}
 use Rattle.operations.specs.Json.{list}
 use Rattle.operations.specs.Laws.Json.{elements-list}
-use Rattle.cert_check.proofs.ListReading.{all_read, none_fits}
+use Rattle.cert_check.proofs.ListReading.{all_read, none_fits, one_more_read}
 use Rattle.cert_check.proofs.reading_lists.read_each_number.Goals as goal
 
 pub returns-in_default : goal.returns-in_default
@@ -16,3 +16,9 @@ returns g c =
     let ended : length c.args.values.now ≤ c.loop-element.element-index = omega arith in
     all_read view g.T.Number.fits (λ n. number_form (g.T.Number.whole n)) c.args.values.now (list (map view c.args.values.now)) (sym (elements-list (map view c.args.values.now))) c.loop-element.element-index c.loop-element.numbers.items ended
     c.loop-element.invariant
+
+pub loop-element-preserved : goal.loop-element-preserved
+loop-element-preserved g c =
+    rw c.in_ok-push.ensures.items
+    (one_more_read view g.T.Number.fits (λ n. number_form (g.T.Number.whole n)) c.args.values.now c.loop-element.element-index c.element-item.result c.loop-element.numbers.items c.in-Some.number
+    c.element-item.is c.loop-element-test.true c.in-Some.ensures c.loop-element.invariant)

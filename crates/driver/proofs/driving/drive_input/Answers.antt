@@ -16,3 +16,9 @@ returns-clause-each g c =
     let many : length lanes.cells ≡ length input.1 = rw c.deref.ensures c.in_ok-lanes.ensures.lanes in
     if_ok (λ sealed. AreSealsOf lanes sealed.items) (λ sealed. AreOfInput input sealed.items) c.seals_of.result
     (λ sealed all j x h. of_input lanes input x start many (all j x h)) c.seals_of.ensures.seals
+
+pub returns-clause-last : goal.returns-clause-last
+returns-clause-last g c = c.seals_of.ensures.last
+
+pub returns-clause-many : goal.returns-clause-many
+returns-clause-many g c = c.seals_of.ensures.many

@@ -42,3 +42,9 @@ returns-clause-calls g c =
     omega (arith, none_left.0, old.results.ok.0)
     in
     stand_all run.lanes.now run.plan.stop run.input.now (length old.results.items) old.receipts.items none old.invariant.calls
+
+pub returns-clause-told : goal.returns-clause-told
+returns-clause-told g c = c.loop-result.invariant.told
+
+pub returns-clause-seals : goal.returns-clause-seals
+returns-clause-seals g c = c.loop-result.invariant.seals

@@ -1,3 +1,5 @@
+use Rattle.std.proofs.Common.{◌+◌, length, ap, ◌∙◌}
+use Rattle.recorder.proofs.Telling.{length_push}
 use Rattle.driver.proofs.Calls.{one_more_seal}
 use Rattle.driver.proofs.Gathered.{last_repeats}
 use Rattle.driver.proofs.sealing.seals_of.Goals as goal
@@ -9,3 +11,10 @@ pub returns-clause-last : goal.returns-clause-last
 returns-clause-last g c =
     let run = c.args.run.now in
     last_repeats run.plan.stop run.input.now c.in_ok-sealed.sealed.items c.push.new.self.items c.in_ok-last.last run.plan.seals c.in_ok-sealed.ensures.many c.in_ok-push.ensures.items c.in_ok-last.ensures.calls
+
+pub returns-clause-many : goal.returns-clause-many
+returns-clause-many g c =
+    ap length c.in_ok-push.ensures.items ∙ (length_push c.in_ok-sealed.sealed.items c.in_ok-last.last ∙ ap (λ n. n + 1) c.in_ok-sealed.ensures.many)
+
+pub seal_all-requires-clause-calls : goal.seal_all-requires-clause-calls
+seal_all-requires-clause-calls g c κs within = c.in_ok-receipts.ensures.calls

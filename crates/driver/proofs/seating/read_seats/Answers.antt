@@ -1,4 +1,4 @@
-use Rattle.std.proofs.Common.{◌≡◌, ◌+◌, length, ap, ◌∙◌, arith, subst, sym, inl, inr}
+use Rattle.std.proofs.Common.{◌≡◌, length, ap, ◌∙◌, arith, subst, sym, inl, inr}
 use Rattle.std.specs.Prelude.{slice_get}
 use Rattle.recorder.proofs.Telling.{get_push_cases, length_push}
 use Rattle.driver.proofs.seating.read_seats.Goals as goal

@@ -1,8 +1,9 @@
 use Rattle.std.proofs.Common.{◌≡◌, length, sym, subst}
+use Rattle.std.specs.Prelude.{IfSome}
 use Rattle.causal_order.specs.Orders.{program_past}
 use Rattle.causal_order.specs.Vectors.{IsVectorOk}
-use Rattle.cert_check.specs.Schedules.{IsSchedule}
-use Rattle.cert_check.specs.Steps.Replays.{AreAnswered}
+use Rattle.cert_check.specs.Schedules.{named, IsSchedule}
+use Rattle.cert_check.specs.Steps.Replays.{AreAnswered, IsReplayAt}
 use Rattle.cert_check.proofs.SchedulePieces.{answered_later}
 use Rattle.cert_check.proofs.past_replay.PastReplay.keep.Goals as goal
 
@@ -18,5 +19,6 @@ invariant_of-self g c =
     let schedule = subst (λ x. IsSchedule x v o list) is c.requires.good.2 in
     let answered = subst (λ x. AreAnswered answer x (program_past o) list (length list)) is c.requires.answered in (
       record { each = λ later same. answered_later answer h v o list schedule vector later same answered },
-      tt,
+      rw c.replace.ensures.after (subst (λ x. IfSome c.args.replay (λ r. IsReplayAt g.O.SeqObject.stands x list (length list) (named list) r.naming.counts.items r.object))
+          is c.requires.replayed),
     )
