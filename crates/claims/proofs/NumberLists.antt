@@ -1,8 +1,9 @@
 -- Lists of numbers: one more, those of two lists, and all below a count.
-use Rattle.std.specs.Prelude.{◌≡◌, ◌≢◌, ◌⊎◌, ◌++◌, ℕ, ◌+◌, ◌<◌, ◌≤◌, List, [], ◌∷◌, Some, slice_get}
-use Rattle.std.proofs.Common.{zero, suc, arith, sym, ◌∙◌, refl, subst, inl, inr, ⊎_elim}
+use Rattle.std.specs.Prelude.{◌≡◌, ◌≢◌, ◌⊎◌, ◌++◌, ℕ, ◌+◌, ◌<◌, ◌≤◌, Bool, true, false, List, [], ◌∷◌, Some, length, set, slice_get, IsTrue}
+use Rattle.std.proofs.Common.{zero, suc, arith, ap, get_or, sym, ◌∙◌, refl, subst, inl, inr, ⊎_elim}
 use Rattle.std.proofs.lemmas.Bool.{cases_eq, cases_lt}
-use Rattle.std.proofs.lemmas.Option.{same_Some, slice_get_within}
+use Rattle.std.proofs.lemmas.List.{get_or-set_other, get_or-set_same}
+use Rattle.std.proofs.lemmas.Option.{get_or_from_slice_get, same_Some, slice_get-get_or, slice_get_within}
 use Rattle.claims.specs.Numbers.{HasNumber}
 
 pub has-none : (g : ℕ) → ¬ HasNumber [] g
@@ -96,3 +97,32 @@ ranges-more old now from to kept added before k below = ⊎_elim
     (λ (first : k < from). kept k (before k first))
     (λ (second : from ≤ k). added k second below)
     (cases_lt k from)
+
+-- marks for the numbers of a list, up to a place, and with that place
+module _ (claimed : List ℕ) (are : List Bool) (i count : ℕ) (below : i < length claimed)
+    (each : (n : ℕ) → IsTrue (get_or are n false) → HasNumber claimed n)
+    (marked : (j n : ℕ) → j < i → slice_get claimed j ≡ Some n → n < count → IsTrue (get_or are n false)) where
+  there : (j n : ℕ) → j ≡ i → slice_get claimed j ≡ Some n → n ≡ get_or claimed i 0
+  there j n same at = sym (get_or_from_slice_get claimed j n 0 at) ∙ ap (λ (m : ℕ). get_or claimed m 0) same
+
+  pub each-marked : (n : ℕ) → IsTrue (get_or (set are (get_or claimed i 0) true) n false) → HasNumber claimed n
+  each-marked n is = ⊎_elim
+      (λ (same : n ≡ get_or claimed i 0). (i, slice_get-get_or claimed i 0 below ∙ ap (λ (m : ℕ). Some m) (sym same)))
+      (λ (apart : n ≢ get_or claimed i 0). each n (sym (get_or-set_other are (get_or claimed i 0) n true false apart) ∙ is))
+      (cases_eq n (get_or claimed i 0))
+
+  pub marked-more : get_or claimed i 0 < length are → (j n : ℕ) → j < i + 1 → slice_get claimed j ≡ Some n → n < count
+      → IsTrue (get_or (set are (get_or claimed i 0) true) n false)
+  marked-more inside j n before at low = ⊎_elim
+      (λ (same : n ≡ get_or claimed i 0).
+      ap (λ (m : ℕ). get_or (set are (get_or claimed i 0) true) m false) same ∙ get_or-set_same are (get_or claimed i 0) true false inside)
+      (λ (apart : n ≢ get_or claimed i 0).
+      let other : j ≢ i = λ is. apart (there j n is at) in
+      get_or-set_other are (get_or claimed i 0) n true false apart ∙ marked j n (omega arith) at low)
+      (cases_eq n (get_or claimed i 0))
+
+  pub marked-past : count ≤ get_or claimed i 0 → (j n : ℕ) → j < i + 1 → slice_get claimed j ≡ Some n → n < count → IsTrue (get_or are n false)
+  marked-past past j n before at low = ⊎_elim
+      (λ (same : j ≡ i). let is = there j n same at in absurd (omega (arith, is, past, low)))
+      (λ (apart : j ≢ i). marked j n (omega arith) at low)
+      (cases_eq j i)

@@ -23,3 +23,4 @@ pub mod Sweeps
 pub mod Visits
 pub mod WordPasses
 pub mod WordSteps
+pub mod Writers

@@ -11,19 +11,23 @@ use Rattle.long_history.proofs.Numbers.{number-below, number-once, number-sessio
 use Rattle.long_columns.specs.Forks.{AreNoWrites, AreOnlyWrites, IsFirstWrite, IsForkAt, IsForkBelow, IsOnlyWrite}
 use Rattle.long_columns.specs.Swept.{IsListed}
 
+-- no number stands in an empty list
+pub none-at : (xs : List ℕ) → xs ≡ [] → (k y : ℕ) → ¬ (slice_get xs k ≡ Some y)
+none-at xs none k y at = let within = slice_get_within xs k y at in let size = ap (λ (ys : List ℕ). length ys) none in omega arith
+
 -- a list with one number more
-pushed-cases : (xs : List ℕ) (x k y : ℕ) → slice_get (xs ++ x ∷ []) k ≡ Some y → (slice_get xs k ≡ Some y) ⊎ (y ≡ x)
+pub pushed-cases : (xs : List ℕ) (x k y : ℕ) → slice_get (xs ++ x ∷ []) k ≡ Some y → (slice_get xs k ≡ Some y) ⊎ (y ≡ x)
 pushed-cases [] x zero y at = inr (sym (same_Some _ _ at))
 pushed-cases [] x (suc k) y at = absurd (let within = slice_get_within {A = ℕ} [] k y at in omega arith)
 pushed-cases (z ∷ zs) x zero y at = inl at
 pushed-cases (z ∷ zs) x (suc k) y at = pushed-cases zs x k y at
 
-pushed-old : (xs : List ℕ) (x k y : ℕ) → slice_get xs k ≡ Some y → slice_get (xs ++ x ∷ []) k ≡ Some y
+pub pushed-old : (xs : List ℕ) (x k y : ℕ) → slice_get xs k ≡ Some y → slice_get (xs ++ x ∷ []) k ≡ Some y
 pushed-old [] x k y at = absurd (let within = slice_get_within {A = ℕ} [] k y at in omega arith)
 pushed-old (z ∷ zs) x zero y at = at
 pushed-old (z ∷ zs) x (suc k) y at = pushed-old zs x k y at
 
-pushed-last : (xs : List ℕ) (x : ℕ) → (k : ℕ) × (slice_get (xs ++ x ∷ []) k ≡ Some x)
+pub pushed-last : (xs : List ℕ) (x : ℕ) → (k : ℕ) × (slice_get (xs ++ x ∷ []) k ≡ Some x)
 pushed-last [] x = (0, refl)
 pushed-last (z ∷ zs) x = let last = pushed-last zs x in (suc last.0, last.1)
 

@@ -83,7 +83,7 @@ module _ (h : MemoryHistory) (t : ℕ) (ends firsts : ℕ → ℕ) (r : OpId) wh
         (w, a, (from, last, λ same. apart (ap (number h) same)), ahead, sym at_a, sym at_w)
 
 -- what an operation that is no write has for its part
-unwritten : (h : MemoryHistory) (o : OpId) (p : Part) → IsPart h o p → p ≢ parts.Write → (x v : ℕ) → ¬ Writes h o x v
+pub unwritten : (h : MemoryHistory) (o : OpId) (p : Part) → IsPart h o p → p ≢ parts.Write → (x v : ℕ) → ¬ Writes h o x v
 unwritten h o parts.Write is apart x v wrote = apart refl
 unwritten h o (parts.SourcedRead n) (w, from, at) apart x v wrote = write-or_read h o o x v from.0 from.1 wrote from.3 refl
 unwritten h o parts.InitialRead (y, reads) apart x v wrote = write-or_read h o o x v y (initial h y) wrote reads refl

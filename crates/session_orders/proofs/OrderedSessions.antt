@@ -1,19 +1,34 @@
 -- What some sessions of a list show together.
-use Rattle.std.specs.Prelude.{◌≡◌, ◌≢◌, ◌⊎◌, ◌++◌, ◌∷◌, [], ℕ, ◌+◌, ◌<◌, List, Option, Some, length, slice_get, IfSome}
+use Rattle.std.specs.Prelude.{◌≡◌, ◌≢◌, ◌⊎◌, ◌++◌, ◌∷◌, [], ℕ, ◌+◌, ◌<◌, IfSome, List, None, Option, Some, length, slice_get}
 use Rattle.std.proofs.Common.{arith, subst, sym, ⊎_elim, ◌∙◌}
 use Rattle.std.proofs.lemmas.Bool.{cases_eq}
 use Rattle.std.proofs.lemmas.Option.{same_Some}
 use Rattle.claims.specs.Numbers.{HasNumber}
-use Rattle.claims.proofs.NumberLists.{has-alone, has-cases}
+use Rattle.claims.proofs.NumberLists.{has-alone, has-cases, has-none}
 use Rattle.memory_order.specs.Memory.{MemoryHistory}
 use Rattle.session_orders.specs.OnItsWay.{ListsSessions}
-use Rattle.session_orders.specs.OrderedSessions.{IsEarlier, IsOrderedAt}
+use Rattle.session_orders.specs.OrderedSessions.{AreOrderedSessions, IsEarlier, IsOrderedAt}
 use Rattle.session_orders.specs.SessionOrders.{AreOrdered, IsOrderedSession}
+use Rattle.session_orders.specs.declared.ordering.OrderedSessions.{OrderedSessions}
 use Rattle.session_orders.specs.declared.ordering.SessionOrder.TheVariants.{Explained}
 use Rattle.session_orders.specs.declared.ordering.Unexplained.{Unexplained}
 use Rattle.session_orders.proofs.TurnLaws.{listed-place}
 
+-- what holds of two holds of the one at the lesser place
+pub earlier-either : (P : Unexplained → Type 0) (a b r : Option Unexplained) → IsEarlier a b r → IfSome a P → IfSome b P → IfSome r P
+earlier-either P a b r is first second = ⊎_elim
+    (λ (same : r ≡ a). subst (λ (u : Option Unexplained). IfSome u P) (sym same) first)
+    (λ (same : r ≡ b). subst (λ (u : Option Unexplained). IfSome u P) (sym same) second)
+    is.one
+
 module _ (h : MemoryHistory) (sessions : List ℕ) where
+  -- no places
+  pub ordered-none : (found : OrderedSessions) → found.places.items ≡ [] → found.unexplained ≡ None → AreOrderedSessions h sessions found
+  ordered-none found places none = record {
+    each = λ k has. absurd (has-none k (subst (λ (ns : List ℕ). HasNumber ns k) places has));
+    unexplained = subst (λ (u : Option Unexplained). IfSome u (λ (v : Unexplained). AreOrdered h v.order)) (sym none) tt;
+  }
+
   -- the places of two lists
   pub ordered-joined : (xs ys zs : List ℕ) → zs ≡ xs ++ ys → ((k : ℕ) → HasNumber xs k → IsOrderedAt h sessions k)
       → ((k : ℕ) → HasNumber ys k → IsOrderedAt h sessions k) → (k : ℕ) → HasNumber zs k → IsOrderedAt h sessions k

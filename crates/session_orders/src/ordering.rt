@@ -83,37 +83,67 @@ pub(crate) fn order_claimed(
     ensures { IfOk result (AreOrderedSessions index.now.history sessions.now) }
 {
     index.value_is_indexed();
-    let mut found = OrderedSessions::none(alloc);
     let mut beginning = Beginning::of(alloc, index, order)?;
     let mut backward = Backward::clear(alloc, index)?;
     let mut turns = Turns::of(alloc, index)?;
     let counts = count_writes(alloc, index)?;
+    order_each_claimed(
+        alloc,
+        index,
+        order,
+        sessions,
+        claims,
+        &counts,
+        &mut beginning,
+        &mut backward,
+        &mut turns,
+    )
+}
+
+/// The same by arrays that are made once for all sessions.
+#[inline(always)]
+fn order_each_claimed(
+    alloc: Global,
+    index: &LongIndex,
+    order: &[u32],
+    sessions: &[u32],
+    claims: &Claims,
+    counts: &[u32],
+    beginning: &mut Beginning,
+    backward: &mut Backward,
+    turns: &mut Turns,
+) -> Result<OrderedSessions, AllocError>
+    requires order { IsOrderBy index.now.history [] order.now }
+    requires sources { ¬ LacksSource index.now.history }
+    requires sessions { ListsSessions index.now.history (length index.now.history.1) sessions.now }
+    requires size { length counts.now ≡ index.now.bound }
+    requires counts { CountsWrites index.now.history index.now.variables (many index.now.history) counts.now }
+    requires beginning { IsBeginning index.now order.now beginning.old }
+    requires clear { IsClear index.now backward.old }
+    requires turns { ListsSessions index.now.history (length index.now.history.1) turns.old.sessions.items }
+    ensures { IfOk result (AreOrderedSessions index.now.history sessions.now) }
+{
+    index.value_is_indexed();
+    let mut found = OrderedSessions::none(alloc);
     for _claim in 0..sessions.len() {
         let Some(place) = claims.next_below(sessions.len()) else {
             return Ok(found);
         };
-        let own = sessions[place];
-        match order_where_needed(
+        let shown = order_where_needed(
             index,
             order,
-            &counts,
-            own,
-            &mut beginning,
-            &mut backward,
-            &mut turns,
-        )? {
+            counts,
+            sessions[place],
+            beginning,
+            backward,
+            turns,
+        )?;
+        match shown {
             SessionOrder::Explained => found.places.push(place)?,
-            SessionOrder::StartOverwritten => {
+            _ => {
                 found.unexplained = Some(Unexplained {
                     place,
-                    order: SessionOrder::StartOverwritten,
-                });
-                return Ok(found);
-            }
-            SessionOrder::Cyclic => {
-                found.unexplained = Some(Unexplained {
-                    place,
-                    order: SessionOrder::Cyclic,
+                    order: shown,
                 });
                 return Ok(found);
             }
@@ -148,20 +178,56 @@ pub(crate) fn order_places(
     let mut backward = Backward::clear(alloc, index)?;
     let mut turns = Turns::of(alloc, index)?;
     let counts = count_writes(alloc, index)?;
+    order_each_place(
+        index,
+        order,
+        sessions,
+        places,
+        &counts,
+        &mut beginning,
+        &mut backward,
+        &mut turns,
+    )
+}
+
+/// The same by arrays that are made once for all sessions.
+#[inline(always)]
+fn order_each_place(
+    index: &LongIndex,
+    order: &[u32],
+    sessions: &[u32],
+    places: &[usize],
+    counts: &[u32],
+    beginning: &mut Beginning,
+    backward: &mut Backward,
+    turns: &mut Turns,
+) -> Result<SessionOrder, AllocError>
+    requires order { IsOrderBy index.now.history [] order.now }
+    requires sources { ¬ LacksSource index.now.history }
+    requires sessions { ListsSessions index.now.history (length index.now.history.1) sessions.now }
+    requires below { (k : ℕ) → HasNumber places.now k → k < length sessions.now }
+    requires others { (k : ℕ) → k < length sessions.now → HasNumber places.now k ⊎ IsOrderedAt index.now.history sessions.now k }
+    requires size { length counts.now ≡ index.now.bound }
+    requires counts { CountsWrites index.now.history index.now.variables (many index.now.history) counts.now }
+    requires beginning { IsBeginning index.now order.now beginning.old }
+    requires clear { IsClear index.now backward.old }
+    requires turns { ListsSessions index.now.history (length index.now.history.1) turns.old.sessions.items }
+    ensures { IfOk result (AreOrdered index.now.history) }
+{
+    index.value_is_indexed();
     for i in 0..places.len() {
-        let own = sessions[places[i]];
-        match order_where_needed(
+        let shown = order_where_needed(
             index,
             order,
-            &counts,
-            own,
-            &mut beginning,
-            &mut backward,
-            &mut turns,
-        )? {
+            counts,
+            sessions[places[i]],
+            beginning,
+            backward,
+            turns,
+        )?;
+        match shown {
             SessionOrder::Explained => {}
-            SessionOrder::StartOverwritten => return Ok(SessionOrder::StartOverwritten),
-            SessionOrder::Cyclic => return Ok(SessionOrder::Cyclic),
+            _ => return Ok(shown),
         }
     }
     Ok(SessionOrder::Explained)

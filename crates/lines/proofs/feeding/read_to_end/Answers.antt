@@ -1,4 +1,4 @@
-use Rattle.std.proofs.Common.{◌≡◌, ◌++◌, ◌<◌, ◌≤◌, ◌+◌, length, rules, subst, take}
+use Rattle.std.proofs.Common.{◌≡◌, ◌++◌, ◌<◌, ◌≤◌, ◌+◌, length, rules, subst, sym, take, [], append-nil}
 use Rattle.memchr.specs.Find.{IsFirstByte, is_byte}
 use Rattle.lines.specs.Steps.{Takes}
 use Rattle.lines.specs.declared.feeding.LineEnd.TheVariants.{Feed, TooLong}
@@ -81,4 +81,14 @@ loop-preserved g c =
       free = free_after c.args.most old more _ items c.loop.invariant.free none;
       short = search rules;
       calls = calls_more g.R.Source.called c.loop.counter _ _ _ c.loop.invariant.calls c.read_once.ensures.call;
+    }
+
+pub returns-in_default-clause-found : goal.returns-in_default-clause-found
+returns-in_default-clause-found g c =
+    let given = rw c.in_default.is at c.in_ok-count.ensures.given in
+    let step : Takes (g.R.Source.remaining c.loop.reader) (g.R.Source.remaining c.read_once.new.reader) c.loop.bytes.items c.loop.bytes.items = record { taken = []; consumed = given.0; held = sym (append-nil c.loop.bytes.items) } in
+    record {
+      takes = takes-more _ _ _ _ _ _ c.loop.invariant.takes step;
+      ends = (c.loop.invariant.free, c.loop.invariant.short);
+      over = given.1;
     }

@@ -1,5 +1,6 @@
-use Rattle.std.specs.Prelude.{◌↔◌, ℕ, List, length}
+use Rattle.std.specs.Prelude.{◌≡◌, ◌↔◌, ◌<◌, ℕ, List, Some, length, slice_get}
 use Rattle.std.proofs.Common.{sym, ◌∙◌, subst}
+use Rattle.long_columns.specs.Parts.{HasWriters}
 use Rattle.long_columns.specs.Shares.{IsShared}
 use Rattle.long_columns.specs.Swept.{IsListed}
 use Rattle.long_columns.proofs.parts.sweep.Goals as goal
@@ -11,3 +12,28 @@ sweep_left-requires-clause-all c =
 
 pub sweep_left-requires-clause-claimed : goal.sweep_left-requires-clause-claimed
 sweep_left-requires-clause-claimed c = c.nothing_claimed-none.ensures c.args.index.now.history c.in_ok-share.share
+
+pub share_of-requires : goal.share_of-requires
+share_of-requires c = record {
+  below = subst (λ (xs : List ℕ). (k t : ℕ) → slice_get xs k ≡ Some t → t < length c.args.index.now.history.1) (sym c.deref.ensures.value)
+      c.in_ok-sessions.ensures.below;
+}
+
+pub sweep_left-requires-clause-writers : goal.sweep_left-requires-clause-writers
+sweep_left-requires-clause-writers c =
+    subst (λ (xs : List ℕ). HasWriters c.args.index.now.history xs) (sym c.deref-2.ensures.value) c.in_ok-sessions.ensures.each
+
+pub sweep_left-requires-clause-share : goal.sweep_left-requires-clause-share
+sweep_left-requires-clause-share c = c.in_ok-share.ensures.share
+
+pub returns-clause-start : goal.returns-clause-start
+returns-clause-start c = c.sweep_left.ensures.start
+
+pub returns-clause-read : goal.returns-clause-read
+returns-clause-read c = c.sweep_left.ensures.read
+
+pub returns-clause-edges : goal.returns-clause-edges
+returns-clause-edges c = c.sweep_left.ensures.edges
+
+pub returns-clause-below : goal.returns-clause-below
+returns-clause-below c = c.sweep_left.ensures.below

@@ -1,7 +1,8 @@
-use Rattle.std.specs.Prelude.{ℕ, List, length}
-use Rattle.std.proofs.Common.{subst}
+use Rattle.std.specs.Prelude.{◌≡◌, ◌<◌, ℕ, List, Some, length, slice_get}
+use Rattle.std.proofs.Common.{subst, sym}
 use Rattle.std.proofs.lemmas.Option.{slice_get_within}
-use Rattle.long_columns.specs.Forks.{IsForkBelow}
+use Rattle.long_columns.specs.Forks.{AreOnlyWrites, IsForkBelow}
+use Rattle.long_columns.specs.Groups.{IsSweptForks, IsSweptSessions}
 use Rattle.long_columns.specs.Parts.{IsSweptOver}
 use Rattle.long_columns.specs.Swept.{IsListed}
 use Rattle.long_columns.proofs.GroupsSwept.{both-kinds}
@@ -81,3 +82,20 @@ returns-clause-below c =
     let whole = both-kinds h list sessions forks c.requires.all a b s first second c.in_ok-join.ensures.start c.in_ok-join.ensures.read
     c.in_ok-join.ensures.edges in
     all-below h (IsListed list (length list)) s.has_overwritten_start s.has_overwritten_read s.edges.items whole
+
+pub sweep_left_sessions-requires-clause-below : goal.sweep_left_sessions-requires-clause-below
+sweep_left_sessions-requires-clause-below c =
+    subst (λ (xs : List ℕ). (k t : ℕ) → slice_get xs k ≡ Some t → t < length c.args.index.now.history.1) (sym c.deref.ensures.value)
+    c.requires.share.below
+
+pub sweep_left_sessions-requires-clause-found : goal.sweep_left_sessions-requires-clause-found
+sweep_left_sessions-requires-clause-found c =
+    subst (λ (xs : List ℕ). IsSweptSessions c.args.index.now.history xs c.args.claimed.sessions) (sym c.deref.ensures.value) c.requires.claimed.0
+
+pub sweep_left_forks-requires-clause-only : goal.sweep_left_forks-requires-clause-only
+sweep_left_forks-requires-clause-only c =
+    subst (λ (xs : List ℕ). AreOnlyWrites c.args.index.now.history xs) (sym c.deref-2.ensures.value) c.requires.share.only
+
+pub sweep_left_forks-requires-clause-found : goal.sweep_left_forks-requires-clause-found
+sweep_left_forks-requires-clause-found c =
+    subst (λ (xs : List ℕ). IsSweptForks c.args.index.now.history xs c.args.claimed.forks) (sym c.deref-2.ensures.value) c.requires.claimed.1

@@ -1,4 +1,7 @@
-use Rattle.std.specs.Prelude.{◌≡◌, ◌⊎◌, ◌↔◌, ◌<◌, ◌+◌, ℕ, List, length, slice_index_or}
+use Rattle.std.specs.Prelude.{◌≡◌, ◌⊎◌, ◌↔◌, ◌<◌, ◌+◌, ℕ, List, Some, length, slice_get, slice_index_or}
+use Rattle.history.specs.History.{number}
+use Rattle.long_columns.specs.Forks.{IsForkAt}
+use Rattle.long_columns.proofs.Shared.{none-at}
 use Rattle.std.proofs.Common.{arith, inl, inr, subst, ⊎_elim}
 use Rattle.std.proofs.lemmas.Option.{slice_get-get_or}
 use Rattle.long_columns.specs.Shares.{IsShared}
@@ -33,3 +36,32 @@ returns-clause-all c =
     let list : List ℕ = c.args.sessions.now in
     let end : c.loop-i.i ≡ length list = grind arith in
     subst (λ (n : ℕ). (t : ℕ) → IsShared h c.loop-i.share t ↔ IsListed list n t) end c.loop-i.invariant.all
+
+pub loop-i-init : goal.loop-i-init
+loop-i-init c =
+    let h = c.args.index.now.history in
+    let sessions : List ℕ = c.new.result.items in
+    let forks : List ℕ = c.new-2.result.items in
+    let one = none-at sessions c.new.ensures.items in
+    let two = none-at forks c.new-2.ensures.items in
+    record {
+      share = record { below = λ k t at. absurd (one k t at); only = λ k n at. absurd (two k n at) };
+      all = λ t. (
+        (λ shared. ⊎_elim
+            (λ (some : (k : ℕ) × (slice_get sessions k ≡ Some t)). absurd (one some.0 t some.1))
+            (λ (fork : (k : ℕ) × IsForkAt h forks k t). absurd (two fork.0 (number h fork.1.0) fork.1.2))
+            shared),
+        λ listed. absurd (let below = listed.1 in omega arith),
+      );
+    }
+
+pub returns-clause-share : goal.returns-clause-share
+returns-clause-share c = c.loop-i.invariant.share
+
+pub add-requires-clause-session : goal.add-requires-clause-session
+add-requires-clause-session c =
+    let list : List ℕ = c.args.sessions.now in
+    c.requires.below c.loop-i.i (slice_index_or list c.loop-i.i 0) (slice_get-get_or list c.loop-i.i 0 c.loop-i-test.true)
+
+pub add-requires-clause-share : goal.add-requires-clause-share
+add-requires-clause-share c = c.loop-i.invariant.share

@@ -5,7 +5,7 @@ use Rattle.long_history.specs.Steps.{IsListedEdge}
 use Rattle.long_order.specs.Placements.{next_of}
 use Rattle.long_order.proofs.Placings.{so_far-few}
 use Rattle.long_order.proofs.Orders.{listed-of_history}
-use Rattle.long_order.proofs.RunSteps.{order-stuck}
+use Rattle.long_order.proofs.RunSteps.{order-stuck, order-whole}
 use Rattle.long_order.proofs.rounds.order.Goals as goal
 
 pub returns-then-len-before : goal.returns-then-len-before
@@ -23,3 +23,24 @@ loop-sessions-smaller c =
     let longer = c.in_ok-round.ensures.longer in
     let apart = c.if-len-before.false in
     grind arith
+
+pub loop-sessions-init : goal.loop-sessions-init
+loop-sessions-init c = record { placement = c.in_ok-placement.ensures c.args.edges.now; sessions = c.in_ok-sessions.ensures }
+
+pub loop-sessions-preserved : goal.loop-sessions-preserved
+loop-sessions-preserved c = record { placement = c.in_ok-round.ensures.placement; sessions = c.in_ok-round.ensures.sessions }
+
+pub unfinished-requires-clause-placement : goal.unfinished-requires-clause-placement
+unfinished-requires-clause-placement c = c.in_ok-placement.ensures c.args.edges.now
+
+pub round-requires-clause-placement : goal.round-requires-clause-placement
+round-requires-clause-placement c = c.loop-sessions.invariant.placement
+
+pub round-requires-clause-sessions : goal.round-requires-clause-sessions
+round-requires-clause-sessions c = c.loop-sessions.invariant.sessions
+
+pub returns-then-is_empty : goal.returns-then-is_empty
+returns-then-is_empty c =
+    let none : length c.round.new.sessions.items ≡ 0 = grind (arith, nat_tests) in
+    order-whole c.args.index.now.history c.args.edges.now c.round.new.self.next.items c.round.new.self.order.items c.in_ok-round.ensures.placement
+    c.round.new.sessions.items none c.in_ok-round.ensures.sessions

@@ -21,3 +21,12 @@ returns-clause-found g c =
     let most = ap (λ (v : Lining). v.most) (sym c.self.view_is) in
     finds_read _ _ c.args.self.now c.found-2.new.self c.found-2.result c.self.inside.most c.drop_front.new.bytes.items c.read_to_end.new.bytes.items c.in_ok-end.end
     (held ∙ sym c.drop_front.ensures) most read c.found-2.ensures.first (c.found-2.ensures.over _ read.over) c.found-2.ensures.most
+
+pub returns-in-Some-clause-few : goal.returns-in-Some-clause-few
+returns-in-Some-clause-few g c = c.found.ensures.few
+
+pub returns-clause-few : goal.returns-clause-few
+returns-clause-few g c = c.found-2.ensures.few
+
+pub returns-in_err-end-clause-few : goal.returns-in_err-end-clause-few
+returns-in_err-end-clause-few g c = omega (arith, c.in_err-end.ensures.few, c.self.invariant.room)

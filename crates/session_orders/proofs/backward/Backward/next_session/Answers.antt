@@ -13,3 +13,15 @@ returns-then-is_free-clause-next c = record {
 pub returns-else-is_free-clause-stuck : goal.returns-else-is_free-clause-stuck
 returns-else-is_free-clause-stuck c =
     none-go_on c.args.index.now c.args.self.now c.in_default-free_other.ensures.none (c.if-is_free.ensures.stopped (λ t. absurd cc))
+
+pub returns-in-Some-clause-next : goal.returns-in-Some-clause-next
+returns-in-Some-clause-next c = c.in-Some.ensures
+
+pub returns-in-Some-clause-awake : goal.returns-in-Some-clause-awake
+returns-in-Some-clause-awake c = c.requires.awake
+
+pub returns-then-is_free-clause-awake : goal.returns-then-is_free-clause-awake
+returns-then-is_free-clause-awake c = c.let_sleep.ensures
+
+pub returns-else-is_free-clause-awake : goal.returns-else-is_free-clause-awake
+returns-else-is_free-clause-awake c = c.let_sleep.ensures

@@ -2,7 +2,7 @@ use Rattle.std.specs.Prelude.{◌≡◌, ◌<◌, ℕ, Some, slice_get}
 use Rattle.session_orders.specs.Beginnings.{IsBeginning}
 use Rattle.session_orders.specs.OnItsWay.{IsClear}
 use Rattle.session_orders.specs.OrderedSessions.{IsOrderedAt}
-use Rattle.session_orders.proofs.ordering.order_places.Given as goal
+use Rattle.session_orders.proofs.ordering.order_each_place.Given as goal
 
 -- the sessions at the first places are ordered, and nothing is left
 abbrev pub invariant-loop-i : goal.invariant-loop-i

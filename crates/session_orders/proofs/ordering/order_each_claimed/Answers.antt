@@ -5,7 +5,7 @@ use Rattle.session_orders.specs.OrderedSessions.{IsOrderedAt}
 use Rattle.session_orders.specs.SessionOrders.{IsOutcome}
 use Rattle.session_orders.proofs.OrderedSessions.{ordered-more}
 use Rattle.session_orders.proofs.TurnLaws.{listed-exists}
-use Rattle.session_orders.proofs.ordering.order_claimed.Goals as goal
+use Rattle.session_orders.proofs.ordering.order_each_claimed.Goals as goal
 
 pub order_where_needed-requires-clause-known : goal.order_where_needed-requires-clause-known
 order_where_needed-requires-clause-known c =
@@ -29,11 +29,11 @@ loop-claim-preserved c =
     let place : ℕ = c.in-Some.place in
     let was = c.loop-claim.invariant in
     let here : IsOrderedAt h list place =
-    subst (IsOutcome h (slice_index_or list place 0)) c.in-Explained.is c.in_ok-order_where_needed.ensures.outcome in
+    subst (IsOutcome h (slice_index_or list place 0)) c.in-Explained.is c.in_ok-shown.ensures.outcome in
     record {
-      beginning = c.in_ok-order_where_needed.ensures.beginning;
-      clear = c.in_ok-order_where_needed.ensures.clear c.in-Explained.is;
-      sessions = c.in_ok-order_where_needed.ensures.sessions ∙ was.sessions;
+      beginning = c.in_ok-shown.ensures.beginning;
+      clear = c.in_ok-shown.ensures.clear c.in-Explained.is;
+      sessions = c.in_ok-shown.ensures.sessions ∙ was.sessions;
       ordered = record {
         each = ordered-more h list c.loop-claim.found.places.items c.push.new.self.items place c.in_ok-push-in-Explained.ensures.items
             was.ordered.each here;

@@ -2,7 +2,7 @@ use Rattle.std.specs.Prelude.{◌≡◌}
 use Rattle.session_orders.specs.Beginnings.{IsBeginning}
 use Rattle.session_orders.specs.OnItsWay.{IsClear}
 use Rattle.session_orders.specs.OrderedSessions.{AreOrderedSessions}
-use Rattle.session_orders.proofs.ordering.order_claimed.Given as goal
+use Rattle.session_orders.proofs.ordering.order_each_claimed.Given as goal
 
 -- the claimed sessions are ordered, and nothing is left
 abbrev pub invariant-loop-claim : goal.invariant-loop-claim
