@@ -7,21 +7,35 @@ use history::OpId;
 use std::alloc::{AllocError, Global};
 use wording::Names;
 
-/// The words at the head of a picture of a pattern: the criterion and the kind, and what the kind says.
-pub(crate) fn lines_of_pattern<N: Names>(
+/// Says at the head of a picture of a pattern which criterion the history does not meet, and what the kind of pattern says.
+pub(crate) fn push_lines_of_pattern<N: Names>(
     alloc: Global,
+    lines: &mut Vec<String>,
     names: &N,
     criterion: Criterion,
     pattern: &Pattern,
-) -> Result<Vec<String>, AllocError> {
+) -> Result<(), AllocError> {
+    push_line(lines, title_of(alloc, criterion, pattern.kind())?)?;
+    push_line(lines, claim_of(alloc, criterion)?)?;
+    push_line(lines, sentence_of(alloc, names, pattern)?)
+}
+
+/// Adds a line.
+pub(crate) fn push_line(lines: &mut Vec<String>, line: String) -> Result<(), AllocError> {
+    Ok(lines.push(line)?)
+}
+
+// The criterion and the kind of a pattern.
+fn title_of(alloc: Global, criterion: Criterion, kind: Kind) -> Result<String, AllocError> {
     let name = criterion.name();
+    let kind = kind.name();
+    format!(in alloc; "{name} no {kind}")
+}
+
+// Which criterion the history does not meet.
+fn claim_of(alloc: Global, criterion: Criterion) -> Result<String, AllocError> {
     let criterion = words_of_criterion(criterion);
-    let kind = pattern.kind().name();
-    let mut lines = Vec::new(alloc);
-    lines.push(format!(in alloc; "{name} no {kind}")?)?;
-    lines.push(format!(in alloc; "The history does not meet {criterion}:")?)?;
-    lines.push(sentence_of(alloc, names, pattern)?)?;
-    Ok(lines)
+    format!(in alloc; "The history does not meet {criterion}:")
 }
 
 // The name of a criterion, written out.

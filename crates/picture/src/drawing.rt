@@ -6,9 +6,9 @@ ghost use Rattle.picture.specs.Markup.{IsSvgElement};
 use crate::drawing_edges::draw_edges;
 use crate::drawing_head::draw_head;
 use crate::drawing_lanes::{draw_lane_lines, draw_lanes};
-use crate::edges::edges_of;
+use crate::edges::{Edge, edges_of};
 use crate::layout::Layout;
-use crate::legend::{LegendWords, draw_legend, legend_of};
+use crate::legend::{LegendEntry, LegendWords, draw_legend, legend_of};
 use crate::marks::Marks;
 use crate::ports::Ports;
 use crate::rows::LaneRows;
@@ -31,17 +31,59 @@ pub(crate) struct Scene<'a> {
 pub(crate) fn drawing_of(alloc: Global, scene: &Scene) -> Result<String, AllocError>
     ensures { IfOk result (λ svg. IsSvgElement (string_bytes svg)) }
 {
-    let edges = edges_of(alloc, scene.rows, scene.marks.joints())?;
-    let ports = Ports::of(alloc, &edges)?;
-    let legend = legend_of(alloc, scene.rows.lanes(), &edges, scene.words)?;
-    let layout = Layout::of(scene.rows, scene.lines, legend.len(), &ports);
+    let parts = Parts::of(alloc, scene)?;
+    let svg = drawing_with(alloc, scene, &parts);
+    drop(parts);
+    svg
+}
+
+// What follows from a scene: its edges, where they end, the entries of the legend, and all places.
+#[derive(Drop)]
+struct Parts {
+    edges: Vec<Edge>,
+    ports: Ports,
+    legend: Vec<LegendEntry>,
+    layout: Layout,
+}
+
+impl Parts {
+    // The parts of a scene.
+    fn of(alloc: Global, scene: &Scene) -> Result<Parts, AllocError> {
+        let edges = edges_of(alloc, scene.rows, scene.marks.joints())?;
+        let ports = Ports::of(alloc, &edges)?;
+        let legend = legend_of(alloc, scene.rows.lanes(), &edges, scene.words)?;
+        let layout = Layout::of(scene.rows, scene.lines, legend.len(), &ports);
+        Ok(Parts {
+            edges,
+            ports,
+            legend,
+            layout,
+        })
+    }
+}
+
+// The SVG text of a scene with these parts.
+fn drawing_with(alloc: Global, scene: &Scene, parts: &Parts) -> Result<String, AllocError>
+    ensures { IfOk result (λ svg. IsSvgElement (string_bytes svg)) }
+{
     let mut svg = String::new(alloc);
-    draw_head(alloc, &mut svg, &layout, scene.lines, &edges)?;
-    draw_lane_lines(alloc, &mut svg, &layout, scene.rows.lanes())?;
-    draw_edges(alloc, &mut svg, &layout, &ports, &edges)?;
-    draw_lanes(alloc, &mut svg, &layout, scene.rows)?;
-    draw_legend(alloc, &mut svg, &layout, &legend)?;
-    framed(alloc, &layout, &svg)
+    draw_scene(alloc, &mut svg, scene, parts)?;
+    framed(alloc, &parts.layout, &svg)
+}
+
+// Draws all of a scene, from back to front.
+fn draw_scene(
+    alloc: Global,
+    svg: &mut String,
+    scene: &Scene,
+    parts: &Parts,
+) -> Result<(), AllocError> {
+    let layout = &parts.layout;
+    draw_head(alloc, svg, layout, scene.lines, &parts.edges)?;
+    draw_lane_lines(alloc, svg, layout, scene.rows.lanes())?;
+    draw_edges(svg, layout, &parts.ports, &parts.edges)?;
+    draw_lanes(alloc, svg, layout, scene.rows)?;
+    draw_legend(alloc, svg, layout, &parts.legend)
 }
 
 // What is drawn, within the element that has its size.
@@ -50,11 +92,12 @@ fn framed(alloc: Global, layout: &Layout, drawn: &str) -> Result<String, AllocEr
 {
     let width = layout.width();
     let height = layout.height();
-    let size = format!(in alloc; "width=\"{width}\" height=\"{height}\"")?;
-    let room = format!(in alloc; "viewBox=\"0 0 {width} {height}\"")?;
+    let size = format!(in alloc;
+        "width=\"{width}\" height=\"{height}\" viewBox=\"0 0 {width} {height}\""
+    )?;
     let space = "xmlns=\"http://www.w3.org/2000/svg\"";
     let fonts = "font-family=\"system-ui, -apple-system, 'Segoe UI', Roboto, Arial, sans-serif\"";
-    let within = format!(in alloc; " {space} {size} {room} {fonts}>\n{drawn}")?;
+    let within = format!(in alloc; " {space} {size} {fonts}>\n{drawn}")?;
     element_of(alloc, &within)
 }
 

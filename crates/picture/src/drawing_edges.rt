@@ -4,12 +4,12 @@ use crate::edges::Edge;
 use crate::layout::{Layout, Length, lesser};
 use crate::marks::Relation;
 use crate::ports::{Part, Ports, track_of};
-use std::alloc::{AllocError, Global};
+use std::alloc::AllocError;
+use std::fmt::Write;
 use std::num::Saturating;
 
 /// Draws the edges, which begin and end at these ports.
 pub(crate) fn draw_edges(
-    alloc: Global,
     svg: &mut String,
     layout: &Layout,
     ports: &Ports,
@@ -19,14 +19,15 @@ pub(crate) fn draw_edges(
     for (number, edge) in edges.iter().enumerate() {
         let ends = ends_of(layout, ports, number, edge);
         let track = track_of(edges, number, edge);
-        let path = path_of(alloc, layout, edge, ends, track)?;
-        push_edge(alloc, svg, &path, edge.relation)?;
+        begin_edge(svg)?;
+        push_path(svg, layout, edge, ends, track)?;
+        end_edge(svg, edge.relation)?;
     }
     svg.push_str("</g>\n")
 }
 
 // The points at which an edge begins and ends.
-#[derive(Clone, Copy, Debug, PartialEq, Eq)]
+#[derive(Clone, Copy)]
 struct Ends {
     x: Length,
     y: Length,
@@ -44,98 +45,126 @@ fn ends_of(layout: &Layout, ports: &Ports, number: usize, edge: &Edge) -> Ends {
     }
 }
 
-// The path of an edge from one box to another.
-fn path_of(
-    alloc: Global,
+// Puts the path of an edge from one box to another.
+fn push_path(
+    svg: &mut String,
     layout: &Layout,
     edge: &Edge,
     ends: Ends,
     track: Part,
-) -> Result<String, AllocError> {
+) -> Result<(), AllocError> {
     if edge.is_straight() {
-        path_down(alloc, layout, edge)
+        push_path_down(svg, layout, edge)
     } else if edge.from.lane == edge.to.lane {
-        path_in_lane(alloc, edge, ends)
+        push_path_in_lane(svg, edge, ends)
     } else if edge.is_across() {
-        path_across(alloc, layout, edge, ends, track)
+        push_path_across(svg, layout, edge, ends, track)
     } else {
-        path_to_neighbour(alloc, edge, ends)
+        push_path_to_neighbour(svg, edge, ends)
     }
 }
 
 // Down from a box to the next.
-fn path_down(alloc: Global, layout: &Layout, edge: &Edge) -> Result<String, AllocError> {
+fn push_path_down(svg: &mut String, layout: &Layout, edge: &Edge) -> Result<(), AllocError> {
     let x = layout.middle(edge.from.lane as u64);
     let y = layout.bottom(edge.from.row);
     let end = layout.top(edge.to.row);
-    format!(in alloc; "M{x} {y}V{end}")
+    write!(svg, "M{x} {y}V{end}")
 }
 
 // A bow beside the lane: the longer, the farther.
-fn path_in_lane(alloc: Global, edge: &Edge, ends: Ends) -> Result<String, AllocError> {
+fn push_path_in_lane(svg: &mut String, edge: &Edge, ends: Ends) -> Result<(), AllocError> {
     let Ends { x, y, end_x, end_y } = ends;
+    let bend = bow_of(edge, x);
+    write!(svg, "M{x} {y}")?;
+    push_curve(svg, y, [bend, bend], [end_x, end_y])
+}
+
+// How far a bow that begins here goes: to the left for program order.
+fn bow_of(edge: &Edge, x: Length) -> Length {
     let length = Saturating(edge.from.row.abs_diff(edge.to.row));
-    let bend = if edge.relation == Relation::ProgramOrder {
+    if edge.relation == Relation::ProgramOrder {
         x - lesser(Saturating(20) + Saturating(8) * length, Saturating(48))
     } else {
         x + lesser(Saturating(40) + Saturating(10) * length, Saturating(100))
-    };
-    format!(in alloc; "M{x} {y}C{bend} {y} {bend} {end_y} {end_x} {end_y}")
+    }
+}
+
+// A curve through the room between two lanes.
+fn push_path_to_neighbour(svg: &mut String, edge: &Edge, ends: Ends) -> Result<(), AllocError> {
+    let Ends { x, y, end_x, end_y } = ends;
+    write!(svg, "M{x} {y}")?;
+    push_curve(svg, y, bends_between(edge, x, end_x), [end_x, end_y])
+}
+
+// A curve to the room above the lower box, along it past the lanes between, and a curve to the other box.
+fn push_path_across(
+    svg: &mut String,
+    layout: &Layout,
+    edge: &Edge,
+    ends: Ends,
+    track: Part,
+) -> Result<(), AllocError> {
+    let Ends { x, y, end_x, end_y } = ends;
+    let way = layout.track(edge.lower_row(), track);
+    let [first, last] = passed_by(layout, edge);
+    write!(svg, "M{x} {y}")?;
+    push_curve(svg, y, bends_between(edge, x, first), [first, way])?;
+    write!(svg, "H{last}")?;
+    push_curve(svg, way, bends_between(edge, last, end_x), [end_x, end_y])
+}
+
+// Where the lanes that an edge passes begin and end, as it comes by them.
+fn passed_by(layout: &Layout, edge: &Edge) -> [Length; 2] {
+    let (lane, end_lane) = (edge.from.lane as u64, edge.to.lane as u64);
+    if lane < end_lane {
+        let first = layout.left(lane.saturating_add(1));
+        [first, layout.right(end_lane.saturating_sub(1))]
+    } else {
+        let first = layout.right(lane.saturating_sub(1));
+        [first, layout.left(end_lane.saturating_add(1))]
+    }
+}
+
+// Goes on with a path from this height to an end, by a curve that is level at both, as far as these bends.
+fn push_curve(
+    svg: &mut String,
+    y: Length,
+    bends: [Length; 2],
+    end: [Length; 2],
+) -> Result<(), AllocError> {
+    let [bend, end_bend] = bends;
+    let [end_x, end_y] = end;
+    write!(svg, "C{bend} {y} {end_bend} {end_y} {end_x} {end_y}")
 }
 
 // How far a curve keeps level where it begins and ends.
 const LEVEL: Length = Saturating(60);
 
-// A curve through the room between two lanes.
-fn path_to_neighbour(alloc: Global, edge: &Edge, ends: Ends) -> Result<String, AllocError> {
-    let Ends { x, y, end_x, end_y } = ends;
-    let (bend, end_bend) = if edge.from.lane < edge.to.lane {
-        (x + LEVEL, end_x - LEVEL)
+// The bends of a curve from one place to another, in the direction of an edge.
+fn bends_between(edge: &Edge, x: Length, end_x: Length) -> [Length; 2] {
+    if edge.from.lane < edge.to.lane {
+        [x + LEVEL, end_x - LEVEL]
     } else {
-        (x - LEVEL, end_x + LEVEL)
-    };
-    format!(in alloc; "M{x} {y}C{bend} {y} {end_bend} {end_y} {end_x} {end_y}")
+        [x - LEVEL, end_x + LEVEL]
+    }
 }
 
-// A curve to the room above the lower box, along it past the lanes between, and a curve to the other box.
-fn path_across(
-    alloc: Global,
-    layout: &Layout,
-    edge: &Edge,
-    ends: Ends,
-    track: Part,
-) -> Result<String, AllocError> {
-    let Ends { x, y, end_x, end_y } = ends;
-    let way = layout.track(edge.lower_row(), track);
-    let (lane, end_lane) = (edge.from.lane as u64, edge.to.lane as u64);
-    let (first, last, bends) = if lane < end_lane {
-        let first = layout.left(lane.saturating_add(1));
-        let last = layout.right(end_lane.saturating_sub(1));
-        let away = [x + LEVEL, first - LEVEL];
-        (first, last, (away, [last + LEVEL, end_x - LEVEL]))
-    } else {
-        let first = layout.right(lane.saturating_sub(1));
-        let last = layout.left(end_lane.saturating_add(1));
-        let away = [x - LEVEL, first + LEVEL];
-        (first, last, (away, [last - LEVEL, end_x + LEVEL]))
-    };
-    let ([a, b], [c, d]) = bends;
-    let away = format!(in alloc; "M{x} {y}C{a} {y} {b} {way} {first} {way}")?;
-    format!(in alloc; "{away}H{last}C{c} {way} {d} {end_y} {end_x} {end_y}")
+/// Begins an edge: its path comes next.
+pub(crate) fn begin_edge(svg: &mut String) -> Result<(), AllocError> {
+    svg.push_str("<path d=\"")
 }
 
-/// Draws an edge of a relation along a path.
-pub(crate) fn push_edge(
-    alloc: Global,
-    svg: &mut String,
-    path: &str,
-    relation: Relation,
-) -> Result<(), AllocError> {
+/// Ends an edge of a relation, after its path.
+pub(crate) fn end_edge(svg: &mut String, relation: Relation) -> Result<(), AllocError> {
     let color = color_of(relation);
     let dashes = dashes_of(relation);
     let marker = marker_of(relation);
-    let line = format!(in alloc; "fill=\"none\" stroke=\"{color}\" stroke-width=\"2\"{dashes}")?;
-    svg.push_str(&format!(in alloc; "<path d=\"{path}\" {line} marker-end=\"url(#{marker})\"/>\n")?)
+    write!(
+        svg,
+        "\" fill=\"none\" stroke=\"{color}\" stroke-width=\"2\"{dashes}"
+    )?;
+    writeln!(svg, " marker-end=\"url(#{marker})\"/>")
 }
 
 /// The colour of a relation.

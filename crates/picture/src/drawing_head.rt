@@ -6,6 +6,7 @@ use crate::escaping::escaped;
 use crate::layout::{LINE_HEIGHT, Layout, Length, MARGIN};
 use crate::marks::Relation;
 use std::alloc::{AllocError, Global};
+use std::fmt::Write;
 use std::num::Saturating;
 
 /// Draws the ground, the arrow heads of the edges, and the lines at the head, the title first.
@@ -16,15 +17,35 @@ pub(crate) fn draw_head(
     lines: &[String],
     edges: &[Edge],
 ) -> Result<(), AllocError> {
-    if let Some(title) = lines.first() {
-        let title = escaped(alloc, title)?;
-        svg.push_str(&format!(in alloc; "<title>{title}</title>\n")?)?;
+    draw_title(alloc, svg, lines)?;
+    draw_ground(svg, layout)?;
+    draw_markers(svg, edges)?;
+    draw_lines(alloc, svg, lines)
+}
+
+// Writes the title, which is not seen in the picture itself.
+fn draw_title(alloc: Global, svg: &mut String, lines: &[String]) -> Result<(), AllocError> {
+    match lines.first() {
+        Some(title) => {
+            let title = escaped(alloc, title)?;
+            writeln!(svg, "<title>{title}</title>")
+        }
+        None => Ok(()),
     }
+}
+
+// Draws the ground.
+fn draw_ground(svg: &mut String, layout: &Layout) -> Result<(), AllocError> {
     let width = layout.width();
     let height = layout.height();
-    let size = format!(in alloc; "width=\"{width}\" height=\"{height}\"")?;
-    svg.push_str(&format!(in alloc; "<rect {size} fill=\"#ffffff\"/>\n")?)?;
-    draw_markers(alloc, svg, edges)?;
+    writeln!(
+        svg,
+        "<rect width=\"{width}\" height=\"{height}\" fill=\"#ffffff\"/>"
+    )
+}
+
+// Writes the lines at the head.
+fn draw_lines(alloc: Global, svg: &mut String, lines: &[String]) -> Result<(), AllocError> {
     for (number, line) in lines.iter().enumerate() {
         let y = MARGIN + LINE_HEIGHT * Saturating(number as u64);
         push_text(alloc, svg, MARGIN, y, line_style(number), line)?;
@@ -42,25 +63,29 @@ fn line_style(number: usize) -> &'static str {
 }
 
 // Draws an arrow head for each relation of the edges, which refer to it.
-fn draw_markers(alloc: Global, svg: &mut String, edges: &[Edge]) -> Result<(), AllocError> {
+fn draw_markers(svg: &mut String, edges: &[Edge]) -> Result<(), AllocError> {
     svg.push_str("<defs>\n")?;
     for relation in Relation::all() {
         if are_of(edges, relation) {
-            draw_marker(alloc, svg, relation)?;
+            draw_marker(svg, relation)?;
         }
     }
     svg.push_str("</defs>\n")
 }
 
 // Draws the arrow head of a relation.
-fn draw_marker(alloc: Global, svg: &mut String, relation: Relation) -> Result<(), AllocError> {
+fn draw_marker(svg: &mut String, relation: Relation) -> Result<(), AllocError> {
     let id = marker_of(relation);
     let color = color_of(relation);
-    let name = format!(in alloc; "id=\"{id}\" viewBox=\"0 0 10 10\" refX=\"9\" refY=\"5\"")?;
-    let size =
-        "markerUnits=\"userSpaceOnUse\" markerWidth=\"12\" markerHeight=\"12\" orient=\"auto\"";
-    let head = format!(in alloc; "<path d=\"M0 0L10 5L0 10Z\" fill=\"{color}\"/>")?;
-    svg.push_str(&format!(in alloc; "<marker {name} {size}>{head}</marker>\n")?)
+    write!(
+        svg,
+        "<marker id=\"{id}\" viewBox=\"0 0 10 10\" refX=\"9\" refY=\"5\""
+    )?;
+    svg.push_str(" markerUnits=\"userSpaceOnUse\" markerWidth=\"12\" markerHeight=\"12\"")?;
+    writeln!(
+        svg,
+        " orient=\"auto\"><path d=\"M0 0L10 5L0 10Z\" fill=\"{color}\"/></marker>"
+    )
 }
 
 /// Writes a text, escaped.
@@ -73,5 +98,5 @@ pub(crate) fn push_text(
     words: &str,
 ) -> Result<(), AllocError> {
     let words = escaped(alloc, words)?;
-    svg.push_str(&format!(in alloc; "<text x=\"{x}\" y=\"{y}\" {style}>{words}</text>\n")?)
+    writeln!(svg, "<text x=\"{x}\" y=\"{y}\" {style}>{words}</text>")
 }

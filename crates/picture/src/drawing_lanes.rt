@@ -2,13 +2,14 @@
 
 use crate::drawing_head::push_text;
 use crate::lanes::{Entry, Lane, Shown};
-use crate::layout::{Layout, PADDING};
+use crate::layout::{Layout, Length, PADDING};
 use crate::rows::LaneRows;
 use std::alloc::{AllocError, Global};
+use std::fmt::Write;
 use std::num::Saturating;
 
 /// The emphasis of a box.
-#[derive(Clone, Copy, Debug, PartialEq, Eq)]
+#[derive(Clone, Copy, PartialEq, Eq)]
 pub(crate) enum Emphasis {
     Plain,
     /// It is marked.
@@ -55,9 +56,8 @@ fn draw_lane_line(
     push_text(alloc, svg, x, y, style, name)?;
     let from = y + Saturating(10);
     let to = layout.lanes_bottom();
-    let ends = format!(in alloc; "x1=\"{x}\" y1=\"{from}\" x2=\"{x}\" y2=\"{to}\"")?;
-    let line = format!(in alloc; "<line {ends} stroke=\"#d1d5db\" stroke-width=\"2\"/>\n")?;
-    svg.push_str(&line)
+    write!(svg, "<line x1=\"{x}\" y1=\"{from}\" x2=\"{x}\" y2=\"{to}\"")?;
+    svg.push_str(" stroke=\"#d1d5db\" stroke-width=\"2\"/>\n")
 }
 
 /// Draws the entries of all lanes.
@@ -84,14 +84,24 @@ fn draw_lane(
 ) -> Result<(), AllocError> {
     for (place, entry) in lane.entries.iter().enumerate() {
         let row = rows.row(number, place).unwrap_or(0);
-        match entry {
-            Entry::Operation(shown) => {
-                draw_operation(alloc, svg, layout, number as u64, row, shown)?;
-            }
-            Entry::Gap(count) => draw_gap(alloc, svg, layout, number as u64, row, *count)?,
-        }
+        draw_entry(alloc, svg, layout, number as u64, row, entry)?;
     }
     Ok(())
+}
+
+// Draws an entry of a lane.
+fn draw_entry(
+    alloc: Global,
+    svg: &mut String,
+    layout: &Layout,
+    lane: u64,
+    row: u64,
+    entry: &Entry,
+) -> Result<(), AllocError> {
+    match entry {
+        Entry::Operation(shown) => draw_operation(alloc, svg, layout, lane, row, shown),
+        Entry::Gap(count) => draw_gap(alloc, svg, layout, lane, row, *count),
+    }
 }
 
 // Draws the box of an operation, with its name and its label, and below them what is wrong with it.
@@ -104,12 +114,9 @@ fn draw_operation(
     shown: &Shown,
 ) -> Result<(), AllocError> {
     let emphasis = emphasis_of(shown);
-    draw_box(alloc, svg, layout, lane, row, emphasis)?;
+    draw_box(svg, layout, lane, row, emphasis)?;
     let x = layout.left(lane) + PADDING;
-    let y = match emphasis {
-        Emphasis::Wrong => layout.center(row) - Saturating(3),
-        Emphasis::Marked | Emphasis::Plain => layout.center(row) + Saturating(5),
-    };
+    let y = text_height(layout, row, emphasis);
     let style = "font-size=\"11\" fill=\"#6b7280\"";
     push_text(alloc, svg, x, y, style, &shown.name)?;
     let style = label_style(emphasis);
@@ -117,6 +124,14 @@ fn draw_operation(
     match &shown.fault {
         Some(words) => draw_fault(alloc, svg, layout, lane, row, words),
         None => Ok(()),
+    }
+}
+
+// The height at which the name and the label of an operation are: above what is wrong with it.
+fn text_height(layout: &Layout, row: u64, emphasis: Emphasis) -> Length {
+    match emphasis {
+        Emphasis::Wrong => layout.center(row) - Saturating(3),
+        Emphasis::Marked | Emphasis::Plain => layout.center(row) + Saturating(5),
     }
 }
 
@@ -152,7 +167,6 @@ fn label_style(emphasis: Emphasis) -> &'static str {
 
 // Draws an empty box.
 fn draw_box(
-    alloc: Global,
     svg: &mut String,
     layout: &Layout,
     lane: u64,
@@ -163,10 +177,12 @@ fn draw_box(
     let y = layout.top(row);
     let width = layout.box_width();
     let height = layout.box_height();
-    let place = format!(in alloc; "x=\"{x}\" y=\"{y}\" width=\"{width}\" height=\"{height}\"")?;
+    write!(
+        svg,
+        "<rect x=\"{x}\" y=\"{y}\" width=\"{width}\" height=\"{height}\""
+    )?;
     let style = box_style(emphasis);
-    let drawn = format!(in alloc; "<rect {place} rx=\"7\" {style}/>\n")?;
-    svg.push_str(&drawn)
+    writeln!(svg, " rx=\"7\" {style}/>")
 }
 
 /// How a box is drawn.
@@ -182,7 +198,7 @@ pub(crate) fn box_style(emphasis: Emphasis) -> &'static str {
     }
 }
 
-// Draws how many operations are left out.
+// Draws how many operations are left out, on a ground that hides the line of the lane.
 fn draw_gap(
     alloc: Global,
     svg: &mut String,
@@ -191,14 +207,25 @@ fn draw_gap(
     row: u64,
     count: u64,
 ) -> Result<(), AllocError> {
-    let x = layout.left(lane);
-    let y = layout.center(row) - Saturating(12);
-    let width = layout.box_width();
-    let place = format!(in alloc; "x=\"{x}\" y=\"{y}\" width=\"{width}\" height=\"24\"")?;
-    let drawn = format!(in alloc; "<rect {place} fill=\"#ffffff\"/>\n")?;
-    svg.push_str(&drawn)?;
+    draw_gap_ground(svg, layout, lane, row)?;
     let words = format!(in alloc; "⋮ {count} left out")?;
     let style = "font-size=\"13\" font-style=\"italic\" fill=\"#6b7280\" text-anchor=\"middle\"";
     let y = layout.center(row) + Saturating(5);
     push_text(alloc, svg, layout.middle(lane), y, style, &words)
+}
+
+// Draws the ground of a gap.
+fn draw_gap_ground(
+    svg: &mut String,
+    layout: &Layout,
+    lane: u64,
+    row: u64,
+) -> Result<(), AllocError> {
+    let x = layout.left(lane);
+    let y = layout.center(row) - Saturating(12);
+    let width = layout.box_width();
+    writeln!(
+        svg,
+        "<rect x=\"{x}\" y=\"{y}\" width=\"{width}\" height=\"24\" fill=\"#ffffff\"/>"
+    )
 }

@@ -5,7 +5,7 @@ use crate::rows::{LaneRows, Place};
 use std::alloc::{AllocError, Global};
 
 /// A joint between two boxes that are shown.
-#[derive(Clone, Copy, Debug, PartialEq, Eq)]
+#[derive(Clone, Copy)]
 pub(crate) struct Edge {
     pub from: Place,
     pub to: Place,
@@ -13,7 +13,7 @@ pub(crate) struct Edge {
 }
 
 /// A side of a box at which an edge begins or ends.
-#[derive(Clone, Copy, Debug, PartialEq, Eq)]
+#[derive(Clone, Copy, PartialEq, Eq)]
 pub(crate) enum Side {
     Left,
     Right,

@@ -25,13 +25,23 @@ pub(crate) fn blame_pattern<N: Names>(
             blame_read(alloc, marks, names, memory, ends_of(path))
         }
         Pattern::WriteHBInitRead(_, derivation) => {
-            let pairs = DerivedPairs::of(alloc, memory, derivation)?;
-            blame_read(alloc, marks, names, memory, pairs.last())
+            let pair = last_pair(alloc, memory, derivation)?;
+            blame_read(alloc, marks, names, memory, pair)
         }
         Pattern::CyclicCO(path) => blame_path(alloc, marks, path),
         Pattern::CyclicCF(links) => blame_links(alloc, marks, links),
         Pattern::CyclicHB(_, derivation) => blame_derivation(alloc, marks, memory, derivation),
     }
+}
+
+// What the last line of a derivation says.
+fn last_pair(
+    alloc: Global,
+    memory: &IndexedMemory,
+    derivation: &Derivation,
+) -> Result<Option<Pair>, AllocError> {
+    let pairs = DerivedPairs::of(alloc, memory, derivation)?;
+    Ok(pairs.last())
 }
 
 // Marks a read that does not show a write which comes before it.
@@ -115,25 +125,58 @@ fn blame_derivation(
     derivation: &Derivation,
 ) -> Result<(), AllocError> {
     let pairs = DerivedPairs::of(alloc, memory, derivation)?;
-    let lines = derivation.lines();
-    let mut joined = Vec::new(alloc);
-    for number in 0..lines.len() {
-        joined.push(number.saturating_add(1) == lines.len())?;
-    }
+    blame_lines(alloc, marks, &pairs, derivation.lines())
+}
+
+// Marks both ends of each line that the last one joins, given what each line says.
+fn blame_lines(
+    alloc: Global,
+    marks: &mut Marks,
+    pairs: &DerivedPairs,
+    lines: &[Line],
+) -> Result<(), AllocError> {
+    let mut joined = vec![in alloc; false; lines.len()]?;
+    join_line(&mut joined, lines.len().saturating_sub(1) as u64);
+    blame_joined(alloc, marks, pairs, &mut joined, lines)
+}
+
+// Marks both ends of each joined line, and of each line that those join, from the last line to the first.
+fn blame_joined(
+    alloc: Global,
+    marks: &mut Marks,
+    pairs: &DerivedPairs,
+    joined: &mut Vec<bool>,
+    lines: &[Line],
+) -> Result<(), AllocError> {
     for (number, line) in lines.iter().enumerate().rev() {
-        if joined.get(number) == Some(&true) {
-            match line {
-                Line::Tr(first, second) => {
-                    join_line(&mut joined, *first);
-                    join_line(&mut joined, *second);
-                }
-                Line::Co(_, _) | Line::Rf(_, _) => {
-                    blame_pair(alloc, marks, pairs.get(number as u64))?;
-                }
-            }
+        if is_joined(joined, number) {
+            blame_line(alloc, marks, joined, line, pairs.get(number as u64))?;
         }
     }
     Ok(())
+}
+
+// Notes the lines that a joined line joins, or marks both ends of one that joins none, which says this pair.
+fn blame_line(
+    alloc: Global,
+    marks: &mut Marks,
+    joined: &mut Vec<bool>,
+    line: &Line,
+    pair: Option<Pair>,
+) -> Result<(), AllocError> {
+    match line {
+        Line::Tr(first, second) => {
+            join_line(joined, *first);
+            join_line(joined, *second);
+            Ok(())
+        }
+        Line::Co(_, _) | Line::Rf(_, _) => blame_pair(alloc, marks, pair),
+    }
+}
+
+// Whether a line is joined with others.
+fn is_joined(joined: &[bool], number: usize) -> bool {
+    joined.get(number).copied().unwrap_or(false)
 }
 
 // Notes that a line is joined with others.

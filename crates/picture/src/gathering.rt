@@ -7,26 +7,24 @@ use memory_order::IndexedMemory;
 use std::alloc::{AllocError, Global};
 use wording::{DerivedPairs, ends_of};
 
-/// The operations of a pattern and what joins them.
+/// Marks the operations of a pattern and what joins them.
 ///
 /// Fails for want of memory alone. O(n) for n operations, links and lines of the pattern.
-pub(crate) fn marks_of(
+pub(crate) fn mark_pattern(
     alloc: Global,
+    marks: &mut Marks,
     memory: &IndexedMemory,
     pattern: &Pattern,
-) -> Result<Marks, AllocError> {
-    let mut marks = Marks::none(alloc);
+) -> Result<(), AllocError> {
     match pattern {
-        Pattern::CyclicCO(path) | Pattern::WriteCOInitRead(path) => marks.follow(path)?,
-        Pattern::ThinAirRead(read) => marks.mark(*read)?,
-        Pattern::WriteCORead(first, second) => mark_overwritten(&mut marks, first, second)?,
+        Pattern::CyclicCO(path) | Pattern::WriteCOInitRead(path) => marks.follow(path),
+        Pattern::ThinAirRead(read) => marks.mark(*read),
+        Pattern::WriteCORead(first, second) => mark_overwritten(marks, first, second),
         Pattern::WriteHBInitRead(op, derivation) | Pattern::CyclicHB(op, derivation) => {
-            marks.mark(*op)?;
-            mark_derivation(alloc, &mut marks, memory, *op, derivation)?;
+            mark_derivation(alloc, marks, memory, *op, derivation)
         }
-        Pattern::CyclicCF(links) => mark_links(&mut marks, links)?,
+        Pattern::CyclicCF(links) => mark_links(marks, links),
     }
-    Ok(marks)
 }
 
 // Marks the paths from a write to another and from there to a read that reads from the first.
@@ -72,7 +70,7 @@ fn mark_conflict(
     marks.join(write, other, Relation::Conflict)
 }
 
-// Marks what the lines of a derivation depend on, each conflict that they find, and what the last line gives.
+// Marks an operation, and what the lines of a derivation on it depend on.
 fn mark_derivation(
     alloc: Global,
     marks: &mut Marks,
@@ -80,8 +78,19 @@ fn mark_derivation(
     op: OpId,
     derivation: &Derivation,
 ) -> Result<(), AllocError> {
+    marks.mark(op)?;
     let pairs = DerivedPairs::of(alloc, memory, derivation)?;
-    for (number, line) in derivation.lines().iter().enumerate() {
+    mark_lines(marks, op, &pairs, derivation.lines())
+}
+
+// Marks what lines depend on, each conflict that they find, and what the last one gives, given what each line says.
+fn mark_lines(
+    marks: &mut Marks,
+    op: OpId,
+    pairs: &DerivedPairs,
+    lines: &[Line],
+) -> Result<(), AllocError> {
+    for (number, line) in lines.iter().enumerate() {
         mark_line(marks, op, line, pairs.get(number as u64))?;
     }
     match pairs.last() {

@@ -19,7 +19,7 @@ const NEAR: u64 = 1;
 const ENDS: u64 = 2;
 
 /// How much of a history is shown.
-#[derive(Clone, Copy, Debug, PartialEq, Eq)]
+#[derive(Clone, Copy, PartialEq, Eq)]
 pub(crate) enum Extent {
     /// All of it.
     Whole,
@@ -30,7 +30,7 @@ pub(crate) enum Extent {
 }
 
 /// An operation that is shown.
-#[derive(Debug, Drop)]
+#[derive(Drop)]
 pub(crate) struct Shown {
     pub op: OpId,
     /// Its name.
@@ -42,7 +42,7 @@ pub(crate) struct Shown {
 }
 
 /// An entry of a lane: an operation, or how many are left out.
-#[derive(Debug, Drop)]
+#[derive(Drop)]
 pub(crate) enum Entry {
     Operation(Shown),
     Gap(u64),
@@ -59,7 +59,7 @@ impl Entry {
 }
 
 /// A session, with its shown entries in order.
-#[derive(Debug, Drop)]
+#[derive(Drop)]
 pub(crate) struct Lane {
     pub session: u64,
     /// The name of the session.
@@ -118,12 +118,35 @@ pub(crate) fn lanes_of<O: Labelled, N: Names>(
     let mut lanes = Vec::new(alloc);
     for session in 0..history.sessions() {
         let operations = history.session(session);
-        let lane = lane_of::<O, N>(alloc, session as u64, operations, names, marks, extent)?;
-        if extent != Extent::Near || lane.is_marked() {
-            lanes.push(lane)?;
-        }
+        push_lane::<O, N>(
+            alloc,
+            &mut lanes,
+            session as u64,
+            operations,
+            names,
+            marks,
+            extent,
+        )?;
     }
     Ok(lanes)
+}
+
+// Adds the lane of a session, if it is shown.
+fn push_lane<O: Labelled, N: Names>(
+    alloc: Global,
+    lanes: &mut Vec<Lane>,
+    session: u64,
+    operations: &[(O::Call, Option<O::Ret>)],
+    names: &N,
+    marks: &Marks,
+    extent: Extent,
+) -> Result<(), AllocError> {
+    let lane = lane_of::<O, N>(alloc, session, operations, names, marks, extent)?;
+    if extent == Extent::Near && !lane.is_marked() {
+        drop(lane);
+        return Ok(());
+    }
+    Ok(lanes.push(lane)?)
 }
 
 // The lane of a session.
@@ -135,8 +158,35 @@ fn lane_of<O: Labelled, N: Names>(
     marks: &Marks,
     extent: Extent,
 ) -> Result<Lane, AllocError> {
-    let count = operations.len() as u64;
+    let name = names.session(alloc, OpId { session, index: 0 })?;
     let mut entries = Vec::new(alloc);
+    push_entries::<O, N>(
+        alloc,
+        &mut entries,
+        session,
+        operations,
+        names,
+        marks,
+        extent,
+    )?;
+    Ok(Lane {
+        session,
+        name,
+        entries,
+    })
+}
+
+// The entries of the lane of a session.
+fn push_entries<O: Labelled, N: Names>(
+    alloc: Global,
+    entries: &mut Vec<Entry>,
+    session: u64,
+    operations: &[(O::Call, Option<O::Ret>)],
+    names: &N,
+    marks: &Marks,
+    extent: Extent,
+) -> Result<(), AllocError> {
+    let count = operations.len() as u64;
     // In the whole, the index after the last operation that is shown, and after the last of all.
     let mut shown_end: u64 = 0;
     let mut end: u64 = 0;
@@ -148,19 +198,25 @@ fn lane_of<O: Labelled, N: Names>(
         let named = names.in_whole(op);
         end = named.index.saturating_add(1);
         if is_shown(marks, extent, op, count) {
-            push_gap(&mut entries, named.index.saturating_sub(shown_end))?;
-            let shown = shown_of::<O, N>(alloc, op, names, operation, marks)?;
-            entries.push(Entry::Operation(shown))?;
+            push_gap(entries, named.index.saturating_sub(shown_end))?;
+            push_operation::<O, N>(alloc, entries, op, names, operation, marks)?;
             shown_end = end;
         }
     }
-    push_gap(&mut entries, end.saturating_sub(shown_end))?;
-    let name = names.session(alloc, OpId { session, index: 0 })?;
-    Ok(Lane {
-        session,
-        name,
-        entries,
-    })
+    push_gap(entries, end.saturating_sub(shown_end))
+}
+
+// Adds an operation with its label.
+fn push_operation<O: Labelled, N: Names>(
+    alloc: Global,
+    entries: &mut Vec<Entry>,
+    op: OpId,
+    names: &N,
+    operation: &(O::Call, Option<O::Ret>),
+    marks: &Marks,
+) -> Result<(), AllocError> {
+    let shown = shown_of::<O, N>(alloc, op, names, operation, marks)?;
+    Ok(entries.push(Entry::Operation(shown))?)
 }
 
 // An operation with its label.
@@ -171,18 +227,29 @@ fn shown_of<O: Labelled, N: Names>(
     operation: &(O::Call, Option<O::Ret>),
     marks: &Marks,
 ) -> Result<Shown, AllocError> {
-    let label = match names.label(alloc, op)? {
-        Some(label) => label,
-        None => label_of::<O>(alloc, &operation.0, &operation.1)?,
-    };
+    let label = label_in::<O, N>(alloc, op, names, operation)?;
     let name = names.operation(alloc, op)?;
+    let fault = fault_of(alloc, marks, op)?;
     Ok(Shown {
         op,
         name,
         label,
         is_marked: marks.contains(op),
-        fault: fault_of(alloc, marks, op)?,
+        fault,
     })
+}
+
+// The label of an operation: its own, where it has one.
+fn label_in<O: Labelled, N: Names>(
+    alloc: Global,
+    op: OpId,
+    names: &N,
+    operation: &(O::Call, Option<O::Ret>),
+) -> Result<String, AllocError> {
+    match names.label(alloc, op)? {
+        Some(label) => Ok(label),
+        None => label_of::<O>(alloc, &operation.0, &operation.1),
+    }
 }
 
 // The words about an operation that is wrong, as a text of their own.

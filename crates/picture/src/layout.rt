@@ -49,7 +49,7 @@ const LEAST_WIDTH: Length = Saturating(720);
 const LETTER: Length = Saturating(8);
 
 /// The measures of a picture, from which all places follow.
-#[derive(Clone, Copy, Debug, PartialEq, Eq)]
+#[derive(Clone, Copy)]
 pub(crate) struct Layout {
     /// Half the width of a box.
     half: Length,
@@ -247,7 +247,7 @@ fn half_of_boxes(lanes: &[Lane]) -> Length {
 }
 
 // The text of an operation that is measured.
-#[derive(Clone, Copy, Debug, PartialEq, Eq)]
+#[derive(Clone, Copy)]
 enum Text {
     Name,
     Label,

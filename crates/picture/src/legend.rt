@@ -1,7 +1,7 @@
 //! The legend of a picture: what each kind of box and of edge in it means.
 
 use crate::captions::words_of_relation;
-use crate::drawing_edges::push_edge;
+use crate::drawing_edges::{begin_edge, end_edge};
 use crate::drawing_head::push_text;
 use crate::drawing_lanes::{Emphasis, box_style, emphasis_of};
 use crate::edges::{Edge, are_of};
@@ -9,17 +9,18 @@ use crate::lanes::{Entry, Lane};
 use crate::layout::{Layout, Length};
 use crate::marks::Relation;
 use std::alloc::{AllocError, Global};
+use std::fmt::Write;
 use std::num::Saturating;
 
 /// What the legend says of the boxes with an emphasis.
-#[derive(Clone, Copy, Debug, PartialEq, Eq)]
+#[derive(Clone, Copy)]
 pub(crate) struct LegendWords {
     pub wrong: &'static str,
     pub marked: &'static str,
 }
 
 /// What an entry of the legend shows, a box or an edge, and the words beside it.
-#[derive(Clone, Copy, Debug, PartialEq, Eq)]
+#[derive(Clone, Copy)]
 pub(crate) enum LegendEntry {
     Box(Emphasis, &'static str),
     Edge(Relation),
@@ -35,18 +36,33 @@ pub(crate) fn legend_of(
     words: LegendWords,
 ) -> Result<Vec<LegendEntry>, AllocError> {
     let mut legend = Vec::new(alloc);
-    if are_emphasized(lanes, Emphasis::Wrong) {
-        legend.push(LegendEntry::Box(Emphasis::Wrong, words.wrong))?;
+    push_box(&mut legend, lanes, Emphasis::Wrong, words.wrong)?;
+    push_box(&mut legend, lanes, Emphasis::Marked, words.marked)?;
+    push_edges(&mut legend, edges)?;
+    Ok(legend)
+}
+
+// Adds an entry for the boxes with this emphasis, if there are any.
+fn push_box(
+    legend: &mut Vec<LegendEntry>,
+    lanes: &[Lane],
+    emphasis: Emphasis,
+    words: &'static str,
+) -> Result<(), AllocError> {
+    if are_emphasized(lanes, emphasis) {
+        legend.push(LegendEntry::Box(emphasis, words))?;
     }
-    if are_emphasized(lanes, Emphasis::Marked) {
-        legend.push(LegendEntry::Box(Emphasis::Marked, words.marked))?;
-    }
+    Ok(())
+}
+
+// Adds an entry for each relation of the edges.
+fn push_edges(legend: &mut Vec<LegendEntry>, edges: &[Edge]) -> Result<(), AllocError> {
     for relation in Relation::all() {
         if are_of(edges, relation) {
             legend.push(LegendEntry::Edge(relation))?;
         }
     }
-    Ok(legend)
+    Ok(())
 }
 
 // Whether some box has this emphasis.
@@ -86,31 +102,35 @@ fn draw_entry(
     place: (Length, Length),
     entry: LegendEntry,
 ) -> Result<(), AllocError> {
-    let words = match entry {
-        LegendEntry::Box(emphasis, words) => {
-            draw_small_box(alloc, svg, place, emphasis)?;
-            words
-        }
-        LegendEntry::Edge(relation) => {
-            draw_short_edge(alloc, svg, place, relation)?;
-            words_of_relation(relation)
-        }
-    };
+    draw_sign(svg, place, entry)?;
     let (x, middle) = place;
+    let (x, y) = (x + Saturating(50), middle + Saturating(5));
     let style = "font-size=\"13\" fill=\"#374151\"";
-    push_text(
-        alloc,
-        svg,
-        x + Saturating(50),
-        middle + Saturating(5),
-        style,
-        words,
-    )
+    push_text(alloc, svg, x, y, style, words_beside(entry))
+}
+
+// Draws what an entry shows.
+fn draw_sign(
+    svg: &mut String,
+    place: (Length, Length),
+    entry: LegendEntry,
+) -> Result<(), AllocError> {
+    match entry {
+        LegendEntry::Box(emphasis, _) => draw_small_box(svg, place, emphasis),
+        LegendEntry::Edge(relation) => draw_short_edge(svg, place, relation),
+    }
+}
+
+// The words beside what an entry shows.
+fn words_beside(entry: LegendEntry) -> &'static str {
+    match entry {
+        LegendEntry::Box(_, words) => words,
+        LegendEntry::Edge(relation) => words_of_relation(relation),
+    }
 }
 
 // Draws a box in the style of this emphasis.
 fn draw_small_box(
-    alloc: Global,
     svg: &mut String,
     place: (Length, Length),
     emphasis: Emphasis,
@@ -118,19 +138,21 @@ fn draw_small_box(
     let (x, middle) = place;
     let y = middle - Saturating(8);
     let style = box_style(emphasis);
-    let place = format!(in alloc; "x=\"{x}\" y=\"{y}\" width=\"40\" height=\"16\" rx=\"4\"")?;
-    svg.push_str(&format!(in alloc; "<rect {place} {style}/>\n")?)
+    writeln!(
+        svg,
+        "<rect x=\"{x}\" y=\"{y}\" width=\"40\" height=\"16\" rx=\"4\" {style}/>"
+    )
 }
 
 // Draws an edge in the style of a relation.
 fn draw_short_edge(
-    alloc: Global,
     svg: &mut String,
     place: (Length, Length),
     relation: Relation,
 ) -> Result<(), AllocError> {
     let (x, middle) = place;
     let end = x + Saturating(40);
-    let path = format!(in alloc; "M{x} {middle}H{end}")?;
-    push_edge(alloc, svg, &path, relation)
+    begin_edge(svg)?;
+    write!(svg, "M{x} {middle}H{end}")?;
+    end_edge(svg, relation)
 }

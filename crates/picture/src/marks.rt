@@ -8,7 +8,7 @@ use std::alloc::{AllocError, Global};
 const MAX_JOINTS: usize = 256;
 
 /// How one operation is joined to another.
-#[derive(Clone, Copy, Debug, PartialEq, Eq)]
+#[derive(Clone, Copy, PartialEq, Eq)]
 pub(crate) enum Relation {
     /// From an operation to a later one of its session.
     ProgramOrder,
@@ -33,7 +33,7 @@ impl Relation {
 }
 
 /// Two operations that are joined.
-#[derive(Clone, Copy, Debug, PartialEq, Eq)]
+#[derive(Clone, Copy, PartialEq, Eq)]
 pub(crate) struct Joint {
     pub from: OpId,
     pub to: OpId,
@@ -41,14 +41,14 @@ pub(crate) struct Joint {
 }
 
 /// An operation that is wrong, with the words for its box.
-#[derive(Debug, Drop)]
+#[derive(Drop)]
 struct Fault {
     op: OpId,
     words: String,
 }
 
 /// The operations and the joints that a picture highlights, each once.
-#[derive(Debug, Drop)]
+#[derive(Drop)]
 pub(crate) struct Marks {
     ops: Vec<OpId>,
     faults: Vec<Fault>,
@@ -65,6 +65,13 @@ impl Marks {
             joints: Vec::new(alloc),
             is_cut: false,
         }
+    }
+
+    /// The mark of an operation.
+    pub fn one(alloc: Global, op: OpId) -> Result<Marks, AllocError> {
+        let mut marks = Marks::none(alloc);
+        marks.mark(op)?;
+        Ok(marks)
     }
 
     /// The operations.

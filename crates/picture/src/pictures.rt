@@ -3,10 +3,10 @@
 ghost use Rattle.std.specs.Prelude.{IfOk, string_bytes};
 ghost use Rattle.picture.specs.Markup.{IsSvgElement};
 
-use crate::captions::{lines_of_pattern, words_of_wrong};
+use crate::captions::{push_line, push_lines_of_pattern, words_of_wrong};
 use crate::drawing::{Scene, drawing_of};
 use crate::faults::blame_pattern;
-use crate::gathering::marks_of;
+use crate::gathering::mark_pattern;
 use crate::label::Labelled;
 use crate::lanes::{Lane, extent_around, extent_without_pattern, lanes_of};
 use crate::legend::LegendWords;
@@ -41,18 +41,76 @@ pub fn picture_of_pattern<N: Names>(
 ) -> Result<String, AllocError>
     ensures { IfOk result (λ svg. IsSvgElement (string_bytes svg)) }
 {
+    let marks = marks_in_history(alloc, history, names, pattern)?;
+    let picture = picture_of_marked_pattern(alloc, history, names, criterion, pattern, &marks);
+    drop(marks);
+    picture
+}
+
+// The marks of a pattern in a history, and what is wrong there.
+fn marks_in_history<N: Names>(
+    alloc: Global,
+    history: &History<Memory>,
+    names: &N,
+    pattern: &Pattern,
+) -> Result<Marks, AllocError> {
     let memory = IndexedMemory::of(alloc, history)?;
-    let mut marks = marks_of(alloc, &memory, pattern)?;
-    blame_pattern(alloc, &mut marks, names, &memory, pattern)?;
-    let lanes = lanes_of(alloc, history, names, &marks, extent_around(history))?;
-    let mut lines = lines_of_pattern(alloc, names, criterion, pattern)?;
+    let marks = marks_in_memory(alloc, &memory, names, pattern);
+    drop(memory);
+    marks
+}
+
+// The marks of a pattern in a memory, and what is wrong there.
+fn marks_in_memory<N: Names>(
+    alloc: Global,
+    memory: &IndexedMemory,
+    names: &N,
+    pattern: &Pattern,
+) -> Result<Marks, AllocError> {
+    let mut marks = Marks::none(alloc);
+    mark_pattern(alloc, &mut marks, memory, pattern)?;
+    blame_pattern(alloc, &mut marks, names, memory, pattern)?;
+    Ok(marks)
+}
+
+// The picture of a history and of a pattern with these marks.
+fn picture_of_marked_pattern<N: Names>(
+    alloc: Global,
+    history: &History<Memory>,
+    names: &N,
+    criterion: Criterion,
+    pattern: &Pattern,
+    marks: &Marks,
+) -> Result<String, AllocError>
+    ensures { IfOk result (λ svg. IsSvgElement (string_bytes svg)) }
+{
+    let lanes = lanes_of(alloc, history, names, marks, extent_around(history))?;
     let sessions = names.sessions(history.sessions());
-    push_left_out(alloc, &mut lines, names, sessions, &lanes, &marks)?;
+    let picture = picture_with_reason(alloc, names, sessions, criterion, pattern, &lanes, marks);
+    drop(lanes);
+    picture
+}
+
+// The picture of these lanes of so many sessions, with the criterion and the pattern against it in words at the head.
+fn picture_with_reason<N: Names>(
+    alloc: Global,
+    names: &N,
+    sessions: usize,
+    criterion: Criterion,
+    pattern: &Pattern,
+    lanes: &[Lane],
+    marks: &Marks,
+) -> Result<String, AllocError>
+    ensures { IfOk result (λ svg. IsSvgElement (string_bytes svg)) }
+{
+    let mut lines = Vec::new(alloc);
+    push_lines_of_pattern(alloc, &mut lines, names, criterion, pattern)?;
+    push_left_out(alloc, &mut lines, names, sessions, lanes, marks)?;
     let words = LegendWords {
         wrong: words_of_wrong(pattern.kind()),
         marked: "operation that shows it",
     };
-    picture_of(alloc, &lines, &lanes, &marks, words)
+    picture_of(alloc, &lines, lanes, marks, words)
 }
 
 /// The picture of a history, as an SVG text, with these names. The lines are its head; the first is the title.
@@ -69,24 +127,43 @@ pub fn picture_of_history<O: Labelled, N: Names>(
 ) -> Result<String, AllocError>
     ensures { IfOk result (λ svg. IsSvgElement (string_bytes svg)) }
 {
-    let mut marks = Marks::none(alloc);
-    if let Some(op) = marked
-        && history.contains(op)
-    {
-        marks.mark(op)?;
+    let marks = mark_of(alloc, history, marked)?;
+    let picture = picture_of_marked_history(alloc, history, names, lines, &marks);
+    drop(marks);
+    picture
+}
+
+// The mark of an operation, if one is named and is in the history.
+fn mark_of<O: Labelled>(
+    alloc: Global,
+    history: &History<O>,
+    marked: Option<OpId>,
+) -> Result<Marks, AllocError> {
+    match marked {
+        Some(op) if history.contains(op) => Marks::one(alloc, op),
+        _ => Ok(Marks::none(alloc)),
     }
-    let lanes = lanes_of(
-        alloc,
-        history,
-        names,
-        &marks,
-        extent_without_pattern(history),
-    )?;
+}
+
+// The picture of a history with these lines at its head and these marks.
+fn picture_of_marked_history<O: Labelled, N: Names>(
+    alloc: Global,
+    history: &History<O>,
+    names: &N,
+    lines: &[String],
+    marks: &Marks,
+) -> Result<String, AllocError>
+    ensures { IfOk result (λ svg. IsSvgElement (string_bytes svg)) }
+{
+    let extent = extent_without_pattern(history);
+    let lanes = lanes_of(alloc, history, names, marks, extent)?;
     let words = LegendWords {
         wrong: "wrong",
         marked: "operation named above",
     };
-    picture_of(alloc, lines, &lanes, &marks, words)
+    let picture = picture_of(alloc, lines, &lanes, marks, words);
+    drop(lanes);
+    picture
 }
 
 // The picture of lanes with what is highlighted in them.
@@ -118,13 +195,34 @@ fn push_left_out<N: Names>(
     lanes: &[Lane],
     marks: &Marks,
 ) -> Result<(), AllocError> {
-    let shown = lanes.len();
-    if shown < sessions {
-        let all = names.sessions_words(alloc, sessions)?;
-        lines.push(format!(in alloc; "Shown: {shown} of {all}.")?)?;
+    push_left_out_sessions(alloc, lines, names, sessions, lanes.len())?;
+    push_left_out_edges(alloc, lines, marks)
+}
+
+// Says how many sessions are shown, if not all of them are.
+fn push_left_out_sessions<N: Names>(
+    alloc: Global,
+    lines: &mut Vec<String>,
+    names: &N,
+    sessions: usize,
+    shown: usize,
+) -> Result<(), AllocError> {
+    if shown >= sessions {
+        return Ok(());
     }
-    if marks.is_cut() {
-        lines.push(String::from_str(alloc, "Not all edges of the pattern are shown.")?)?;
+    let all = names.sessions_words(alloc, sessions)?;
+    push_line(lines, format!(in alloc; "Shown: {shown} of {all}.")?)
+}
+
+// Says that edges are left out, if some are.
+fn push_left_out_edges(
+    alloc: Global,
+    lines: &mut Vec<String>,
+    marks: &Marks,
+) -> Result<(), AllocError> {
+    if !marks.is_cut() {
+        return Ok(());
     }
-    Ok(())
+    let words = "Not all edges of the pattern are shown.";
+    push_line(lines, String::from_str(alloc, words)?)
 }

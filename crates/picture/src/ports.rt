@@ -6,21 +6,21 @@ use crate::rows::Place;
 use std::alloc::{AllocError, Global};
 
 /// One of equal parts of a length, from 0.
-#[derive(Clone, Copy, Debug, PartialEq, Eq)]
+#[derive(Clone, Copy)]
 pub(crate) struct Part {
     pub number: u64,
     pub count: u64,
 }
 
 // What touches a box at a point: the edges of a relation that begin there, or the end of the edge of a number.
-#[derive(Clone, Copy, Debug, PartialEq, Eq)]
+#[derive(Clone, Copy, PartialEq, Eq)]
 enum Touch {
     Begin(Relation),
     End(usize),
 }
 
 // A point of a side of a box. The points of a side are in order of depth, and then of number.
-#[derive(Clone, Copy, Debug, PartialEq, Eq)]
+#[derive(Clone, Copy)]
 struct Point {
     place: Place,
     side: Side,
@@ -30,7 +30,7 @@ struct Point {
 }
 
 /// The points of all boxes at which edges begin and end.
-#[derive(Debug, Drop)]
+#[derive(Drop)]
 pub(crate) struct Ports {
     points: Vec<Point>,
 }

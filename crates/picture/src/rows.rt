@@ -6,7 +6,7 @@ use history::OpId;
 use std::alloc::{AllocError, Global};
 
 /// The place of an entry: its lane, its number in the lane, and its row.
-#[derive(Clone, Copy, Debug, PartialEq, Eq)]
+#[derive(Clone, Copy, PartialEq, Eq)]
 pub(crate) struct Place {
     pub lane: usize,
     pub entry: usize,
@@ -21,7 +21,7 @@ pub(crate) struct LaneRows<'a> {
 }
 
 // A row for the next entry of a lane, and whether all that the entry reads from has a row already.
-#[derive(Clone, Copy, Debug, PartialEq, Eq)]
+#[derive(Clone, Copy)]
 struct Next {
     lane: usize,
     row: u64,
