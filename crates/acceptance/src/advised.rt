@@ -86,7 +86,11 @@ fn found_of(
             found_in(alloc, criterion, advice, plain.into_history())
         }
         Ok(AnyHistory::Memory(history)) => found_in_memory(alloc, criterion, advice, history),
-        _ => String::from_str(alloc, "no history of a counter or a memory"),
+        Ok(other) => {
+            drop(other);
+            String::from_str(alloc, "a history of another object")
+        }
+        Err(_refused) => String::from_str(alloc, "no history"),
     }
 }
 
@@ -161,10 +165,8 @@ fn found_in<O: SeqObject>(
     advice: &[Option<Advice>],
     history: History<O>,
 ) -> Result<String, AllocError> {
-    match made(alloc, criterion, advice, &history)? {
-        Some(certificate) => unexplained_by(alloc, history, certificate),
-        None => String::from_str(alloc, "no certificate"),
-    }
+    let made = made(alloc, criterion, advice, &history);
+    found_by(alloc, history, made)
 }
 
 /// The same in a memory, whose certificate is also made by what is read.
@@ -174,9 +176,26 @@ fn found_in_memory(
     advice: &[Option<Advice>],
     history: History<Memory>,
 ) -> Result<String, AllocError> {
-    match made_for_memory(alloc, criterion, advice, &history)? {
-        Some(certificate) => unexplained_by(alloc, history, certificate),
-        None => String::from_str(alloc, "no certificate"),
+    let made = made_for_memory(alloc, criterion, advice, &history);
+    found_by(alloc, history, made)
+}
+
+/// The first operation that the certificate does not explain, where one was made.
+fn found_by<O: SeqObject>(
+    alloc: Global,
+    history: History<O>,
+    made: Result<Option<Certificate>, AllocError>,
+) -> Result<String, AllocError> {
+    match made {
+        Ok(Some(certificate)) => unexplained_by(alloc, history, certificate),
+        Ok(None) => {
+            drop(history);
+            String::from_str(alloc, "no certificate")
+        }
+        Err(no_memory) => {
+            drop(history);
+            Err(no_memory)
+        }
     }
 }
 
@@ -215,10 +234,19 @@ fn unexplained_by<O: SeqObject>(
     certificate: Certificate,
 ) -> Result<String, AllocError> {
     match CaseFile::new(history, certificate.criterion(), Some(certificate)) {
-        Ok(file) => match first_unexplained(alloc, &file)? {
-            Some(OpId { session, index }) => format!(in alloc; "{session}.{index}"),
-            None => String::from_str(alloc, "all are explained"),
-        },
+        Ok(file) => {
+            let first = first_unexplained(alloc, &file);
+            drop(file);
+            text_of_first(alloc, first?)
+        }
         Err(_refused) => String::from_str(alloc, "no case file"),
+    }
+}
+
+/// The operation in a text, or that there is none.
+fn text_of_first(alloc: Global, first: Option<OpId>) -> Result<String, AllocError> {
+    match first {
+        Some(OpId { session, index }) => format!(in alloc; "{session}.{index}"),
+        None => String::from_str(alloc, "all are explained"),
     }
 }

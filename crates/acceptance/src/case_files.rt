@@ -50,18 +50,36 @@ pub const VALUES_THAT_NOBODY_WROTE: FileText = FileText {
 
 /// The case file of a text.
 pub fn file_of(alloc: Global, text: FileText) -> Option<CaseFile<Memory>> {
-    let history = memory(alloc, text.history)?;
-    let certificate = match text.certificate {
-        Some(certificate) => Some(certificate_of(alloc, certificate)?),
-        None => None,
-    };
-    CaseFile::new(history, text.criterion, certificate).ok()
+    match text.certificate {
+        Some(certificate) => {
+            let certificate = certificate_of(alloc, certificate)?;
+            file_with(alloc, text, Some(certificate))
+        }
+        None => file_with(alloc, text, None),
+    }
+}
+
+/// The case file of a text, with this certificate or none.
+fn file_with(
+    alloc: Global,
+    text: FileText,
+    certificate: Option<Certificate>,
+) -> Option<CaseFile<Memory>> {
+    match memory(alloc, text.history) {
+        Some(history) => CaseFile::new(history, text.criterion, certificate).ok(),
+        None => {
+            drop(certificate);
+            None
+        }
+    }
 }
 
 /// The certificate in a text.
 pub fn certificate_of(alloc: Global, text: &str) -> Option<Certificate> {
     let value = Value::from_slice(alloc, text.as_bytes()).ok()?;
-    read_certificate(alloc, &value).ok()
+    let certificate = read_certificate(alloc, &value).ok();
+    drop(value);
+    certificate
 }
 
 /// The pattern in a text.

@@ -4,7 +4,9 @@ use crate::case_files::pattern_of;
 use crate::histories::memory;
 use crate::rows::{Finding, differing_rows};
 use cert_check::Criterion;
+use history::History;
 use judged_parts::core_text;
+use objects::Memory;
 use std::alloc::{AllocError, Global};
 use std::test::Fail;
 
@@ -25,14 +27,27 @@ impl Finding for CoreText {
         let Some(history) = memory(alloc, HISTORY) else {
             return Err(AllocError);
         };
-        let Some(pattern) = pattern_of(alloc, input) else {
-            return Err(AllocError);
-        };
-        match core_text(alloc, &history, Criterion::Cc, &pattern)? {
+        let core = core_in(alloc, &history, input);
+        drop(history);
+        match core? {
             Some(core) => Ok(core),
             None => String::from_str(alloc, "none"),
         }
     }
+}
+
+/// The core of the pattern in a text, where it has one.
+fn core_in(
+    alloc: Global,
+    history: &History<Memory>,
+    text: &str,
+) -> Result<Option<String>, AllocError> {
+    let Some(pattern) = pattern_of(alloc, text) else {
+        return Err(AllocError);
+    };
+    let core = core_text(alloc, history, Criterion::Cc, &pattern);
+    drop(pattern);
+    core
 }
 
 #[test]

@@ -31,7 +31,10 @@ impl Finding for CutOut {
             "without" => part_of(alloc, &history, &WithoutKeys(&keys_of(alloc, named)?))?,
             _ => part_of(alloc, &history, &Listed(&ops_of(alloc, named)?))?,
         };
-        write_history(alloc, &AnyHistory::Memory(part))
+        let part = AnyHistory::Memory(part);
+        let text = write_history(alloc, &part);
+        drop(part);
+        text
     }
 }
 

@@ -317,8 +317,21 @@ fn seen_on<K: ShelfName, P: Wait + AllocGlobal>(
 {
     let desk = Desk::<Memory, K>::on(rt.alloc(), shelf)?;
     let mut given = Given::none(rt.alloc());
+    let seen = seen_of_all(rt, &desk, &mut given, steps);
+    drop(given);
+    drop(desk);
+    seen
+}
+
+/// What is seen of each step at a desk.
+fn seen_of_all<K: ShelfName, P: Wait + AllocGlobal>(
+    rt: &P,
+    desk: &Desk<Memory, K>,
+    given: &mut Given<K>,
+    steps: &[Step],
+) -> Result<Vec<Seen>, AllocError> {
     let mut all = Vec::new(rt.alloc());
-    push_seen(rt, &desk, &mut given, &mut all, steps)?;
+    push_seen(rt, desk, given, &mut all, steps)?;
     Ok(all)
 }
 
@@ -383,12 +396,23 @@ fn seen_beside<K: ShelfName, P: Wait + AllocGlobal>(
 {
     let desk = Desk::<Memory, K>::on(rt.alloc(), shelf)?;
     let mut given = Given::none(rt.alloc());
-    let mut all = Vec::new(rt.alloc());
-    push_seen(rt, &desk, &mut given, &mut all, &BEFORE)?;
+    let seen = seen_around(rt, &desk, &mut given);
+    drop(given);
+    drop(desk);
+    seen
+}
+
+/// What is seen of the steps at a desk, with those at another between.
+fn seen_around<K: ShelfName, P: Wait + AllocGlobal>(
+    rt: &P,
+    desk: &Desk<Memory, K>,
+    given: &mut Given<K>,
+) -> Result<Vec<Seen>, AllocError> {
+    let mut all = seen_of_all(rt, desk, given, &BEFORE)?;
     for seen in seen_at_desk(rt, &BESIDE)? {
         all.push(seen)?;
     }
-    push_seen(rt, &desk, &mut given, &mut all, &AFTER)?;
+    push_seen(rt, desk, given, &mut all, &AFTER)?;
     Ok(all)
 }
 
@@ -425,7 +449,9 @@ fn seen_of<K: ShelfName, P: Wait + AllocGlobal>(
         Step::On(case, event) => match given.tickets.get(case) {
             Some(ticket) => {
                 let ticket = ticket.again();
-                seen_on_case(rt, desk, given, &ticket, event)
+                let seen = seen_on_case(rt, desk, given, &ticket, event);
+                drop(ticket);
+                seen
             }
             None => Ok(Seen::Nothing),
         },
@@ -588,7 +614,10 @@ fn kept<K: ShelfName, P: Wait>(
 ) -> Result<Seen, AllocError> {
     match desk.pattern(rt, ticket) {
         Ok(Some(Pattern::ThinAirRead(read))) => Ok(Seen::Pattern(Some(read))),
-        Ok(Some(_)) => Ok(Seen::Nothing),
+        Ok(Some(other)) => {
+            drop(other);
+            Ok(Seen::Nothing)
+        }
         Ok(None) => Ok(Seen::Pattern(None)),
         Err(_no_memory) => Err(AllocError),
     }

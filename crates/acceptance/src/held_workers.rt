@@ -221,8 +221,13 @@ fn file_of_writes(alloc: Global) -> Result<Option<CaseFile<Memory>>, AllocError>
     let Some(history) = memory(alloc, joined(alloc, &pieces)?.as_str()) else {
         return Ok(None);
     };
-    let certificate = certify_cc::make(alloc, &history, &[])?;
-    Ok(CaseFile::new(history, Criterion::Cc, certificate).ok())
+    match certify_cc::make(alloc, &history, &[]) {
+        Ok(certificate) => Ok(CaseFile::new(history, Criterion::Cc, certificate).ok()),
+        Err(no_memory) => {
+            drop(history);
+            Err(no_memory)
+        }
+    }
 }
 
 /// The same on a shelf that is named.
@@ -234,8 +239,17 @@ fn together_on<K: ShelfName + Send + Sync, P: Threads + Wait + Sync + AllocGloba
 ) -> Result<Left, DeskError>
     requires { shelf ≡ K.shelf }
 {
-    let desk = Desk::<Memory, K>::on(rt.alloc(), shelf)?;
-    together_at(rt, &desk, file, parts)
+    match Desk::<Memory, K>::on(rt.alloc(), shelf) {
+        Ok(desk) => {
+            let left = together_at(rt, &desk, file, parts);
+            drop(desk);
+            left
+        }
+        Err(no_memory) => {
+            drop(file);
+            Err(DeskError::from(no_memory))
+        }
+    }
 }
 
 /// What two threads leave of a case at a desk.
@@ -246,9 +260,21 @@ fn together_at<K: ShelfName + Send + Sync, P: Threads + Wait + Sync + AllocGloba
     parts: Parts,
 ) -> Result<Left, DeskError> {
     let ticket = desk.file(rt, file)?;
+    let left = left_together(rt, desk, &ticket, parts);
+    drop(ticket);
+    left
+}
+
+/// What two threads leave of a case.
+fn left_together<K: ShelfName + Send + Sync, P: Threads + Wait + Sync + AllocGlobal>(
+    rt: &P,
+    desk: &Desk<Memory, K>,
+    ticket: &Ticket<Memory, K>,
+    parts: Parts,
+) -> Result<Left, DeskError> {
     let hold = Hold::new();
-    let put = put_by_two(rt, desk, &ticket, &hold, parts)?;
-    left_by(rt, desk, &ticket, put, hold.is_in_time())
+    let put = put_by_two(rt, desk, ticket, &hold, parts)?;
+    left_by(rt, desk, ticket, put, hold.is_in_time())
 }
 
 /// Runs two threads at a desk, and returns how many verdicts they put in all.
@@ -369,9 +395,11 @@ fn left_by<K: ShelfName, P: Wait + AllocGlobal>(
     put: u32,
     in_time: bool,
 ) -> Result<Left, DeskError> {
-    let pattern = desk.pattern(rt, ticket)?.map(|pattern| is_put(&pattern));
+    let pattern = pattern_is_put(desk.pattern(rt, ticket)?);
     let answer = desk.ask(rt, ticket);
-    let has_piece = desk.take(rt).is_some();
+    let piece = desk.take(rt);
+    let has_piece = piece.is_some();
+    drop(piece);
     Ok(Left {
         put,
         in_time,
@@ -379,4 +407,12 @@ fn left_by<K: ShelfName, P: Wait + AllocGlobal>(
         pattern,
         has_piece,
     })
+}
+
+/// Whether the pattern of a case, where it has one, is the one that was put.
+fn pattern_is_put(pattern: Option<Pattern>) -> Option<bool> {
+    let pattern = pattern?;
+    let is_that = is_put(&pattern);
+    drop(pattern);
+    Some(is_that)
 }

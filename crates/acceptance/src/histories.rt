@@ -8,7 +8,11 @@ use std::alloc::{AllocError, Global};
 pub fn memory(alloc: Global, text: &str) -> Option<History<Memory>> {
     match read_history(alloc, text.as_bytes()) {
         Ok(AnyHistory::Memory(history)) => Some(history),
-        _ => None,
+        Ok(other) => {
+            drop(other);
+            None
+        }
+        Err(_refused) => None,
     }
 }
 

@@ -101,10 +101,16 @@ fn certificate_of_another_criterion_makes_no_case_file(rt: HostRuntime) {
 
 /// Why the history and the certificate of a text make no case file.
 fn refusal_of(alloc: Global, text: FileText) -> Option<DeskError> {
-    let history = memory(alloc, text.history)?;
     let certificate = certificate_of(alloc, text.certificate?)?;
+    let Some(history) = memory(alloc, text.history) else {
+        drop(certificate);
+        return None;
+    };
     match CaseFile::new(history, text.criterion, Some(certificate)) {
-        Ok(_) => None,
+        Ok(file) => {
+            drop(file);
+            None
+        }
         Err(refused) => Some(refused),
     }
 }

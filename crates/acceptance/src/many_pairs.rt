@@ -2,6 +2,7 @@
 //! order doesn't have.
 
 use crate::histories::{joined, memory};
+use bad_patterns::Pattern;
 use cert_check::Criterion;
 use pattern_search::find;
 use std::alloc::{AllocError, Global};
@@ -38,11 +39,22 @@ fn history_of(alloc: Global, more: usize) -> Result<String, AllocError> {
     )
 }
 
+/// Whether there is a pattern.
+fn is_pattern(found: Option<Pattern>) -> bool {
+    let is_there = found.is_some();
+    drop(found);
+    is_there
+}
+
 /// Whether a pattern against causal memory is found in such a history.
 fn is_found(alloc: Global, more: usize) -> Result<bool, AllocError> {
     let text = history_of(alloc, more)?;
     match memory(alloc, text.as_str()) {
-        Some(history) => Ok(find(alloc, &history, Criterion::Cm)?.is_some()),
+        Some(history) => {
+            let found = find(alloc, &history, Criterion::Cm);
+            drop(history);
+            Ok(is_pattern(found?))
+        }
         None => Err(AllocError),
     }
 }

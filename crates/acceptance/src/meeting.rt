@@ -81,10 +81,17 @@ fn driven_two<P: Threads + Wait + Sync + AllocGlobal>(
 fn text_of(alloc: Global, seals: &[Sealed<Memory>]) -> Result<String, AllocError> {
     let mut said = String::new(alloc);
     for sealed in seals {
-        let recorded = AnyHistory::Memory(sealed.history().copy(alloc)?);
-        said.push_str(write_history(alloc, &recorded)?.as_str())?;
+        said.push_str(text_of_one(alloc, sealed)?.as_str())?;
     }
     Ok(said)
+}
+
+/// The text of a sealed history.
+fn text_of_one(alloc: Global, sealed: &Sealed<Memory>) -> Result<String, AllocError> {
+    let recorded = AnyHistory::Memory(sealed.history().copy(alloc)?);
+    let text = write_history(alloc, &recorded);
+    drop(recorded);
+    text
 }
 
 #[test]

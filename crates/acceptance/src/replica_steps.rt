@@ -80,11 +80,17 @@ fn replicated_by<P: UpdateOrder>(
     let (text, steps) = input.split_once(' ').unwrap_or((input, ""));
     match read_history(alloc, text.as_bytes()) {
         Ok(AnyHistory::Counter(plain)) => {
-            answers::<_, P>(alloc, plain.history(), delivery, steps)
+            answers::<_, P>(alloc, plain.into_history(), delivery, steps)
         }
-        Ok(AnyHistory::Queue(plain)) => answers::<_, P>(alloc, plain.history(), delivery, steps),
-        Ok(AnyHistory::Memory(history)) => answers::<_, P>(alloc, &history, delivery, steps),
-        _ => String::from_str(alloc, "no history of these objects"),
+        Ok(AnyHistory::Queue(plain)) => {
+            answers::<_, P>(alloc, plain.into_history(), delivery, steps)
+        }
+        Ok(AnyHistory::Memory(history)) => answers::<_, P>(alloc, history, delivery, steps),
+        Ok(other) => {
+            drop(other);
+            String::from_str(alloc, "a history of another object")
+        }
+        Err(_refused) => String::from_str(alloc, "no history"),
     }
 }
 
@@ -103,17 +109,34 @@ fn replicas_of<O: SeqObject, P: UpdateOrder>(
     Ok(replicas)
 }
 
-/// What the replicas answer to steps, one after the other.
+/// What the replicas of a history answer to steps.
 fn answers<O: SeqObject, P: UpdateOrder>(
     alloc: Global,
-    history: &History<O>,
+    history: History<O>,
     delivery: Delivery,
     steps: &str,
 ) -> Result<String, AllocError>
 where
     O::Ret: Debug,
 {
-    let mut replicas: Vec<Replica<O, P>> = replicas_of(alloc, history, delivery)?;
+    let answers = match replicas_of::<O, P>(alloc, &history, delivery) {
+        Ok(replicas) => answers_of(alloc, &history, replicas, steps),
+        Err(no_memory) => Err(no_memory),
+    };
+    drop(history);
+    answers
+}
+
+/// What the replicas answer to steps, one after the other.
+fn answers_of<O: SeqObject, P: UpdateOrder>(
+    alloc: Global,
+    history: &History<O>,
+    mut replicas: Vec<Replica<O, P>>,
+    steps: &str,
+) -> Result<String, AllocError>
+where
+    O::Ret: Debug,
+{
     let mut sent = Vec::new(alloc);
     let mut answers = String::new(alloc);
     let mut made = [0; MAX_SESSIONS];

@@ -15,12 +15,13 @@ fn words_of_path(alloc: Global, length: u64) -> Result<Vec<String>, AllocError> 
         ops.push(OpId { session: 0, index })?;
     }
     match memory(alloc, "[\"memory\",[]]") {
-        Some(history) => words_of_pattern(
-            alloc,
-            &history,
-            &OwnNames,
-            &Pattern::CyclicCO(Path::of(ops)),
-        ),
+        Some(history) => {
+            let pattern = Pattern::CyclicCO(Path::of(ops));
+            let words = words_of_pattern(alloc, &history, &OwnNames, &pattern);
+            drop(pattern);
+            drop(history);
+            words
+        }
         None => Err(AllocError),
     }
 }

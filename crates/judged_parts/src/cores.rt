@@ -30,7 +30,10 @@ pub fn core_of(
     let ops = ops_with_sources(alloc, history, pattern)?;
     let part = part_of(alloc, history, &Listed(ops.as_slice()))?;
     match exclusion_of(alloc, &part, criterion)? {
-        Some(_) => Ok(Some(part)),
+        Some(decision) => {
+            drop(decision);
+            Ok(Some(part))
+        }
         None => Ok(None),
     }
 }

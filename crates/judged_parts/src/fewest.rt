@@ -1,6 +1,6 @@
 //! Patterns with no operation that their kind can do without.
 
-ghost use Rattle.std.specs.Prelude.{◌≡◌, IfOk};
+ghost use Rattle.std.specs.Prelude.{◌≡◌, IfOk, IfSome};
 ghost use Rattle.bad_patterns.specs.Patterns.{IsBadPattern, kind_of};
 
 use crate::exclusion::exclusion_of;
@@ -38,13 +38,36 @@ pub fn with_fewest_operations(
     ensures shown { IfOk result (IsBadPattern history.now criterion) }
     ensures kind { IfOk result (λ fewest. kind_of fewest ≡ kind_of pattern) }
 {
-    let Some(fewest) = pattern_of_fewest(alloc, history, criterion, &pattern)? else {
-        return Ok(pattern);
+    match tested_fewest(alloc, history, criterion, &pattern) {
+        Ok(Some(fewest)) => {
+            drop(pattern);
+            Ok(fewest)
+        }
+        Ok(None) => Ok(pattern),
+        Err(refused) => {
+            drop(pattern);
+            Err(refused)
+        }
+    }
+}
+
+/// The same, where the pattern that is found is of the same kind and shows it: none where none is found, or where it fails this test.
+fn tested_fewest(
+    alloc: Global,
+    history: &History<Memory>,
+    criterion: Criterion,
+    pattern: &Pattern,
+) -> Result<Option<Pattern>, AllocError>
+    ensures { IfOk result (λ found. IfSome found (λ fewest.
+        IsBadPattern history.now criterion fewest × (kind_of fewest ≡ kind_of pattern.now))) }
+{
+    let Some(fewest) = pattern_of_fewest(alloc, history, criterion, pattern)? else {
+        return Ok(None);
     };
     if fewest.kind() == pattern.kind() && check_pattern(alloc, history, criterion, &fewest)? {
-        Ok(fewest)
+        Ok(Some(fewest))
     } else {
-        Ok(pattern)
+        Ok(None)
     }
 }
 
@@ -60,17 +83,51 @@ fn pattern_of_fewest(
         return Ok(None);
     }
     let core = part_of(alloc, history, &Listed(ops.as_slice()))?;
-    let kept = needed_ops(alloc, &core, criterion, pattern.kind())?;
-    if kept.len() >= ops.len() {
+    let found = pattern_of_core(alloc, &core, ops.len(), criterion, pattern.kind());
+    drop(core);
+    in_whole(alloc, history.sessions(), &ops, found?)
+}
+
+/// A pattern of a kind in a core of so many operations, by those that the kind needs: none where it needs all.
+fn pattern_of_core(
+    alloc: Global,
+    core: &History<Memory>,
+    operations: usize,
+    criterion: Criterion,
+    kind: Kind,
+) -> Result<Option<Pattern>, AllocError> {
+    let kept = needed_ops(alloc, core, criterion, kind)?;
+    if kept.len() >= operations {
         return Ok(None);
     }
-    let Some(fewest) = pattern_of_ops(alloc, &core, &kept, criterion, pattern.kind())? else {
+    let found = pattern_of_ops(alloc, core, &kept, criterion, kind)?;
+    in_whole(alloc, core.sessions(), &kept, found)
+}
+
+/// A pattern of a part that has these operations of a history of so many sessions, with the operations as the history numbers them.
+fn in_whole(
+    alloc: Global,
+    sessions: usize,
+    ops: &[OpId],
+    found: Option<Pattern>,
+) -> Result<Option<Pattern>, AllocError> {
+    let Some(pattern) = found else {
         return Ok(None);
     };
-    let in_core = Places::listed(alloc, history.sessions(), &kept)?;
-    let in_whole = Places::listed(alloc, history.sessions(), &ops)?;
-    let fewest = renamed(alloc, &in_core, &fewest)?;
-    Ok(Some(renamed(alloc, &in_whole, &fewest)?))
+    let renamed = renamed_in(alloc, sessions, ops, &pattern);
+    drop(pattern);
+    Ok(Some(renamed?))
+}
+
+/// The same of a pattern.
+fn renamed_in(
+    alloc: Global,
+    sessions: usize,
+    ops: &[OpId],
+    pattern: &Pattern,
+) -> Result<Pattern, AllocError> {
+    let places = Places::listed(alloc, sessions, ops)?;
+    renamed(alloc, &places, pattern)
 }
 
 /// The operations of a core that are needed for a kind, in order.
@@ -81,18 +138,43 @@ fn needed_ops(
     kind: Kind,
 ) -> Result<Vec<OpId>, AllocError> {
     let memory = IndexedMemory::of(alloc, core)?;
+    let needed = needed_in(alloc, core, &memory, criterion, kind);
+    drop(memory);
+    needed
+}
+
+/// The same of a core that is indexed. Each operation in turn, from the last to the first, is left out where it is not needed.
+fn needed_in(
+    alloc: Global,
+    core: &History<Memory>,
+    memory: &IndexedMemory,
+    criterion: Criterion,
+    kind: Kind,
+) -> Result<Vec<OpId>, AllocError> {
     let mut left = ops_in_order(alloc, core)?;
     let mut kept = Vec::from_slice(alloc, &left)?;
     left.reverse();
     for op in &left {
-        let fewer = without(alloc, &memory, &kept, *op)?;
-        if fewer.len() < kept.len()
-            && pattern_of_ops(alloc, core, &fewer, criterion, kind)?.is_some()
-        {
+        let fewer = without(alloc, memory, &kept, *op)?;
+        if fewer.len() < kept.len() && show_kind(alloc, core, &fewer, criterion, kind)? {
             kept = fewer;
         }
     }
     Ok(kept)
+}
+
+/// Whether these operations alone show a kind, as the first against the criterion.
+fn show_kind(
+    alloc: Global,
+    core: &History<Memory>,
+    ops: &[OpId],
+    criterion: Criterion,
+    kind: Kind,
+) -> Result<bool, AllocError> {
+    let found = pattern_of_ops(alloc, core, ops, criterion, kind)?;
+    let is_shown = found.is_some();
+    drop(found);
+    Ok(is_shown)
 }
 
 /// All operations of a history, in order.
@@ -131,12 +213,15 @@ fn pattern_of_ops(
     kind: Kind,
 ) -> Result<Option<Pattern>, AllocError> {
     let part = part_of(alloc, core, &Listed(ops))?;
-    let Some(Decision::Excluded(pattern)) = exclusion_of(alloc, &part, criterion)? else {
-        return Ok(None);
-    };
-    if pattern.kind() == kind {
-        Ok(Some(pattern))
-    } else {
-        Ok(None)
+    let found = exclusion_of(alloc, &part, criterion);
+    drop(part);
+    Ok(pattern_of_kind(found?, kind))
+}
+
+/// The pattern of a decision, where it is of a kind.
+fn pattern_of_kind(found: Option<Decision>, kind: Kind) -> Option<Pattern> {
+    match found {
+        Some(Decision::Excluded(pattern)) if pattern.kind() == kind => Some(pattern),
+        _ => None,
     }
 }

@@ -58,14 +58,20 @@ fn renamed_path(alloc: Global, places: &Places, path: &Path) -> Result<Path, All
 fn renamed_links(alloc: Global, places: &Places, links: &Links) -> Result<Links, AllocError> {
     let mut renamed = Vec::new(alloc);
     for link in links.links() {
-        renamed.push(match link {
-            Link::Co(from, to) => Link::Co(places.in_whole(*from), places.in_whole(*to)),
-            Link::Cf(path, to) => {
-                Link::Cf(renamed_path(alloc, places, path)?, places.in_whole(*to))
-            }
-        })?;
+        renamed.push(renamed_link(alloc, places, link)?)?;
     }
     Ok(Links::of(renamed))
+}
+
+// A link in the operations of the whole.
+fn renamed_link(alloc: Global, places: &Places, link: &Link) -> Result<Link, AllocError> {
+    match link {
+        Link::Co(from, to) => Ok(Link::Co(places.in_whole(*from), places.in_whole(*to))),
+        Link::Cf(path, to) => {
+            let path = renamed_path(alloc, places, path)?;
+            Ok(Link::Cf(path, places.in_whole(*to)))
+        }
+    }
 }
 
 // A derivation in the operations of the whole.
@@ -76,14 +82,19 @@ fn renamed_derivation(
 ) -> Result<Derivation, AllocError> {
     let mut lines = Vec::new(alloc);
     for line in derivation.lines() {
-        lines.push(match line {
-            Line::Co(first, second) => {
-                let first = renamed_path(alloc, places, first)?;
-                Line::Co(first, renamed_path(alloc, places, second)?)
-            }
-            Line::Tr(first, second) => Line::Tr(*first, *second),
-            Line::Rf(line, read) => Line::Rf(*line, places.in_whole(*read)),
-        })?;
+        lines.push(renamed_line(alloc, places, line)?)?;
     }
     Ok(Derivation::of(lines))
+}
+
+// A line of a derivation in the operations of the whole.
+fn renamed_line(alloc: Global, places: &Places, line: &Line) -> Result<Line, AllocError> {
+    match line {
+        Line::Co(first, second) => {
+            let first = renamed_path(alloc, places, first)?;
+            Ok(Line::Co(first, renamed_path(alloc, places, second)?))
+        }
+        Line::Tr(first, second) => Ok(Line::Tr(*first, *second)),
+        Line::Rf(line, read) => Ok(Line::Rf(*line, places.in_whole(*read))),
+    }
 }

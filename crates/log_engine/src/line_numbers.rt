@@ -20,7 +20,9 @@ pub fn call_lines(alloc: Global, log: &[u8]) -> Result<String, LogError>
 {
     let mut rest = log;
     let whole = read_log(alloc, &mut rest)?;
-    match lines_text(alloc, &whole.reader) {
+    let text = lines_text(alloc, &whole.reader);
+    drop(whole);
+    match text {
         Ok(text) => Ok(text),
         Err(_) => Err(LogError::Memory),
     }
@@ -30,13 +32,16 @@ fn lines_text(alloc: Global, reader: &EventReader) -> Result<String, AllocError>
     let sessions = reader.log().origins(alloc)?;
     let mut text = String::from_str(alloc, "[")?;
     for session in 0..sessions.len() {
-        if session > 0 {
-            text.push_str(",")?;
-        }
+        push_comma(&mut text, session)?;
         push_lines(alloc, &mut text, reader, sessions.get(session))?;
     }
     text.push_str("]\n")?;
     Ok(text)
+}
+
+// Appends the comma before each part of a list but the first.
+fn push_comma(text: &mut String, place: usize) -> Result<(), AllocError> {
+    if place > 0 { text.push_str(",") } else { Ok(()) }
 }
 
 // Appends the list of the lines of calls to a text.
@@ -48,9 +53,7 @@ fn push_lines(
 ) -> Result<(), AllocError> {
     text.push_str("[")?;
     for place in 0..calls.len() {
-        if place > 0 {
-            text.push_str(",")?;
-        }
+        push_comma(text, place)?;
         let line = line_at(reader, calls[place].place());
         text.push_str(&format!(in alloc; "{line}")?)?;
     }

@@ -1,7 +1,7 @@
 //! Judging a log while it is read.
 
-ghost use Rattle.std.specs.Prelude.{◌≡◌, ◌≢◌, ◌⊎◌, ◌*◌, ◌+◌, ◌<◌, ◌≤◌, ℕ, List, Option, IfErr, IfOk, IfSome, None, false};
-ghost use Rattle.event_reader.specs.Readings.{Reading};
+ghost use Rattle.std.specs.Prelude.{◌≡◌, ◌≢◌, ◌⊎◌, ◌*◌, ◌+◌, ◌<◌, ◌≤◌, ℕ, List, [], Option, IfErr, IfOk, IfSome, None, false};
+ghost use Rattle.event_reader.specs.Readings.{HasRead, Reading};
 ghost use Rattle.log_engine.specs.LogAnswers.{IsLogError, WatchesLog, WritesFirstCuts};
 ghost use Rattle.log_engine.specs.Steps.Watching.{HasWatched, IsTurn, WritesLast};
 
@@ -42,8 +42,28 @@ pub(crate) fn watch_log<K: SessionWork, R: Source, W: Write>(
         (R.remaining source.old) (W.contents writer.old) (W.contents writer.new)) }
 {
     let mut reader = EventReader::new(watch.alloc)?;
+    let followed = watch_from(watch, &mut reader, source, writer);
+    drop(reader);
+    followed
+}
+
+// The same with a reader of logs that has read nothing.
+fn watch_from<K: SessionWork, R: Source, W: Write>(
+    watch: &Watch<'_, K>,
+    reader: &mut EventReader,
+    source: &mut R,
+    writer: &mut W,
+) -> Result<Followed, LogError>
+    requires can_work { K.can_work watch.now.work.now }
+    requires unread { HasRead [] reader.old }
+    ensures watched { IfOk result (WatchesLog watch.now.every watch.now.expected (R.remaining source.old) (R.remaining source.new)
+        (W.contents writer.old) (W.contents writer.new)) }
+    ensures error { IfErr result (IsLogError (R.remaining source.old)) }
+    ensures first_cuts { IfErr result (λ e. e ≢ LogError.WriteFault → WritesFirstCuts watch.now.every watch.now.expected
+        (R.remaining source.old) (W.contents writer.old) (W.contents writer.new)) }
+{
     'cuts: for _ in 0..=MAX_EVENTS {
-        if let Some(followed) = watch.turn(&mut reader, source, writer)? {
+        if let Some(followed) = watch.turn(reader, source, writer)? {
             return Ok(followed);
         }
     }

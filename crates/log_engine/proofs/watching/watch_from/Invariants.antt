@@ -1,7 +1,7 @@
 -- So many cuts were judged.
 use Rattle.std.specs.Prelude.{ℕ}
 use Rattle.log_engine.specs.Steps.Watching.{HasWatched}
-use Rattle.log_engine.proofs.watching.watch_log.Given as goal
+use Rattle.log_engine.proofs.watching.watch_from.Given as goal
 
 abbrev pub invariant-cuts : goal.invariant-cuts
 invariant-cuts g l =
