@@ -5,8 +5,13 @@
 
 A check keeps a file for each module that it made for a function and checked. The seconds of a function are those that went by
 before each of its files was written, on the clock: they are right where one job wrote all files, and nothing else ran. The
-megabytes are of its module `Lts`, which holds what is to be shown along each path of the function. They tell more than the
-seconds do, and are the same on each machine.
+columns after them are for the modules that take most:
+
+    Lts    what is to be shown along each path of the function
+    Tie    how what it calls fits what it is called with, for each object or other type that it names
+    Proof  the search for a proof of each goal that has no answer in `Answers.antt`
+
+The megabytes are those of `Lts`, and are the same on each machine.
 """
 
 import pathlib
@@ -14,6 +19,7 @@ import re
 import sys
 from collections import defaultdict
 
+SHOWN = ("Lts", "Tie", "Proof")
 MADE = re.compile(r"^(?:Lts|Proof|Tie|Kinds|Code|Mir|Statement|Met|Goals|Given|Answers|Invariants|Reads|Layout|Named|Carried|View|Symbol|Passed|TheLink)")
 
 
@@ -38,16 +44,21 @@ def kept_modules(folder):
 def main():
     if len(sys.argv) not in (2, 3):
         sys.exit(__doc__)
-    seconds, paths = defaultdict(float), defaultdict(int)
+    seconds, paths = defaultdict(lambda: defaultdict(float)), defaultdict(int)
     modules = sorted(kept_modules(pathlib.Path(sys.argv[1])))
     for (before, _, _), (after, size, name) in zip(modules, modules[1:]):
-        seconds[function_of(name)] += after - before
-        if name.endswith(".Lts"):
-            paths[function_of(name)] = size
+        function, kind = function_of(name), name.rpartition(".")[2].partition("-")[0]
+        for column in ("all", kind):
+            seconds[function][column] += after - before
+        if kind == "Lts":
+            paths[function] = max(size, paths[function])
+    total = sum(of["all"] for of in seconds.values())
+    print(f"{len(modules)} modules, {total:.0f} seconds: " + ", ".join(f"{kind} {sum(of[kind] for of in seconds.values()):.0f}" for kind in SHOWN))
+    print("     all" + "".join(f"{kind:>8}" for kind in SHOWN) + "      MB")
     most = int(sys.argv[2]) if len(sys.argv) == 3 else 30
-    print(f"{len(modules)} modules, {sum(seconds.values()):.0f} seconds")
-    for name in sorted(seconds, key=seconds.get, reverse=True)[:most]:
-        print(f"{seconds[name]:8.1f} s {paths[name] / 1e6:6.1f} MB  {name}")
+    for name in sorted(seconds, key=lambda it: seconds[it]["all"], reverse=True)[:most]:
+        columns = "".join(f"{seconds[name][kind]:8.1f}" for kind in ("all", *SHOWN))
+        print(f"{columns}{paths[name] / 1e6:8.1f}  {name}")
 
 
 if __name__ == "__main__":
