@@ -20,17 +20,38 @@ pub(crate) fn push_derivation(
     op: OpId,
     derivation: &Derivation,
 ) -> Result<Option<Pair>, AllocError> {
+    let pairs = pairs_of(alloc, h, derivation)?;
+    push_lines(steps, op, &pairs, derivation.lines())?;
+    Ok(pairs.last())
+}
+
+// What the lines of a derivation in a history say.
+fn pairs_of(
+    alloc: Global,
+    h: &History<Memory>,
+    derivation: &Derivation,
+) -> Result<DerivedPairs, AllocError> {
     let memory = IndexedMemory::of(alloc, h)?;
-    let pairs = DerivedPairs::of(alloc, &memory, derivation)?;
-    let lines = derivation.lines();
+    let pairs = DerivedPairs::of(alloc, &memory, derivation);
+    drop(memory);
+    pairs
+}
+
+// The steps of the first and the last of these lines, which say these pairs.
+fn push_lines(
+    steps: &mut Steps,
+    op: OpId,
+    pairs: &DerivedPairs,
+    lines: &[Line],
+) -> Result<(), AllocError> {
     for (number, line) in lines.iter().enumerate() {
         if is_told(number, lines.len()) {
-            push_line(steps, op, &pairs, line, pairs.get(number as u64))?;
+            push_line(steps, op, pairs, line, pairs.get(number as u64))?;
         } else {
             steps.leave_out(1);
         }
     }
-    Ok(pairs.last())
+    Ok(())
 }
 
 // Whether a line is among the first or the last of this many lines.

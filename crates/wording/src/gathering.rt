@@ -10,7 +10,7 @@ use objects::Memory;
 use std::alloc::{AllocError, Global};
 
 /// What a text says of a pattern.
-#[derive(Debug, Drop)]
+#[derive(Drop)]
 pub(crate) struct Outline {
     pub steps: Steps,
     /// Where the steps begin and where they end, if that can be said.
@@ -27,19 +27,29 @@ pub(crate) fn outline_of(
     pattern: &Pattern,
 ) -> Result<Outline, AllocError> {
     let mut steps = Steps::none(alloc);
-    let ends = match pattern {
+    let ends = push_pattern(alloc, &mut steps, h, pattern)?;
+    Ok(Outline { steps, ends })
+}
+
+// The steps that show a pattern. It gives where they begin and end.
+fn push_pattern(
+    alloc: Global,
+    steps: &mut Steps,
+    h: &History<Memory>,
+    pattern: &Pattern,
+) -> Result<Option<Pair>, AllocError> {
+    match pattern {
         Pattern::CyclicCO(path) | Pattern::WriteCOInitRead(path) => {
             steps.follow(path)?;
-            ends_of(path)
+            Ok(ends_of(path))
         }
-        Pattern::ThinAirRead(read) => Some((*read, *read)),
-        Pattern::WriteCORead(first, second) => push_overwritten(&mut steps, first, second)?,
+        Pattern::ThinAirRead(read) => Ok(Some((*read, *read))),
+        Pattern::WriteCORead(first, second) => push_overwritten(steps, first, second),
         Pattern::WriteHBInitRead(op, derivation) | Pattern::CyclicHB(op, derivation) => {
-            push_derivation(alloc, &mut steps, h, *op, derivation)?
+            push_derivation(alloc, steps, h, *op, derivation)
         }
-        Pattern::CyclicCF(links) => push_links(&mut steps, links)?,
-    };
-    Ok(Outline { steps, ends })
+        Pattern::CyclicCF(links) => push_links(steps, links),
+    }
 }
 
 // The steps from a write to another and from there to a read that reads from the first. It gives the other write and the read.

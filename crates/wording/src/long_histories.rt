@@ -42,9 +42,7 @@ pub fn words_of_places<N: Names>(
     for session in 0..part.sessions() {
         push_places(alloc, &mut places, names, session, part.len(session))?;
     }
-    let places = listed(alloc, &places, 0)?;
-    let whole = names.place_words();
-    format!(in alloc; "{whole}, {places}.")
+    sentence_on_places(alloc, names, &places)
 }
 
 // Which operations of the whole those of a session of a part are; the session has this many operations.
@@ -57,11 +55,32 @@ fn push_places<N: Names>(
 ) -> Result<(), AllocError> {
     for index in 0..operations {
         let op = OpId::at(session, index);
-        let own = name_of(alloc, op)?;
-        let whole = names.operation(alloc, op)?;
-        places.push(format!(in alloc; "{own} is {whole}")?)?;
+        places.push(place_of(alloc, names, op, op)?)?;
     }
     Ok(())
+}
+
+// Which operation of the whole one is that has this place in a part.
+fn place_of<N: Names>(
+    alloc: Global,
+    names: &N,
+    place: OpId,
+    op: OpId,
+) -> Result<String, AllocError> {
+    let own = name_of(alloc, place)?;
+    let whole = names.operation(alloc, op)?;
+    format!(in alloc; "{own} is {whole}")
+}
+
+// What each operation of a part is, in a sentence.
+fn sentence_on_places<N: Names>(
+    alloc: Global,
+    names: &N,
+    places: &[String],
+) -> Result<String, AllocError> {
+    let places = listed(alloc, places, 0)?;
+    let whole = names.place_words();
+    format!(in alloc; "{whole}, {places}.")
 }
 
 /// Which operation of a history each operation of a part is, in order, in a line with no line feed. The part keeps these operations
@@ -74,6 +93,17 @@ pub fn words_of_kept<N: Names>(
     ops: &[OpId],
 ) -> Result<String, AllocError> {
     let mut places = Vec::new(alloc);
+    push_kept(alloc, &mut places, names, ops)?;
+    sentence_on_places(alloc, names, &places)
+}
+
+// Which operation of a history each operation of a part is.
+fn push_kept<N: Names>(
+    alloc: Global,
+    places: &mut Vec<String>,
+    names: &N,
+    ops: &[OpId],
+) -> Result<(), AllocError> {
     let mut next = OpId::at(0, 0);
     for op in ops {
         if op.session != next.session {
@@ -82,14 +112,10 @@ pub fn words_of_kept<N: Names>(
                 index: 0,
             };
         }
-        let own = name_of(alloc, next)?;
-        let whole = names.operation(alloc, *op)?;
-        places.push(format!(in alloc; "{own} is {whole}")?)?;
+        places.push(place_of(alloc, names, next, *op)?)?;
         next.index = next.index.saturating_add(1);
     }
-    let places = listed(alloc, &places, 0)?;
-    let whole = names.place_words();
-    format!(in alloc; "{whole}, {places}.")
+    Ok(())
 }
 
 /// The operations that show that a history does not meet a criterion, in order and each once, in a line with no line feed: the first
@@ -105,10 +131,19 @@ pub fn words_of_operations<N: Names>(
     sorted.extend_from_slice(ops)?;
     sorted.sort_unstable();
     sorted.dedup();
+    let named = listed_operations(alloc, names, &sorted)?;
+    format!(in alloc; "These operations show it: {named}.")
+}
+
+// The first 1,000 operations, and how many more there are.
+fn listed_operations<N: Names>(
+    alloc: Global,
+    names: &N,
+    ops: &[OpId],
+) -> Result<String, AllocError> {
     let mut named = Vec::new(alloc);
-    for op in sorted.iter().take(MAX_NAMED) {
+    for op in ops.iter().take(MAX_NAMED) {
         named.push(names.operation(alloc, *op)?)?;
     }
-    let named = listed(alloc, &named, sorted.len().saturating_sub(MAX_NAMED))?;
-    format!(in alloc; "These operations show it: {named}.")
+    listed(alloc, &named, ops.len().saturating_sub(MAX_NAMED))
 }

@@ -1,5 +1,7 @@
 //! Operations in words.
 
+ghost use Rattle.history.specs.History.{IsOp};
+
 use crate::naming::Names;
 use history::{History, OpId};
 use object_trait::SeqObject;
@@ -38,11 +40,24 @@ pub(crate) fn operation_words<O: Worded, N: Names>(
     if let Some(phrase) = names.phrase(alloc, op)? {
         return format!(in alloc; "{name}: {phrase}");
     }
+    let phrase = phrase_of(alloc, h, names, op)?;
+    format!(in alloc; "{name} {phrase}")
+}
+
+// What a session does by an operation, and what is known of its return, by its call and its return.
+fn phrase_of<O: Worded, N: Names>(
+    alloc: Global,
+    h: &History<O>,
+    names: &N,
+    op: OpId,
+) -> Result<String, AllocError>
+    requires { IsOp h.now op }
+{
     let ret = h.ret(op);
     let phrase = O::phrase(alloc, names, None, &h.call(op), ret)?;
     match ret {
-        Some(_) => format!(in alloc; "{name} {phrase}"),
-        None => format!(in alloc; "{name} {phrase}, and its return is not known"),
+        Some(_) => Ok(phrase),
+        None => format!(in alloc; "{phrase}, and its return is not known"),
     }
 }
 
@@ -60,9 +75,32 @@ pub fn read_of<N: Names>(
     if let Some(phrase) = names.phrase(alloc, op)? {
         return format!(in alloc; "{name}: {phrase}");
     }
+    let phrase = words_of_read(alloc, names, key, value)?;
+    format!(in alloc; "{name} {phrase}")
+}
+
+// What a session does by a read that got a value of a variable.
+fn words_of_read<N: Names>(
+    alloc: Global,
+    names: &N,
+    key: u32,
+    value: u64,
+) -> Result<String, AllocError> {
     let value = names.value(alloc, key, value)?;
     let variable = names.variable(alloc, key)?;
-    format!(in alloc; "{name} reads {value} from {variable}")
+    format!(in alloc; "reads {value} from {variable}")
+}
+
+// What a session does by a write.
+fn words_of_write<N: Names>(
+    alloc: Global,
+    names: &N,
+    key: u32,
+    value: u64,
+) -> Result<String, AllocError> {
+    let value = names.value(alloc, key, value)?;
+    let variable = names.variable(alloc, key)?;
+    format!(in alloc; "writes {value} to {variable}")
 }
 
 // A number after its words, if there is one, and else nothing.
@@ -101,17 +139,15 @@ fn words_of_variable<N: Names>(
     call: &RegisterCall,
     ret: Option<RegisterRet>,
 ) -> Result<String, AllocError> {
-    let variable = names.variable(alloc, key)?;
     match (call, ret) {
-        (RegisterCall::Write(value), _) => {
-            let value = names.value(alloc, key, *value)?;
-            format!(in alloc; "writes {value} to {variable}")
-        }
+        (RegisterCall::Write(value), _) => words_of_write(alloc, names, key, *value),
         (RegisterCall::Read, Some(RegisterRet::Value(value))) => {
-            let value = names.value(alloc, key, value)?;
-            format!(in alloc; "reads {value} from {variable}")
+            words_of_read(alloc, names, key, value)
         }
-        (RegisterCall::Read, _) => format!(in alloc; "reads {variable}"),
+        (RegisterCall::Read, _) => {
+            let variable = names.variable(alloc, key)?;
+            format!(in alloc; "reads {variable}")
+        }
     }
 }
 
@@ -157,18 +193,21 @@ impl Worded for AddRemoveSet {
         call: &SetCall,
         ret: Option<SetRet>,
     ) -> Result<String, AllocError> {
-        let phrase = match (call, ret) {
-            (SetCall::Add(element), _) => format!(in alloc; "adds {element}")?,
-            (SetCall::Remove(element), _) => format!(in alloc; "removes {element}")?,
-            (SetCall::Has(element), Some(SetRet::Has(true))) => {
-                format!(in alloc; "finds {element}")?
-            }
-            (SetCall::Has(element), Some(SetRet::Has(false))) => {
-                format!(in alloc; "does not find {element}")?
-            }
-            (SetCall::Has(element), _) => format!(in alloc; "looks for {element}")?,
-        };
+        let phrase = words_of_set(alloc, call, ret)?;
         with_key(alloc, &phrase, " at key ", key)
+    }
+}
+
+// What a session does by a call of a set.
+fn words_of_set(alloc: Global, call: &SetCall, ret: Option<SetRet>) -> Result<String, AllocError> {
+    match (call, ret) {
+        (SetCall::Add(element), _) => format!(in alloc; "adds {element}"),
+        (SetCall::Remove(element), _) => format!(in alloc; "removes {element}"),
+        (SetCall::Has(element), Some(SetRet::Has(true))) => { format!(in alloc; "finds {element}") }
+        (SetCall::Has(element), Some(SetRet::Has(false))) => {
+            format!(in alloc; "does not find {element}")
+        }
+        (SetCall::Has(element), _) => format!(in alloc; "looks for {element}"),
     }
 }
 
@@ -180,17 +219,24 @@ impl Worded for Queue {
         call: &QueueCall,
         ret: Option<QueueRet>,
     ) -> Result<String, AllocError> {
-        let phrase = match (call, ret) {
-            (QueueCall::Push(value), _) => format!(in alloc; "pushes {value}")?,
-            (QueueCall::Pop, Some(QueueRet::Popped(Some(value)))) => {
-                format!(in alloc; "pops {value}")?
-            }
-            (QueueCall::Pop, Some(QueueRet::Popped(None))) => {
-                String::from_str(alloc, "pops nothing")?
-            }
-            (QueueCall::Pop, _) => String::from_str(alloc, "pops")?,
-        };
+        let phrase = words_of_queue(alloc, call, ret)?;
         with_key(alloc, &phrase, " at key ", key)
+    }
+}
+
+// What a session does by a call of a queue.
+fn words_of_queue(
+    alloc: Global,
+    call: &QueueCall,
+    ret: Option<QueueRet>,
+) -> Result<String, AllocError> {
+    match (call, ret) {
+        (QueueCall::Push(value), _) => format!(in alloc; "pushes {value}"),
+        (QueueCall::Pop, Some(QueueRet::Popped(Some(value)))) => {
+            format!(in alloc; "pops {value}")
+        }
+        (QueueCall::Pop, Some(QueueRet::Popped(None))) => String::from_str(alloc, "pops nothing"),
+        (QueueCall::Pop, _) => String::from_str(alloc, "pops"),
     }
 }
 

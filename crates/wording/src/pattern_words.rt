@@ -24,14 +24,37 @@ pub fn words_of_pattern<N: Names>(
     names: &N,
     pattern: &Pattern,
 ) -> Result<Vec<String>, AllocError> {
-    let outline = outline_of(alloc, h, pattern)?;
     let mut lines = Vec::new(alloc);
-    push_operations(alloc, &mut lines, h, names, &outline)?;
-    push_steps(alloc, &mut lines, names, outline.steps.first())?;
-    push_left_out(alloc, &mut lines, outline.steps.left_out())?;
-    push_steps(alloc, &mut lines, names, outline.steps.last())?;
-    lines.push(last_line(alloc, h, names, pattern, &outline)?)?;
+    push_pattern(alloc, &mut lines, h, names, pattern)?;
     Ok(lines)
+}
+
+// The lines of a pattern.
+fn push_pattern<N: Names>(
+    alloc: Global,
+    lines: &mut Vec<String>,
+    h: &History<Memory>,
+    names: &N,
+    pattern: &Pattern,
+) -> Result<(), AllocError> {
+    let outline = outline_of(alloc, h, pattern)?;
+    push_outline(alloc, lines, h, names, pattern, &outline)
+}
+
+// The lines of a pattern of which this is to be said.
+fn push_outline<N: Names>(
+    alloc: Global,
+    lines: &mut Vec<String>,
+    h: &History<Memory>,
+    names: &N,
+    pattern: &Pattern,
+    outline: &Outline,
+) -> Result<(), AllocError> {
+    push_operations(alloc, lines, h, names, outline)?;
+    push_steps(alloc, lines, names, outline.steps.first())?;
+    push_left_out(alloc, lines, outline.steps.left_out())?;
+    push_steps(alloc, lines, names, outline.steps.last())?;
+    Ok(lines.push(last_line(alloc, h, names, pattern, outline)?)?)
 }
 
 // The operations that the text names, by session and index.
@@ -43,16 +66,22 @@ fn push_operations<N: Names>(
     outline: &Outline,
 ) -> Result<(), AllocError> {
     let mut ops = Vec::new(alloc);
-    push_ops(&mut ops, outline.steps.first())?;
-    push_ops(&mut ops, outline.steps.last())?;
-    if let Some((begin, end)) = outline.ends {
-        ops.push(begin)?;
-        ops.push(end)?;
-    }
+    push_named(&mut ops, outline)?;
     ops.sort_unstable();
     ops.dedup();
     for op in &ops {
         lines.push(operation_words(alloc, h, names, *op)?)?;
+    }
+    Ok(())
+}
+
+// Puts the operations that the text names after others.
+fn push_named(ops: &mut Vec<OpId>, outline: &Outline) -> Result<(), AllocError> {
+    push_ops(ops, outline.steps.first())?;
+    push_ops(ops, outline.steps.last())?;
+    if let Some((begin, end)) = outline.ends {
+        ops.push(begin)?;
+        ops.push(end)?;
     }
     Ok(())
 }

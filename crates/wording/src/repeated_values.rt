@@ -95,20 +95,25 @@ fn words_of<N: Names>(
     place: usize,
     write: &Write,
 ) -> Result<String, AllocError> {
-    let Write { op, key, value } = *write;
-    let name = names.operation(alloc, op)?;
-    let variable = names.variable(alloc, key)?;
-    let value = names.value(alloc, key, value)?;
+    let written = words_of_write(alloc, names, write)?;
+    let name = names.operation(alloc, write.op)?;
     if is_of_initial_value(memory, write) {
-        return format!(in alloc; "{name} writes {value} to {variable}, which is its initial value");
+        return format!(in alloc; "{name} writes {written}, which is its initial value");
     }
     match next_alike(memory, place, write) {
         Some(next) => {
             let other = names.operation(alloc, next.op)?;
-            format!(in alloc; "{name} and {other} both write {value} to {variable}")
+            format!(in alloc; "{name} and {other} both write {written}")
         }
-        None => format!(in alloc; "{name} writes {value} to {variable}"),
+        None => format!(in alloc; "{name} writes {written}"),
     }
+}
+
+// What a write writes, and to which variable.
+fn words_of_write<N: Names>(alloc: Global, names: &N, write: &Write) -> Result<String, AllocError> {
+    let variable = names.variable(alloc, write.key)?;
+    let value = names.value(alloc, write.key, write.value)?;
+    format!(in alloc; "{value} to {variable}")
 }
 
 // How many variables are left out, if any are.

@@ -58,24 +58,55 @@ fn sentence_on_read<N: Names>(
     let Some((key, value)) = known_read(h, read) else {
         return Ok(None);
     };
-    let other = names.operation(alloc, other)?;
+    let words = match kind {
+        Kind::ThinAirRead => unwritten_words(alloc, h, names, key, value),
+        _ => overwritten_words(alloc, names, kind, key, value, other),
+    }?;
     let read = names.operation(alloc, read)?;
-    let sentence = match kind {
-        Kind::ThinAirRead => {
-            let phrase = names.unwritten_read_words(alloc, key, value)?;
-            let initial = names.initial_words(alloc, key, initial_value(h, key))?;
-            format!(in alloc; "{read} {phrase}, and {initial}.")?
-        }
-        Kind::WriteCOInitRead => {
-            let phrase = names.initial_read_words(alloc, key, value)?;
-            format!(in alloc; "{read} {phrase}, which {other} had overwritten in its past.")?
-        }
-        _ => {
-            let value = names.value(alloc, key, value)?;
-            format!(in alloc; "{read} read {value}, which {other} had overwritten in its past.")?
-        }
-    };
-    Ok(Some(sentence))
+    Ok(Some(format!(in alloc; "{read} {words}.")?))
+}
+
+// What a read did that got a value which nobody wrote.
+fn unwritten_words<N: Names>(
+    alloc: Global,
+    h: &History<Memory>,
+    names: &N,
+    key: u32,
+    value: u64,
+) -> Result<String, AllocError> {
+    let phrase = names.unwritten_read_words(alloc, key, value)?;
+    let initial = names.initial_words(alloc, key, initial_value(h, key))?;
+    format!(in alloc; "{phrase}, and {initial}")
+}
+
+// What a read did that got a value which an operation had overwritten.
+fn overwritten_words<N: Names>(
+    alloc: Global,
+    names: &N,
+    kind: Kind,
+    key: u32,
+    value: u64,
+    other: OpId,
+) -> Result<String, AllocError> {
+    let phrase = read_words(alloc, names, kind, key, value)?;
+    let other = names.operation(alloc, other)?;
+    format!(in alloc; "{phrase}, which {other} had overwritten in its past")
+}
+
+// What a read did that got a value, the initial one by one of the kinds.
+fn read_words<N: Names>(
+    alloc: Global,
+    names: &N,
+    kind: Kind,
+    key: u32,
+    value: u64,
+) -> Result<String, AllocError> {
+    if kind == Kind::WriteCOInitRead {
+        names.initial_read_words(alloc, key, value)
+    } else {
+        let value = names.value(alloc, key, value)?;
+        format!(in alloc; "read {value}")
+    }
 }
 
 // The sentence on what a session has read up to an operation, which puts one operation before another.
@@ -88,20 +119,40 @@ fn sentence_on_session<N: Names>(
     ends: Pair,
 ) -> Result<Option<String>, AllocError> {
     let (first, second) = ends;
-    let session = names.session(alloc, op)?;
-    let op = names.operation(alloc, op)?;
-    let puts = names.operation(alloc, first)?;
     if kind == Kind::CyclicHB {
-        return Ok(Some(format!(in alloc;
-            "What {session} has read up to {op} puts {puts} before itself."
-        )?));
+        let puts = words_that_put(alloc, names, op, first)?;
+        return Ok(Some(format!(in alloc; "What {puts} before itself.")?));
     }
     let Some((key, value)) = known_read(h, second) else {
         return Ok(None);
     };
-    let before = names.operation(alloc, second)?;
+    let read = initial_read(alloc, names, second, key, value)?;
+    let puts = words_that_put(alloc, names, op, first)?;
+    Ok(Some(format!(in alloc; "{read}, but what {puts}, which writes the variable, before it.")?))
+}
+
+// What the session of an operation has read, which puts another before some other.
+fn words_that_put<N: Names>(
+    alloc: Global,
+    names: &N,
+    op: OpId,
+    first: OpId,
+) -> Result<String, AllocError> {
+    let session = names.session(alloc, op)?;
+    let op = names.operation(alloc, op)?;
+    let first = names.operation(alloc, first)?;
+    format!(in alloc; "{session} has read up to {op} puts {first}")
+}
+
+// A read that got the initial value of a variable, with its name in front.
+fn initial_read<N: Names>(
+    alloc: Global,
+    names: &N,
+    read: OpId,
+    key: u32,
+    value: u64,
+) -> Result<String, AllocError> {
+    let name = names.operation(alloc, read)?;
     let phrase = names.initial_read_words(alloc, key, value)?;
-    Ok(Some(format!(in alloc;
-        "{before} {phrase}, but what {session} has read up to {op} puts {puts}, which writes the variable, before it."
-    )?))
+    format!(in alloc; "{name} {phrase}")
 }

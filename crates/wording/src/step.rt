@@ -5,7 +5,7 @@ use history::OpId;
 use std::alloc::{AllocError, Global};
 
 /// How one operation comes before another.
-#[derive(Clone, Copy, Debug, PartialEq, Eq)]
+#[derive(Clone, Copy, PartialEq, Eq)]
 pub(crate) enum Step {
     /// The second follows the first in its session.
     Follows(OpId, OpId),
@@ -49,6 +49,11 @@ impl Step {
         let a = names.operation(alloc, first)?;
         let b = names.operation(alloc, second)?;
         let c = names.operation(alloc, third)?;
+        self.words_with(alloc, &a, &b, &c)
+    }
+
+    // The step in words, with these names of its operations.
+    fn words_with(self, alloc: Global, a: &str, b: &str, c: &str) -> Result<String, AllocError> {
         match self {
             Step::Follows(_, _) => format!(in alloc; "{b} follows {a} in its session"),
             Step::ReadsFrom(_, _) => format!(in alloc; "{b} reads from {a}"),

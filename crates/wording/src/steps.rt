@@ -10,7 +10,7 @@ use std::alloc::{AllocError, Global};
 pub(crate) const MAX_AT_AN_END: usize = 20;
 
 /// The first and the last steps of what shows a pattern, each once.
-#[derive(Debug, Drop)]
+#[derive(Drop)]
 pub(crate) struct Steps {
     first: Vec<Step>,
     last: Vec<Step>,

@@ -43,8 +43,8 @@ fn push_answer<O: Worded, N: Names>(
     if !h.contains(unlike) {
         return Ok(());
     }
-    let name = names.operation(alloc, unlike)?;
     let phrase = O::phrase(alloc, names, None, &h.call(unlike), Some(answer))?;
+    let name = names.operation(alloc, unlike)?;
     lines.push(format!(in alloc; "In its order {name} {phrase}.")?)?;
     Ok(())
 }
