@@ -74,19 +74,48 @@ pub(crate) fn unlike_answer<O: SeqObject>(
         return Ok(None);
     };
     let mut object = O::fresh(alloc, h.start())?;
+    let unlike = unlike_in(alloc, h, piece, &mut object);
+    drop(object);
+    unlike
+}
+
+// The same in the order of a piece, by an object that has taken in nothing yet.
+fn unlike_in<O: SeqObject>(
+    alloc: Global,
+    h: &History<O>,
+    piece: Piece<'_>,
+    object: &mut O,
+) -> Result<Option<(OpId, O::Ret)>, AllocError> {
     let mut counts = vec![in alloc; 0u64; h.sessions()]?;
     for session in piece.list {
         let Some(next) = next_of(h, &mut counts, *session) else {
             return Ok(None);
         };
-        if piece.takes(next) {
-            let answer = object.apply(h.call(next))?;
-            if piece.kept.keeps(next) && is_unlike(h, next, answer) {
-                return Ok(Some((next, answer)));
-            }
+        if let Some(answer) = unlike_at(h, piece, object, next)? {
+            return Ok(Some((next, answer)));
         }
     }
     Ok(None)
+}
+
+// The answer of the object to the next operation, where the piece keeps its known return, which differs from it.
+fn unlike_at<O: SeqObject>(
+    h: &History<O>,
+    piece: Piece<'_>,
+    object: &mut O,
+    next: OpId,
+) -> Result<Option<O::Ret>, AllocError>
+    requires { IsOp h.now next }
+{
+    if !piece.takes(next) {
+        return Ok(None);
+    }
+    let answer = object.apply(h.call(next))?;
+    if piece.kept.keeps(next) && is_unlike(h, next, answer) {
+        Ok(Some(answer))
+    } else {
+        Ok(None)
+    }
 }
 
 // The next operation of a session, if there is one; it is then counted.

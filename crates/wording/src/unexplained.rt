@@ -1,5 +1,7 @@
 //! What a certificate does not explain, in words.
 
+ghost use Rattle.history.specs.History.{IsOp};
+
 use crate::naming::Names;
 use crate::operation_words::{Worded, operation_words};
 use crate::replayed::unlike_answer;
@@ -19,13 +21,22 @@ pub fn push_unexplained<O: Worded, N: Names>(
     certificate: Option<&Certificate>,
     op: OpId,
 ) -> Result<(), AllocError> {
-    let name = names.operation(alloc, op)?;
     lines.push(operation_words(alloc, h, names, op)?)?;
-    lines.push(format!(in alloc; "The certificate that was made does not explain {name}.")?)?;
+    lines.push(words_of_unexplained(alloc, names, op)?)?;
     match certificate {
         Some(certificate) => push_answer(alloc, lines, h, names, certificate, op),
         None => Ok(()),
     }
+}
+
+// Which operation the certificate does not explain.
+fn words_of_unexplained<N: Names>(
+    alloc: Global,
+    names: &N,
+    op: OpId,
+) -> Result<String, AllocError> {
+    let name = names.operation(alloc, op)?;
+    format!(in alloc; "The certificate that was made does not explain {name}.")
 }
 
 // The answer in the order of a certificate, if it differs.
@@ -40,11 +51,23 @@ fn push_answer<O: Worded, N: Names>(
     let Some((unlike, answer)) = unlike_answer(alloc, h, certificate, op)? else {
         return Ok(());
     };
-    if !h.contains(unlike) {
-        return Ok(());
+    if h.contains(unlike) {
+        lines.push(words_of_answer(alloc, h, names, unlike, answer)?)?;
     }
-    let phrase = O::phrase(alloc, names, None, &h.call(unlike), Some(answer))?;
-    let name = names.operation(alloc, unlike)?;
-    lines.push(format!(in alloc; "In its order {name} {phrase}.")?)?;
     Ok(())
+}
+
+// What an operation does in the order of a certificate, where it gets this answer.
+fn words_of_answer<O: Worded, N: Names>(
+    alloc: Global,
+    h: &History<O>,
+    names: &N,
+    op: OpId,
+    answer: O::Ret,
+) -> Result<String, AllocError>
+    requires { IsOp h.now op }
+{
+    let phrase = O::phrase(alloc, names, None, &h.call(op), Some(answer))?;
+    let name = names.operation(alloc, op)?;
+    format!(in alloc; "In its order {name} {phrase}.")
 }
