@@ -27,15 +27,8 @@ pub(crate) fn read_log<R: Source>(alloc: Global, source: &mut R) -> Result<Whole
     ensures error { IfErr result (IsLogError (R.remaining source.old)) }
 {
     let mut reader = EventReader::new(alloc)?;
-    match reader.read(source, u32::MAX) {
-        Ok(Progress::End { torn }) => Ok(WholeLog { reader, torn }),
-        Ok(Progress::More) => {
-            drop(reader);
-            Err(LogError::Memory)
-        }
-        Err(fault) => {
-            drop(reader);
-            Err(LogError::from(fault))
-        }
+    match reader.read(source, u32::MAX)? {
+        Progress::End { torn } => Ok(WholeLog { reader, torn }),
+        Progress::More => Err(LogError::Memory),
     }
 }
