@@ -41,7 +41,11 @@ fn lines_text(alloc: Global, reader: &EventReader) -> Result<String, AllocError>
 
 // Appends the comma before each part of a list but the first.
 fn push_comma(text: &mut String, place: usize) -> Result<(), AllocError> {
-    if place > 0 { text.push_str(",") } else { Ok(()) }
+    if place > 0 {
+        text.push_str(",")
+    } else {
+        Ok(())
+    }
 }
 
 // Appends the list of the lines of calls to a text.
