@@ -1,5 +1,5 @@
 -- What a turn of judging a log while it is read comes to.
-use Rattle.std.proofs.Common.{◌≡◌, ◌⊎◌, ◌<◌, ◌≤◌, ◌+◌, ◌*◌, ℕ, zero, suc, List, [], ◌∷◌, ◌++◌, length, Bool, true, false, Option, Some, None, IfSome, inl, inr, refl, sym, ap, subst, ◌∙◌, append_assoc, arith, ⊎_elim}
+use Rattle.std.proofs.Common.{◌≡◌, ◌⊎◌, ◌<◌, ◌≤◌, ◌+◌, ◌*◌, ℕ, zero, suc, List, [], ◌∷◌, ◌++◌, length, Bool, false, Option, Some, None, IfSome, inl, inr, refl, sym, ap, subst, ◌∙◌, append_assoc, arith, ⊎_elim}
 use Rattle.std.specs.Prelude.{◌≢◌, max}
 use Rattle.std.specs.Io.KnownBytes.{Appends, Consumes, IsAtEnd}
 use Rattle.std.proofs.lemmas.Bool.{cases_lt}
@@ -9,14 +9,13 @@ use Rattle.command_line.specs.declared.expected.Expected.{Expected}
 use Rattle.lines.specs.declared.outcome.Outcome.{Outcome}
 use Rattle.lines.specs.declared.outcome.Outcome.TheVariants.{Met}
 use Rattle.events.specs.declared.event.Event.{Event}
-use Rattle.event_reader.specs.Logs.{BeginsBy, Follow, IsLogOf, Log, ended_lines, no_log}
+use Rattle.event_reader.specs.Logs.{Follow, IsLogOf, Log, ended_lines, no_log}
 use Rattle.event_reader.specs.ReadSteps.{ReadsAll, ReadsMore}
 use Rattle.event_reader.specs.Readings.{Extends, HasRead, Reading}
 use Rattle.log_engine.specs.declared.following.Followed.{Followed}
 use Rattle.log_engine.specs.LogAnswers.{IsLogOfFront, WatchesLog, WritesFirstCuts}
-use Rattle.findings.specs.declared.finding.Findings.{Findings}
 use Rattle.engine.specs.Expecting.{outcome_for}
-use Rattle.log_engine.specs.Reports.{AreCuts, AreCutLines, IsReportOn, cut_line, multiples}
+use Rattle.log_engine.specs.Reports.{AreCuts, AreCutLines, cut_line, multiples}
 use Rattle.log_engine.specs.Steps.Watching.{HasWatched, IsTurn, WritesCut, WritesLast}
 use Rattle.log_engine.proofs.CutLines.{lines-all, lines-none, multiples-kept, multiples-then}
 

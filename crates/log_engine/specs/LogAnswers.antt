@@ -1,5 +1,5 @@
 -- What is answered to a log, and when it has no answer.
-use Rattle.std.specs.Prelude.{◌≡◌, ◌≢◌, ◌⊎◌, ⊤, ◌*◌, ℕ, List, ◌++◌, Bool, false, Option, None, Some, IfSome, codes, length}
+use Rattle.std.specs.Prelude.{◌≡◌, ◌≢◌, ◌⊎◌, ⊤, ◌*◌, ℕ, List, ◌++◌, false, Option, None, Some, IfSome, codes, length}
 use Rattle.std.specs.Io.KnownBytes.{Appends, IsAtEnd}
 use Rattle.serde_json.specs.Written.{compact_text}
 use Rattle.command_line.specs.declared.expected.Expected.{Expected}
@@ -16,7 +16,7 @@ use Rattle.explanations.specs.ExplanationTexts.{IsExplainedAs}
 use Rattle.explanations.specs.ListTexts.{IsListOf}
 use Rattle.event_reader.specs.Logs.{BeginsBy, IsLogOf, IsRefusedLog, Log}
 use Rattle.log_engine.specs.declared.failure.LogError.{LogError}
-use Rattle.log_engine.specs.declared.failure.LogError.TheVariants.{Refused, Memory, ReadFault, WriteFault}
+use Rattle.log_engine.specs.declared.failure.LogError.TheVariants.{Refused}
 use Rattle.log_engine.specs.declared.following.Followed.{Followed}
 use Rattle.log_engine.specs.Reports.{AreCuts, AreCutLines, IsReportOn, any_history_of, multiples}
 

@@ -1,5 +1,5 @@
 -- What is said of the history that a log stands for.
-use Rattle.std.specs.Prelude.{◌≡◌, ◌⊎◌, ◌≤◌, ◌<◌, ◌*◌, ◌+◌, ℕ, zero, suc, List, [], ◌∷◌, ◌++◌, codes, decimal, length, take}
+use Rattle.std.specs.Prelude.{◌≡◌, ◌⊎◌, ◌≤◌, ◌<◌, ◌*◌, ℕ, zero, suc, List, [], ◌∷◌, ◌++◌, codes, decimal, take}
 use Rattle.command_line.specs.declared.expected.Expected.{Expected}
 use Rattle.command_line.specs.declared.length.Length.TheVariants.{Any}
 use Rattle.operations.specs.declared.any_history.AnyHistory.{AnyHistory}

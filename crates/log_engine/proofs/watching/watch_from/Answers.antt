@@ -15,7 +15,7 @@ cuts-init g c = (
 
 pub returns-in_err-followed-clause-error : goal.returns-in_err-followed-clause-error
 returns-in_err-followed-clause-error g c =
-    let p = err_from_is_err_and c.from_residual-in_err-followed.result c.from_residual-in_err-followed.ensures.1 in
+    let p = err_from_is_err_and c.from_residual.result c.from_residual.ensures.1 in
     rw (p.1, p.2)
     (c.in_err-followed.ensures.error (g.R.Source.remaining c.args.source.now) (g.W.Write.contents c.args.writer.now) c.cuts.invariant.0 c.cuts.invariant.1)
 
@@ -39,7 +39,7 @@ cuts-preserved g c =
 
 pub returns-in_err-followed-clause-first_cuts : goal.returns-in_err-followed-clause-first_cuts
 returns-in_err-followed-clause-first_cuts g c =
-    let p = err_from_is_err_and c.from_residual-in_err-followed.result c.from_residual-in_err-followed.ensures.1 in
+    let p = err_from_is_err_and c.from_residual.result c.from_residual.ensures.1 in
     rw (p.1, p.2)
     (c.in_err-followed.ensures.first_cuts (g.R.Source.remaining c.args.source.now) (g.W.Write.contents c.args.writer.now) c.cuts.invariant.0 c.cuts.invariant.1)
 
