@@ -6,7 +6,7 @@ use Rattle.std.proofs.lemmas.List.{get_or_past}
 use Rattle.std.proofs.lemmas.Option.{slice_get_within}
 use Rattle.history.specs.declared.op_id.OpId.{OpId}
 use Rattle.board.specs.Boards.{CaseState, SessionRows, Row, no_rows, session_of, row_of}
-use Rattle.board.specs.Events.{IsDueOf, IsRow, row_refusal, put_refusal}
+use Rattle.board.specs.Events.{IsDueOf, IsRow, row_refusal, put_refusal, refute_refusal}
 use Rattle.board.specs.Steps.InSessions.{HasRowAt}
 use Rattle.board.specs.declared.board_error.BoardError.{BoardError}
 use Rattle.board.specs.declared.board_error.BoardError.TheVariants.{Stranger}
@@ -56,3 +56,12 @@ module _ {M : Type 0} where
     put_is_row e s at =
         let taken : put_refusal place (Some s) mark o ≡ None = subst (λ (x : Option (CaseState M)). put_refusal place x mark o ≡ None) at e in
         waiting_row s o (waiting (row_of s o) (unless_other (place s.mark == place mark) (row_refusal (row_of s o)) taken))
+
+  -- the case that a pattern is taken against
+  pub refute_is_filed : (place : M → ℕ) (b : List (CaseState M)) (n : ℕ) (mark : M) (passes : Bool)
+      → refute_refusal place (slice_get b n) mark passes ≡ None → n < length b
+  refute_is_filed place b n mark passes e = there (slice_get b n) refl e
+    where
+      there : (x : Option (CaseState M)) → slice_get b n ≡ x → refute_refusal place x mark passes ≡ None → n < length b
+      there None at e = absurd cc
+      there (Some s) at e = slice_get_within b n s at

@@ -3,7 +3,7 @@ use Rattle.std.proofs.Common.{◌≡◌, ◌≢◌, ◌+◌, ◌-◌, ◌<◌, �
 use Rattle.std.specs.Io.KnownBytes.{Consumes, IsAtEnd}
 use Rattle.std.proofs.KnownBytes.{Consumes-nil, Consumes-trans}
 use Rattle.std.proofs.Math.Seq.{drop-append_seam}
-use Rattle.std.proofs.lemmas.List.{drop-append-le, drop-drop, drop_all, length-append, length-take-le, take_rest}
+use Rattle.std.proofs.lemmas.List.{drop-append-le, drop-drop, drop_all, length-append, length-drop, length-take, length-take-le, take_rest}
 use Rattle.std.proofs.lemmas.List.Elements.{All-append, All-nil}
 use Rattle.memchr.specs.Find.{IsFirstByte, is_byte}
 use Rattle.lines.specs.Lines.{lines_of}
@@ -276,3 +276,13 @@ module _ (input : Option (List ℕ)) (most : ℕ) (old new : Held) (a b : Option
   next-passed passes cut =
       let both = after next.last passes cut in
       record { piece = subst (λ (l : Bool). IsPiece input most old.at new.at l next.bytes.items) (sym long) both.0; after = both.1 }
+
+-- what is held of a read call after a line feed has no more bytes than the call may give
+pub few_held : (k m n room : ℕ) (old new xs : List ℕ) → old ≡ []
+    → length new ≤ length old + length (take k (drop m (take n xs))) → length xs ≡ room → length new ≤ room
+few_held k m n room old new xs none few size =
+    let first = length-take n xs in
+    let rest = length-drop m (take n xs) in
+    let last = length-take k (drop m (take n xs)) in
+    let empty = ap length none in
+    omega arith

@@ -1,6 +1,7 @@
 -- Where the first line of some bytes ends.
-use Rattle.std.proofs.Common.{◌≡◌, ◌≢◌, inl, inr, ◌<◌, ◌≤◌, ◌+◌, ℕ, List, ◌++◌, Some, None, length, take, slice_index, sym, ap, subst, ◌∙◌, arith, eqb-true, le_refl, take_all}
-use Rattle.std.proofs.lemmas.List.{get_or-append-add, length-append}
+use Rattle.std.proofs.Common.{◌≡◌, ◌≢◌, inl, inr, ◌<◌, ◌≤◌, ◌+◌, ◌-◌, drop, ℕ, List, ◌++◌, Some, None, length, take}
+use Rattle.std.proofs.Common.{slice_index, sym, ap, subst, ◌∙◌, arith, eqb-true, le_refl, take_all}
+use Rattle.std.proofs.lemmas.List.{get_or-append-add, length-append, length-drop}
 use Rattle.std.proofs.lemmas.Bool.{cases_lt}
 use Rattle.std.proofs.Math.Seq.{take-append-add}
 use Rattle.std.proofs.lemmas.List.Elements.{All-append}
@@ -29,6 +30,23 @@ pub feed_late : (most : ℕ) (xs : List ℕ) (k : ℕ) (end : LineEnd) → IsFir
 feed_late most xs k end found late is =
     let high : k < length xs = found.0.high in
     subst (λ (e : LineEnd). EndsIn most xs e) (sym is) (k, late, omega arith, free-before xs k found.0.before (omega arith))
+
+-- the bytes behind a place
+pub bytes_from : (xs ys : List ℕ) (at : ℕ) → xs ≡ ys → take (length xs - at) (drop at xs) ≡ drop at ys
+bytes_from xs ys at same = take_all (length xs - at) (drop at xs) (let size = length-drop at xs in omega arith) ∙ ap (drop at) same
+
+-- it is in bytes that are all there
+pub feed_within : (most : ℕ) (xs : List ℕ) (k : ℕ) (end : LineEnd) → IsFirstByte (is_byte 10) xs (Some k)
+    → (k ≤ most → end ≡ Feed k) → (most < k → end ≡ TooLong) → EndsIn most xs end
+feed_within most xs k end found near late =
+    elim (cases_lt most k) [
+      | inr few ↦ feed_found most xs k end found few (near few)
+      | inl long ↦ feed_late most xs k end found long (late long)
+    ]
+
+-- no line is longer than one read call and the most bytes of a line
+pub few_after : (most room : ℕ) (xs more ys : List ℕ) → ys ≡ xs ++ more → length xs ≤ most → length more ≤ room → length ys ≤ most + room
+few_after most room xs more ys whole few small = omega (arith, ap length whole, length-append xs more)
 
 pub none_free : (xs : List ℕ) → IsFirstByte (is_byte 10) xs None → IsFree xs
 none_free xs none = free-all xs none

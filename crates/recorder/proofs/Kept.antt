@@ -1,10 +1,12 @@
 -- What a session keeps, as it begins a call and as the call returns.
-use Rattle.std.proofs.Common.{◌≡◌, ℕ, ◌+◌, ◌<◌, ◌≤◌, List, [], ◌∷◌, ◌++◌, length, take, refl, sym, ◌∙◌, ap, subst, arith}
+use Rattle.std.proofs.Common.{◌≡◌, ℕ, ◌+◌, ◌<◌, ◌≤◌, List, [], ◌∷◌, ◌++◌, length, take, refl, sym, ◌∙◌, ap, subst, subst₂, arith}
 use Rattle.std.specs.Prelude.{Bool, true, map, Option, Some, None, option_map, slice_get}
 use Rattle.std.proofs.lemmas.List.{map-append}
+use Rattle.history.specs.declared.limits.TheConstants.{MAX_OPERATIONS}
 use Rattle.history.specs.declared.advice.Advice.{Advice}
 use Rattle.recorder.specs.Lanes.{Cells, Entry, Notes, Returned, Tells, IsLane, known, operation, operations}
-use Rattle.recorder.specs.Sessions.{SessionState, ReceiptState, CanReturn, HasFinished, begun, after_finish, receipt_of, Begun, IsSession}
+use Rattle.recorder.specs.Sessions.{SessionState, ReceiptState, CanReturn, HasFinished, Begun, IsSession}
+use Rattle.recorder.specs.Sessions.{begun, after_begin, after_finish, receipt_of, session_operation}
 use Rattle.std.proofs.lemmas.Option.{slice_get_within}
 use Rattle.recorder.proofs.Telling.{length_map, length_push, tells_many, tells_more, tells_none, operations_more, returned_more}
 
@@ -34,6 +36,25 @@ module _ {C R : Type 0} where
       (λ i. record { lane = lane; cells = cells; done = more i; pending = option_map (λ (q : Begun C R). q.call) (none i) }) ∙ ap (λ (s : SessionState C R). after_finish s b.call r a) view,
     )
 
+  module _ (lane : ℕ) (cells : Cells) (notes : List (ℕ × Option (Entry C R))) (pending : Option C) (old : SessionState C R)
+      (view : seen lane cells notes pending ≡ old) where
+    -- the session that is seen where the notes say the same, and after a call began
+    pub seen_again : (notes' : List (ℕ × Option (Entry C R))) → notes' ≡ notes → seen lane cells notes' pending ≡ old
+    seen_again notes' same = ap (λ (l : List (ℕ × Option (Entry C R))). seen lane cells l pending) same ∙ view
+
+    pub seen_begun : (notes' : List (ℕ × Option (Entry C R))) → notes' ≡ notes → (c d : C) → c ≡ d
+        → seen lane cells notes' (Some c) ≡ after_begin old d
+    seen_begun notes' same c d is = (λ i. seen lane cells (same i) (Some (is i))) ∙ ap (λ (s : SessionState C R). after_begin s d) view
+
+    -- the operation that begins
+    pub seen_next : (at : ℕ) → at ≡ length (operations notes) → session_operation lane at ≡ session_operation old.lane (length old.done)
+    seen_next at many =
+        ap (λ (n : ℕ). session_operation lane n) many ∙ ap (λ (s : SessionState C R). session_operation s.lane (length s.done)) view
+
+    -- fewer operations returned than there are places
+    pub seen_room : length old.done < length old.cells.calls → length (operations notes) < length cells.calls
+    seen_room room = subst (λ (s : SessionState C R). length s.done < length s.cells.calls) (sym view) room
+
   pub seen_receipt : (lane : ℕ) (cells others : Cells) (notes made notes' : List (ℕ × Option (Entry C R))) (c : C) (r : R) (a : Advice) (pending : Option C) → operations notes' ≡ operations notes ++ (c, r, a) ∷ [] → made ≡ notes → length notes ≡ length (operations notes) → others ≡ cells
       → ◌≡◌ {A = ReceiptState C R} (record { lane = lane; cells = take (length made + 1) others.returns; operations = operations made ++ (c, r, a) ∷ [] }) (receipt_of (seen lane cells notes' pending))
   seen_receipt lane cells others notes made notes' c r a pending e same many lanes =
@@ -58,6 +79,35 @@ module _ {C R : Type 0} (cells : Cells) (calls : Notes C) (returns : Notes (Entr
       let w : length calls.list ≤ length cells.calls = s.within in
       let v : length cells.returns ≡ length cells.calls = s.lane.even in
       omega arith
+
+  -- a session with no call pending, and fewer operations that returned than places
+  module _ (p : Option (Begun C R)) (none : p ≡ None) (s : IsSession cells calls returns p) where
+    pub call_count : length calls.list ≡ length (operations returns.list)
+    call_count = quiet_calls (subst (λ (q : Option (Begun C R)). IsSession cells calls returns q) none s)
+
+    pub call_place : length (operations returns.list) < length cells.calls
+        → (lane : Cells) → lane ≡ cells → (at : ℕ) → at ≡ length calls.list → at < length lane.calls
+    call_place room lane same at many = subst₂ (λ (n : ℕ) (l : Cells). n < length l.calls) (sym (many ∙ call_count)) (sym same) room
+
+    pub few_returns : length (operations returns.list) < length cells.calls → length returns.list ≤ MAX_OPERATIONS
+    few_returns room =
+        let short : length cells.calls ≤ MAX_OPERATIONS = s.lane.short in
+        let many : length returns.list ≡ length (operations returns.list) = return_count p s in
+        omega arith
+
+    -- it stays where the notes say the same
+    pub session_kept : (calls' : Notes C) (returns' : Notes (Entry C R)) → calls'.list ≡ calls.list
+        → returns'.list ≡ returns.list → IsSession cells calls' returns' p
+    session_kept calls' returns' e f = record {
+      lane = s.lane;
+      within = subst (λ (l : List (ℕ × Option C)). length l ≤ length cells.calls) (sym e) s.within;
+      called = subst₂
+          (λ (l : List (ℕ × Option C)) (k : List (ℕ × Option (Entry C R))).
+          Tells known cells.calls l (begun (operations k) (option_map (λ (b : Begun C R). b.call) p)))
+          (sym e) (sym f) s.called;
+      returned = subst (λ (l : List (ℕ × Option (Entry C R))). Tells operation cells.returns l (operations l)) (sym f) s.returned;
+      ready = λ d h. absurd (let e : None ≡ Some d = sym none ∙ h in cc);
+    }
 
   -- the session after it began a call
   session_begun_at : (calls' : Notes C) (returns' : Notes (Entry C R)) (b : Begun C R) (x : ℕ) → IsSession {C = C} {R = R} cells calls returns None → slice_get cells.calls (length calls.list) ≡ Some x

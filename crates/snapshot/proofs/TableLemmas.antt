@@ -11,7 +11,8 @@ use Rattle.cut_plan.specs.declared.cell.Cell.{Cell}
 use Rattle.cut_plan.specs.Plans.{Look, call_cell, return_cell}
 use Rattle.cut_plan.proofs.ListPlaces.{read_at, get_set_same, get_set_other}
 use Rattle.snapshot.specs.declared.longest.LongestReceipt.{LongestReceipt}
-use Rattle.snapshot.specs.Seals.{AreReceiptsOf, AreToldBy}
+use Rattle.snapshot.specs.Steps.Looking.{KeepsLanes}
+use Rattle.snapshot.specs.Seals.{LookerState, AreReceiptsOf, AreToldBy}
 use Rattle.snapshot.specs.Steps.Tables.{TableState, IsTable, AreTables, IsReturnFound, IsCallFound, IsLongest, IsLooker, TellsLooks}
 use Rattle.snapshot.proofs.FoundLooks.{tells_empty, tells_return, tells_call}
 
@@ -174,6 +175,18 @@ module _ {C R : Type 0} where
   -- a looker that looked at one more cell, and found it empty
   pub keeps_empty : {S : Type 0} (lanes : LanesState S) (rs : List (ReceiptState C R)) (told : List ℕ) (cap : ℕ) (looks looks' : List Look) (ts : List (TableState C R)) (c : Cell) → IsLooker lanes rs told cap looks ts → looks' ≡ looks ++ (c, false) ∷ [] → IsLooker lanes rs told cap looks' ts
   keeps_empty lanes rs told cap looks looks' ts c k e = record { of = k.of; counts = k.counts; within = k.within; places = k.places; tables = k.tables; looked = λ s t at. tells_empty looks looks' c e s t (k.looked s t at) }
+
+  -- a looker whose parts are these has the lanes, the receipts, the counts and the places of them
+  pub kept_lanes : {S : Type 0} {lanes : LanesState S} {rs : List (ReceiptState C R)} {told : List ℕ} {cap : ℕ}
+      {looks : List Look} {old : LookerState S C R} (looks' : List Look)
+      → ◌≡◌ {A = LookerState S C R} (record { lanes = lanes; receipts = rs; told = told; cap = cap; looks = looks }) old
+      → KeepsLanes old (record { lanes = lanes; receipts = rs; told = told; cap = cap; looks = looks' })
+  kept_lanes {S} looks' view = (
+    ap (λ (l : LookerState S C R). l.lanes) view,
+    ap (λ (l : LookerState S C R). l.receipts) view,
+    ap (λ (l : LookerState S C R). l.told) view,
+    ap (λ (l : LookerState S C R). l.cap) view,
+  )
 
   -- the count of a lane's longest receipt, which is this one
   module _ {S : Type 0} (lanes : LanesState S) (rs : List (ReceiptState C R)) (s n : ℕ) (best : LongestReceipt) (of : AreReceiptsOf lanes rs) (b : IsLongest rs s (length rs) best) (some : 0 < best.count) (r : ReceiptState C R) (at : slice_get rs best.at ≡ Some r) (many : n ≡ length r.operations) where

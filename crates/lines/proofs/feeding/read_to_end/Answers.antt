@@ -1,8 +1,10 @@
-use Rattle.std.proofs.Common.{◌≡◌, ◌++◌, ◌<◌, ◌≤◌, ◌+◌, length, rules, subst, sym, take, [], append-nil}
+use Rattle.std.proofs.Common.{◌≡◌, ◌++◌, ◌<◌, ◌≤◌, ◌+◌, arith, length, rules, subst, sym, take, [], append-nil}
+use Rattle.std.proofs.lemmas.List.{length-take-le}
+use Rattle.std.proofs.lemmas.Result.{err_from_is_err_and}
 use Rattle.memchr.specs.Find.{IsFirstByte, is_byte}
 use Rattle.lines.specs.Steps.{Takes}
 use Rattle.lines.specs.declared.feeding.LineEnd.TheVariants.{Feed, TooLong}
-use Rattle.lines.proofs.FeedingLaws.{feed_after, free_after, free_long}
+use Rattle.lines.proofs.FeedingLaws.{feed_after, few_after, free_after, free_long}
 use Rattle.lines.proofs.ReadCallLaws.{at_most_more, calls_more, calls_none}
 use Rattle.lines.proofs.TakingLaws.{takes-more, takes-none}
 use Rattle.lines.proofs.feeding.read_to_end.Goals as goal
@@ -92,3 +94,37 @@ returns-in_default-clause-found g c =
       ends = (c.loop.invariant.free, c.loop.invariant.short);
       over = given.1;
     }
+
+pub returns-in_default-clause-few : goal.returns-in_default-clause-few
+returns-in_default-clause-few g c = let short = c.loop.invariant.short in omega arith
+
+pub returns-clause-few : goal.returns-clause-few
+returns-clause-few g c = let short = c.loop.invariant.short in omega arith
+
+pub returns-in-Some-memchr-clause-few : goal.returns-in-Some-memchr-clause-few
+returns-in-Some-memchr-clause-few g c =
+    let given = rw c.in-Some.is at c.in_ok-count.ensures.given in
+    let more = take c.in-Some.count c.read_once.new.chunk in
+    let size : length more ≡ c.in-Some.count = length-take-le c.in-Some.count c.read_once.new.chunk given.0 in
+    let chunk = c.read_once.auto.chunk in
+    let first = c.loop.auto.chunk in
+    few_after c.args.most (length c.args.chunk.now) c.loop.bytes.items more c.extend_from_slice.new.self.items
+    c.in_ok-extend_from_slice.ensures.items c.loop.invariant.short (let many = given.0 in omega arith)
+
+pub returns-then-len-most-clause-few : goal.returns-then-len-most-clause-few
+returns-then-len-most-clause-few g c =
+    let given = rw c.in-Some.is at c.in_ok-count.ensures.given in
+    let more = take c.in-Some.count c.read_once.new.chunk in
+    let size : length more ≡ c.in-Some.count = length-take-le c.in-Some.count c.read_once.new.chunk given.0 in
+    let chunk = c.read_once.auto.chunk in
+    let first = c.loop.auto.chunk in
+    few_after c.args.most (length c.args.chunk.now) c.loop.bytes.items more c.extend_from_slice.new.self.items
+    c.in_ok-extend_from_slice.ensures.items c.loop.invariant.short (let many = given.0 in omega arith)
+
+pub returns-in_err-count-clause-kept : goal.returns-in_err-count-clause-kept
+returns-in_err-count-clause-kept g c =
+    let p = err_from_is_err_and c.from_residual.result c.from_residual.ensures.1 in
+    rw p.1 (g.R.Source.remaining c.loop.reader, c.loop.invariant.takes)
+
+pub returns-clause-kept : goal.returns-clause-kept
+returns-clause-kept g c = (g.R.Source.remaining c.loop.reader, c.loop.invariant.takes)

@@ -1,7 +1,17 @@
-use Rattle.std.proofs.Common.{◌∙◌, subst}
+use Rattle.std.proofs.Common.{◌≤◌, ◌∙◌, subst, sym}
+use Rattle.std.specs.Prelude.{slice_index}
 use Rattle.snapshot.specs.Seals.{AdvisesAll, HoldsAll, IsSealOf}
 use Rattle.snapshot.proofs.FoundByWalks.{found_by_walk}
 use Rattle.snapshot.proofs.sealing.seal.Goals as goal
+
+pub new-requires : goal.new-requires
+new-requires g c = c.requires
+
+pub new-requires-2 : goal.new-requires-2
+new-requires-2 g c = record {
+  many = c.told.ensures.counts.many ∙ sym c.lanes.ensures;
+  within = λ s. subst (λ n. slice_index c.told.result.now s ≤ n) (sym c.places.ensures.places) (c.told.ensures.within s);
+}
 
 pub returns-clause-holds : goal.returns-clause-holds
 returns-clause-holds g c = subst (λ rs. HoldsAll c.in_ok-sealed.field-0.history rs) (c.in_ok-walk.ensures.kept.1 ∙ c.in_ok-looker.ensures.receipts) c.in_ok-sealed.ensures.holds

@@ -1,15 +1,43 @@
-use Rattle.std.proofs.Common.{◌≡◌, ◌+◌, ◌≤◌, ◌∷◌, [], length, get_or, ap, sym, ◌∙◌, subst, arith}
+use Rattle.std.proofs.Common.{◌≡◌, ◌+◌, ◌<◌, ◌≤◌, ◌∷◌, [], length, get_or, refl, ap, sym, ◌∙◌, subst, subst₂, arith}
 use Rattle.std.specs.Prelude.{map, Some, slice_get}
+use Rattle.std.specs.List.{flat_map}
 use Rattle.std.proofs.lemmas.List.{map-append}
 use Rattle.std.proofs.lemmas.Option.{slice_get_within}
 use Rattle.recorder.proofs.Telling.{length_push, length_map}
 use Rattle.cut_plan.proofs.ListPlaces.{read_at}
 use Rattle.snapshot.proofs.TableLemmas.{table_at, lanes_many}
-use Rattle.snapshot.proofs.Histories.{count_in, lanes_more, lane_found, lanes_found_more}
+use Rattle.snapshot.proofs.Histories.{count_in, told_by, lanes_more, lane_found, lanes_found_more}
 use Rattle.snapshot.specs.Steps.Sealing.{IsLaneFound}
+use Rattle.snapshot.specs.Steps.Tables.{advised}
 use Rattle.snapshot.proofs.Advising.{lanes_advised_more}
 use Rattle.snapshot.proofs.FoundLooks.{count_is}
 use Rattle.snapshot.proofs.sealing.seal_lanes.Goals as goal
+
+pub loop-s-init : goal.loop-s-init
+loop-s-init g c =
+    let none : length c.new-lanes.result.items ≡ 0 = ap length c.new-lanes.ensures.items in
+    record {
+      sessions = ap length c.new-sessions.ensures.items;
+      lanes = none;
+      each = λ s es n lane e f at. absurd (let below = slice_get_within c.new-lanes.result.items s n f in omega arith);
+      advised = subst₂ (λ a l. a ≡ flat_map advised l) (sym c.new-advice.ensures.items) (sym c.new-lanes.ensures.items) refl;
+      found = λ s es l e f. absurd (let below = slice_get_within c.new-lanes.result.items s l f in omega arith);
+    }
+
+pub lane-requires : goal.lane-requires
+lane-requires g c = subst (λ n. c.loop-s.s < n) c.len-s-end.ensures.lanes c.loop-s-test.true
+
+pub index-requires : goal.index-requires
+index-requires g c =
+    let looker = c.looker.inside in
+    let tables = c.looker.invariant.tables in
+    let inside = lanes_many looker.lanes.now.cells looker.tables.items c.loop-s.s c.lane.result.now tables c.lane.ensures in
+    omega arith
+
+pub seal_lane-requires-clause-receipts : goal.seal_lane-requires-clause-receipts
+seal_lane-requires-clause-receipts g c =
+    told_by g.O.Recorded.fitting c.looker.inside.lanes.now c.looker.inside.receipts.now c.loop-s.s _ c.longest-best.result c.lane.result.now
+    c.looker.invariant.of c.longest-best.ensures c.lane.ensures
 
 pub seal_lane-requires-clause-within : goal.seal_lane-requires-clause-within
 seal_lane-requires-clause-within g c = count_in g.O.Recorded.fitting c.looker.inside.lanes.now c.looker.inside.receipts.now c.loop-s.s _ c.longest-best.result c.lane.result.now c.looker.invariant.of c.longest-best.ensures c.lane.ensures
@@ -48,3 +76,18 @@ loop-s-preserved g c = record {
 
 pub returns-clause-found : goal.returns-clause-found
 returns-clause-found g c = c.loop-s.invariant.found
+
+pub returns-clause-sealed : goal.returns-clause-sealed
+returns-clause-sealed g c =
+    let past : c.len-s-end.result ≤ c.loop-s.s = c.loop-s-test.false in
+    let within : c.loop-s.s ≤ c.len-s-end.result = c.loop-s.auto.s-end in
+    let end : c.loop-s.s ≡ c.len-s-end.result = omega arith in
+    let all = end ∙ (c.len-s-end.ensures.lanes ∙ ap (λ v. length v.lanes.cells) c.looker.view_is) in
+    record {
+      sessions = length_map (λ v. v.items) c.loop-s.sessions.items ∙ (c.loop-s.invariant.sessions ∙ all);
+      lanes = c.loop-s.invariant.lanes ∙ all;
+      each = c.loop-s.invariant.each;
+    }
+
+pub returns-clause-advised : goal.returns-clause-advised
+returns-clause-advised g c = c.loop-s.invariant.advised

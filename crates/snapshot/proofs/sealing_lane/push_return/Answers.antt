@@ -3,6 +3,9 @@ use Rattle.std.specs.Prelude.{Some}
 use Rattle.snapshot.proofs.TableLemmas.{shown_parts, fitting_parts}
 use Rattle.snapshot.proofs.sealing_lane.push_return.Goals as goal
 
+pub return_record-requires : goal.return_record-requires
+return_record-requires g c = record { place = c.requires.place; cell = c.requires.found.0 }
+
 pub returns : goal.returns
 returns g c = record {
   cell = c.return_record.new.note.cell;

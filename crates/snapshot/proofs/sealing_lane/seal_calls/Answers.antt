@@ -1,11 +1,30 @@
-use Rattle.std.proofs.Common.{◌≡◌, ◌+◌, ◌<◌, ◌≤◌, length, refl, ap, sym, ◌∙◌, subst, arith, rules}
+use Rattle.std.proofs.Common.{◌≡◌, ◌+◌, ◌++◌, ◌<◌, ◌≤◌, length, refl, ap, sym, ◌∙◌, subst, arith, rules}
 use Rattle.recorder.proofs.Telling.{length_push}
-use Rattle.std.specs.Prelude.{Some, None, false}
+use Rattle.std.specs.Prelude.{Some, None, false, map}
+use Rattle.std.proofs.lemmas.List.{append-nil}
+use Rattle.snapshot.specs.Steps.Sealing.{AreCallsRead}
 use Rattle.snapshot.specs.Steps.Tables.{has_note, is_note, no_advice}
 use Rattle.snapshot.proofs.FoundLooks.{one_more}
 use Rattle.snapshot.proofs.Advising.{mapped_more}
-use Rattle.snapshot.proofs.Sealings.{calls_more}
+use Rattle.snapshot.proofs.Sealings.{calls_more, calls_none}
 use Rattle.snapshot.proofs.sealing_lane.seal_calls.Goals as goal
+
+pub loop-i-init : goal.loop-i-init
+loop-i-init g c =
+    let operations = c.args.operations.now.items in
+    let before = c.args.advice.now.items in
+    let first : c.len-i.result ≡ length operations = search (rules, c.len-i.ensures) in
+    let none : length c.new-notes.result.list ≡ 0 = ap length c.new-notes.ensures in
+    record {
+      many = omega arith;
+      read = subst (λ l. AreCallsRead c.args.lane.now operations l operations) (sym c.new-notes.ensures)
+          (calls_none g.O.Recorded.fitting c.args.lane.now operations);
+      advised = subst (λ l. before ≡ before ++ map no_advice l) (sym c.new-notes.ensures) (sym (append-nil before));
+      found = λ i from below. absurd (omega (arith, from, below));
+    }
+
+pub call_note-requires : goal.call_note-requires
+call_note-requires g c = subst (λ n. c.loop-i.i < n) c.places-i-end.ensures.places c.loop-i-test.true
 
 pub loop-i-preserved : goal.loop-i-preserved
 loop-i-preserved g c =
@@ -45,3 +64,23 @@ returns-clause-found g c =
       full = λ i h k. c.loop-i.invariant.found i h (let k' : i < length c.loop-i.operations.items = k in omega arith);
       stops = λ h. absurd (let h' : length c.loop-i.operations.items < length c.args.table.now.calls = h in omega arith);
     }
+
+pub returns-in_default-clause-read : goal.returns-in_default-clause-read
+returns-in_default-clause-read g c = c.loop-i.invariant.read
+
+pub returns-in_default-clause-advised : goal.returns-in_default-clause-advised
+returns-in_default-clause-advised g c = c.loop-i.invariant.advised
+
+pub returns-clause-read : goal.returns-clause-read
+returns-clause-read g c = c.loop-i.invariant.read
+
+pub returns-clause-advised : goal.returns-clause-advised
+returns-clause-advised g c = c.loop-i.invariant.advised
+
+pub returns-in_default-clause-short : goal.returns-in_default-clause-short
+returns-in_default-clause-short g c =
+    let many = c.loop-i.invariant.many in
+    let read = c.loop-i.invariant.read.many in
+    let places : c.places-i-end.result ≡ length c.args.lane.now.calls = c.places-i-end.ensures.places in
+    let less : c.loop-i.i < c.places-i-end.result = c.loop-i-test.true in
+    λ short. omega arith

@@ -1,11 +1,34 @@
-use Rattle.std.proofs.Common.{◌≡◌, ◌+◌, ◌<◌, ◌≤◌, length, subst, ap, sym, ◌∙◌, arith, rules}
+use Rattle.std.proofs.Common.{◌≡◌, ◌+◌, ◌++◌, ◌<◌, ◌≤◌, length, subst, subst₂, ap, sym, ◌∙◌, arith, rules}
 use Rattle.recorder.proofs.Telling.{length_push}
-use Rattle.std.specs.Prelude.{Some, option_map, false}
+use Rattle.std.specs.Prelude.{Some, option_map, false, map}
+use Rattle.std.proofs.lemmas.List.{append-nil}
+use Rattle.snapshot.specs.Steps.Sealing.{AreReturnsRead}
 use Rattle.snapshot.specs.Steps.Tables.{advice_shown, has_note}
 use Rattle.snapshot.proofs.FoundLooks.{one_more}
 use Rattle.snapshot.proofs.Advising.{mapped_more}
-use Rattle.snapshot.proofs.Sealings.{returns_more, not_told}
+use Rattle.snapshot.proofs.Sealings.{returns_more, returns_none, not_told}
 use Rattle.snapshot.proofs.sealing_lane.seal_returns.Goals as goal
+
+pub loop-i-init : goal.loop-i-init
+loop-i-init g c =
+    let before = c.args.advice.now.items in
+    record {
+      many = ap length c.new-notes.ensures;
+      read = subst₂ (λ l es. AreReturnsRead g.O.Recorded.fitting c.args.lane.now l es) (sym c.new-notes.ensures) (sym c.requires.empty)
+          (returns_none g.O.Recorded.fitting c.args.lane.now);
+      advised = subst (λ l. before ≡ before ++ map advice_shown l) (sym c.new-notes.ensures) (sym (append-nil before));
+      found = λ i from below. absurd (omega (arith, below));
+    }
+
+pub return_note-requires-clause-place : goal.return_note-requires-clause-place
+return_note-requires-clause-place g c =
+    subst (λ n. c.loop-i.i < n) (c.places-i-end.ensures.places ∙ sym c.places-i-end.ensures.lane.even) c.loop-i-test.true
+
+pub push_return-requires : goal.push_return-requires
+push_return-requires g c = record {
+  place = subst (λ n. c.loop-i.i < n) (c.places-i-end.ensures.places ∙ sym c.places-i-end.ensures.lane.even) c.loop-i-test.true;
+  found = c.in-Some.ensures.found;
+}
 
 pub loop-i-preserved : goal.loop-i-preserved
 loop-i-preserved g c =
@@ -56,3 +79,33 @@ returns-clause-found g c =
       full = λ i h k. c.loop-i.invariant.found i h (let k' : i < length c.loop-i.notes.list = k in omega arith);
       stops = λ h. absurd (let h' : length c.loop-i.notes.list < length c.args.table.now.returns = h in omega arith);
     }
+
+pub returns-in_default-clause-read : goal.returns-in_default-clause-read
+returns-in_default-clause-read g c = c.loop-i.invariant.read
+
+pub returns-in_default-clause-told : goal.returns-in_default-clause-told
+returns-in_default-clause-told g c =
+    subst (λ n. c.args.best.count ≤ n) (sym c.loop-i.invariant.many) (not_told c.args.best.count c.loop-i.i c.in_default.ensures.told)
+
+pub returns-in_default-clause-short : goal.returns-in_default-clause-short
+returns-in_default-clause-short g c =
+    let many : length c.loop-i.notes.list ≡ c.loop-i.i = c.loop-i.invariant.many in
+    let places : c.places-i-end.result ≡ length c.args.lane.now.calls = c.places-i-end.ensures.places in
+    let less = c.loop-i-test.true in
+    omega arith
+
+pub returns-in_default-clause-advised : goal.returns-in_default-clause-advised
+returns-in_default-clause-advised g c = c.loop-i.invariant.advised
+
+pub returns-clause-read : goal.returns-clause-read
+returns-clause-read g c = c.loop-i.invariant.read
+
+pub returns-clause-short : goal.returns-clause-short
+returns-clause-short g c =
+    let many : length c.loop-i.notes.list ≡ c.loop-i.i = c.loop-i.invariant.many in
+    let places : c.places-i-end.result ≡ length c.args.lane.now.calls = c.places-i-end.ensures.places in
+    let end : c.loop-i.i ≤ c.places-i-end.result = c.loop-i.auto.i-end in
+    omega arith
+
+pub returns-clause-advised : goal.returns-clause-advised
+returns-clause-advised g c = c.loop-i.invariant.advised

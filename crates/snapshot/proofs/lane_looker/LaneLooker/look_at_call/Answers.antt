@@ -1,7 +1,9 @@
-use Rattle.std.proofs.Common.{◌≡◌, arith, subst, sym}
-use Rattle.std.specs.Prelude.{Some, slice_get}
+use Rattle.std.proofs.Common.{◌≡◌, ◌∷◌, ◌++◌, [], arith, ap, subst, sym, ◌∙◌}
+use Rattle.std.specs.Prelude.{Some, slice_get, true, false}
+use Rattle.std.proofs.lemmas.Result.{err_from_is_err_and}
 use Rattle.cut_plan.specs.declared.cell.Cell.TheVariants.{Call}
-use Rattle.snapshot.proofs.TableLemmas.{call_place, keeps_call, keeps_empty, lanes_many}
+use Rattle.snapshot.specs.Steps.Tables.{IsLooker}
+use Rattle.snapshot.proofs.TableLemmas.{kept_lanes, call_place, keeps_call, keeps_empty, lanes_many}
 use Rattle.snapshot.proofs.lane_looker.LaneLooker.look_at_call.Goals as goal
 
 pub index_mut-requires : goal.index_mut-requires
@@ -32,3 +34,28 @@ invariant_of-self-in_default g c =
     let empty = rw c.in_default.is at c.is_some.ensures in
     keeps_empty c.self.inside.lanes.now c.self.inside.receipts.now c.self.inside.told.items c.self.inside.cap c.self.inside.looks.items c.push.new.self.items c.self.inside.tables.items
     (Call c.args.op) c.self.invariant (rw empty at c.in_ok-push.ensures.items)
+
+pub invariant_of-self : goal.invariant_of-self
+invariant_of-self g c =
+    let inside = c.self.inside in
+    subst (λ looks. IsLooker inside.lanes.now inside.receipts.now inside.told.items inside.cap looks inside.tables.items)
+    (sym c.in_err-push.ensures.items) c.self.invariant
+
+pub returns-clause-looked : goal.returns-clause-looked
+returns-clause-looked g c =
+    let full = rw c.in-Some.is at c.is_some.ensures in
+    let pushed : c.push.new.self.items ≡ c.self.inside.looks.items ++ (Call c.args.op, true) ∷ [] =
+    rw full at c.in_ok-push.ensures.items in
+    (kept_lanes c.push.new.self.items c.self.view_is, pushed ∙ ap (λ l. l.looks ++ (Call c.args.op, true) ∷ []) c.self.view_is)
+
+pub returns-in_default-clause-looked : goal.returns-in_default-clause-looked
+returns-in_default-clause-looked g c =
+    let empty = rw c.in_default.is at c.is_some.ensures in
+    let pushed : c.push.new.self.items ≡ c.self.inside.looks.items ++ (Call c.args.op, false) ∷ [] =
+    rw empty at c.in_ok-push.ensures.items in
+    (kept_lanes c.push.new.self.items c.self.view_is, pushed ∙ ap (λ l. l.looks ++ (Call c.args.op, false) ∷ []) c.self.view_is)
+
+pub returns-in_err-push-clause-refused : goal.returns-in_err-push-clause-refused
+returns-in_err-push-clause-refused g c =
+    let p = err_from_is_err_and c.from_residual.result c.from_residual.ensures.1 in
+    rw p.1 (kept_lanes c.push.new.self.items c.self.view_is, c.in_err-push.ensures.items ∙ ap (λ l. l.looks) c.self.view_is)

@@ -1,9 +1,20 @@
 use Rattle.std.proofs.Common.{rules, arith, ◌≡◌, ◌<◌, ◌+◌, ◌++◌, ◌∷◌, [], ℕ, length, map, ap, subst, sym, ◌∙◌}
 use Rattle.std.proofs.lemmas.List.{length-append, map-append}
 use Rattle.history.specs.History.{IsSession}
-use Rattle.world.specs.Steps.Recordings.{IsLane, lane_of}
+use Rattle.world.specs.Steps.Recordings.{IsLane, found_lanes, lane_of}
 use Rattle.world.proofs.Kept.{each_more, found_here, found_pushed, found_session, same_lane}
 use Rattle.world.proofs.recording.Recording.sealed.Goals as goal
+
+pub returns : goal.returns
+returns g c = λ p stands many.
+    let within = c.loop-s.auto.s-end in
+    let past = c.loop-s-test.false in
+    let end = c.len-s-end.ensures in
+    let viewed = ap (λ w. length w.lanes) c.self.view_is in
+    let all : c.loop-s.s ≡ length c.args.self.now.lanes = omega arith in
+    let begins = c.in_ok-start.ensures ∙ ap (λ w. w.start) c.self.view_is in
+    let found = c.loop-s.invariant.found p stands many ∙ ap (λ (n : ℕ). found_lanes c.args.self.now p 0 n) all in
+    c.of.ensures ∙ (λ i. (begins i, found i))
 
 pub loop-s-preserved : goal.loop-s-preserved
 loop-s-preserved g c =

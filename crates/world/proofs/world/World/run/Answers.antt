@@ -1,6 +1,19 @@
-use Rattle.std.proofs.Common.{rules, ◌<◌, ◌≤◌, length}
-use Rattle.world.proofs.Running.{has_run_more, has_run_all}
+use Rattle.std.proofs.Common.{[], rules, ◌<◌, ◌≤◌, length, subst, sym}
+use Rattle.world.specs.Steps.Worlds.{ShowsWorld}
+use Rattle.world.proofs.Running.{HasRun, has_run_none, has_run_more, has_run_all}
 use Rattle.world.proofs.world.World.run.Goals as goal
+
+pub loop-i-init : goal.loop-i-init
+loop-i-init g c =
+    let matches = g.O.SeqObject.matches in
+    let answer = g.O.SeqObject.answer in
+    let passes = g.O.Refutable.passes in
+    let start = c.args.start.now in
+    let recording = c.in_ok-world.world.recording in
+    let cases = c.in_ok-world.world.cases in
+    let shows = subst (λ s. ShowsWorld answer s c.args.k [] recording cases) c.in_ok-first.ensures c.in_ok-world.ensures in
+    subst (λ replies. HasRun matches answer passes start c.args.k [] replies recording cases) (sym c.in_ok-replies.ensures.items)
+    (has_run_none matches answer passes start c.args.k recording cases shows)
 
 pub loop-i-preserved : goal.loop-i-preserved
 loop-i-preserved g c =
@@ -12,3 +25,10 @@ pub returns-clause-replies : goal.returns-clause-replies
 returns-clause-replies g c =
     let all : length c.args.steps.now ≤ c.loop-i.i = search rules in
     (has_run_all g.O.SeqObject.matches g.O.SeqObject.answer g.O.Refutable.passes c.args.start.now c.args.k c.args.steps.now c.loop-i.i c.loop-i.replies.items c.loop-i.world.recording c.loop-i.world.cases all c.loop-i.invariant).run
+
+pub returns-clause-many : goal.returns-clause-many
+returns-clause-many g c =
+    let all : length c.args.steps.now ≤ c.loop-i.i = search rules in
+    let world = c.loop-i.world in
+    (has_run_all g.O.SeqObject.matches g.O.SeqObject.answer g.O.Refutable.passes c.args.start.now c.args.k c.args.steps.now c.loop-i.i
+    c.loop-i.replies.items world.recording world.cases all c.loop-i.invariant).many
