@@ -20,13 +20,11 @@ pub fn program_order<O: SeqObject>(alloc: Global, h: &History<O>) -> Result<Vect
     ensures shape { IfOk result (AreVectorsOf h.now) }
     ensures exact { IfOk result (λ v. (o : Operation) → IsOp h.now o → IsOwnVector (length h.now.1) o (list_of v o)) }
 {
-    Vectors::from_sessions(
-        alloc,
-        h.sessions(),
-        |session|
-            requires { session < length h.now.1 }
-        { own_vectors(alloc, h, session) },
-    )
+    let mut vectors = Vectors::new(alloc);
+    for session in 0..h.sessions() {
+        vectors.push_rows(own_vectors(alloc, h, session)?)?;
+    }
+    Ok(vectors)
 }
 
 /// The vectors of the operations of a session.

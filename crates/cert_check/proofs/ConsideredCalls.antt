@@ -1,7 +1,7 @@
 -- What an object is asked to take in for one answer: the calls on which that may depend, and no others.
 use Rattle.std.proofs.Common.{◌≡◌, Bool, true, false, ℕ, ◌+◌, List, [], ◌∷◌, ◌++◌, take, drop, reverse, refl, sym, ap, ◌∙◌, subst, ⊎_elim, append_assoc}
 use Rattle.std.specs.List.{cons_option}
-use Rattle.std.specs.Prelude.{IsTrue, Option, Some, filter, option_map, slice_get}
+use Rattle.std.specs.Prelude.{◌↔◌, IsTrue, Option, None, Some, filter, option_map, slice_get}
 use Rattle.std.proofs.lemmas.Bool.{cases_Bool, cond-true, cond-false}
 use Rattle.std.proofs.lemmas.List.{take-append-drop, drop_more, reverse-append}
 use Rattle.std.proofs.lemmas.List.Elements.{filter-append, filter_map-append}
@@ -40,6 +40,25 @@ module _ {S C R : Type 0} (answer : S → List C → C → R) (h : HistoryValue 
   pub answered_alike : (xs ys : List C) → answer h.0 xs c ≡ answer h.0 ys c → IsAnsweredBy answer h ys o → IsAnsweredBy answer h xs o
   answered_alike xs ys same answered d r known =
       answered d r known ∙ sym (subst (λ (x : C). answer h.0 xs x ≡ answer h.0 ys x) (same_call d r known) same)
+
+-- an operation has the call and the known return that were found
+entry_is : {C R : Type 0} (found : Option (C × Option R)) (call : C) (known : R) → option_map (λ (e : C × Option R). e.0) found ≡ Some call
+    → option_map (λ (e : C × Option R). e.1) found ≡ Some (Some known) → found ≡ Some (call, Some known)
+entry_is None call known calls returns = absurd cc
+entry_is (Some e) call known calls returns = λ i. Some (same_Some _ _ calls i, same_Some _ _ returns i)
+
+-- a known return equals what was answered after some calls exactly where it is the answer after them
+pub known_answered : {S C R : Type 0} (answer : S → List C → C → R) (h : HistoryValue S C R) (o : OpId) (call : C) (known given : R) → IsCallOf h o call
+    → option_map (λ (e : C × Option R). e.1) (entry h o) ≡ Some (Some known) → (cs : List C) → given ≡ answer h.0 cs call
+    → (told : Bool) → (told ≡ true) ↔ (known ≡ given) → IsTrue told ↔ IsAnsweredBy answer h cs o
+known_answered {S} {C} {R} answer h o call known given calls returns cs answered told equal =
+    let found = entry_is (entry h o) call known calls returns in (
+      (λ t c r is.
+          let same : Some (call, Some known) ≡ Some (c, Some r) = sym found ∙ is in
+          let pair = same_Some _ _ same in
+          same_Some _ _ (sym (ap (λ (e : C × Option R). e.1) pair)) ∙ equal.0 t ∙ answered ∙ ap (λ (e : C × Option R). answer h.0 cs e.0) pair),
+      λ by. equal.1 (by call known found ∙ sym answered),
+    )
 
 -- what passes no test is left out of a list
 pub none_kept : {X : Type 0} (p : X → Bool) → ((x : X) → p x ≡ false) → (xs : List X) → filter p xs ≡ []

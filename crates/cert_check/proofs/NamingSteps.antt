@@ -182,9 +182,15 @@ module _ (list : List ℕ) (i n s : ℕ) (within : i < length list) (is : s ≡ 
   pub session_inside : s < length counts
   session_inside = last_inside list i n s stands_here counts at
 
-  pub named_last : (later : List ℕ) → later ≡ set counts s (get_or counts s 0 - 1) → StandsAt (named list) i (op s (get_or later s 0))
-  named_last later off =
-      next_stands list i n s stands_here later (subst (AreCountsAt list i n) (sym off) (counted_off list i n s stands_here counts at))
+  pub session_counted : 1 ≤ get_or counts s 0
+  session_counted = last_counted list i n s stands_here counts at
+
+  module _ (later : List ℕ) (off : later ≡ set counts s (get_or counts s 0 - 1)) where
+    pub counts_here : AreCountsAt list i n later
+    counts_here = subst (AreCountsAt list i n) (sym off) (counted_off list i n s stands_here counts at)
+
+    pub named_last : StandsAt (named list) i (op s (get_or later s 0))
+    named_last = next_stands list i n s stands_here later counts_here
 
 -- an operation that is named up to a place, but not there, is named before it
 pub named_before : (list : List ℕ) (i : ℕ) (next o : OpId) → StandsAt (named list) i next → next ≢ o

@@ -33,6 +33,25 @@ needs-push v s n needs need size before here = (
       (cases_lt i n),
 )
 
+-- the needs of one session more
+pub session-push : (v : Counts) (n : ℕ) (listed : List (List Need)) (row : List Need) → length listed ≡ n
+    → ((s i : ℕ) → s < n → i < length (get_or listed s []) → IsNeedOf v (op s i) (get_or (get_or listed s []) i Everything))
+    → ((i : ℕ) → i < length row → IsNeedOf v (op n i) (get_or row i Everything))
+    → (length (listed ++ row ∷ []) ≡ n + 1) × ((s i : ℕ) → s < n + 1 → i < length (get_or (listed ++ row ∷ []) s [])
+    → IsNeedOf v (op s i) (get_or (get_or (listed ++ row ∷ []) s []) i Everything))
+session-push v n listed row size before here = (
+  length_push listed row ∙ ap (λ (k : ℕ). k + 1) size,
+  λ s i below. ⊎_elim
+      (λ (old : s < n).
+      subst (λ (xs : List Need). i < length xs → IsNeedOf v (op s i) (get_or xs i Everything))
+      (sym (get_or_append_left listed (row ∷ []) [] s (let same = size in omega arith))) (before s i old))
+      (λ (new : n ≤ s).
+      let last : n ≡ s = omega arith in
+      subst₂ (λ (k : ℕ) (xs : List Need). i < length xs → IsNeedOf v (op k i) (get_or xs i Everything)) last
+      (sym (get_or_push listed row [] s (size ∙ last))) (here i))
+      (cases_lt s n),
+)
+
 -- what is listed for no operation needs nothing to be known
 pub needs_from_lists : (v : Counts) (needs : List (List Need))
     → ((s i : ℕ) → s < length needs → i < length (get_or needs s []) → IsNeedOf v (op s i) (get_or (get_or needs s []) i Everything))

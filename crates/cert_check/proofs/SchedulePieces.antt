@@ -6,7 +6,7 @@ use Rattle.std.proofs.lemmas.Option.{slice_get_within}
 use Rattle.history.specs.declared.op_id.OpId.{OpId}
 use Rattle.history.specs.History.{HistoryValue, calls, entry}
 use Rattle.causal_order.specs.Orders.{Ops, StandsAt, only, program_past}
-use Rattle.causal_order.specs.Vectors.{Counts, count, IsVectorOk}
+use Rattle.causal_order.specs.Vectors.{Counts, count, list_of, IsVectorOk}
 use Rattle.causal_order.specs.Schedules.{placed}
 use Rattle.cert_check.specs.Certificates.{counted, IsScheduledPiece}
 use Rattle.cert_check.specs.Criteria.{Explains}
@@ -42,6 +42,15 @@ module _ {S C R : Type 0} (h : HistoryValue S C R) (v : Counts) (o : OpId) (list
 
   pub schedule-ends : IsSchedule h v o list → (n : ℕ) (counts : List ℕ) → AreCountsAt list (length list) n counts → (s : ℕ) → get_or counts s 0 ≡ count v o s
   schedule-ends good n counts at s = counts_at_end list n counts at s ∙ good.ends s
+
+  -- the counts at the end of a schedule are those of the vector
+  pub schedule-counts : IsSchedule h v o list → (n : ℕ) (counts : List ℕ) → counts ≡ list_of v o → length (list_of v o) ≡ n
+      → AreCountsAt list (length list) n counts
+  schedule-counts good n counts is size = record {
+    width = ap (λ (xs : List ℕ). length xs) is ∙ size;
+    each = λ s. ap (λ (xs : List ℕ). get_or xs s 0) is ∙ sym (good.ends s)
+        ∙ sym (ap (λ (xs : List ℕ). placed xs s) (take_all (length list) list (omega arith)));
+  }
 
   pub schedule-names : IsSchedule h v o list → NamesOperations h list
   schedule-names good = record { each = λ k a there. good.existing k a there }

@@ -160,8 +160,7 @@ impl Naming {
         requires counted { 1 ≤ slice_index_or self.old.counts.items session 0 }
         ensures { self.new.counts.items ≡ slice_set self.old.counts.items session (slice_index_or self.old.counts.items session 0 - 1) }
     {
-        let count = self.counts.get(session).copied().unwrap_or(0);
-        self.counts[session] = count - 1;
+        self.counts[session] -= 1;
     }
 
     /// Goes back over a place of a list, and gives the operation that the list names there.
@@ -173,8 +172,7 @@ impl Naming {
     {
         let session = usize::from(list[place]);
         self.count_off(session);
-        let index = self.counts.get(session).copied().unwrap_or(0);
-        OpId::at(session, usize::from(index))
+        OpId::at(session, usize::from(self.counts[session]))
     }
 
     /// Goes back from the end of a list to the place of an operation in it. O(p) for p numbers from there on.

@@ -1,5 +1,5 @@
 -- Where the entries of a session stand among those of all sessions.
-use Rattle.std.specs.Prelude.{◌≡◌, ℕ, ◌+◌, ◌-◌, ◌<◌, ◌≤◌, List, [], Option, None, slice_index_or, length, take, drop}
+use Rattle.std.specs.Prelude.{◌≡◌, ℕ, ◌+◌, ◌-◌, ◌<◌, ◌≤◌, List, Option, None, slice_index_or, length, drop}
 use Rattle.std.proofs.Common.{suc, arith, ap, ◌∙◌}
 use Rattle.std.proofs.lemmas.List.{length-drop, length-take-le}
 use Rattle.history.specs.declared.advice.Advice.{Advice}

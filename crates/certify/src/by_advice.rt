@@ -88,15 +88,11 @@ fn reported_schedules<O: SeqObject>(
     ensures exact { IfOk result (λ schedules. (o : Operation) → IsOp h.now o
         → IsToldSchedule O.query h.now advice.now vectors.now ops.now o (list_of schedules o)) }
 {
-    Schedules::from_sessions(
-        alloc,
-        h.sessions(),
-        |session|
-            requires advised { IsAdvised h.now advice.now }
-            requires few { length h.now.1 ≤ MAX_SESSIONS }
-            requires exists { session < length h.now.1 }
-        { reported_schedules_of(alloc, h, advice, vectors, ops, session) },
-    )
+    let mut schedules = Schedules::new(alloc);
+    for session in 0..h.sessions() {
+        schedules.push_rows(reported_schedules_of(alloc, h, advice, vectors, ops, session)?)?;
+    }
+    Ok(schedules)
 }
 
 /// The schedules of the operations of a session.

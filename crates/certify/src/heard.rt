@@ -83,15 +83,11 @@ pub(crate) fn reported_vectors<O: SeqObject>(
     ensures shape { IfOk result (AreVectorsOf h.now) }
     ensures exact { IfOk result (AreToldVectors h.now advice.now) }
 {
-    Vectors::from_sessions(
-        alloc,
-        h.sessions(),
-        |session|
-            requires advised { IsAdvised h.now advice.now }
-            requires few { length h.now.1 ≤ MAX_SESSIONS }
-            requires exists { session < length h.now.1 }
-        { vectors_of(alloc, h, advice, session) },
-    )
+    let mut vectors = Vectors::new(alloc);
+    for session in 0..h.sessions() {
+        vectors.push_rows(vectors_of(alloc, h, advice, session)?)?;
+    }
+    Ok(vectors)
 }
 
 /// The vectors of the operations of a session.

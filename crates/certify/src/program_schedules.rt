@@ -21,14 +21,11 @@ pub(crate) fn own_schedules<O: SeqObject>(
     ensures shape { IfOk result (HasOneEach h.now) }
     ensures exact { IfOk result (AreOwnSchedules h.now) }
 {
-    Schedules::from_sessions(
-        alloc,
-        h.sessions(),
-        |session|
-            requires few { length h.now.1 ≤ MAX_SESSIONS }
-            requires exists { session < length h.now.1 }
-        { schedules_of(alloc, h, session) },
-    )
+    let mut schedules = Schedules::new(alloc);
+    for session in 0..h.sessions() {
+        schedules.push_rows(schedules_of(alloc, h, session)?)?;
+    }
+    Ok(schedules)
 }
 
 /// The schedules of the operations of a session.

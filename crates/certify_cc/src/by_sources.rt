@@ -77,16 +77,11 @@ fn schedules_by_sources(
         → IsScheduleFor order.now vectors.now o (list_of schedules o)) }
 {
     let whole = walk_of_all(alloc, order.memory().history(), vectors)?;
-    Schedules::from_sessions(
-        alloc,
-        order.memory().history().sessions(),
-        |session|
-            requires counts { CountsSourceOrder order.now vectors.now }
-            requires whole { IsWalkOfAll vectors.now whole }
-            requires few { length order.now.1 ≤ MAX_SESSIONS }
-            requires exists { session < length order.now.1 }
-        { schedules_of(alloc, order, vectors, &whole, session) },
-    )
+    let mut schedules = Schedules::new(alloc);
+    for session in 0..order.memory().history().sessions() {
+        schedules.push_rows(schedules_of(alloc, order, vectors, &whole, session)?)?;
+    }
+    Ok(schedules)
 }
 
 /// The schedules of the operations of a session, each cut from where the one before it parts from it.

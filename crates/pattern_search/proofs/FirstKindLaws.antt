@@ -1,6 +1,6 @@
 -- Which kind of bad pattern comes first, of those that are present.
 use Rattle.std.proofs.Common.{◌<◌, ap, arith, inl, inr, refl, sym, subst, ⊎_elim, ◌∙◌}
-use Rattle.std.specs.Prelude.{◌≡◌, ◌≢◌, ◌⊎◌, IsTrue, Some, true}
+use Rattle.std.specs.Prelude.{◌≡◌, ◌≢◌, ◌⊎◌, IsTrue, Some}
 use Rattle.cert_check.specs.declared.criterion.Criterion.{Criterion}
 use Rattle.cert_check.specs.declared.criterion.Criterion.TheVariants.{Cc, Cm, Ccv}
 use Rattle.memory_order.specs.HappenedBeforePatterns.{HasStartOverwrittenInHB}
@@ -12,7 +12,6 @@ use Rattle.memory_order.proofs.FirstWrites.{CO-by_sources}
 use Rattle.bad_patterns.specs.declared.kind.Kind.{Kind}
 use Rattle.bad_patterns.specs.declared.kind.Kind.TheVariants.{CyclicCO, ThinAirRead, WriteCOInitRead, WriteCORead, WriteHBInitRead, CyclicHB, CyclicCF}
 use Rattle.bad_patterns.specs.declared.pattern.Pattern.{Pattern}
-use Rattle.bad_patterns.specs.declared.pattern.Pattern.TheVariants as patterns
 use Rattle.bad_patterns.specs.Kinds.{is_against, IsFreeOf, IsPresent}
 use Rattle.bad_patterns.specs.Patterns.{kind_of}
 use Rattle.pattern_search.specs.FirstKinds.{ComesFirst, ComesFirstOrLarge, place_of}

@@ -1,5 +1,5 @@
 -- Reads whose sources come with them, and those whose sources were known before.
-use Rattle.std.specs.Prelude.{◌≡◌, ◌⊎◌, ℕ, ◌-◌, ◌<◌, Option}
+use Rattle.std.specs.Prelude.{◌≡◌, ℕ, ◌-◌, ◌<◌, Option}
 use Rattle.std.proofs.Common.{arith, inl, inr, ⊎_elim, subst, eq-or-lt_of_le}
 use Rattle.history.specs.declared.op_id.OpId.{OpId}
 use Rattle.history.specs.History.{IsOp, Precedes}

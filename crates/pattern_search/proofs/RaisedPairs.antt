@@ -1,5 +1,5 @@
 -- What right raises rest on: the causal order, or raises before them.
-use Rattle.std.proofs.Common.{◌≡◌, ◌⊎◌, ℕ, zero, suc, ◌+◌, ◌-◌, ◌<◌, ◌≤◌, List, length, inl, inr, ⊎_elim, sym, ap, subst, arith, eq-or-lt_of_le}
+use Rattle.std.proofs.Common.{◌≡◌, ◌⊎◌, ℕ, zero, suc, ◌+◌, ◌<◌, ◌≤◌, List, length, inl, inr, ⊎_elim, sym, ap, subst, arith, eq-or-lt_of_le}
 use Rattle.std.specs.Prelude.{Some, slice_get}
 use Rattle.std.proofs.lemmas.Bool.{cases_eq}
 use Rattle.std.proofs.lemmas.Option.{slice_get_within}
@@ -13,7 +13,6 @@ use Rattle.memory_order.specs.Relations.{CO, HB, IsPast}
 use Rattle.memory_order.specs.SourceOrder.{CountsSourceOrder, IsSourceEdge, SourceOrder}
 use Rattle.memory_order.specs.Steps.HappenedBefores.{AreStrictOf}
 use Rattle.memory_order.specs.Steps.Indexed.{IsSourcePast}
-use Rattle.causal_order.specs.Orders.{op}
 use Rattle.causal_order.specs.Vectors.{Counts, count, IsCounted}
 use Rattle.memory_order.proofs.FirstWrites.{CO-by_sources, CO-from_sources}
 use Rattle.memory_order.proofs.HappenedBeforeLaws.{HB-inside, past-of_history, past-program}

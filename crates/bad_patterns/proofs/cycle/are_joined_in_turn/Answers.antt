@@ -1,6 +1,7 @@
-use Rattle.std.proofs.Common.{arith, refl, subst₂, ◌<◌, ◌≤◌, length}
+use Rattle.std.proofs.Common.{arith, refl, sym, subst₂, ◌<◌, ◌≤◌, length}
+use Rattle.std.proofs.lemmas.Bool.{both_ways}
 use Rattle.bad_patterns.specs.Paths.{AreJoined}
-use Rattle.bad_patterns.proofs.Neighbours.{related-next, related-end}
+use Rattle.bad_patterns.proofs.Neighbours.{related-at, related-end, related-next}
 use Rattle.bad_patterns.proofs.cycle.are_joined_in_turn.Goals as goal
 
 pub loop-i-preserved : goal.loop-i-preserved
@@ -13,3 +14,16 @@ pub returns : goal.returns
 returns c =
     let ended : length c.args.links.now ≤ c.loop-i.i = omega arith in
     (λ _. related-end AreJoined c.args.links.now c.loop-i.i ended c.loop-i.invariant, λ _. refl)
+
+pub loop-i-init : goal.loop-i-init
+loop-i-init c = λ k a b below at next. absurd (omega arith)
+
+pub returns-then-not-are_joined : goal.returns-then-not-are_joined
+returns-then-not-are_joined c = (
+  (λ t. absurd cc),
+  λ joined.
+      let some : 0 < c.loop-i.i = omega arith in
+      let here = related-at AreJoined c.args.links.now c.loop-i.i _ _ some c.loop-i-test.true joined in
+      absurd (both_ways c.are_joined.result c.if-not-are_joined.true
+      (c.are_joined.ensures.1 (subst₂ AreJoined (sym c.index-links-i.is) (sym c.index-links-i-in-loop-i.is) here))),
+)

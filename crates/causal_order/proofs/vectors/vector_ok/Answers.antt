@@ -2,9 +2,21 @@ use Rattle.std.proofs.Common.{◌≤◌, ◌∙◌, arith, length, sym}
 use Rattle.std.proofs.lemmas.Bool.{both_ways}
 use Rattle.history.specs.History.{session}
 use Rattle.causal_order.specs.Vectors.{count}
-use Rattle.causal_order.proofs.VectorsLaws.{vector_ok-made, vector_ok-others}
+use Rattle.causal_order.proofs.VectorsLaws.{HasListOf-of_history, vector_ok-made, vector_ok-others}
 use Rattle.causal_order.proofs.vectors.vector_ok.Goals as goal
 use Rattle.causal_order.proofs.vectors.vector_ok.Goals.{then-counts_itself_last, else-counts_itself_last, then-counts_existing, else-counts_existing}
+
+pub counts_itself_last-requires : goal.counts_itself_last-requires
+counts_itself_last-requires g c = HasListOf-of_history c.args.h.now c.args.v.now c.args.op c.requires.shape.one_each c.requires.is_op
+
+pub counts_existing-requires-after_bounds : goal.counts_existing-requires-after_bounds
+counts_existing-requires-after_bounds g c = λ _ _. HasListOf-of_history c.args.h.now c.args.v.now c.args.op c.requires.shape.one_each c.requires.is_op
+
+pub counts_with_predecessor-requires : goal.counts_with_predecessor-requires
+counts_with_predecessor-requires g c = record { own = HasListOf-of_history c.args.h.now c.args.v.now c.args.op c.requires.shape.one_each c.requires.is_op }
+
+pub counts_with_others-requires-clause-own : goal.counts_with_others-requires-clause-own
+counts_with_others-requires-clause-own g c = HasListOf-of_history c.args.h.now c.args.v.now c.args.op c.requires.shape.one_each c.requires.is_op
 
 pub returns-then-counts_with_predecessor : goal.returns-then-counts_with_predecessor
 returns-then-counts_with_predecessor g c = elim c.if-counts_existing.branch [

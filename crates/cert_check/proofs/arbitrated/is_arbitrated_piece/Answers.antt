@@ -1,9 +1,11 @@
-use Rattle.std.proofs.Common.{Bool, take}
+use Rattle.std.proofs.Common.{Bool, ℕ, length, take, sym, subst, arith}
 use Rattle.std.specs.Prelude.{IsTrue, ◌↔◌, filter}
 use Rattle.std.proofs.lemmas.Bool.{both_ways}
 use Rattle.std.proofs.lemmas.Result.{IfOk-weaker}
+use Rattle.causal_order.proofs.VectorsLaws.{HasListOf-of_history}
 use Rattle.cert_check.specs.Certificates.{counted, IsArbitratedPiece}
 use Rattle.cert_check.specs.Schedules.{named}
+use Rattle.cert_check.specs.Steps.Namings.{AreCountsAt}
 use Rattle.cert_check.specs.Steps.Replays.{IsAnsweredAfter}
 use Rattle.cert_check.proofs.CutSteps.{arbitrated-tests, arbitrated-within, whole_names}
 use Rattle.cert_check.proofs.arbitrated.is_arbitrated_piece.Goals as goal
@@ -42,3 +44,29 @@ returns-clause-exact g c =
     c.has_named_all.result yes c.has_named_all.ensures after in
     ((λ t. tests.0 (c.if-not-has_named_all.false, t)), λ piece. (tests.1 piece).1))
     c.is_answered_there.ensures
+
+pub go_behind-place-requires-clause-named : goal.go_behind-place-requires-clause-named
+go_behind-place-requires-clause-named g c = λ _ _.
+    let whole = c.requires.whole c.args.op.session in let is_op = c.requires.is_op in omega arith
+
+pub has_named_all-requires : goal.has_named_all-requires
+has_named_all-requires g c = HasListOf-of_history c.args.h.now c.args.v.now c.args.op c.requires.shape.one_each c.requires.is_op
+
+pub is_answered_there-requires-clause-counts : goal.is_answered_there-requires-clause-counts
+is_answered_there-requires-clause-counts g c = λ _ _. c.go_behind-place.ensures.counts
+
+pub returns-clause-counts : goal.returns-clause-counts
+returns-clause-counts g c =
+    subst (λ (n : ℕ). AreCountsAt c.args.list.now n (length c.args.h.now.1) c.go_behind-place.new.self.naming.counts.items)
+    (sym c.go_behind-place.ensures.place) c.go_behind-place.ensures.counts
+
+pub returns-then-not-has_named_all-clause-counts : goal.returns-then-not-has_named_all-clause-counts
+returns-then-not-has_named_all-clause-counts g c =
+    subst (λ (n : ℕ). AreCountsAt c.args.list.now n (length c.args.h.now.1) c.go_behind-place.new.self.naming.counts.items)
+    (sym c.go_behind-place.ensures.place) c.go_behind-place.ensures.counts
+
+pub returns-then-not-vector_ok-clause-exact : goal.returns-then-not-vector_ok-clause-exact
+returns-then-not-vector_ok-clause-exact g c = (
+  (λ e. absurd cc),
+  λ piece. absurd (both_ways c.vector_ok.result c.if-not-vector_ok.true (c.vector_ok.ensures.1 piece.vector)),
+)

@@ -18,3 +18,7 @@ returns-clause-meets g c =
     subst (λ (k : Criterion). Meets answer file.0 k) good.0
     (c.explained_certificates_show_their_criterion.ensures file.0 held.0 good.1 held.2))
     (rw c.in_ok-checker.ensures at c.first_of_history-first.ensures)
+
+pub returns-clause-first : goal.returns-clause-first
+returns-clause-first g c = λ certificate is.
+    IfOk-weaker c.first_of_history-first.result _ _ (λ first found. found certificate is) (rw c.in_ok-checker.ensures at c.first_of_history-first.ensures)

@@ -1,3 +1,7 @@
+use Rattle.cert_check.specs.declared.need.Need.{Need}
+use Rattle.causal_order.specs.Orders.{op}
+use Rattle.causal_order.proofs.VectorsLaws.{HasListOf-of_history}
+use Rattle.std.proofs.Common.{List, length, ap, arith}
 use Rattle.cert_check.proofs.NeedSteps.{needs-push}
 use Rattle.cert_check.proofs.need.needs_of_session.Goals as goal
 
@@ -9,3 +13,12 @@ loop-index-preserved g c =
 
 pub returns : goal.returns
 returns g c = λ i below. c.loop-index.invariant.1 i (rw (← c.loop-index.invariant.0) below)
+
+pub loop-index-init : goal.loop-index-init
+loop-index-init g c = (ap (λ (xs : List Need). length xs) c.new-needs.ensures.items, λ i below. absurd (omega arith))
+
+pub need_of_operation-requires : goal.need_of_operation-requires
+need_of_operation-requires g c =
+    let below = c.loop-index-test.true in
+    let count = c.len-index-end.ensures.count in
+    rw c.at.ensures (HasListOf-of_history c.args.h.now c.args.v.now (op c.args.session c.loop-index.index) c.requires.one_each (omega arith))

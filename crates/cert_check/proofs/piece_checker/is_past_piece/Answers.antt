@@ -37,3 +37,13 @@ returns-then-not-is_schedule-clause-exact g c = (
       (c.is_schedule.ensures.exact.1 (subst (λ (w : HistoryValue g.row.O-Start.Denot g.row.O-Call.Denot g.row.O-Ret.Denot × Counts).
       IsVectorOk w.0 w.1 c.args.op × IsSchedule w.0 w.1 c.args.op c.args.schedule.now) (sym c.requires.walk) (piece.vector, piece.schedules)))),
 )
+
+pub explains-requires-clause-vector : goal.explains-requires-clause-vector
+explains-requires-clause-vector g c = λ _ _.
+    subst (λ (w : HistoryValue g.row.O-Start.Denot g.row.O-Call.Denot g.row.O-Ret.Denot × Counts). IsVectorOk w.0 w.1 c.args.op)
+    c.requires.walk (c.is_schedule.ensures.exact.0 c.if-not-is_schedule.false).0
+
+pub explains-requires-clause-schedule : goal.explains-requires-clause-schedule
+explains-requires-clause-schedule g c = λ _ _.
+    subst (λ (w : HistoryValue g.row.O-Start.Denot g.row.O-Call.Denot g.row.O-Ret.Denot × Counts). IsSchedule w.0 w.1 c.args.op c.args.schedule.now)
+    c.requires.walk (c.is_schedule.ensures.exact.0 c.if-not-is_schedule.false).1

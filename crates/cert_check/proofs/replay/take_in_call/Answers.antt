@@ -1,4 +1,5 @@
-use Rattle.std.proofs.Common.{ap, refl, sym, subst}
+use Rattle.cert_check.proofs.ConsideredCalls.{known_answered}
+use Rattle.std.proofs.Common.{ap, refl, sym, subst, ◌∙◌}
 use Rattle.std.specs.Prelude.{is_some}
 use Rattle.history.specs.History.{calls}
 use Rattle.cert_check.proofs.ReplaySteps.{calls_push, unknown_return}
@@ -21,3 +22,10 @@ returns-in-None-clause-answer g c = λ cs stands. (
   (λ _ call r known. absurd (unknown_return c.args.h.now c.args.next c.ret.result c.ret.ensures (ap is_some c.in-None.is) c.args.next refl call r known)),
   λ _. refl,
 )
+
+pub returns-in-Some-clause-answer : goal.returns-in-Some-clause-answer
+returns-in-Some-clause-answer g c = λ cs stands.
+    let equal = g.met.O.SeqObject.equal_rets c.in-Some.known c.in_ok-answer.answer in
+    known_answered g.O.SeqObject.answer c.args.h.now c.args.next c.call.result c.in-Some.known c.in_ok-answer.answer c.call.ensures c.in-Some.ensures cs
+    (c.in_ok-answer.ensures.answers c.args.h.now.0 cs stands)
+    c.eq.result ((λ t. equal.0 (sym c.eq.ensures ∙ t)), λ same. c.eq.ensures ∙ equal.1 same)

@@ -1,7 +1,10 @@
-use Rattle.std.proofs.Common.{List, ℕ, sym, subst, arith}
+use Rattle.causal_order.specs.Steps.Gathered.{AreListsUpTo}
+use Rattle.memory_order.specs.Memory.{MemoryHistory}
+use Rattle.history.specs.History.{session}
+use Rattle.std.proofs.Common.{List, ℕ, sym, subst, arith, ◌≡◌, length, ap, ◌∙◌}
 use Rattle.history.specs.declared.op_id.OpId.{OpId}
 use Rattle.causal_order.specs.Orders.{op}
-use Rattle.causal_order.proofs.GatheredLaws.{lists-push}
+use Rattle.causal_order.proofs.GatheredLaws.{lists-push, lists-none}
 use Rattle.certify_cc.specs.BySources.{IsScheduleFor}
 use Rattle.certify_cc.proofs.by_sources.schedules_of.Goals as goal
 
@@ -21,3 +24,31 @@ loop-index-preserved c =
       size = goes.size;
       cut = goes.cut;
     }
+
+pub loop-index-init : goal.loop-index-init
+loop-index-init c = record {
+  so_far = rw c.new-schedules.ensures (lists-none (IsScheduleFor c.args.order.now c.args.vectors.now) c.args.session);
+  size = c.in_ok-cutting.ensures.size ∙ c.sessions.ensures;
+  cut = c.in_ok-cutting.ensures.cut c.args.whole.now;
+}
+
+pub schedule_of-requires-clause-is_op : goal.schedule_of-requires-clause-is_op
+schedule_of-requires-clause-is_op c =
+    let below = c.loop-index-test.true in
+    let count = c.len-index-end.ensures.count in
+    let lengths = ap (λ (h : MemoryHistory). length (session h c.args.session)) (c.history.ensures ∙ c.memory.ensures) in
+    rw c.at-op.ensures (omega arith)
+
+pub schedule_of-requires-clause-size : goal.schedule_of-requires-clause-size
+schedule_of-requires-clause-size c = c.loop-index.invariant.size
+
+pub schedule_of-requires-clause-cut : goal.schedule_of-requires-clause-cut
+schedule_of-requires-clause-cut c = c.loop-index.invariant.cut
+
+pub returns : goal.returns
+returns c =
+    let count = c.len-index-end.ensures.count in
+    let lengths = ap (λ (h : MemoryHistory). length (session h c.args.session)) (c.history.ensures ∙ c.memory.ensures) in
+    let ended : c.loop-index.index ≡ length (session c.args.order.now c.args.session) = omega arith in
+    subst (λ (n : ℕ). AreListsUpTo (IsScheduleFor c.args.order.now c.args.vectors.now) c.args.session n c.loop-index.schedules) ended
+    c.loop-index.invariant.so_far

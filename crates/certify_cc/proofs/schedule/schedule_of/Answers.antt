@@ -1,4 +1,5 @@
-use Rattle.std.proofs.Common.{◌++◌, ◌∷◌, List, ℕ, [], inr, sym, subst, ◌∙◌, arith}
+use Rattle.causal_order.proofs.VectorsLaws.{HasListOf-of_history}
+use Rattle.std.proofs.Common.{◌++◌, ◌∷◌, List, ℕ, [], inr, sym, subst, ◌∙◌, arith, length, ap}
 use Rattle.std.specs.Prelude.{None, Some}
 use Rattle.std.proofs.lemmas.Result.{on_ok_weaker}
 use Rattle.causal_order.specs.Topological.{IsFullWalk}
@@ -6,7 +7,7 @@ use Rattle.causal_order.proofs.FullWalks.{walk-within}
 use Rattle.causal_order.proofs.PathsLaws.{leads-edge}
 use Rattle.causal_order.proofs.PushedLaws.{listed-length}
 use Rattle.memory_order.proofs.IndexedLaws.{if_any-source}
-use Rattle.memory_order.proofs.SourcedLaws.{listed-source, source-some}
+use Rattle.memory_order.proofs.SourcedLaws.{listed-source, source-some, square-vectors}
 use Rattle.memory_order.specs.SourceOrder.{IsSourceEdge, IsSourceOf}
 use Rattle.certify_cc.specs.BySources.{IsScheduleFor}
 use Rattle.certify_cc.specs.Steps.Cuts.{AreClosed}
@@ -77,3 +78,32 @@ returns-clause-schedule c =
       };
     })
     (rw c.session_place.ensures at c.run_behind.ensures.rule)
+
+pub get-requires-clause-session : goal.get-requires-clause-session
+get-requires-clause-session c = (HasListOf-of_history c.args.order.now c.args.vectors.now c.args.op c.requires.counts.vectors.one_each c.requires.is_op).session
+
+pub get-requires-clause-index : goal.get-requires-clause-index
+get-requires-clause-index c = (HasListOf-of_history c.args.order.now c.args.vectors.now c.args.op c.requires.counts.vectors.one_each c.requires.is_op).index
+
+pub get-requires-2-clause-session : goal.get-requires-2-clause-session
+get-requires-2-clause-session c = (HasListOf-of_history c.args.order.now c.args.vectors.now c.args.op c.requires.counts.vectors.one_each c.requires.is_op).session
+
+pub get-requires-2-clause-index : goal.get-requires-2-clause-index
+get-requires-2-clause-index c = (HasListOf-of_history c.args.order.now c.args.vectors.now c.args.op c.requires.counts.vectors.one_each c.requires.is_op).index
+
+pub limits_apart_from-requires-clause-listed : goal.limits_apart_from-requires-clause-listed
+limits_apart_from-requires-clause-listed c = (HasListOf-of_history c.args.order.now c.args.vectors.now c.args.op c.requires.counts.vectors.one_each c.requires.is_op).index
+
+pub limits_apart_from-requires-clause-square : goal.limits_apart_from-requires-clause-square
+limits_apart_from-requires-clause-square c = square-vectors c.args.order.now c.args.vectors.now c.requires.counts.vectors
+
+pub run_behind-requires-clause-square : goal.run_behind-requires-clause-square
+run_behind-requires-clause-square c = square-vectors c.args.order.now c.args.vectors.now c.requires.counts.vectors
+
+pub run_behind-requires-clause-limits : goal.run_behind-requires-clause-limits
+run_behind-requires-clause-limits c =
+    ap (λ (xs : List ℕ). length xs) c.get-2.ensures ∙ square-vectors c.args.order.now c.args.vectors.now c.requires.counts.vectors c.args.op (HasListOf-of_history c.args.order.now c.args.vectors.now c.args.op c.requires.counts.vectors.one_each c.requires.is_op).index
+
+pub cut_to-requires-clause-limits : goal.cut_to-requires-clause-limits
+cut_to-requires-clause-limits c =
+    ap (λ (xs : List ℕ). length xs) (c.in_ok-past.ensures.items ∙ c.get.ensures) ∙ square-vectors c.args.order.now c.args.vectors.now c.requires.counts.vectors c.args.op (HasListOf-of_history c.args.order.now c.args.vectors.now c.args.op c.requires.counts.vectors.one_each c.requires.is_op).index

@@ -121,3 +121,33 @@ returns-clause-all c all =
     let test = c.loop-index-test.false in
     let lengths = ap (λ (g : MemoryHistory). length (session g c.args.session)) c.history-h.ensures in
     gathered-end c.args.order.now (TakesTurns c.args.order.now) c.args.session c.loop-index.index c.loop-index.schedules c.loop-index.invariant.so_far (omega arith)
+
+pub take_next-requires-clause-made : goal.take_next-requires-clause-made
+take_next-requires-clause-made c = c.loop-index.invariant.made
+
+pub take_next-requires-clause-next : goal.take_next-requires-clause-next
+take_next-requires-clause-next c =
+    let below = c.loop-index-test.true in
+    let count = c.len-index-end.ensures.count in
+    rw (c.loop-index.invariant.taken, c.loop-index.invariant.session, ← c.history-h.ensures) (omega arith)
+
+pub standing-requires-clause-inside : goal.standing-requires-clause-inside
+standing-requires-clause-inside c = let below = c.loop-index-test.true in let count = c.len-index-end.ensures.count in omega arith
+
+pub go_on-requires-clause-few : goal.go_on-requires-clause-few
+go_on-requires-clause-few c = rw c.history-h.ensures c.requires.few
+
+pub go_on-requires-clause-short : goal.go_on-requires-clause-short
+go_on-requires-clause-short c = let count = c.len-index-end.ensures.count in let short = c.len-index-end.ensures.short in omega arith
+
+pub go_on-requires-clause-inside : goal.go_on-requires-clause-inside
+go_on-requires-clause-inside c = let below = c.loop-index-test.true in let count = c.len-index-end.ensures.count in omega arith
+
+pub returns-clause-none : goal.returns-clause-none
+returns-clause-none c = λ distinct no. absurd cc
+
+pub standing-requires-clause-vectors : goal.standing-requires-clause-vectors
+standing-requires-clause-vectors c = rw c.history-h.ensures c.in_ok-happened-2.ensures.made.well_formed.order.counts
+
+pub go_on-requires-clause-vectors : goal.go_on-requires-clause-vectors
+go_on-requires-clause-vectors c = rw (c.history-h.ensures, c.vectors.ensures) c.in_ok-happened-2.ensures.made.well_formed.order.counts

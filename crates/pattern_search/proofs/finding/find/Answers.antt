@@ -3,9 +3,10 @@ use Rattle.std.proofs.Common.{subst}
 use Rattle.memory_order.specs.Memory.{MemoryHistory}
 use Rattle.cert_check.specs.declared.criterion.Criterion.TheVariants.{Cc}
 use Rattle.bad_patterns.specs.Kinds.{IsFreeOf}
-use Rattle.bad_patterns.specs.Patterns.{kind_of}
+use Rattle.bad_patterns.specs.Patterns.{IsBadPattern, kind_of}
 use Rattle.pattern_search.specs.FirstKinds.{ComesFirstOrLarge}
 use Rattle.pattern_search.specs.Searches.{IsFreeOrLarge}
+use Rattle.pattern_search.specs.Steps.Found.{IsFirstFound}
 use Rattle.pattern_search.proofs.finding.find.Goals as goal
 
 pub returns-clause-kind : goal.returns-clause-kind
@@ -26,3 +27,11 @@ pub returns-clause-happened_before : goal.returns-clause-happened_before
 returns-clause-happened_before c is =
     subst (λ (h : MemoryHistory). IfOk c.find_in.result (λ found. IfNone found (IsFreeOrLarge h))) c.in_ok-memory.ensures
     (c.find_in.ensures.happened_before is)
+
+pub returns-clause-found : goal.returns-clause-found
+returns-clause-found c =
+    subst (λ (h : MemoryHistory). IfOk c.find_in.result (λ found. IfSome found (IsBadPattern h c.args.criterion))) c.in_ok-memory.ensures c.find_in.ensures.found
+
+pub returns-clause-first : goal.returns-clause-first
+returns-clause-first c =
+    subst (λ (h : MemoryHistory). IfOk c.find_in.result (λ found. IfSome found (IsFirstFound h))) c.in_ok-memory.ensures c.find_in.ensures.first

@@ -1,4 +1,3 @@
-use Rattle.std.proofs.Common.{◌+◌}
 use Rattle.pattern_search.specs.declared.searched.SearchedKinds.{SearchedKinds}
 use Rattle.pattern_search.specs.Steps.Relations.{HasNoCycleBefore}
 use Rattle.pattern_search.proofs.SearchedLaws.{searched-last, searched-start}

@@ -1,8 +1,8 @@
-use Rattle.std.proofs.Common.{ℕ, length, subst}
+use Rattle.std.proofs.Common.{ℕ, length, subst, ◌≡◌, refl, sym, arith}
 use Rattle.std.proofs.lemmas.Option.{slice_get-get_or}
 use Rattle.std.proofs.lemmas.Bool.{both_ways}
 use borrow.Author.Count.{below_more}
-use Rattle.cert_check.specs.Steps.Namings.{AreCountsAt, IsNamedWell}
+use Rattle.cert_check.specs.Steps.Namings.{AreCountsAt, IsNamedWell, AreNamedWell}
 use Rattle.cert_check.proofs.NamingSteps.{counts_in_front, well_in_front}
 use Rattle.cert_check.proofs.naming.Naming.go_on.Goals as goal
 
@@ -35,3 +35,32 @@ loop-place-preserved g c =
       c.step.ensures.on c.args.list.now i c.loop-place.invariant.0 here c.if-not-step.false,
       record { each = below_more (λ j. IsNamedWell c.args.h.now c.args.v.now c.args.list.now j) i c.loop-place.invariant.1.each good },
     )
+
+pub go_back-requires-clause-counts : goal.go_back-requires-clause-counts
+go_back-requires-clause-counts g c =
+    let counts = c.args.self.now.counts.items in
+    subst (λ (n : ℕ). AreCountsAt c.args.before.now (length c.args.before.now) n counts) (sym c.requires.counts.width) c.requires.counts
+
+pub step-requires-clause-width : goal.step-requires-clause-width
+step-requires-clause-width g c = λ _ _. c.loop-place.invariant.0.width
+
+pub returns-then-not-step-clause-on : goal.returns-then-not-step-clause-on
+returns-then-not-step-clause-on g c = λ e. absurd cc
+
+pub returns-then-not-step-clause-width : goal.returns-then-not-step-clause-width
+returns-then-not-step-clause-width g c = c.step.ensures.width
+
+pub returns-clause-exact : goal.returns-clause-exact
+returns-clause-exact g c =
+    let most = c.loop-place.auto.place-end c.shared_front-shared.ensures.right in
+    let ended : c.loop-place.place ≡ length c.args.list.now = omega arith in
+    ((λ _. subst (λ (n : ℕ). AreNamedWell c.args.h.now c.args.v.now c.args.list.now n) ended c.loop-place.invariant.1), λ _. refl)
+
+pub returns-clause-on : goal.returns-clause-on
+returns-clause-on g c = λ _.
+    let most = c.loop-place.auto.place-end c.shared_front-shared.ensures.right in
+    let ended : c.loop-place.place ≡ length c.args.list.now = omega arith in
+    subst (λ (n : ℕ). AreCountsAt c.args.list.now n (length c.args.h.now.1) c.loop-place.self.counts.items) ended c.loop-place.invariant.0
+
+pub returns-clause-width : goal.returns-clause-width
+returns-clause-width g c = c.loop-place.invariant.0.width

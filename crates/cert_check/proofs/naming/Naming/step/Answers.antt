@@ -1,4 +1,6 @@
-use Rattle.std.proofs.Common.{◌∙◌}
+use Rattle.std.proofs.lemmas.List.{length-set}
+use Rattle.causal_order.proofs.VectorsLaws.{HasListOf-of_history}
+use Rattle.std.proofs.Common.{◌∙◌, ℕ, List, length, ap}
 use Rattle.cert_check.proofs.NamingSteps.{naming-absent, counting}
 use Rattle.cert_check.proofs.NeedSteps.{met-exactly}
 use Rattle.cert_check.proofs.naming.Naming.step.Goals as goal
@@ -24,3 +26,20 @@ returns-clause-on g c = λ list i at here yes.
     let next = c.in-Some.ensures.next in
     counting c.args.h.now c.args.v.now list i c.args.session here c.args.self.now.counts.items at
     c.in-Some.next next.0 next.1 c.name_next.new.self.counts.items next.2
+
+pub name_next-requires-after_bounds : goal.name_next-requires-after_bounds
+name_next-requires-after_bounds g c = λ _ _. c.requires.width
+
+pub is_met-requires : goal.is_met-requires
+is_met-requires g c = HasListOf-of_history c.args.h.now c.args.v.now c.in-Some.next c.requires.shape.one_each c.in-Some.ensures.next.1
+
+pub returns-in_default-clause-on : goal.returns-in_default-clause-on
+returns-in_default-clause-on g c = λ list i at here e. absurd cc
+
+pub returns-in_default-clause-width : goal.returns-in_default-clause-width
+returns-in_default-clause-width g c = ap (λ (xs : List ℕ). length xs) c.in_default.ensures.next.1 ∙ c.requires.width
+
+pub returns-clause-width : goal.returns-clause-width
+returns-clause-width g c =
+    let counted = c.in-Some.ensures.next.2 in
+    ap (λ (xs : List ℕ). length xs) counted ∙ length-set c.args.self.now.counts.items c.args.session _ ∙ c.requires.width

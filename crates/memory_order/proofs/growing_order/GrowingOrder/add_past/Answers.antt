@@ -1,3 +1,5 @@
+use Rattle.causal_order.proofs.OrdersLaws.{session-of_history}
+use Rattle.causal_order.proofs.VectorsLaws.{HasListOf-of_history}
 use Rattle.std.proofs.Common.{◌<◌, ◌≤◌, ℕ, List, arith, get_or, inl, inr, refl, ⊎_elim, subst, subst₂, sym, zero}
 use Rattle.std.specs.Prelude.{slice_index}
 use Rattle.std.proofs.lemmas.Bool.{cases_lt}
@@ -62,3 +64,45 @@ returns-clause-past c = λ z. ⊎_elim
     (λ (old : z < c.loop-session.from). c.loop-session.invariant.past z old)
     (λ (later : c.loop-session.from ≤ z). c.in_default.ensures z later)
     (cases_lt z c.loop-session.from)
+
+pub get-requires-clause-session : goal.get-requires-clause-session
+get-requires-clause-session c = (HasListOf-of_history c.args.h.now c.args.self.now.counts c.args.before c.requires.growing.counts.vectors.one_each c.requires.before).session
+
+pub get-requires-clause-index : goal.get-requires-clause-index
+get-requires-clause-index c = (HasListOf-of_history c.args.h.now c.args.self.now.counts c.args.before c.requires.growing.counts.vectors.one_each c.requires.before).index
+
+pub get-requires-2-clause-session : goal.get-requires-2-clause-session
+get-requires-2-clause-session c = (HasListOf-of_history c.args.h.now c.args.self.now.counts c.args.op c.requires.growing.counts.vectors.one_each c.requires.is_op).session
+
+pub get-requires-2-clause-index : goal.get-requires-2-clause-index
+get-requires-2-clause-index c = (HasListOf-of_history c.args.h.now c.args.self.now.counts c.args.op c.requires.growing.counts.vectors.one_each c.requires.is_op).index
+
+pub next_more-requires-clause-growing : goal.next_more-requires-clause-growing
+next_more-requires-clause-growing c = c.loop-session.invariant.within.grows.growing
+
+pub count-count-requires-clause-growing : goal.count-count-requires-clause-growing
+count-count-requires-clause-growing c = c.loop-session.invariant.within.grows.growing
+
+pub count-count-requires-clause-exists : goal.count-count-requires-clause-exists
+count-count-requires-clause-exists c = c.in-Some.ensures.1
+
+pub raise_from-requires-clause-growing : goal.raise_from-requires-clause-growing
+raise_from-requires-clause-growing c = c.loop-session.invariant.within.grows.growing
+
+pub raise_from-requires-clause-session : goal.raise_from-requires-clause-session
+raise_from-requires-clause-session c = rw c.session_place.ensures (session-of_history c.args.h.now c.args.op c.requires.is_op)
+
+pub raise_from-requires-clause-inside : goal.raise_from-requires-clause-inside
+raise_from-requires-clause-inside c = let is_op = c.requires.is_op in rw c.place-index.ensures (rw c.session_place.ensures (omega arith))
+
+pub raise_from-requires-clause-other : goal.raise_from-requires-clause-other
+raise_from-requires-clause-other c = c.in-Some.ensures.1
+
+pub overflow_add-from : goal.overflow_add-from
+overflow_add-from c = let inside = c.in-Some.ensures.1 in let few = c.requires.growing.few in omega arith
+
+pub loop-session-smaller : goal.loop-session-smaller
+loop-session-smaller c = let up = c.in-Some.ensures.0 in let inside = c.in-Some.ensures.1 in omega arith
+
+pub returns-clause-within : goal.returns-clause-within
+returns-clause-within c = c.loop-session.invariant.within

@@ -1,4 +1,8 @@
-use Rattle.std.proofs.Common.{◌≡◌, ◌+◌, ◌∷◌, [], arith, length, length-append}
+use Rattle.std.proofs.Common.{◌≡◌, ◌+◌, ◌∷◌, List, [], ap, arith, length, length-append}
+use Rattle.std.proofs.lemmas.Option.{slice_get_within}
+use Rattle.bad_patterns.specs.declared.link.Link.{Link}
+use Rattle.bad_patterns.proofs.Neighbours.{related-at}
+use Rattle.pattern_search.specs.Steps.Conflicts.{IsConflictStep}
 use Rattle.pattern_search.proofs.ConflictLinks.{links-cycle, links-more}
 use Rattle.pattern_search.proofs.search.conflicts.links_of.Goals as goal
 
@@ -15,3 +19,14 @@ returns c =
     let last = c.loop-i.invariant in
     let ended : length c.loop-i.links.items + 1 ≡ length c.args.ops.now = omega arith in
     rw c.of.ensures (links-cycle c.args.order.now c.args.ops.now c.requires c.loop-i.links.items last.2 ended)
+
+pub loop-i-init : goal.loop-i-init
+loop-i-init c =
+    let some = c.requires.some in
+    let none = ap (λ (xs : List Link). length xs) c.new-links.ensures.items in
+    (omega arith, omega arith, λ k a b l at next there. let inside = slice_get_within c.new-links.result.items k l there in absurd (omega arith))
+
+pub link_of-requires : goal.link_of-requires
+link_of-requires c =
+    let size = c.loop-i.invariant.1 in
+    related-at (IsConflictStep c.args.order.now) c.args.ops.now c.loop-i.i _ _ (omega arith) c.loop-i-test.true c.requires.joined

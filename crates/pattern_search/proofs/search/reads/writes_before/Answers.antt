@@ -28,3 +28,6 @@ returns-then-not-is_counted_before c = λ a b writes.
     let yes = c.is_counted_before.ensures.1 (subst (λ (w : OpId). IsCountedBefore c.vectors.result.now c.args.read.now.op w) (sym of_source) counted) in
     let no = c.if-not-is_counted_before.true in
     absurd cc
+
+pub loop-session-init : goal.loop-session-init
+loop-session-init c = λ a b below. absurd (omega arith)

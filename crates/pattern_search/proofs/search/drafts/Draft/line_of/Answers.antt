@@ -42,3 +42,18 @@ reach_back-requires-clause-given c =
     subst (λ (a : OpId). slice_get c.args.self.now.1 c.listed.result ≡ Some (a, c.args.pair.1)) (sym c.last_counted-last.ensures)
     (first-line c.args.order.now c.args.op c.args.reasons.now c.args.pair c.in-Some.number found.0 found.1 c.args.written.now c.args.self.now.1 c.requires.written
     c.raise.result c.listed.result c.raise.ensures c.listed.ensures)
+
+pub push_causal-requires-clause-draft : goal.push_causal-requires-clause-draft
+push_causal-requires-clause-draft c = c.requires.draft
+
+pub push_causal-requires-clause-apart : goal.push_causal-requires-clause-apart
+push_causal-requires-clause-apart c = c.in-None.ensures.0
+
+pub push_causal-requires-clause-before : goal.push_causal-requires-clause-before
+push_causal-requires-clause-before c = c.in-None.ensures.1
+
+pub push_causal-requires-clause-past : goal.push_causal-requires-clause-past
+push_causal-requires-clause-past c = c.requires.premise.past
+
+pub reach_back-requires-clause-draft : goal.reach_back-requires-clause-draft
+reach_back-requires-clause-draft c = c.requires.draft

@@ -1,5 +1,5 @@
 use Rattle.std.proofs.Math.Path.{ap₂}
-use Rattle.std.proofs.Common.{◌≡◌, ℕ, ◌+◌, ◌-◌, ◌≤◌, Option, length, ⊎_elim, arith, refl, sym, ap, subst, subst₂, ◌∙◌}
+use Rattle.std.proofs.Common.{◌≡◌, ℕ, ◌+◌, ◌-◌, ◌≤◌, Option, length, ⊎_elim, arith, refl, sym, ap, subst, subst₂, ◌∙◌, inl}
 use Rattle.history.specs.declared.op_id.OpId.{OpId}
 use Rattle.history.specs.History.{IsOp, session}
 use Rattle.memory_order.specs.Memory.{MemoryHistory}
@@ -102,3 +102,31 @@ returns c =
       };
       few = before.few last (omega arith);
     })
+
+pub loop-index-init : goal.loop-index-init
+loop-index-init c = record {
+  made = c.in_ok-happened.ensures.made;
+  session = c.in_ok-happened.ensures.session;
+  taken = c.in_ok-happened.ensures.taken;
+  most = c.in_ok-happened.ensures.most;
+  exact = λ n next. absurd (omega arith);
+  few = λ n next. absurd (omega arith);
+  more = λ n next k below. absurd (omega arith);
+}
+
+pub take_next-requires-clause-made : goal.take_next-requires-clause-made
+take_next-requires-clause-made c = c.loop-index.invariant.made
+
+pub take_next-requires-clause-next : goal.take_next-requires-clause-next
+take_next-requires-clause-next c =
+    let count = c.len-operations.ensures.count in
+    let lengths = ap (λ (g : MemoryHistory). length (session g c.args.session)) c.history.ensures in
+    let test = c.loop-index-test.true in
+    rw (c.loop-index.invariant.taken, c.loop-index.invariant.session) (omega arith)
+
+pub returns-then-operations-eq0 : goal.returns-then-operations-eq0
+returns-then-operations-eq0 c =
+    let count = c.len-operations.ensures.count in
+    let lengths = ap (λ (g : MemoryHistory). length (session g c.args.session)) c.history.ensures in
+    let none = c.if-operations-eq0.true in
+    inl (omega arith)
