@@ -14,5 +14,6 @@ pub mod LoneForms
 pub mod PartsForm
 pub mod PartsWritten
 pub mod ReadForms
+pub mod StartForms
 pub mod SessionReading
 pub mod ListLaws
