@@ -10,6 +10,7 @@ pub mod HistoryForm
 pub mod HistoryReading
 pub mod JsonLists
 pub mod KeptForms
+pub mod KeyedParts
 pub mod LoneForms
 pub mod PartsForm
 pub mod PartsWritten
