@@ -48,7 +48,21 @@ word_read d v word read kept text is =
     let there : d ≡ string word = as_str-read d word (sym (text_kept d) ∙ ap as_str (sym kept) ∙ sym text) in
     subst (λ (x : Data). IsRead word_form x read) (sym there) (named word read is)
 
+module _ (d : Data) (ds : List Data) (so_far : ds ≡ []) where
+  pub no_word : IsRead word_form d None → (more : List Data) (c : Certificate) → IsCertificate c → ds ++ d ∷ more ≢ parts_form c
+  no_word none more c good same =
+      let all : d ∷ more ≡ parts_form c = ap (λ (es : List Data). es ++ d ∷ more) (sym so_far) ∙ same in
+      let word : d ≡ word_form (criterion_of c) = cc in
+      none (criterion_of c) word
+
+  pub word_first : (criterion : Criterion) → d ≡ word_form criterion → ArePartsOf (parts.Named criterion) (ds ++ d ∷ [])
+  word_first criterion word = ap (λ (es : List Data). es ++ d ∷ []) so_far ∙ ap (λ (x : Data). x ∷ []) word
+
 -- ---- the vectors
+
+pub vectors_next : (criterion : Criterion) (vectors : ByOperation ℕ) (d : Data) (ds : List Data) → ds ≡ word_form criterion ∷ [] → AreKeptLists (2 ^ 16) d vectors
+    → ArePartsOf (parts.Vectors criterion vectors) (ds ++ d ∷ [])
+vectors_next criterion vectors d ds so_far kept = (d, ap (λ (es : List Data). es ++ d ∷ []) so_far, kept)
 
 has_counts : (c : Certificate) → IsCertificate c → AreBelow (2 ^ 16) (vectors_of c)
 has_counts (Cc vectors schedules) good = good.0

@@ -1,8 +1,8 @@
 -- Reading the sessions of a history, one after the other.
 use Rattle.std.proofs.Common.{◌≡◌, ℕ, zero, suc, ◌+◌, ◌<◌, ◌≤◌, Bool, List, [], ◌∷◌, ◌++◌, length, map, take, get_or, Option, Some, None, refl, sym, subst, ap, ◌∙◌, arith}
 use Rattle.std.specs.Prelude.{slice_get}
-use Rattle.std.proofs.lemmas.Bool.{le-ltb}
-use Rattle.std.proofs.lemmas.List.{take_all, take_more, map_push}
+use Rattle.std.proofs.lemmas.Bool.{le-ltb, lt-ltb}
+use Rattle.std.proofs.lemmas.List.{length-map, take_all, take_more, map_push}
 use Rattle.std.proofs.lemmas.Option.{slice_get_within, get_or_from_slice_get}
 use Rattle.serde_json.specs.Data.{Data}
 use Rattle.operations.specs.declared.read_error.ReadError.{ReadError}
@@ -56,6 +56,13 @@ module _ {C R : Type 0} (operation_at : Data → Option (C × Option R)) (fits :
 
   pub few_sessions : (ds : List Data) → length ds ≤ 16 → sessions_refusal operation_at ds ≡ first_among (length ds) (session_refusal operation_at ds)
   few_sessions ds few = rw (le-ltb 16 (length ds) few) refl
+
+  pub many_sessions : (n : ℕ) (ds : List Data) → length ds ≡ n → 16 < n → sessions_refusal operation_at ds ≡ Some TooManySessions
+  many_sessions n ds count many = rw (lt-ltb 16 (length ds) (rw count many)) refl
+
+  -- as many were read as the forms are
+  pub as_many : (ds : List Data) (ss : List (List (C × Option R))) → ReadAs operation_at ds ss → length ss ≡ length ds
+  as_many ds ss read = sym (simp length-map at (ap length read))
 
   -- the last of them was read
   pub all_read : (ds : List Data) (ss : List (List (C × Option R))) (s : ℕ) → length ds ≤ s → AreReadUpTo operation_at fits ds ss s → ReadAs operation_at ds ss

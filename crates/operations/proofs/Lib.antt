@@ -10,9 +10,11 @@ pub mod HistoryForm
 pub mod HistoryReading
 pub mod JsonLists
 pub mod KeptForms
+pub mod KeyedParts
 pub mod LoneForms
 pub mod PartsForm
 pub mod PartsWritten
 pub mod ReadForms
+pub mod StartForms
 pub mod SessionReading
 pub mod ListLaws

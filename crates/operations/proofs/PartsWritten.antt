@@ -21,6 +21,14 @@ written_more form es i e d vs v item lt before here =
     ∙ ap (λ (x : Data). map form (take i es) ++ x ∷ []) here
     ∙ sym (ap (map form) (front_with es i e d item lt) ∙ map_push form (take i es) e)
 
+-- the parts of a history are its name, its sessions and its start
+pub parts_written : (values pushed all : List Value) (v : Value) (name sessions : Data) (written start : List Data) → map view values ≡ name ∷ []
+    → pushed ≡ values ++ v ∷ [] → view v ≡ sessions → map view all ≡ map view pushed ++ written → written ≡ start → map view all ≡ name ∷ sessions ∷ start
+parts_written values pushed all v name sessions written start named push formed last same =
+    let front : map view pushed ≡ name ∷ sessions ∷ [] =
+    ap (map view) push ∙ map_push view values v ∙ ap (λ (ds : List Data). ds ++ view v ∷ []) named ∙ ap (λ (d : Data). name ∷ d ∷ []) formed in
+    last ∙ ap (λ (ds : List Data). ds ++ written) front ∙ ap (λ (ds : List Data). name ∷ sessions ∷ ds) same
+
 -- one call more
 module _ {C R : Type 0} (is_call : C → Type 0) where
   pub no_calls : AreCalls {C = C} {R = R} is_call []

@@ -2,15 +2,16 @@
 use Rattle.std.proofs.Common.{◌≡◌, ℕ, zero, suc, ◌+◌, ◌<◌, ◌≤◌, Bool, true, false, ◌||◌, List, [], ◌∷◌, ◌++◌, length, map, take, get_or, Option, Some, None, refl, sym, ap, ◌∙◌, arith}
 use Rattle.std.specs.Prelude.{slice_get, cond, is_some}
 use Rattle.std.specs.List.{list_any}
+use Rattle.std.proofs.lemmas.Bool.{le-ltb, lt-ltb}
 use Rattle.std.proofs.lemmas.List.{take_more, length-map, map_push, take_all}
 use Rattle.std.proofs.lemmas.List.Folds.{list_any-append}
 use Rattle.std.proofs.lemmas.Option.{slice_get_within, get_or_from_slice_get}
 use Rattle.serde_json.specs.Data.{Data}
 use Rattle.history.specs.declared.op_id.OpId.{OpId}
 use Rattle.operations.specs.declared.read_error.ReadError.{ReadError}
-use Rattle.operations.specs.declared.read_error.ReadError.TheVariants.{ReturnAfterUnknown}
+use Rattle.operations.specs.declared.read_error.ReadError.TheVariants.{ReturnAfterUnknown, TooManyOps}
 use Rattle.operations.specs.Form.{IsReadFrom}
-use Rattle.operations.specs.Reading.{first_among, is_unknown_return, entry_refusal, operation_refusal}
+use Rattle.operations.specs.Reading.{first_among, is_unknown_return, entry_refusal, operation_refusal, operations_refusal}
 use Rattle.operations.proofs.FirstRefusal.{first_among_none, first_among_more, first_among_some}
 
 pub or_true : (a : Bool) → (a || true) ≡ true
@@ -47,6 +48,15 @@ one_more true false = refl
 one_more false false = refl
 
 module _ {C R : Type 0} (operation_at : Data → Option (C × Option R)) where
+  -- what refuses a list that isn't too long refuses one of its operations
+  pub few_operations : (s n : ℕ) (es : Option (List Data)) (ds : List Data) → es ≡ Some ds → length ds ≡ n → n ≤ 256
+      → operations_refusal operation_at s es ≡ first_among n (operation_refusal operation_at s ds)
+  few_operations s n es ds is count few = rw (is, le-ltb 256 (length ds) (rw count few), count) refl
+
+  pub many_operations : (s n : ℕ) (es : Option (List Data)) (ds : List Data) → es ≡ Some ds → length ds ≡ n → 256 < n
+      → operations_refusal operation_at s es ≡ Some TooManyOps
+  many_operations s n es ds is count many = rw (is, lt-ltb 256 (length ds) (rw count many)) refl
+
   abbrev pub unknown_among : List Data → Bool
   unknown_among ds = list_any (λ d. is_unknown_return (operation_at d)) ds
 

@@ -24,3 +24,10 @@ pub enum AnyHistory {
     /// A history of queues under keys, `"queues"`.
     Queues(History<Queues>),
 }
+
+impl AnyHistory {
+    /// Lets go of the history, in one call that needs no proof for each type that it may be of.
+    pub fn discard(self) {
+        drop(self);
+    }
+}

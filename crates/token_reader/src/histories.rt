@@ -24,8 +24,12 @@ pub fn next_history(
     ensures shorter { OnOk result (length reader.new < length reader.old) }
     ensures refused { IfErr result (IsRefused depth reader.old) }
 {
-    let value = next_value(alloc, reader, HistoryPlace::Whole, depth)?;
-    let read = history_of(alloc, &value);
-    drop(value);
-    Ok(read)
+    match next_value(alloc, reader, HistoryPlace::Whole, depth) {
+        Ok(value) => {
+            let read = history_of(alloc, &value);
+            drop(value);
+            Ok(read)
+        }
+        Err(error) => Err(error),
+    }
 }

@@ -1,11 +1,13 @@
-use Rattle.std.proofs.Common.{◌≡◌, ℕ, length, subst, true, false, not, ◌||◌, Some, map, refl, sym, ap, ◌∙◌, arith}
+use Rattle.std.proofs.Common.{◌≡◌, ℕ, length, subst, true, false, not, ◌||◌, Some, None, map, refl, sym, ap, ◌∙◌, arith}
 use Rattle.std.proofs.lemmas.List.{length-map}
+use Rattle.std.proofs.lemmas.Result.{err_from_is_err_and}
 use Rattle.std.specs.Prelude.{is_some}
 use Rattle.serde_json.specs.View.{view}
 use Rattle.history.specs.declared.op_id.OpId.{OpId}
 use Rattle.operations.specs.declared.read_error.ReadError.TheVariants.{BadOp, ReturnAfterUnknown}
+use Rattle.operations.specs.Reading.{first_among, operation_refusal}
 use Rattle.operations.proofs.ListLaws.{slice_get-mapped}
-use Rattle.operations.proofs.SessionReading.{IsReadUpTo, or_true, or_false, reads_on, refused_here, is_read, known_return, known_return-refusal, unknown_return, unknown_return-refusal}
+use Rattle.operations.proofs.SessionReading.{IsReadUpTo, reads_nothing, or_true, or_false, reads_on, refused_here, is_read, known_return, known_return-refusal, unknown_return, unknown_return-refusal}
 use Rattle.operations.proofs.reading.read_operations.Goals as goal
 use Rattle.operations.proofs.reading.read_operations.Goals.{then-is_none, else-is_none+else-unknown_seen}
 
@@ -55,3 +57,16 @@ returns-clause-read g c =
     (let end : c.loop-index.index ≡ length c.args.values.now = omega arith in
     let P : ℕ → Type 0 = λ n. IsReadUpTo g.O.Named.operation_at c.args.s (map view c.args.values.now) c.loop-index.entries.items c.loop-index.unknown_seen n in
     subst P end c.loop-index.invariant)
+
+pub loop-index-init : goal.loop-index-init
+loop-index-init g c = rw c.new-entries.ensures.items (reads_nothing g.O.Named.operation_at c.args.s (map view c.args.values.now))
+
+pub returns-clause-nothing_refused : goal.returns-clause-nothing_refused
+returns-clause-nothing_refused g c =
+    let end : c.loop-index.index ≡ length c.args.values.now = omega arith in
+    subst (λ n. first_among n (operation_refusal g.O.Named.operation_at c.args.s (map view c.args.values.now)) ≡ None) end c.loop-index.invariant.none
+
+pub returns-in_err-push-clause-refused : goal.returns-in_err-push-clause-refused
+returns-in_err-push-clause-refused g c =
+    let p = err_from_is_err_and c.from_residual.result c.from_residual.ensures.1 in
+    rw (p.1, p.2) tt

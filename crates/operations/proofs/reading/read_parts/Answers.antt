@@ -3,9 +3,9 @@ use Rattle.std.proofs.lemmas.List.{length-map}
 use Rattle.std.proofs.lemmas.Result.{err_from_is_err_and}
 use Rattle.serde_json.specs.View.{view}
 use Rattle.operations.specs.Form.{ReadAs, session_form}
-use Rattle.operations.specs.Reading.{sessions_refusal}
+use Rattle.operations.specs.Reading.{named_refusal, sessions_refusal}
 use Rattle.operations.proofs.HistoryForm.{same_sessions, calls_read, sessions_formed, sessions_read, sessions_fine}
-use Rattle.operations.proofs.HistoryReading.{IsFirst_of_none}
+use Rattle.operations.proofs.HistoryReading.{IsFirst-moves, IsFirst_of_none}
 use Rattle.operations.proofs.reading.read_parts.Goals as goal
 
 pub returns-in_err-read-clause-only : goal.returns-in_err-read-clause-only
@@ -62,3 +62,34 @@ pub returns-clause-each_call : goal.returns-clause-each_call
 returns-clause-each_call g c =
     let ss = map (λ s. s.items) c.in_ok-read.read.items in
     rw c.of.ensures (calls_read g.O.Named.operation_at g.O.Named.is_call g.met.O.Named.operation_is_call (map view c.args.sessions.now) ss c.in_ok-read.ensures.read)
+
+pub returns-clause-start : goal.returns-clause-start
+returns-clause-start g c =
+    let read = sym c.in_ok-start.ensures ∙ c.in-Some.is in
+    rw c.of.ensures ((g.met.O.Named.start_read (map view c.args.rest.now) c.in-Some.start read).0)
+
+pub returns-in_err-read-clause-refused : goal.returns-in_err-read-clause-refused
+returns-in_err-read-clause-refused g c =
+    let p = err_from_is_err_and c.from_residual.result c.from_residual.ensures.1 in
+    rw (p.1, p.2) (IsFirst-moves (sessions_refusal g.O.Named.operation_at (map view c.args.sessions.now))
+    (named_refusal g.O.Named.operation_at g.O.Named.start_at (map view c.args.sessions.now) (map view c.args.rest.now)) _ (λ x bad. rw bad refl) c.in_err-read.ensures.refused)
+
+pub returns-in_err-start-clause-only : goal.returns-in_err-start-clause-only
+returns-in_err-start-clause-only g c = λ h is_history calls has_form sessions rest.
+    let p = err_from_is_err_and c.from_residual-in_err-start.result c.from_residual-in_err-start.ensures.1 in
+    rw (p.1, p.2) refl
+
+pub returns-in_err-start-clause-refused : goal.returns-in_err-start-clause-refused
+returns-in_err-start-clause-refused g c =
+    let p = err_from_is_err_and c.from_residual-in_err-start.result c.from_residual-in_err-start.ensures.1 in
+    rw (p.1, p.2) tt
+
+pub returns-in_default-clause-only : goal.returns-in_default-clause-only
+returns-in_default-clause-only g c = λ h is_history calls has_form sessions rest.
+    let none : None ≡ Some h.0 = sym c.in_default.is ∙ c.in_ok-start.ensures ∙ ap g.O.Named.start_at rest ∙ g.met.O.Named.start_again h.0 is_history.start has_form in
+    absurd cc
+
+pub returns-in_default-clause-refused : goal.returns-in_default-clause-refused
+returns-in_default-clause-refused g c =
+    let none : g.O.Named.start_at (map view c.args.rest.now) ≡ None = sym c.in_ok-start.ensures ∙ c.in_default.is in
+    rw (c.in_ok-read.ensures.nothing_refused, none) refl

@@ -5,7 +5,7 @@ use Rattle.serde_json.specs.View.{view}
 use Rattle.operations.specs.Json.{elements}
 use Rattle.operations.specs.Reading.{operations_refusal, sessions_refusal, first_among, session_refusal}
 use Rattle.operations.proofs.ListLaws.{slice_get-mapped}
-use Rattle.operations.proofs.HistoryReading.{all_fine, all_read, reads_no_session, reads_on, refused_there, few_sessions, IsFirst-moves}
+use Rattle.operations.proofs.HistoryReading.{all_fine, all_read, as_many, many_sessions, reads_no_session, reads_on, refused_there, few_sessions, IsFirst-moves}
 use Rattle.operations.proofs.reading.read_sessions.Goals as goal
 
 pub returns-in_err-session-clause-refused : goal.returns-in_err-session-clause-refused
@@ -50,3 +50,26 @@ returns-clause-nothing_refused g c =
     let few : length ds ≤ 16 = let most = c.if-values-gt-MAX_SESSIONS.false in omega (arith, many, most) in
     let end : length ds ≡ c.loop-s.s = let stop = c.loop-s-test.false in let inside = c.loop-s.auto.s-end in omega (arith, many, stop, inside) in
     all_fine g.O.Named.operation_at g.O.SeqObject.matches ds _ c.loop-s.s few end c.loop-s.invariant
+
+pub returns-then-values-gt-MAX_SESSIONS-clause-refused : goal.returns-then-values-gt-MAX_SESSIONS-clause-refused
+returns-then-values-gt-MAX_SESSIONS-clause-refused g c =
+    many_sessions g.O.Named.operation_at g.O.SeqObject.matches (length c.args.values.now) (map view c.args.values.now) (simp length-map) c.if-values-gt-MAX_SESSIONS.true
+
+pub returns-clause-few : goal.returns-clause-few
+returns-clause-few g c =
+    let ds = map view c.args.values.now in
+    let many : length ds ≡ length c.args.values.now = length-map c.args.values.now view in
+    let end : length ds ≤ c.loop-s.s = let stop = c.loop-s-test.false in omega (arith, many, stop) in
+    let ss = map (λ es. es.items) c.loop-s.sessions.items in
+    let same : length ss ≡ length ds = as_many g.O.Named.operation_at g.O.SeqObject.matches ds ss (all_read g.O.Named.operation_at g.O.SeqObject.matches ds ss c.loop-s.s end c.loop-s.invariant) in
+    let items : length ss ≡ length c.loop-s.sessions.items = simp length-map in
+    let most = c.if-values-gt-MAX_SESSIONS.false in
+    omega (arith, many, same, items, most, c.loop-s.sessions.ok)
+
+pub returns-clause-are_sessions : goal.returns-clause-are_sessions
+returns-clause-are_sessions g c = c.loop-s.invariant.are_sessions
+
+pub returns-in_err-push-clause-refused : goal.returns-in_err-push-clause-refused
+returns-in_err-push-clause-refused g c =
+    let p = err_from_is_err_and c.from_residual-in_err-push.result c.from_residual-in_err-push.ensures.1 in
+    rw (p.1, p.2) tt

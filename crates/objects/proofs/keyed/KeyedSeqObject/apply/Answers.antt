@@ -4,7 +4,7 @@ use Rattle.std.specs.Prelude.{IsSome}
 use Rattle.std.specs.BTreeMap.{is_at}
 use Rattle.std.specs.Map.{lookup}
 use Rattle.std.proofs.lemmas.Map.Steps.{set_value_same}
-use Rattle.std.proofs.lemmas.Result.{on_ok_weaker, on_err_weaker}
+use Rattle.std.proofs.lemmas.Result.{err_from_is_err_and, on_ok_weaker, on_err_weaker}
 use Rattle.objects.specs.Table.{start_at}
 use Rattle.objects.specs.Keyed.{calls_at}
 use Rattle.objects.proofs.KeyedLemmas.{stands_after_call, stands_from_some, stands_from_none, start_or_plain, start_at_is_start}
@@ -64,3 +64,24 @@ returns-clause-answers g c = λ s cs stood.
     c.in_ok-answer.ensures.answers (start_at plain s key) (calls_at key cs)
     (stands_from_none plain stands c.args.self.now c.self.inside.start c.self.inside.states.entries s cs key c.in_ok-state.state
     c.self.view_is stood c.in_default.ensures.value fresh)
+
+pub returns-in_err-plain-clause-err : goal.returns-in_err-plain-clause-err
+returns-in_err-plain-clause-err g c =
+    let p = err_from_is_err_and c.from_residual.result c.from_residual.ensures.1 in
+    rw p.1 (ap (λ m. (c.self.inside.start, m.entries)) c.get_mut.follows.holds-at-none ∙ c.self.view_is)
+
+pub returns-in_err-state-clause-err : goal.returns-in_err-state-clause-err
+returns-in_err-state-clause-err g c =
+    let p = err_from_is_err_and c.from_residual-in_err-state.result c.from_residual-in_err-state.ensures.1 in
+    rw p.1 (ap (λ m. (c.self.inside.start, m.entries)) c.get_mut.follows.holds-at-none ∙ c.self.view_is)
+
+pub returns-in_err-answer-clause-err : goal.returns-in_err-answer-clause-err
+returns-in_err-answer-clause-err g c =
+    let p = err_from_is_err_and c.from_residual-in_err-answer.result c.from_residual-in_err-answer.ensures.1 in
+    rw p.1 (ap (λ m. (c.self.inside.start, m.entries)) c.get_mut.follows.holds-at-none ∙ c.self.view_is)
+
+pub returns-in_err-put-clause-err : goal.returns-in_err-put-clause-err
+returns-in_err-put-clause-err g c =
+    let p = err_from_is_err_and c.from_residual-in_err-put.result c.from_residual-in_err-put.ensures.1 in
+    let view_is = ap (λ m. (c.self.inside.start, m.entries)) c.get_mut.follows.holds-at-none ∙ c.self.view_is in
+    rw p.1 (ap (λ es. (c.self.inside.start, es)) c.in_err-put.ensures.err ∙ view_is)
