@@ -1,7 +1,6 @@
 //! One list for each operation of some sessions, and the vectors, which are lists of counts.
 
 ghost use Rattle.std.specs.Prelude.{◌≡◌, ◌∷◌, ◌++◌, ◌<◌, ◌↔◌, ℕ, List, [], length, slice_set, IfOk, IsTrue, OnOk, OnErr, slice_index_or};
-ghost use Rattle.causal_order.specs.BySession.{AreMadeBy};
 ghost use Rattle.causal_order.specs.Vectors.{IsListed, list_of, with_item};
 
 use crate::rows::Rows;
@@ -71,24 +70,6 @@ impl<T> ByOperation<T> {
 }
 
 impl<T: Copy> ByOperation<T> {
-    /// The lists of so many sessions. A function makes the lists of each session from its number.
-    ///
-    /// Fails for want of memory, and if the function fails. O(k) for k sessions, besides making the lists.
-    pub fn from_sessions<F: Fn(usize) -> Result<Rows<T>, AllocError>>(
-        alloc: Global,
-        sessions: usize,
-        rows_of: F,
-    ) -> Result<ByOperation<T>, AllocError>
-        requires { (s : ℕ) → s < sessions → F.pre rows_of s }
-        ensures { IfOk result (AreMadeBy (F.post rows_of) sessions) }
-    {
-        let mut lists = ByOperation::new(alloc);
-        for session in 0..sessions {
-            lists.push_rows(rows_of(session)?)?;
-        }
-        Ok(lists)
-    }
-
     /// Adds a session with no operations after the others.
     ///
     /// Fails for want of memory alone, and the sessions are then as they were. O(1), on average.
