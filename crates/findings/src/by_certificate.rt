@@ -36,7 +36,7 @@ pub(crate) fn finding_by_certificate<W: PieceWork>(
     match made {
         Some(certificate) => shown_by(work, alloc, history, criterion, certificate, kept),
         None => {
-            drop(history);
+            history.discard();
             Ok(Finding::Unexplained(None, None))
         }
     }
@@ -66,7 +66,7 @@ fn shown_by<W: PieceWork>(
             }
         },
         Err(no_memory) => {
-            drop(history);
+            history.discard();
             drop(certificate);
             Err(no_memory)
         }

@@ -36,7 +36,12 @@ pub fn report_on_long<W: SessionWork>(
     ensures unexplained { IfOk result (EachNamesUnexplained (AnyHistory.Memory history.now)) }
 {
     match small(alloc, history)? {
-        Some(small) => report_on(&CallingThread, alloc, &AnyHistory::Memory(small), &[]),
+        Some(small) => {
+            let limited = AnyHistory::Memory(small);
+            let report = report_on(&CallingThread, alloc, &limited, &[]);
+            limited.discard();
+            report
+        }
         None => report_on_larger(work, alloc, history),
     }
 }

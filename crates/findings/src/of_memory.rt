@@ -1,6 +1,6 @@
 //! What is known of a history of a memory, for each criterion.
 
-ghost use Rattle.std.specs.Prelude.{◌≡◌, IfOk, IfSome};
+ghost use Rattle.std.specs.Prelude.{◌≡◌, IfOk, IfSome, Some};
 ghost use Rattle.memory_order.specs.Memory.{IsDifferentiated, MemoryHistory, memory_answer};
 ghost use Rattle.bad_patterns.specs.Patterns.{IsBadPattern, kind_of};
 ghost use Rattle.cert_check.specs.Criteria.{Meets};
@@ -81,11 +81,36 @@ fn findings_decided<H: OfMemory>(history: &H, whether: LongDecisions) -> Option<
     requires { AreDecided (H.history history.now) whether }
     ensures { IfSome result (EachIsFound Answers (AnyHistory.Memory (H.history history.now))) }
 {
-    Some(Findings {
-        cc: finding_decided(history, Criterion::Cc, whether.cc)?,
-        cm: finding_decided(history, Criterion::Cm, whether.cm)?,
-        ccv: finding_decided(history, Criterion::Ccv, whether.ccv)?,
-    })
+    let cc = finding_decided(history, Criterion::Cc, whether.cc);
+    let cm = finding_decided(history, Criterion::Cm, whether.cm);
+    let ccv = finding_decided(history, Criterion::Ccv, whether.ccv);
+    match both(both(cc, cm), ccv) {
+        Some(three) => {
+            let ((cc, cm), ccv) = three;
+            Some(Findings { cc, cm, ccv })
+        }
+        None => None,
+    }
+}
+
+// Both values, where none of them lacks.
+fn both<A: Drop, B: Drop>(first: Option<A>, second: Option<B>) -> Option<(A, B)>
+    ensures first { IfSome result (λ values. first ≡ Some values.0) }
+    ensures second { IfSome result (λ values. second ≡ Some values.1) }
+{
+    match first {
+        Some(first) => match second {
+            Some(second) => Some((first, second)),
+            None => {
+                drop(first);
+                None
+            }
+        },
+        None => {
+            drop(second);
+            None
+        }
+    }
 }
 
 // What a decision says of a history of a memory and a criterion, if it says it for certain. Where it names CyclicHB, WriteHBInitRead may be

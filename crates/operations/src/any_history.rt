@@ -26,7 +26,7 @@ pub enum AnyHistory {
 }
 
 impl AnyHistory {
-    /// Lets go of the history, in one call that needs no proof for each type that it may be of.
+    /// Drops the history. A crate that drops its histories by this call proves no destructor of them.
     pub fn discard(self) {
         drop(self);
     }
