@@ -31,7 +31,7 @@ feed_late most xs k end found late is =
     let high : k < length xs = found.0.high in
     subst (λ (e : LineEnd). EndsIn most xs e) (sym is) (k, late, omega arith, free-before xs k found.0.before (omega arith))
 
--- the bytes after a place
+-- the bytes from a place on
 pub bytes_from : (xs ys : List ℕ) (at : ℕ) → xs ≡ ys → take (length xs - at) (drop at xs) ≡ drop at ys
 bytes_from xs ys at same = take_all (length xs - at) (drop at xs) (let size = length-drop at xs in omega arith) ∙ ap (drop at) same
 
