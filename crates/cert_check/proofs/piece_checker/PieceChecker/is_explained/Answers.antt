@@ -1,9 +1,10 @@
-use Rattle.std.proofs.Common.{Bool, ◌≡◌, ℕ, List, sym, ap, subst, ◌∙◌}
+use Rattle.std.proofs.Math.Path.{ap₂}
+use Rattle.std.proofs.Common.{Bool, ◌≡◌, ℕ, List, sym, ap, subst, ◌∙◌, subst₂}
 use Rattle.std.specs.Prelude.{IsTrue, ◌↔◌}
 use Rattle.std.proofs.lemmas.Result.{IfOk-weaker}
-use Rattle.history.specs.History.{HistoryValue}
+use Rattle.history.specs.History.{HistoryValue, IsOp}
 use Rattle.causal_order.specs.Orders.{only, program_past}
-use Rattle.cert_check.specs.Certificates.{IsArbitratedPiece, IsScheduledPiece}
+use Rattle.cert_check.specs.Certificates.{IsArbitratedPiece, IsScheduledPiece, HasShapeOf, vectors_of}
 use Rattle.cert_check.specs.declared.certificate.Certificate.TheVariants.{Cc, Cm, Ccv}
 use Rattle.cert_check.proofs.PieceCheckers.{decided_as, held_is}
 use Rattle.cert_check.proofs.piece_checker.PieceChecker.is_explained.Goals as goal
@@ -48,3 +49,27 @@ returns-in-Ccv-clause-exact g c =
     decided_as answer o yes h c.args.self.now.0 history (Ccv c.in-Ccv.v c.in-Ccv.arbitration) certificate held
     (subst (λ (xs : List ℕ). IsTrue yes ↔ IsArbitratedPiece answer h c.in-Ccv.v xs o) c.sessions.ensures exactly))
     c.is_arbitrated_piece.ensures.exact
+
+pub is_own_piece-requires-clause-walk : goal.is_own_piece-requires-clause-walk
+is_own_piece-requires-clause-walk g c = λ _ _. c.self.invariant.walk ∙ ap₂ (λ h held. (h, vectors_of held)) (sym c.history-h.ensures) c.in-Cc.is
+
+pub is_own_piece-requires-clause-shape : goal.is_own_piece-requires-clause-shape
+is_own_piece-requires-clause-shape g c = λ _ _. (subst₂ (λ h held. HasShapeOf h held) (sym c.history-h.ensures) c.in-Cc.is c.self.invariant.shape).0
+
+pub is_own_piece-requires-clause-is_op : goal.is_own_piece-requires-clause-is_op
+is_own_piece-requires-clause-is_op g c = λ _ _. subst (λ h. IsOp h c.args.op) (sym (c.history-h.ensures ∙ ap (λ file. file.0) c.self.view_is)) c.requires.is_op
+
+pub is_past_piece-requires-clause-walk : goal.is_past_piece-requires-clause-walk
+is_past_piece-requires-clause-walk g c = λ _ _. c.self.invariant.walk ∙ ap₂ (λ h held. (h, vectors_of held)) (sym c.self.invariant.past) c.in-Cm.is
+
+pub is_past_piece-requires-clause-shape : goal.is_past_piece-requires-clause-shape
+is_past_piece-requires-clause-shape g c = λ _ _. (subst₂ (λ h held. HasShapeOf h held) (sym c.self.invariant.past) c.in-Cm.is c.self.invariant.shape).0
+
+pub is_past_piece-requires-clause-is_op : goal.is_past_piece-requires-clause-is_op
+is_past_piece-requires-clause-is_op g c = λ _ _. subst (λ h. IsOp h c.args.op) (sym (c.self.invariant.past ∙ ap (λ file. file.0) c.self.view_is)) c.requires.is_op
+
+pub is_arbitrated_piece-requires-clause-shape : goal.is_arbitrated_piece-requires-clause-shape
+is_arbitrated_piece-requires-clause-shape g c = λ _ _. (subst₂ (λ h held. HasShapeOf h held) (sym c.history-h.ensures) c.in-Ccv.is c.self.invariant.shape).0
+
+pub is_arbitrated_piece-requires-clause-is_op : goal.is_arbitrated_piece-requires-clause-is_op
+is_arbitrated_piece-requires-clause-is_op g c = λ _ _. subst (λ h. IsOp h c.args.op) (sym (c.history-h.ensures ∙ ap (λ file. file.0) c.self.view_is)) c.requires.is_op

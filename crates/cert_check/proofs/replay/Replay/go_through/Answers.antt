@@ -1,10 +1,10 @@
-use Rattle.std.proofs.Common.{[], length, get_or, take, sym, subst, arith, ◌∙◌}
+use Rattle.std.proofs.Common.{[], length, get_or, take, sym, subst, arith, ◌∙◌, ◌≡◌, ℕ, refl}
 use borrow.Author.Count.{below_more}
 use Rattle.std.proofs.lemmas.Bool.{some_since, both_ways}
 use Rattle.std.proofs.lemmas.Option.{MatchOption-at_some, slice_get-get_or}
 use Rattle.history.specs.History.{calls}
 use Rattle.cert_check.specs.Schedules.{named}
-use Rattle.cert_check.specs.Steps.Replays.{kept_of, IsAnsweredAt}
+use Rattle.cert_check.specs.Steps.Replays.{kept_of, IsAnsweredAt, AreAnswered}
 use Rattle.cert_check.proofs.NamingSteps.{named_here}
 use Rattle.cert_check.proofs.ReplaySteps.{answered_here, names_next, replayed_on, replayed_whole}
 use Rattle.cert_check.proofs.replay.Replay.go_through.Goals as goal
@@ -65,3 +65,14 @@ returns-clause-on g c = λ _.
     let within = c.loop-place.auto.place-end c.requires.within in
     replayed_whole g.O.SeqObject.stands c.args.h.now c.args.list.now c.loop-place.place (omega arith)
     c.loop-place.self.naming.counts.items c.loop-place.self.object c.loop-place.invariant.0
+
+pub loop-place-init : goal.loop-place-init
+loop-place-init g c = (c.requires.at, λ first. first)
+
+pub returns-clause-exact : goal.returns-clause-exact
+returns-clause-exact g c = λ first.
+    let most = c.loop-place.auto.place-end c.requires.within in
+    let ended : c.loop-place.place ≡ length c.args.list.now = omega arith in (
+      (λ _. subst (λ (n : ℕ). AreAnswered g.O.SeqObject.answer c.args.h.now (kept_of c.args.kept) c.args.list.now n) ended (c.loop-place.invariant.1 first)),
+      λ _. refl,
+    )

@@ -1,3 +1,5 @@
+use Rattle.memory_order.proofs.SourcedLaws.{square-vectors}
+use Rattle.causal_order.proofs.VectorsLaws.{HasListOf-of_history}
 use Rattle.std.proofs.Common.{◌≡◌, ◌+◌, ◌++◌, ◌∷◌, [], List, ℕ, length, get_or, suc, ap, sym, subst, arith, ◌∙◌}
 use Rattle.history.specs.declared.op_id.OpId.{OpId}
 use Rattle.causal_order.specs.Orders.{op}
@@ -39,3 +41,28 @@ loop-index-preserved c =
     subst (λ (es : List ℕ). AreStarted v s (i + 1) c.place.new.self es) (sym more)
     (subst (λ (n : ℕ). AreStarted v s n c.place.new.self (starts ++ length walk ∷ [])) next
     (started-next v s i walk starts c.loop-index.invariant c.place.new.self turn))
+
+pub get-requires-clause-session : goal.get-requires-clause-session
+get-requires-clause-session c =
+    let below = c.loop-index-test.true in
+    let inside = c.requires.inside in
+    rw c.at.ensures ((HasListOf-of_history c.args.h.now c.args.vectors.now (op c.args.session c.loop-index.index) c.requires.vectors.vectors.one_each (omega arith)).session)
+
+pub get-requires-clause-index : goal.get-requires-clause-index
+get-requires-clause-index c =
+    let below = c.loop-index-test.true in
+    let inside = c.requires.inside in
+    rw c.at.ensures ((HasListOf-of_history c.args.h.now c.args.vectors.now (op c.args.session c.loop-index.index) c.requires.vectors.vectors.one_each (omega arith)).index)
+
+pub run_to-requires-clause-few : goal.run_to-requires-clause-few
+run_to-requires-clause-few c = let sessions = c.requires.vectors.vectors.one_each.sessions in let few = c.requires.few in omega arith
+
+pub run_to-requires-clause-square : goal.run_to-requires-clause-square
+run_to-requires-clause-square c = square-vectors c.args.h.now c.args.vectors.now c.requires.vectors.vectors
+
+pub run_to-requires-clause-limits : goal.run_to-requires-clause-limits
+run_to-requires-clause-limits c =
+    let below = c.loop-index-test.true in
+    let inside = c.requires.inside in
+    ap (λ (xs : List ℕ). length xs) c.get.ensures
+    ∙ square-vectors c.args.h.now c.args.vectors.now c.requires.vectors.vectors c.at.result (rw c.at.ensures ((HasListOf-of_history c.args.h.now c.args.vectors.now (op c.args.session c.loop-index.index) c.requires.vectors.vectors.one_each (omega arith)).index))
