@@ -125,6 +125,7 @@ pub fn judge_with<O: Judged + Send + Sync, R: Threads + Wait + Sync, G: Gate>(
     ensures error { IfErr result (IsJudgeError workers) }
 {
     if !are_workers(workers) {
+        drop(file);
         return Err(DeskError::BadWorkers);
     }
     judge_file(rt, alloc, file, workers, gate)

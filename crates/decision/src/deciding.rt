@@ -3,7 +3,7 @@
 ghost use Rattle.std.specs.Prelude.{◌≢◌, IfOk, None};
 ghost use Rattle.bad_patterns.specs.Kinds.{IsFreeOf};
 ghost use Rattle.cert_check.specs.declared.criterion.Criterion.{Criterion as AnyCriterion};
-ghost use Rattle.cert_check.specs.declared.criterion.Criterion.TheVariants.{Cc, Cm};
+ghost use Rattle.cert_check.specs.declared.criterion.Criterion.TheVariants.{Cc, Ccv, Cm};
 ghost use Rattle.decision.specs.Decisions.{IsDecided, decision_for};
 ghost use Rattle.long_decision.specs.LongDecisions.{AreDecided, IsLongDecided};
 ghost use Rattle.memory_order.specs.HappenedBeforePatterns.{HasHBCycle, HasStartOverwrittenInHB};
@@ -108,9 +108,32 @@ pub fn decide_kinds(
     ensures { IfOk result (λ all. (criterion : AnyCriterion) → IsDecided memory.now criterion (decision_for all criterion)) }
 {
     let cc = decide_which(alloc, memory, Criterion::Cc, whether.cc)?;
+    match decide_stronger(alloc, memory, whether) {
+        Ok((cm, ccv)) => Ok(Decisions { cc, cm, ccv }),
+        Err(refused) => {
+            drop(cc);
+            Err(refused)
+        }
+    }
+}
+
+/// The same for causal memory and for causal convergence.
+fn decide_stronger(
+    alloc: Global,
+    memory: &IndexedMemory,
+    whether: LongDecisions,
+) -> Result<(Decision, Decision), AllocError>
+    requires { AreDecided memory.now whether }
+    ensures { IfOk result (λ both. IsDecided memory.now Cm both.0 × IsDecided memory.now Ccv both.1) }
+{
     let cm = decide_which(alloc, memory, Criterion::Cm, whether.cm)?;
-    let ccv = decide_which(alloc, memory, Criterion::Ccv, whether.ccv)?;
-    Ok(Decisions { cc, cm, ccv })
+    match decide_which(alloc, memory, Criterion::Ccv, whether.ccv) {
+        Ok(ccv) => Ok((cm, ccv)),
+        Err(refused) => {
+            drop(cm);
+            Err(refused)
+        }
+    }
 }
 
 /// What is decided of a criterion, where it is known whether the history meets it.

@@ -1,1 +1,2 @@
+pub mod Exclusions
 pub mod Wholes

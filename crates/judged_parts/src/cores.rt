@@ -1,6 +1,7 @@
 //! Cores, each judged by itself.
 
 ghost use Rattle.std.specs.Prelude.{IfOk, IfSome, string_bytes};
+ghost use Rattle.operations.specs.AnyForm.{IsJson, form_of};
 ghost use Rattle.judged_parts.specs.Cores.{IsCoreOf, IsCoreText};
 
 use crate::exclusion::exclusion_of;
@@ -50,7 +51,16 @@ pub fn core_text(
     ensures { IfOk result (λ made. IfSome made (λ text. IsCoreText history.now criterion (string_bytes text))) }
 {
     match core_of(alloc, history, criterion, pattern)? {
-        Some(core) => Ok(Some(write_history(alloc, &AnyHistory::Memory(core))?)),
+        Some(core) => Ok(Some(text_of(alloc, core)?)),
         None => Ok(None),
     }
+}
+
+/// A memory history as JSON text on one line.
+///
+/// Fails for want of memory alone. O(n) for n operations.
+fn text_of(alloc: Global, history: History<Memory>) -> Result<String, AllocError>
+    ensures { IfOk result (λ text. IsJson (string_bytes text) (form_of (AnyHistory.Memory history))) }
+{
+    write_history(alloc, &AnyHistory::Memory(history))
 }

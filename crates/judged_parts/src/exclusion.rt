@@ -1,6 +1,6 @@
 //! Whether a history is decided not to meet a criterion.
 
-ghost use Rattle.std.specs.Prelude.{IfOk, IfSome};
+ghost use Rattle.std.specs.Prelude.{◌≢◌, IfOk, IfSome, IsTrue};
 ghost use Rattle.judged_parts.specs.WithoutVariables.{IsExclusion};
 
 use bad_patterns::laws::bad_patterns_exclude_criteria;
@@ -23,9 +23,24 @@ pub(crate) fn exclusion_of(
 {
     bad_patterns_exclude_criteria();
     let memory = IndexedMemory::of(alloc, history)?;
-    match decide(alloc, &memory, criterion)? {
-        Decision::Excluded(pattern) => Ok(Some(Decision::Excluded(pattern))),
-        Decision::ExcludedBy(kind) => Ok(Some(Decision::ExcludedBy(kind))),
-        Decision::Meets | Decision::Open => Ok(None),
+    let decided = decide(alloc, &memory, criterion);
+    drop(memory);
+    let decision = decided?;
+    if is_exclusion(&decision) {
+        Ok(Some(decision))
+    } else {
+        drop(decision);
+        Ok(None)
+    }
+}
+
+/// Whether a decision says that a history does not meet a criterion.
+fn is_exclusion(decision: &Decision) -> bool
+    ensures met { IsTrue result → decision.now ≢ Decision.Meets }
+    ensures open { IsTrue result → decision.now ≢ Decision.Open }
+{
+    match decision {
+        Decision::Excluded(_) | Decision::ExcludedBy(_) => true,
+        Decision::Meets | Decision::Open => false,
     }
 }

@@ -1,6 +1,6 @@
 //! Patterns with no operation that their kind can do without.
 
-ghost use Rattle.std.specs.Prelude.{◌≡◌, IfOk, IfSome};
+ghost use Rattle.std.specs.Prelude.{◌≡◌, IfOk, IfSome, IsTrue};
 ghost use Rattle.bad_patterns.specs.Patterns.{IsBadPattern, kind_of};
 
 use crate::exclusion::exclusion_of;
@@ -64,11 +64,30 @@ fn tested_fewest(
     let Some(fewest) = pattern_of_fewest(alloc, history, criterion, pattern)? else {
         return Ok(None);
     };
-    if fewest.kind() == pattern.kind() && check_pattern(alloc, history, criterion, &fewest)? {
-        Ok(Some(fewest))
-    } else {
-        Ok(None)
+    match is_of_kind(alloc, history, criterion, pattern.kind(), &fewest) {
+        Ok(true) => Ok(Some(fewest)),
+        Ok(false) => {
+            drop(fewest);
+            Ok(None)
+        }
+        Err(refused) => {
+            drop(fewest);
+            Err(refused)
+        }
     }
+}
+
+/// Whether a pattern is of a kind, and shows it against a criterion.
+fn is_of_kind(
+    alloc: Global,
+    history: &History<Memory>,
+    criterion: Criterion,
+    kind: Kind,
+    pattern: &Pattern,
+) -> Result<bool, AllocError>
+    ensures { IfOk result (λ shown. IsTrue shown → IsBadPattern history.now criterion pattern.now × (kind_of pattern.now ≡ kind)) }
+{
+    Ok(pattern.kind() == kind && check_pattern(alloc, history, criterion, pattern)?)
 }
 
 /// The same, before it is tested: none where no operation was left out.
