@@ -1,6 +1,6 @@
 //! Certificates that are made from what a store reported, and the first operation that each does not explain.
 
-use crate::rows::{Finding, differing_rows};
+use crate::rows::{Finding, expect_rows};
 use cert_check::{CaseFile, Certificate, Criterion, first_unexplained};
 use history::{Advice, History, MAX_SESSIONS, TakenIn};
 use object_trait::SeqObject;
@@ -69,9 +69,7 @@ impl Finding for Unexplained {
 
 #[test]
 fn certificates_from_advice_explain_all_or_not(rt: HostRuntime) -> Result<(), Fail> {
-    let differing = differing_rows::<Unexplained>(rt.alloc(), ROWS)?;
-    assert_eq!(rt; differing.as_str(), "");
-    Ok(())
+    expect_rows::<Unexplained>(&rt, ROWS)
 }
 
 /// What is found in the history of a counter or a memory.
@@ -87,7 +85,7 @@ fn found_of(
         }
         Ok(AnyHistory::Memory(history)) => found_in_memory(alloc, criterion, advice, history),
         Ok(other) => {
-            drop(other);
+            other.discard();
             String::from_str(alloc, "a history of another object")
         }
         Err(_refused) => String::from_str(alloc, "no history"),

@@ -1,7 +1,7 @@
 //! Case files, and how they are read from texts.
 
 use crate::histories::memory;
-use bad_patterns::Pattern;
+use bad_patterns::{Pattern, Refutable};
 use bounded_json::MAX_DEPTH;
 use cert_check::{CaseFile, Certificate, Criterion, read_certificate};
 use evidence::next_pattern;
@@ -47,6 +47,19 @@ pub const VALUES_THAT_NOBODY_WROTE: FileText = FileText {
     history: r#"["memory",[[["r",0,7],["r",0,8]]]]"#,
     certificate: Some(r#"["cc",[[[1],[2]]],[[[0],[0,0]]]]"#),
 };
+
+/// An object of which texts give case files. The steps of tests at a desk are generic over it, since a proof takes long for each call at
+/// the desk of a memory.
+pub trait Filed: Refutable {
+    /// The case file of a text.
+    fn filed(alloc: Global, text: FileText) -> Option<CaseFile<Self>>;
+}
+
+impl Filed for Memory {
+    fn filed(alloc: Global, text: FileText) -> Option<CaseFile<Memory>> {
+        file_of(alloc, text)
+    }
+}
 
 /// The case file of a text.
 pub fn file_of(alloc: Global, text: FileText) -> Option<CaseFile<Memory>> {

@@ -2,7 +2,7 @@
 
 use crate::case_files::pattern_of;
 use crate::histories::memory;
-use crate::rows::{Finding, differing_rows};
+use crate::rows::{Finding, expect_rows};
 use cert_check::Criterion;
 use history::History;
 use judged_parts::core_text;
@@ -52,7 +52,5 @@ fn core_in(
 
 #[test]
 fn core_is_judged_by_itself(rt: HostRuntime) -> Result<(), Fail> {
-    let differing = differing_rows::<CoreText>(rt.alloc(), ROWS)?;
-    assert_eq!(rt; differing.as_str(), "");
-    Ok(())
+    expect_rows::<CoreText>(&rt, ROWS)
 }

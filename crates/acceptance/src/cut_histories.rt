@@ -1,9 +1,10 @@
 //! Which parts of histories are cut out.
 
-use crate::histories::{memory, op_of};
-use crate::rows::{Finding, differing_rows};
-use objects::Memory;
-use operations::{AnyHistory, History, OpId, write_history};
+use crate::histories::{memory, op_of, text_of};
+use crate::rows::{Finding, expect_rows};
+use object_trait::SeqObject;
+use objects::{Keyed, Memory};
+use operations::{History, OpId};
 use parts::{AtKeys, Listed, WithoutKeys, part_of};
 use std::alloc::{AllocError, Global};
 use std::test::Fail;
@@ -26,23 +27,29 @@ impl Finding for CutOut {
         let Some((way, named, history)) = asked(alloc, input) else {
             return String::from_str(alloc, "no part is asked for");
         };
-        let part = match way {
-            "at" => part_of(alloc, &history, &AtKeys(&keys_of(alloc, named)?))?,
-            "without" => part_of(alloc, &history, &WithoutKeys(&keys_of(alloc, named)?))?,
-            _ => part_of(alloc, &history, &Listed(&ops_of(alloc, named)?))?,
-        };
-        let part = AnyHistory::Memory(part);
-        let text = write_history(alloc, &part);
-        drop(part);
-        text
+        let part = part_named(alloc, &history, way, named);
+        drop(history);
+        text_of(alloc, part?)
+    }
+}
+
+/// The part of a history that is named in this way.
+fn part_named<O: SeqObject>(
+    alloc: Global,
+    history: &History<Keyed<O>>,
+    way: &str,
+    named: &str,
+) -> Result<History<Keyed<O>>, AllocError> {
+    match way {
+        "at" => part_of(alloc, history, &AtKeys(&keys_of(alloc, named)?)),
+        "without" => part_of(alloc, history, &WithoutKeys(&keys_of(alloc, named)?)),
+        _ => part_of(alloc, history, &Listed(&ops_of(alloc, named)?)),
     }
 }
 
 #[test]
 fn parts_are_cut_out(rt: HostRuntime) -> Result<(), Fail> {
-    let differing = differing_rows::<CutOut>(rt.alloc(), ROWS)?;
-    assert_eq!(rt; differing.as_str(), "");
-    Ok(())
+    expect_rows::<CutOut>(&rt, ROWS)
 }
 
 /// How a part is named, the text of what it names, and the history.

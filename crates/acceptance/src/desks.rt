@@ -3,10 +3,11 @@
 ghost use Rattle.std.specs.Prelude.{◌≡◌};
 
 use crate::case_files::{
-    FileText, NO_OPERATION, READ_AFTER_ITS_WRITE, THREE_OF_ONE_SESSION, VALUES_THAT_NOBODY_WROTE,
-    WITHOUT_A_CERTIFICATE, file_of, pattern_of,
+    FileText, Filed, NO_OPERATION, READ_AFTER_ITS_WRITE, THREE_OF_ONE_SESSION,
+    VALUES_THAT_NOBODY_WROTE, WITHOUT_A_CERTIFICATE, pattern_of,
 };
-use bad_patterns::{Kind, Pattern};
+use crate::expectations::{expect_ok, expect_same};
+use bad_patterns::{Kind, Pattern, Refutable};
 use cert_check::{Criterion, DeskError, Outcome};
 use desk::{Answer, Desk, Shelf, ShelfName, Ticket, Verdict};
 use objects::Memory;
@@ -184,26 +185,22 @@ const FULL: [(Step, Seen); 7] = [
 
 #[test]
 fn desk_shows_verdicts(rt: HostRuntime) -> Result<(), Fail> {
-    assert_eq!(rt; first_unwanted(&rt, &VERDICTS)?, None);
-    Ok(())
+    expect_ok(&rt, first_unwanted(&rt, &VERDICTS), None)
 }
 
 #[test]
 fn desk_shows_patterns(rt: HostRuntime) -> Result<(), Fail> {
-    assert_eq!(rt; first_unwanted(&rt, &PATTERNS)?, None);
-    Ok(())
+    expect_ok(&rt, first_unwanted(&rt, &PATTERNS), None)
 }
 
 #[test]
 fn desk_shows_pieces(rt: HostRuntime) -> Result<(), Fail> {
-    assert_eq!(rt; first_unwanted(&rt, &PIECES)?, None);
-    Ok(())
+    expect_ok(&rt, first_unwanted(&rt, &PIECES), None)
 }
 
 #[test]
 fn desk_is_full(rt: HostRuntime) -> Result<(), Fail> {
-    assert_eq!(rt; first_unwanted(&rt, &FULL)?, None);
-    Ok(())
+    expect_ok(&rt, first_unwanted(&rt, &FULL), None)
 }
 
 /// Three cases are filed, the second without a certificate, and the third by the call that gives back the file.
@@ -224,11 +221,10 @@ const FILED: [(Step, Seen); 10] = [
 #[test]
 fn file(rt: HostRuntime) -> Result<(), Fail> {
     let unwanted = match first_unwanted(&rt, &FILED) {
-        Ok(unwanted) => unwanted,
-        Err(_refused) => first_unwanted(&rt, &FILED)?,
+        Ok(unwanted) => Ok(unwanted),
+        Err(_refused) => first_unwanted(&rt, &FILED),
     };
-    assert_eq!(rt; unwanted, None);
-    Ok(())
+    expect_ok(&rt, unwanted, None)
 }
 
 /// A case of three pieces is worked on, and worked on once more, and settled.
@@ -271,16 +267,25 @@ fn abandoned_at(piece: u32) -> [Seen; 7] {
 /// and has to see each piece abandoned.
 #[test]
 fn abandoned(rt: HostRuntime) -> Result<(), Fail> {
-    let seen = match seen_at_desk(&rt, &WORKED_TWICE) {
+    let seen = match seen_at_memory(&rt, &WORKED_TWICE) {
         Ok(seen) => seen,
-        Err(_refused) => seen_at_desk(&rt, &WORKED_TWICE)?,
+        Err(_refused) => seen_at_memory(&rt, &WORKED_TWICE)?,
     };
     if seen.as_slice() != WORKED.as_slice() {
         println!(rt; "{seen:?}")?;
-        let is_abandoned = (0..3).any(|piece| seen.as_slice() == abandoned_at(piece).as_slice());
-        assert!(rt; is_abandoned);
+        expect_same(&rt, is_abandoned(seen.as_slice()), true);
     }
     Ok(())
+}
+
+/// Whether this is seen where the check of a piece is refused memory.
+fn is_abandoned(seen: &[Seen]) -> bool {
+    for piece in 0..3 {
+        if seen == abandoned_at(piece).as_slice() {
+            return true;
+        }
+    }
+    false
 }
 
 /// The number of the first step that gives something else than wanted.
@@ -292,30 +297,43 @@ fn first_unwanted<P: Wait + AllocGlobal>(
     for (step, _) in cases {
         steps.push(*step)?;
     }
-    let seen = seen_at_desk(rt, steps.as_slice())?;
-    Ok(
-        cases
-            .iter()
-            .zip(seen.as_slice())
-            .position(|((_, wanted), seen)| wanted != seen),
-    )
+    let seen = seen_at_memory(rt, steps.as_slice())?;
+    Ok(first_other(cases, seen.as_slice()))
 }
 
-/// What is seen of each step at a desk of memory cases.
-fn seen_at_desk<P: Wait + AllocGlobal>(rt: &P, steps: &[Step]) -> Result<Vec<Seen>, AllocError> {
+/// The number of the first step of which something else is seen than wanted.
+fn first_other(cases: &[(Step, Seen)], seen: &[Seen]) -> Option<usize> {
+    for (number, (_, wanted)) in cases.iter().enumerate() {
+        if seen.get(number) != Some(wanted) {
+            return Some(number);
+        }
+    }
+    None
+}
+
+/// What is seen of each step at the desk of a memory.
+fn seen_at_memory<P: Wait + AllocGlobal>(rt: &P, steps: &[Step]) -> Result<Vec<Seen>, AllocError> {
+    seen_at_desk::<Memory, P>(rt, steps)
+}
+
+/// What is seen of each step at a desk.
+fn seen_at_desk<O: Filed, P: Wait + AllocGlobal>(
+    rt: &P,
+    steps: &[Step],
+) -> Result<Vec<Seen>, AllocError> {
     let shelf = Shelf::new(rt.alloc())?;
-    seen_on::<Brand, P>(rt, shelf, steps)
+    seen_on::<O, Brand, P>(rt, shelf, steps)
 }
 
 /// The same on a shelf that is named.
-fn seen_on<K: ShelfName, P: Wait + AllocGlobal>(
+fn seen_on<O: Filed, K: ShelfName, P: Wait + AllocGlobal>(
     rt: &P,
-    shelf: Shelf<Memory>,
+    shelf: Shelf<O>,
     steps: &[Step],
 ) -> Result<Vec<Seen>, AllocError>
     requires { shelf ≡ K.shelf }
 {
-    let desk = Desk::<Memory, K>::on(rt.alloc(), shelf)?;
+    let desk = Desk::<O, K>::on(rt.alloc(), shelf)?;
     let mut given = Given::none(rt.alloc());
     let seen = seen_of_all(rt, &desk, &mut given, steps);
     drop(given);
@@ -324,10 +342,10 @@ fn seen_on<K: ShelfName, P: Wait + AllocGlobal>(
 }
 
 /// What is seen of each step at a desk.
-fn seen_of_all<K: ShelfName, P: Wait + AllocGlobal>(
+fn seen_of_all<O: Filed, K: ShelfName, P: Wait + AllocGlobal>(
     rt: &P,
-    desk: &Desk<Memory, K>,
-    given: &mut Given<K>,
+    desk: &Desk<O, K>,
+    given: &mut Given<O, K>,
     steps: &[Step],
 ) -> Result<Vec<Seen>, AllocError> {
     let mut all = Vec::new(rt.alloc());
@@ -336,10 +354,10 @@ fn seen_of_all<K: ShelfName, P: Wait + AllocGlobal>(
 }
 
 /// Adds what is seen of each step to the others.
-fn push_seen<K: ShelfName, P: Wait + AllocGlobal>(
+fn push_seen<O: Filed, K: ShelfName, P: Wait + AllocGlobal>(
     rt: &P,
-    desk: &Desk<Memory, K>,
-    given: &mut Given<K>,
+    desk: &Desk<O, K>,
+    given: &mut Given<O, K>,
     all: &mut Vec<Seen>,
     steps: &[Step],
 ) -> Result<(), AllocError> {
@@ -376,25 +394,29 @@ const APART: [Seen; 9] = [
 
 #[test]
 fn two_desks_are_apart(rt: HostRuntime) -> Result<(), Fail> {
-    let seen = seen_at_one_of_two(&rt)?;
-    assert!(rt; seen.as_slice() == APART.as_slice());
-    Ok(())
+    expect_ok(&rt, is_seen_apart(&rt), true)
+}
+
+/// Whether the steps at two desks give what is wanted.
+fn is_seen_apart<P: Wait + AllocGlobal>(rt: &P) -> Result<bool, AllocError> {
+    let seen = seen_at_one_of_two::<Memory, P>(rt)?;
+    Ok(seen.as_slice() == APART.as_slice())
 }
 
 /// What is seen of the steps at two desks, each with a shelf of its own.
-fn seen_at_one_of_two<P: Wait + AllocGlobal>(rt: &P) -> Result<Vec<Seen>, AllocError> {
+fn seen_at_one_of_two<O: Filed, P: Wait + AllocGlobal>(rt: &P) -> Result<Vec<Seen>, AllocError> {
     let shelf = Shelf::new(rt.alloc())?;
-    seen_beside::<Brand, P>(rt, shelf)
+    seen_beside::<O, Brand, P>(rt, shelf)
 }
 
 /// The same where the shelf of the first is named.
-fn seen_beside<K: ShelfName, P: Wait + AllocGlobal>(
+fn seen_beside<O: Filed, K: ShelfName, P: Wait + AllocGlobal>(
     rt: &P,
-    shelf: Shelf<Memory>,
+    shelf: Shelf<O>,
 ) -> Result<Vec<Seen>, AllocError>
     requires { shelf ≡ K.shelf }
 {
-    let desk = Desk::<Memory, K>::on(rt.alloc(), shelf)?;
+    let desk = Desk::<O, K>::on(rt.alloc(), shelf)?;
     let mut given = Given::none(rt.alloc());
     let seen = seen_around(rt, &desk, &mut given);
     drop(given);
@@ -403,29 +425,47 @@ fn seen_beside<K: ShelfName, P: Wait + AllocGlobal>(
 }
 
 /// What is seen of the steps at a desk, with those at another between.
-fn seen_around<K: ShelfName, P: Wait + AllocGlobal>(
+fn seen_around<O: Filed, K: ShelfName, P: Wait + AllocGlobal>(
     rt: &P,
-    desk: &Desk<Memory, K>,
-    given: &mut Given<K>,
+    desk: &Desk<O, K>,
+    given: &mut Given<O, K>,
 ) -> Result<Vec<Seen>, AllocError> {
-    let mut all = seen_of_all(rt, desk, given, &BEFORE)?;
-    for seen in seen_at_desk(rt, &BESIDE)? {
-        all.push(seen)?;
-    }
-    push_seen(rt, desk, given, &mut all, &AFTER)?;
+    let mut all = Vec::new(rt.alloc());
+    push_around(rt, desk, given, &mut all)?;
     Ok(all)
+}
+
+/// Adds what is seen of the steps at a desk to the others, with what is seen at another between.
+fn push_around<O: Filed, K: ShelfName, P: Wait + AllocGlobal>(
+    rt: &P,
+    desk: &Desk<O, K>,
+    given: &mut Given<O, K>,
+    all: &mut Vec<Seen>,
+) -> Result<(), AllocError> {
+    push_seen(rt, desk, given, all, &BEFORE)?;
+    push_beside::<O, P>(rt, all)?;
+    push_seen(rt, desk, given, all, &AFTER)
+}
+
+/// Adds what is seen of the steps at a second desk to the others.
+fn push_beside<O: Filed, P: Wait + AllocGlobal>(
+    rt: &P,
+    all: &mut Vec<Seen>,
+) -> Result<(), AllocError> {
+    let beside = seen_at_desk::<O, P>(rt, &BESIDE)?;
+    all.extend_from_slice(beside.as_slice())
 }
 
 /// The tickets and the verdicts that a desk has given.
 #[derive(Drop)]
-struct Given<K: ShelfName> {
-    tickets: Vec<Ticket<Memory, K>>,
-    verdicts: Vec<Verdict<Memory, K>>,
+struct Given<O: Refutable, K: ShelfName> {
+    tickets: Vec<Ticket<O, K>>,
+    verdicts: Vec<Verdict<O, K>>,
 }
 
-impl<K: ShelfName> Given<K> {
+impl<O: Refutable, K: ShelfName> Given<O, K> {
     /// None yet.
-    fn none(alloc: Global) -> Given<K> {
+    fn none(alloc: Global) -> Given<O, K> {
         Given {
             tickets: Vec::new(alloc),
             verdicts: Vec::new(alloc),
@@ -434,10 +474,10 @@ impl<K: ShelfName> Given<K> {
 }
 
 /// What the tests see of a step.
-fn seen_of<K: ShelfName, P: Wait + AllocGlobal>(
+fn seen_of<O: Filed, K: ShelfName, P: Wait + AllocGlobal>(
     rt: &P,
-    desk: &Desk<Memory, K>,
-    given: &mut Given<K>,
+    desk: &Desk<O, K>,
+    given: &mut Given<O, K>,
     step: Step,
 ) -> Result<Seen, AllocError> {
     match step {
@@ -446,24 +486,35 @@ fn seen_of<K: ShelfName, P: Wait + AllocGlobal>(
         Step::Fill(text) => filled(rt, desk, given, text),
         Step::Take => Ok(taken(rt, desk)),
         Step::Work => Ok(worked(rt, desk)),
-        Step::On(case, event) => match given.tickets.get(case) {
-            Some(ticket) => {
-                let ticket = ticket.again();
-                let seen = seen_on_case(rt, desk, given, &ticket, event);
-                drop(ticket);
-                seen
-            }
-            None => Ok(Seen::Nothing),
-        },
+        Step::On(case, event) => seen_on_number(rt, desk, given, case, event),
+    }
+}
+
+/// What is seen of an event on the case of a number.
+fn seen_on_number<O: Filed, K: ShelfName, P: Wait + AllocGlobal>(
+    rt: &P,
+    desk: &Desk<O, K>,
+    given: &mut Given<O, K>,
+    case: usize,
+    event: Event,
+) -> Result<Seen, AllocError> {
+    match given.tickets.get(case) {
+        Some(ticket) => {
+            let ticket = ticket.again();
+            let seen = seen_on_case(rt, desk, given, &ticket, event);
+            drop(ticket);
+            seen
+        }
+        None => Ok(Seen::Nothing),
     }
 }
 
 /// What is seen of an event on a case.
-fn seen_on_case<K: ShelfName, P: Wait + AllocGlobal>(
+fn seen_on_case<O: Filed, K: ShelfName, P: Wait + AllocGlobal>(
     rt: &P,
-    desk: &Desk<Memory, K>,
-    given: &mut Given<K>,
-    ticket: &Ticket<Memory, K>,
+    desk: &Desk<O, K>,
+    given: &mut Given<O, K>,
+    ticket: &Ticket<O, K>,
     event: Event,
 ) -> Result<Seen, AllocError> {
     match event {
@@ -477,10 +528,10 @@ fn seen_on_case<K: ShelfName, P: Wait + AllocGlobal>(
 }
 
 /// Files a case, once more where memory was refused: later steps show whether the refusal left the board as it was.
-fn filed<K: ShelfName, P: Wait + AllocGlobal>(
+fn filed<O: Filed, K: ShelfName, P: Wait + AllocGlobal>(
     rt: &P,
-    desk: &Desk<Memory, K>,
-    given: &mut Given<K>,
+    desk: &Desk<O, K>,
+    given: &mut Given<O, K>,
     text: FileText,
 ) -> Result<Seen, AllocError> {
     match filed_once(rt, desk, given, text)? {
@@ -490,13 +541,13 @@ fn filed<K: ShelfName, P: Wait + AllocGlobal>(
 }
 
 /// Files a case.
-fn filed_once<K: ShelfName, P: Wait + AllocGlobal>(
+fn filed_once<O: Filed, K: ShelfName, P: Wait + AllocGlobal>(
     rt: &P,
-    desk: &Desk<Memory, K>,
-    given: &mut Given<K>,
+    desk: &Desk<O, K>,
+    given: &mut Given<O, K>,
     text: FileText,
 ) -> Result<Seen, AllocError> {
-    let Some(file) = file_of(rt.alloc(), text) else {
+    let Some(file) = O::filed(rt.alloc(), text) else {
         return Err(AllocError);
     };
     match desk.file(rt, file) {
@@ -506,27 +557,31 @@ fn filed_once<K: ShelfName, P: Wait + AllocGlobal>(
 }
 
 /// Files a case by the call that gives the file back where there is no room.
-fn filed_or_back<K: ShelfName, P: Wait + AllocGlobal>(
+fn filed_or_back<O: Filed, K: ShelfName, P: Wait + AllocGlobal>(
     rt: &P,
-    desk: &Desk<Memory, K>,
-    given: &mut Given<K>,
+    desk: &Desk<O, K>,
+    given: &mut Given<O, K>,
     text: FileText,
 ) -> Result<Seen, AllocError> {
-    let Some(file) = file_of(rt.alloc(), text) else {
+    let Some(file) = O::filed(rt.alloc(), text) else {
         return Err(AllocError);
     };
     match desk.file_or_back(rt, file) {
         Ok(ticket) => with_ticket(given, ticket),
-        Err(Some(file)) => Ok(Seen::Back(file.criterion())),
+        Err(Some(file)) => {
+            let criterion = file.criterion();
+            drop(file);
+            Ok(Seen::Back(criterion))
+        }
         Err(None) => filed_once(rt, desk, given, text),
     }
 }
 
 /// Files a case 64 times. Returns what is seen of the last.
-fn filled<K: ShelfName, P: Wait + AllocGlobal>(
+fn filled<O: Filed, K: ShelfName, P: Wait + AllocGlobal>(
     rt: &P,
-    desk: &Desk<Memory, K>,
-    given: &mut Given<K>,
+    desk: &Desk<O, K>,
+    given: &mut Given<O, K>,
     text: FileText,
 ) -> Result<Seen, AllocError> {
     let mut last = Seen::Nothing;
@@ -537,9 +592,9 @@ fn filled<K: ShelfName, P: Wait + AllocGlobal>(
 }
 
 /// Keeps a ticket.
-fn with_ticket<K: ShelfName>(
-    given: &mut Given<K>,
-    ticket: Ticket<Memory, K>,
+fn with_ticket<O: Refutable, K: ShelfName>(
+    given: &mut Given<O, K>,
+    ticket: Ticket<O, K>,
 ) -> Result<Seen, AllocError> {
     let number = ticket.number();
     given.tickets.push(ticket)?;
@@ -547,7 +602,7 @@ fn with_ticket<K: ShelfName>(
 }
 
 /// Takes a piece.
-fn taken<K: ShelfName, P: Wait>(rt: &P, desk: &Desk<Memory, K>) -> Seen {
+fn taken<O: Refutable, K: ShelfName, P: Wait>(rt: &P, desk: &Desk<O, K>) -> Seen {
     match desk.take(rt) {
         Some((ticket, op)) => Seen::Piece(ticket.number(), op),
         None => Seen::Nothing,
@@ -555,7 +610,7 @@ fn taken<K: ShelfName, P: Wait>(rt: &P, desk: &Desk<Memory, K>) -> Seen {
 }
 
 /// Works.
-fn worked<K: ShelfName, P: Wait>(rt: &P, desk: &Desk<Memory, K>) -> Seen {
+fn worked<O: Refutable, K: ShelfName, P: Wait>(rt: &P, desk: &Desk<O, K>) -> Seen {
     match desk.work(rt, &OpenGate) {
         Ok(put) => Seen::Number(put),
         Err(refused) => Seen::Refused(refused.number()),
@@ -563,10 +618,10 @@ fn worked<K: ShelfName, P: Wait>(rt: &P, desk: &Desk<Memory, K>) -> Seen {
 }
 
 /// Checks an operation, and keeps the verdict.
-fn checked<K: ShelfName>(
-    desk: &Desk<Memory, K>,
-    given: &mut Given<K>,
-    ticket: &Ticket<Memory, K>,
+fn checked<O: Refutable, K: ShelfName>(
+    desk: &Desk<O, K>,
+    given: &mut Given<O, K>,
+    ticket: &Ticket<O, K>,
     op: OpId,
 ) -> Result<Seen, AllocError> {
     match desk.check(ticket, op) {
@@ -580,11 +635,11 @@ fn checked<K: ShelfName>(
 }
 
 /// Puts a verdict once more.
-fn put<K: ShelfName, P: Wait>(
+fn put<O: Refutable, K: ShelfName, P: Wait>(
     rt: &P,
-    desk: &Desk<Memory, K>,
-    given: &Given<K>,
-    ticket: &Ticket<Memory, K>,
+    desk: &Desk<O, K>,
+    given: &Given<O, K>,
+    ticket: &Ticket<O, K>,
     verdict: usize,
 ) -> Seen {
     match given.verdicts.get(verdict) {
@@ -594,10 +649,10 @@ fn put<K: ShelfName, P: Wait>(
 }
 
 /// Puts a pattern.
-fn refuted<K: ShelfName, P: Wait + AllocGlobal>(
+fn refuted<O: Refutable, K: ShelfName, P: Wait + AllocGlobal>(
     rt: &P,
-    desk: &Desk<Memory, K>,
-    ticket: &Ticket<Memory, K>,
+    desk: &Desk<O, K>,
+    ticket: &Ticket<O, K>,
     pattern: &str,
 ) -> Result<Seen, AllocError> {
     match pattern_of(rt.alloc(), pattern) {
@@ -607,10 +662,10 @@ fn refuted<K: ShelfName, P: Wait + AllocGlobal>(
 }
 
 /// The pattern that a case keeps.
-fn kept<K: ShelfName, P: Wait>(
+fn kept<O: Refutable, K: ShelfName, P: Wait>(
     rt: &P,
-    desk: &Desk<Memory, K>,
-    ticket: &Ticket<Memory, K>,
+    desk: &Desk<O, K>,
+    ticket: &Ticket<O, K>,
 ) -> Result<Seen, AllocError> {
     match desk.pattern(rt, ticket) {
         Ok(Some(Pattern::ThinAirRead(read))) => Ok(Seen::Pattern(Some(read))),

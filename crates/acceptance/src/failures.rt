@@ -1,5 +1,6 @@
 //! The exit status of each failure, and its line.
 
+use crate::expectations::{expect_same, expect_text};
 use engine::{RunError, fault_line, status_of};
 use operations::{OpId, ReadError};
 use script::ScriptError;
@@ -44,8 +45,7 @@ fn each_refusal_of_a_history_has_its_status_and_its_line(rt: HostRuntime) -> Res
         (RunError::History(ReadError::Memory), "4 no memory"),
         (RunError::History(ReadError::BadInitial), "1 refused 29"),
     ];
-    assert_eq!(rt; otherwise(rt.alloc(), &cases)?.as_str(), "");
-    Ok(())
+    expect_text(&rt, otherwise(rt.alloc(), &cases), "")
 }
 
 #[test]
@@ -64,8 +64,7 @@ fn each_refusal_of_a_script_has_its_status_and_its_line(rt: HostRuntime) -> Resu
         ),
         (RunError::Script(ScriptError::BadInitial), "1 refused 29"),
     ];
-    assert_eq!(rt; otherwise(rt.alloc(), &cases)?.as_str(), "");
-    Ok(())
+    expect_text(&rt, otherwise(rt.alloc(), &cases), "")
 }
 
 #[test]
@@ -78,7 +77,6 @@ fn each_other_failure_has_its_status_and_its_line(rt: HostRuntime) -> Result<(),
         (RunError::ReadFault, "3 read fault"),
         (RunError::WriteFault, "3 write fault"),
     ];
-    assert_eq!(rt; otherwise(rt.alloc(), &cases)?.as_str(), "");
-    assert_eq!(rt; status_of(&Ok(())), 0);
-    Ok(())
+    expect_same(&rt, status_of(&Ok(())), 0);
+    expect_text(&rt, otherwise(rt.alloc(), &cases), "")
 }

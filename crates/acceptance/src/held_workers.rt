@@ -3,8 +3,9 @@
 ghost use Rattle.std.specs.Prelude.{◌≡◌};
 
 use crate::case_files::{FileText, READ_AFTER_ITS_WRITE, file_of, pattern_of};
+use crate::expectations::{expect_ok, expect_ok_at};
 use crate::histories::{joined, memory};
-use bad_patterns::{Kind, Pattern};
+use bad_patterns::{Kind, Pattern, Refutable};
 use cert_check::{CaseFile, Criterion, DeskError};
 use collector::judge_with;
 use desk::{Answer, Desk, Shelf, ShelfName, Ticket};
@@ -103,8 +104,7 @@ fn said_by_two<P: Threads + Wait + Sync + AllocGlobal>(
 
 #[test]
 fn gate_two(rt: HostRuntime) -> Result<(), Fail> {
-    assert_eq!(rt; said_by_two(&rt)?, (Answer::Yes, true));
-    Ok(())
+    expect_ok(&rt, said_by_two(&rt), (Answer::Yes, true))
 }
 
 /// What two threads do at once with a case.
@@ -167,7 +167,7 @@ const TOGETHER: [(Parts, Left); 3] = [
 #[test]
 fn two_threads_share_a_case(rt: HostRuntime) -> Result<(), Fail> {
     for (parts, wanted) in TOGETHER {
-        assert_eq!(rt; together(&rt, parts)?, wanted, "{parts:?}");
+        expect_ok_at(&rt, parts, together(&rt, parts), wanted)?;
     }
     Ok(())
 }
@@ -179,7 +179,7 @@ fn together<P: Threads + Wait + Sync + AllocGlobal>(
 ) -> Result<Left, DeskError> {
     let shelf = Shelf::new(rt.alloc())?;
     match file_for(rt.alloc(), parts)? {
-        Some(file) => together_on::<Brand, P>(rt, shelf, file, parts),
+        Some(file) => together_on::<Memory, Brand, P>(rt, shelf, file, parts),
         None => Err(DeskError::NoSuch),
     }
 }
@@ -231,15 +231,14 @@ fn file_of_writes(alloc: Global) -> Result<Option<CaseFile<Memory>>, AllocError>
 }
 
 /// The same on a shelf that is named.
-fn together_on<K: ShelfName + Send + Sync, P: Threads + Wait + Sync + AllocGlobal>(
-    rt: &P,
-    shelf: Shelf<Memory>,
-    file: CaseFile<Memory>,
-    parts: Parts,
-) -> Result<Left, DeskError>
+fn together_on<
+    O: Refutable + Send + Sync,
+    K: ShelfName + Send + Sync,
+    P: Threads + Wait + Sync + AllocGlobal,
+>(rt: &P, shelf: Shelf<O>, file: CaseFile<O>, parts: Parts) -> Result<Left, DeskError>
     requires { shelf ≡ K.shelf }
 {
-    match Desk::<Memory, K>::on(rt.alloc(), shelf) {
+    match Desk::<O, K>::on(rt.alloc(), shelf) {
         Ok(desk) => {
             let left = together_at(rt, &desk, file, parts);
             drop(desk);
@@ -253,12 +252,11 @@ fn together_on<K: ShelfName + Send + Sync, P: Threads + Wait + Sync + AllocGloba
 }
 
 /// What two threads leave of a case at a desk.
-fn together_at<K: ShelfName + Send + Sync, P: Threads + Wait + Sync + AllocGlobal>(
-    rt: &P,
-    desk: &Desk<Memory, K>,
-    file: CaseFile<Memory>,
-    parts: Parts,
-) -> Result<Left, DeskError> {
+fn together_at<
+    O: Refutable + Send + Sync,
+    K: ShelfName + Send + Sync,
+    P: Threads + Wait + Sync + AllocGlobal,
+>(rt: &P, desk: &Desk<O, K>, file: CaseFile<O>, parts: Parts) -> Result<Left, DeskError> {
     let ticket = desk.file(rt, file)?;
     let left = left_together(rt, desk, &ticket, parts);
     drop(ticket);
@@ -266,22 +264,25 @@ fn together_at<K: ShelfName + Send + Sync, P: Threads + Wait + Sync + AllocGloba
 }
 
 /// What two threads leave of a case.
-fn left_together<K: ShelfName + Send + Sync, P: Threads + Wait + Sync + AllocGlobal>(
-    rt: &P,
-    desk: &Desk<Memory, K>,
-    ticket: &Ticket<Memory, K>,
-    parts: Parts,
-) -> Result<Left, DeskError> {
+fn left_together<
+    O: Refutable + Send + Sync,
+    K: ShelfName + Send + Sync,
+    P: Threads + Wait + Sync + AllocGlobal,
+>(rt: &P, desk: &Desk<O, K>, ticket: &Ticket<O, K>, parts: Parts) -> Result<Left, DeskError> {
     let hold = Hold::new();
     let put = put_by_two(rt, desk, ticket, &hold, parts)?;
     left_by(rt, desk, ticket, put, hold.is_in_time())
 }
 
 /// Runs two threads at a desk, and returns how many verdicts they put in all.
-fn put_by_two<K: ShelfName + Send + Sync, P: Threads + Wait + Sync + AllocGlobal>(
+fn put_by_two<
+    O: Refutable + Send + Sync,
+    K: ShelfName + Send + Sync,
+    P: Threads + Wait + Sync + AllocGlobal,
+>(
     rt: &P,
-    desk: &Desk<Memory, K>,
-    ticket: &Ticket<Memory, K>,
+    desk: &Desk<O, K>,
+    ticket: &Ticket<O, K>,
     hold: &Hold,
     parts: Parts,
 ) -> Result<u32, DeskError> {
@@ -295,10 +296,10 @@ fn put_by_two<K: ShelfName + Send + Sync, P: Threads + Wait + Sync + AllocGlobal
 }
 
 /// What a thread puts.
-fn play<K: ShelfName, P: Wait + AllocGlobal>(
+fn play<O: Refutable, K: ShelfName, P: Wait + AllocGlobal>(
     rt: &P,
-    desk: &Desk<Memory, K>,
-    ticket: &Ticket<Memory, K>,
+    desk: &Desk<O, K>,
+    ticket: &Ticket<O, K>,
     hold: &Hold,
     parts: Parts,
     thread: usize,
@@ -311,10 +312,10 @@ fn play<K: ShelfName, P: Wait + AllocGlobal>(
 }
 
 /// Checks an operation and puts its verdict.
-fn put_one<K: ShelfName, P: Wait>(
+fn put_one<O: Refutable, K: ShelfName, P: Wait>(
     rt: &P,
-    desk: &Desk<Memory, K>,
-    ticket: &Ticket<Memory, K>,
+    desk: &Desk<O, K>,
+    ticket: &Ticket<O, K>,
     op: OpId,
 ) -> Result<u32, DeskError> {
     let verdict = desk.check(ticket, op)?;
@@ -362,10 +363,10 @@ const SECOND_PATH: [OpId; 3] = [
 ];
 
 /// Puts a pattern while the first piece is held, and then lets the piece go.
-fn refute_held<K: ShelfName, P: Wait + AllocGlobal>(
+fn refute_held<O: Refutable, K: ShelfName, P: Wait + AllocGlobal>(
     rt: &P,
-    desk: &Desk<Memory, K>,
-    ticket: &Ticket<Memory, K>,
+    desk: &Desk<O, K>,
+    ticket: &Ticket<O, K>,
     hold: &Hold,
 ) -> Result<u32, DeskError> {
     is_set_in_time(&hold.entered);
@@ -388,10 +389,10 @@ fn sum(parts: Vec<Result<u32, DeskError>>) -> Result<u32, DeskError> {
 }
 
 /// What the threads left, after they put so many verdicts.
-fn left_by<K: ShelfName, P: Wait + AllocGlobal>(
+fn left_by<O: Refutable, K: ShelfName, P: Wait + AllocGlobal>(
     rt: &P,
-    desk: &Desk<Memory, K>,
-    ticket: &Ticket<Memory, K>,
+    desk: &Desk<O, K>,
+    ticket: &Ticket<O, K>,
     put: u32,
     in_time: bool,
 ) -> Result<Left, DeskError> {

@@ -1,7 +1,7 @@
 //! Histories of a memory in texts, and operations.
 
 use objects::Memory;
-use operations::{AnyHistory, History, OpId, read_history};
+use operations::{AnyHistory, History, OpId, read_history, write_history};
 use std::alloc::{AllocError, Global};
 
 /// The history of a memory in a text.
@@ -9,11 +9,19 @@ pub fn memory(alloc: Global, text: &str) -> Option<History<Memory>> {
     match read_history(alloc, text.as_bytes()) {
         Ok(AnyHistory::Memory(history)) => Some(history),
         Ok(other) => {
-            drop(other);
+            other.discard();
             None
         }
         Err(_refused) => None,
     }
+}
+
+/// The text of a history of a memory.
+pub fn text_of(alloc: Global, history: History<Memory>) -> Result<String, AllocError> {
+    let history = AnyHistory::Memory(history);
+    let text = write_history(alloc, &history);
+    history.discard();
+    text
 }
 
 /// The operation that a text names, as `session.index`.

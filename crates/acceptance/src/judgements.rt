@@ -4,6 +4,7 @@ use crate::case_files::{
     FileText, READ_AFTER_ITS_WRITE, VALUES_THAT_NOBODY_WROTE, WITHOUT_A_CERTIFICATE,
     certificate_of, file_of,
 };
+use crate::expectations::{expect_ok_at, expect_same, expect_same_at};
 use crate::histories::memory;
 use bad_patterns::Kind;
 use cert_check::{CaseFile, Criterion, DeskError};
@@ -29,12 +30,12 @@ const FIRST: OpId = OpId {
 #[test]
 fn histories_are_judged_by_any_number_of_workers(rt: HostRuntime) -> Result<(), Fail> {
     for workers in [1, 2, 16] {
-        let yes = judged(&rt, READ_AFTER_ITS_WRITE, workers)?;
-        assert_eq!(rt; yes, Answer::Yes);
-        let no = judged(&rt, VALUES_THAT_NOBODY_WROTE, workers)?;
-        assert_eq!(rt; no, Answer::No(Kind::ThinAirRead));
-        let unknown = judged(&rt, REPEATED, workers)?;
-        assert_eq!(rt; unknown, Answer::Unknown(None));
+        let yes = judged(&rt, READ_AFTER_ITS_WRITE, workers);
+        expect_ok_at(&rt, workers, yes, Answer::Yes)?;
+        let no = judged(&rt, VALUES_THAT_NOBODY_WROTE, workers);
+        expect_ok_at(&rt, workers, no, Answer::No(Kind::ThinAirRead))?;
+        let unknown = judged(&rt, REPEATED, workers);
+        expect_ok_at(&rt, workers, unknown, Answer::Unknown(None))?;
     }
     Ok(())
 }
@@ -42,12 +43,12 @@ fn histories_are_judged_by_any_number_of_workers(rt: HostRuntime) -> Result<(), 
 #[test]
 fn certificates_are_judged_by_any_number_of_workers(rt: HostRuntime) -> Result<(), Fail> {
     for workers in [1, 2, 16] {
-        let yes = judged_with(&rt, READ_AFTER_ITS_WRITE, workers)?;
-        assert_eq!(rt; yes, Answer::Yes);
-        let unexplained = judged_with(&rt, VALUES_THAT_NOBODY_WROTE, workers)?;
-        assert_eq!(rt; unexplained, Answer::Unknown(Some(FIRST)));
-        let unknown = judged_with(&rt, REPEATED, workers)?;
-        assert_eq!(rt; unknown, Answer::Unknown(None));
+        let yes = judged_with(&rt, READ_AFTER_ITS_WRITE, workers);
+        expect_ok_at(&rt, workers, yes, Answer::Yes)?;
+        let unexplained = judged_with(&rt, VALUES_THAT_NOBODY_WROTE, workers);
+        expect_ok_at(&rt, workers, unexplained, Answer::Unknown(Some(FIRST)))?;
+        let unknown = judged_with(&rt, REPEATED, workers);
+        expect_ok_at(&rt, workers, unknown, Answer::Unknown(None))?;
     }
     Ok(())
 }
@@ -70,9 +71,9 @@ const OTHER_NUMBERS: [(usize, FileText); 9] = [
 fn other_numbers_of_workers_are_refused(rt: HostRuntime) {
     for (workers, text) in OTHER_NUMBERS {
         let refused = judged(&rt, text, workers);
-        assert_eq!(rt; refused, Err(DeskError::BadWorkers));
+        expect_same_at(&rt, workers, refused, Err(DeskError::BadWorkers));
         let refused = judged_with(&rt, text, workers);
-        assert_eq!(rt; refused, Err(DeskError::BadWorkers));
+        expect_same_at(&rt, workers, refused, Err(DeskError::BadWorkers));
     }
 }
 
@@ -92,11 +93,19 @@ const OF_ANOTHER_SHAPE: FileText = FileText {
 
 #[test]
 fn certificate_of_another_criterion_makes_no_case_file(rt: HostRuntime) {
-    assert!(rt; file_of(rt.alloc(), READ_AFTER_ITS_WRITE).is_some());
+    expect_same(&rt, is_file(rt.alloc(), READ_AFTER_ITS_WRITE), true);
     let refused = refusal_of(rt.alloc(), OF_ANOTHER_CRITERION);
-    assert_eq!(rt; refused, Some(DeskError::ShapeMismatch));
+    expect_same(&rt, refused, Some(DeskError::ShapeMismatch));
     let refused = refusal_of(rt.alloc(), OF_ANOTHER_SHAPE);
-    assert_eq!(rt; refused, Some(DeskError::ShapeMismatch));
+    expect_same(&rt, refused, Some(DeskError::ShapeMismatch));
+}
+
+/// Whether a text makes a case file.
+fn is_file(alloc: Global, text: FileText) -> bool {
+    let file = file_of(alloc, text);
+    let is_there = file.is_some();
+    drop(file);
+    is_there
 }
 
 /// Why the history and the certificate of a text make no case file.

@@ -21,6 +21,8 @@ mod desks;
 #[cfg(test)]
 mod devices;
 #[cfg(test)]
+mod expectations;
+#[cfg(test)]
 mod failures;
 #[cfg(test)]
 mod held_workers;

@@ -1,10 +1,12 @@
 //! Histories in lines, in pieces and over readers that fail.
 
 use crate::devices::{Device, Failing, NEVER, Sink};
+use crate::expectations::expect_text;
 use crate::running::{said_of, said_over};
 use engine::{
     BlankLines, Judging, LineJudging, MAX_INPUT_BYTES, MAX_READ_CALLS, Order, Workers, judge_lines,
 };
+use lines::Source;
 use std::alloc::AllocError;
 use std::io::{ErrorKind, Read};
 use std::sync::Wait;
@@ -50,9 +52,8 @@ refusal_counts_most | cc ["memory",[[["r",0,7]]]]%[]%["register",[[["r",5]]]]%
 
 #[test]
 fn lines_in_pieces_are_answered_in_order(rt: HostRuntime) -> Result<(), Fail> {
-    assert_eq!(rt; otherwise(&rt, 1, 1)?.as_str(), "");
-    assert_eq!(rt; otherwise(&rt, 16, 7)?.as_str(), "");
-    Ok(())
+    expect_text(&rt, otherwise(&rt, 1, 1), "")?;
+    expect_text(&rt, otherwise(&rt, 16, 7), "")
 }
 
 /// The cases for which `judge --lines` with so many workers does not give what is wanted, where each read call gives so many bytes.
@@ -82,13 +83,24 @@ fn said<P: Threads + Wait + Sync + AllocGlobal>(
     case: &str,
 ) -> Result<String, AllocError> {
     let (expected, text) = case.split_once(' ').unwrap_or((case, ""));
+    let text = text.replace(rt.alloc(), "%", "\n")?;
+    let device = Device::new(text.as_bytes(), 0, piece, NEVER);
+    said_of_device(rt, workers, expected, device)
+}
+
+/// What `judge --lines` with so many workers says of what a device reads, where a list names what is expected of each line.
+fn said_of_device<P: Threads + Wait + Sync + AllocGlobal, D: Source + Drop + Send>(
+    rt: &P,
+    workers: usize,
+    expected: &str,
+    device: D,
+) -> Result<String, AllocError> {
     let Some(judging) = judging_of(workers, expected) else {
         return String::from_str(rt.alloc(), "no order");
     };
-    let text = text.replace(rt.alloc(), "%", "\n")?;
-    let device = Device::new(text.as_bytes(), 0, piece, NEVER);
     let sink = Sink::new(rt.alloc(), 64, NEVER);
-    let (_, sink, judged) = judge_lines(rt, device, sink, judging);
+    let (device, sink, judged) = judge_lines(rt, device, sink, judging);
+    drop(device);
     said_of(rt.alloc(), judged, &sink)
 }
 
@@ -119,25 +131,26 @@ fn judging_of(workers: usize, expected: &str) -> Option<LineJudging> {
 
 #[test]
 fn lines_in_memory_are_answered_by_one_answer(rt: HostRuntime) -> Result<(), Fail> {
-    let usual = Order::JudgeLines(judging_of(2, "-").expect(&rt, "an order"));
-    let mut nothing = Device::new(b"", 0, 64, NEVER);
-    let said = said_over(
+    expect_text(&rt, said_in_memory(&rt, "-", b""), "0 ")?;
+    expect_text(
         &rt,
-        usual,
-        &mut nothing,
-        &mut Sink::new(rt.alloc(), 64, NEVER),
-    )?;
-    assert_eq!(rt; said.as_str(), "0 ");
-    let causal = Order::JudgeLines(judging_of(2, "cc").expect(&rt, "an order"));
-    let mut some = Device::new(SOME_LINES.as_bytes(), 0, 64, NEVER);
-    let said = said_over(
-        &rt,
-        causal,
-        &mut some,
-        &mut Sink::new(rt.alloc(), 64, NEVER),
-    )?;
-    assert_eq!(rt; said.as_str(), SOME_ANSWERS);
-    Ok(())
+        said_in_memory(&rt, "cc", SOME_LINES.as_bytes()),
+        SOME_ANSWERS,
+    )
+}
+
+/// What a run of `judge --lines` with two workers says of lines, where a list names what is expected of each.
+fn said_in_memory<P: Threads + Wait + Sync + AllocGlobal>(
+    rt: &P,
+    expected: &str,
+    lines: &[u8],
+) -> Result<String, AllocError> {
+    let Some(judging) = judging_of(2, expected) else {
+        return String::from_str(rt.alloc(), "no order");
+    };
+    let mut device = Device::new(lines, 0, 64, NEVER);
+    let mut sink = Sink::new(rt.alloc(), 64, NEVER);
+    said_over(rt, Order::JudgeLines(judging), &mut device, &mut sink)
 }
 
 const SOME_LINES: &str = "[\"memory\",[]]\n[]\n[\"memory\",[[[\"r\",0,7]]]]";
@@ -155,39 +168,25 @@ const FAILING_IN_THE_SECOND_LINE: Failing = Failing {
 
 #[test]
 fn what_was_answered_before_a_fault_stays(rt: HostRuntime) -> Result<(), Fail> {
-    let judging = judging_of(4, "-").expect(&rt, "an order");
     let device = Device::new(TWO_LINES.as_bytes(), 0, 1, FAILING_IN_THE_SECOND_LINE);
-    let sink = Sink::new(rt.alloc(), 64, NEVER);
-    let (_, sink, judged) = judge_lines(&rt, device, sink, judging);
-    let said = said_of(rt.alloc(), judged, &sink)?;
-    assert_eq!(rt; said.as_str(), "3 cc yes; cm yes; ccv yes%read fault");
-    Ok(())
+    let said = said_of_device(&rt, 4, "-", device);
+    expect_text(&rt, said, "3 cc yes; cm yes; ccv yes%read fault")
 }
 
 #[test]
 fn too_long_a_line_is_refused_and_passed_over(rt: HostRuntime) -> Result<(), Fail> {
-    let judging = judging_of(2, "cc").expect(&rt, "an order");
     let blanks = MAX_INPUT_BYTES + 65_537;
     let before = Device::new(b"[\"memory\",[]]\n", blanks, 65_536, NEVER);
     let after = Device::new(b" \n[\"memory\",[]]\n", 0, 65_536, NEVER);
-    let sink = Sink::new(rt.alloc(), 64, NEVER);
-    let (_, sink, judged) = judge_lines(&rt, before.chain(after), sink, judging);
-    let said = said_of(rt.alloc(), judged, &sink)?;
-    assert_eq!(rt;
-        said.as_str(),
-        "1 cc yes; cm yes; ccv yes%refused 9%cc yes; cm yes; ccv yes%"
-    );
-    Ok(())
+    let said = said_of_device(&rt, 2, "cc", before.chain(after));
+    let wanted = "1 cc yes; cm yes; ccv yes%refused 9%cc yes; cm yes; ccv yes%";
+    expect_text(&rt, said, wanted)
 }
 
 #[test]
 fn a_line_is_passed_over_in_so_many_read_calls(rt: HostRuntime) -> Result<(), Fail> {
-    let judging = judging_of(2, "cc").expect(&rt, "an order");
     let before = Device::new(b"", MAX_INPUT_BYTES + 65_537, 65_536, NEVER);
     let after = Device::new(b"", MAX_READ_CALLS as usize + 1, 1, NEVER);
-    let sink = Sink::new(rt.alloc(), 64, NEVER);
-    let (_, sink, judged) = judge_lines(&rt, before.chain(after), sink, judging);
-    let said = said_of(rt.alloc(), judged, &sink)?;
-    assert_eq!(rt; said.as_str(), "3 refused 9%read fault");
-    Ok(())
+    let said = said_of_device(&rt, 2, "cc", before.chain(after));
+    expect_text(&rt, said, "3 refused 9%read fault")
 }

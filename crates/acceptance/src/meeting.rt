@@ -1,11 +1,12 @@
 //! Two clients of a store that run at the same time.
 
+use crate::expectations::expect_text;
 use crate::held_workers::{FIRST, SECOND, is_set_in_time};
-use crate::histories::memory;
+use crate::histories::{memory, text_of};
 use causal_memory::AsTakenIn;
 use driver::{DriveError, DrivePlan, drive};
 use objects::Memory;
-use operations::{AnyHistory, OpId, write_history};
+use operations::OpId;
 use replica::Delivery;
 use snapshot::Sealed;
 use std::alloc::{AllocError, Global};
@@ -73,32 +74,23 @@ fn driven_two<P: Threads + Wait + Sync + AllocGlobal>(
     let meeting = Meeting::new();
     let seals = drive::<Memory, AsTakenIn, P, Meeting>(rt, rt.alloc(), &history, plan, &meeting)?;
     let met = meeting.have_met();
-    let said = text_of(rt.alloc(), seals.as_slice())?;
+    let said = texts_of(rt.alloc(), seals.as_slice())?;
     Ok(format!(in rt.alloc(); "{said} {met}")?)
 }
 
 /// The texts of the sealed histories, one after the other.
-fn text_of(alloc: Global, seals: &[Sealed<Memory>]) -> Result<String, AllocError> {
+fn texts_of(alloc: Global, seals: &[Sealed<Memory>]) -> Result<String, AllocError> {
     let mut said = String::new(alloc);
     for sealed in seals {
-        said.push_str(text_of_one(alloc, sealed)?.as_str())?;
+        let recorded = sealed.history().copy(alloc)?;
+        said.push_str(text_of(alloc, recorded)?.as_str())?;
     }
     Ok(said)
-}
-
-/// The text of a sealed history.
-fn text_of_one(alloc: Global, sealed: &Sealed<Memory>) -> Result<String, AllocError> {
-    let recorded = AnyHistory::Memory(sealed.history().copy(alloc)?);
-    let text = write_history(alloc, &recorded);
-    drop(recorded);
-    text
 }
 
 #[test]
 fn drive_two(rt: HostRuntime) -> Result<(), Fail> {
     let two = r#"["memory",[[["w",0,1]],[["w",1,1]]]]"#;
-    let said = driven_two(&rt, two)?;
-    let wanted = format!(in rt.alloc(); "{two} true")?;
-    assert_eq!(rt; said.as_str(), wanted.as_str());
-    Ok(())
+    let wanted = r#"["memory",[[["w",0,1]],[["w",1,1]]]] true"#;
+    expect_text(&rt, driven_two(&rt, two), wanted)
 }

@@ -1,7 +1,7 @@
 //! What recorders refuse, in which order, and what each refusal leaves.
 
 use crate::recordings::{advice, second_session};
-use crate::rows::{Finding, differing_rows};
+use crate::rows::{Finding, expect_rows};
 use history::OpId;
 use objects::{Register, RegisterCall, RegisterRet};
 use recorder::{RecordError, Session, new_recorder};
@@ -34,13 +34,19 @@ impl Finding for RecorderLimits {
 
 /// How many sessions a recorder of these limits has, or the number of the refusal.
 fn limited(alloc: Global, sessions: usize, places: usize) -> Result<String, AllocError> {
-    match new_recorder::<Register>(alloc, sessions, places, 0) {
-        Ok((_, sessions)) => {
-            let many = sessions.len();
-            format!(in alloc; "{many}")
-        }
+    match made(alloc, sessions, places) {
+        Ok(many) => format!(in alloc; "{many}"),
         Err(refusal) => refused(alloc, refusal),
     }
+}
+
+/// How many sessions a recorder of these limits has.
+fn made(alloc: Global, sessions: usize, places: usize) -> Result<usize, RecordError> {
+    let (lanes, sessions) = new_recorder::<Register>(alloc, sessions, places, 0)?;
+    let many = sessions.len();
+    drop(sessions);
+    drop(lanes);
+    Ok(many)
 }
 
 /// The number of a refusal.
@@ -51,9 +57,7 @@ fn refused(alloc: Global, refusal: RecordError) -> Result<String, AllocError> {
 
 #[test]
 fn recorders_have_limits(rt: HostRuntime) -> Result<(), Fail> {
-    let differing = differing_rows::<RecorderLimits>(rt.alloc(), LIMITS)?;
-    assert_eq!(rt; differing.as_str(), "");
-    Ok(())
+    expect_rows::<RecorderLimits>(&rt, LIMITS)
 }
 
 /// A row has a name, then how many places a lane has, and the steps of its session, and then what each step gives: the operation, or the
@@ -83,9 +87,7 @@ impl Finding for SessionSteps {
 
 #[test]
 fn sessions_refuse_in_order(rt: HostRuntime) -> Result<(), Fail> {
-    let differing = differing_rows::<SessionSteps>(rt.alloc(), STEPS)?;
-    assert_eq!(rt; differing.as_str(), "");
-    Ok(())
+    expect_rows::<SessionSteps>(&rt, STEPS)
 }
 
 /// What a session gives at each step, with the call that is pending then, and whether the lane is full.

@@ -2,8 +2,9 @@
 
 use history::{Advice, History, MAX_SESSIONS, TakenIn};
 use objects::{Register, RegisterCall, RegisterRet};
-use recorder::{Session, new_recorder};
+use recorder::{Lanes, RecordError, Session, new_recorder};
 use std::alloc::{AllocError, Global};
+use std::sync::Arc;
 
 /// Advice with nothing but a stamp.
 pub fn advice(alloc: Global, stamp: u64) -> Advice {
@@ -20,6 +21,31 @@ pub fn second_session(alloc: Global, places: usize) -> Option<Session<Register>>
         Ok((_, mut sessions)) => sessions.pop(),
         Err(_) => None,
     }
+}
+
+/// A recorder of two sessions, whose lanes have so many places, and its sessions.
+pub fn two_sessions(
+    alloc: Global,
+    places: usize,
+) -> Result<(Arc<Lanes<Register>>, Session<Register>, Session<Register>), RecordError> {
+    let (lanes, sessions) = new_recorder::<Register>(alloc, 2, places, 0)?;
+    match last_two(sessions) {
+        Some((first, second)) => Ok((lanes, first, second)),
+        None => {
+            drop(lanes);
+            Err(RecordError::BadLimits)
+        }
+    }
+}
+
+/// The last two sessions.
+fn last_two(
+    mut sessions: Vec<Session<Register>>,
+) -> Option<(Session<Register>, Session<Register>)> {
+    let second = sessions.pop()?;
+    let first = sessions.pop()?;
+    drop(sessions);
+    Some((first, second))
 }
 
 /// Begins a call. Returns whether it has begun.

@@ -1,7 +1,7 @@
 //! What replicas answer to operations and to updates, step by step.
 
 use crate::replicas::{acted, received};
-use crate::rows::{Finding, differing_rows};
+use crate::rows::{Finding, expect_rows};
 use causal_memory::AsTakenIn;
 use history::{History, MAX_SESSIONS};
 use lamport_store::ByStamp;
@@ -54,9 +54,7 @@ impl Finding for ReplicaSteps {
 
 #[test]
 fn replicas_answer_step_by_step(rt: HostRuntime) -> Result<(), Fail> {
-    let differing = differing_rows::<ReplicaSteps>(rt.alloc(), ROWS)?;
-    assert_eq!(rt; differing.as_str(), "");
-    Ok(())
+    expect_rows::<ReplicaSteps>(&rt, ROWS)
 }
 
 /// The store and the delivery that a text names first, and the rest of the text.
@@ -87,7 +85,7 @@ fn replicated_by<P: UpdateOrder>(
         }
         Ok(AnyHistory::Memory(history)) => answers::<_, P>(alloc, history, delivery, steps),
         Ok(other) => {
-            drop(other);
+            other.discard();
             String::from_str(alloc, "a history of another object")
         }
         Err(_refused) => String::from_str(alloc, "no history"),

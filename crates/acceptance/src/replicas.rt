@@ -1,5 +1,6 @@
 //! What replicas of a queue answer and report, for each store and delivery, also where memory was refused to a call before.
 
+use crate::expectations::{expect_ok, expect_text};
 use causal_memory::{AsTakenIn, CausalReplica};
 use history::MAX_SESSIONS;
 use lamport_store::{ByStamp, LamportReplica};
@@ -146,20 +147,18 @@ fn answers_at_last<P: UpdateOrder>(
 
 #[test]
 fn replicas_of_the_causal_store_answer(rt: HostRuntime) -> Result<(), Fail> {
-    let causal = answers_at_last::<AsTakenIn>(rt.alloc(), Delivery::Causal)?;
-    assert_eq!(rt; causal.as_str(), AS_TAKEN_IN);
-    let eager = answers_at_last::<AsTakenIn>(rt.alloc(), Delivery::Eager)?;
-    assert_eq!(rt; eager.as_str(), AS_TAKEN_IN_EAGERLY);
-    Ok(())
+    let causal = answers_at_last::<AsTakenIn>(rt.alloc(), Delivery::Causal);
+    expect_text(&rt, causal, AS_TAKEN_IN)?;
+    let eager = answers_at_last::<AsTakenIn>(rt.alloc(), Delivery::Eager);
+    expect_text(&rt, eager, AS_TAKEN_IN_EAGERLY)
 }
 
 #[test]
 fn replicas_of_the_store_by_stamps_answer(rt: HostRuntime) -> Result<(), Fail> {
-    let causal = answers_at_last::<ByStamp>(rt.alloc(), Delivery::Causal)?;
-    assert_eq!(rt; causal.as_str(), BY_STAMP);
-    let eager = answers_at_last::<ByStamp>(rt.alloc(), Delivery::Eager)?;
-    assert_eq!(rt; eager.as_str(), BY_STAMP_EAGERLY);
-    Ok(())
+    let causal = answers_at_last::<ByStamp>(rt.alloc(), Delivery::Causal);
+    expect_text(&rt, causal, BY_STAMP)?;
+    let eager = answers_at_last::<ByStamp>(rt.alloc(), Delivery::Eager);
+    expect_text(&rt, eager, BY_STAMP_EAGERLY)
 }
 
 /// How many pushes and then pops a replica makes: enough that it keeps a copy of its queue on the way.
@@ -199,12 +198,11 @@ fn has_pushed_and_popped(replica: &mut Replica<Queue, ByStamp>) -> bool {
 #[test]
 fn replica_goes_on_from_a_copy(rt: HostRuntime) -> Result<(), Fail> {
     let answers = match answers_from_a_copy(rt.alloc()) {
-        Ok(answers) => answers,
-        Err(_refused) => answers_from_a_copy(rt.alloc())?,
+        Ok(answers) => Ok(answers),
+        Err(_refused) => answers_from_a_copy(rt.alloc()),
     };
     let wanted = "Popped(Some(66)) 137 [];Popped(Some(99)) 138 [];";
-    assert_eq!(rt; answers.as_str(), wanted);
-    Ok(())
+    expect_text(&rt, answers, wanted)
 }
 
 /// A replica that has pushed once.
@@ -214,11 +212,20 @@ fn pushed<P: UpdateOrder>(alloc: Global) -> Result<Replica<Queue, P>, ReplicaErr
     Ok(replica)
 }
 
+/// How many updates a replica of the causal store has taken in, where it has pushed once.
+fn taken_in_by_causal(alloc: Global) -> Result<usize, ReplicaError> {
+    let replica: CausalReplica<Queue> = pushed(alloc)?;
+    Ok(causal_memory::taken_in(&replica).len())
+}
+
+/// The same of the store by stamps.
+fn taken_in_by_lamport(alloc: Global) -> Result<usize, ReplicaError> {
+    let replica: LamportReplica<Queue> = pushed(alloc)?;
+    Ok(lamport_store::taken_in(&replica).len())
+}
+
 #[test]
 fn stores_tell_what_was_taken_in(rt: HostRuntime) -> Result<(), Fail> {
-    let causal: CausalReplica<Queue> = pushed(rt.alloc())?;
-    assert_eq!(rt; causal_memory::taken_in(&causal).len(), 1);
-    let lamport: LamportReplica<Queue> = pushed(rt.alloc())?;
-    assert_eq!(rt; lamport_store::taken_in(&lamport).len(), 1);
-    Ok(())
+    expect_ok(&rt, taken_in_by_causal(rt.alloc()), 1)?;
+    expect_ok(&rt, taken_in_by_lamport(rt.alloc()), 1)
 }

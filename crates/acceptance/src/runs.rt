@@ -1,9 +1,12 @@
 //! Runs over readers and writers that give or take a byte a call, or fail.
 
 use crate::devices::{Device, Failing, NEVER, Sink};
+use crate::expectations::{expect_ok, expect_ok_at, expect_same, expect_text};
 use crate::running::said_over;
-use engine::{Judging, Length, MAX_INPUT_BYTES, MAX_READ_CALLS, Order, Workers, read_input};
-use std::alloc::AllocError;
+use engine::{
+    Judging, Length, MAX_INPUT_BYTES, MAX_READ_CALLS, Order, RunError, Workers, read_input,
+};
+use std::alloc::{AllocError, Global};
 use std::io::ErrorKind;
 use std::sync::Wait;
 use std::test::Fail;
@@ -39,12 +42,11 @@ fn said_of_reads_at<P: Threads + Wait + Sync + AllocGlobal>(
 #[test]
 fn as_many_read_calls_are_made_as_may_be(rt: HostRuntime) -> Result<(), Fail> {
     let blanks = MAX_READ_CALLS as usize - 1 - HISTORY.len();
-    let answered = said_of_reads(&rt, Device::new(HISTORY, blanks, 1, NEVER))?;
+    let answered = said_of_reads(&rt, Device::new(HISTORY, blanks, 1, NEVER));
     let wanted = "0 cc no ThinAirRead%cm no ThinAirRead%ccv no ThinAirRead% after 1048576 reads";
-    assert_eq!(rt; answered.as_str(), wanted);
-    let failed = said_of_reads(&rt, Device::new(HISTORY, blanks + 1, 1, NEVER))?;
-    assert_eq!(rt; failed.as_str(), "3 read fault after 1048576 reads");
-    Ok(())
+    expect_text(&rt, answered, wanted)?;
+    let failed = said_of_reads(&rt, Device::new(HISTORY, blanks + 1, 1, NEVER));
+    expect_text(&rt, failed, "3 read fault after 1048576 reads")
 }
 
 const INTERRUPTED_THREE_TIMES: Failing = Failing {
@@ -61,12 +63,11 @@ const INTERRUPTED_EVER_SINCE: Failing = Failing {
 
 #[test]
 fn an_interrupted_read_is_made_again_and_counted(rt: HostRuntime) -> Result<(), Fail> {
-    let answered = said_of_reads(&rt, Device::new(HISTORY, 0, 1, INTERRUPTED_THREE_TIMES))?;
+    let answered = said_of_reads(&rt, Device::new(HISTORY, 0, 1, INTERRUPTED_THREE_TIMES));
     let wanted = "0 cc no ThinAirRead%cm no ThinAirRead%ccv no ThinAirRead% after 28 reads";
-    assert_eq!(rt; answered.as_str(), wanted);
-    let failed = said_of_reads(&rt, Device::new(HISTORY, 0, 1, INTERRUPTED_EVER_SINCE))?;
-    assert_eq!(rt; failed.as_str(), "3 read fault after 1048576 reads");
-    Ok(())
+    expect_text(&rt, answered, wanted)?;
+    let failed = said_of_reads(&rt, Device::new(HISTORY, 0, 1, INTERRUPTED_EVER_SINCE));
+    expect_text(&rt, failed, "3 read fault after 1048576 reads")
 }
 
 #[test]
@@ -74,19 +75,18 @@ fn of_a_long_input_calls_in_a_row_are_counted_that_bring_nothing(
     rt: HostRuntime,
 ) -> Result<(), Fail> {
     let blanks = MAX_READ_CALLS as usize;
-    let answered = said_of_reads_at(&rt, Length::Any, Device::new(HISTORY, blanks, 1, NEVER))?;
+    let answered = said_of_reads_at(&rt, Length::Any, Device::new(HISTORY, blanks, 1, NEVER));
     let wanted = "0 cc no ThinAirRead%cm no ThinAirRead%ccv no ThinAirRead% after 1048601 reads";
-    assert_eq!(rt; answered.as_str(), wanted);
+    expect_text(&rt, answered, wanted)?;
     let interrupted = Device::new(HISTORY, 0, 1, INTERRUPTED_THREE_TIMES);
-    let answered = said_of_reads_at(&rt, Length::Any, interrupted)?;
+    let answered = said_of_reads_at(&rt, Length::Any, interrupted);
     let wanted = "0 cc no ThinAirRead%cm no ThinAirRead%ccv no ThinAirRead% after 28 reads";
-    assert_eq!(rt; answered.as_str(), wanted);
+    expect_text(&rt, answered, wanted)?;
     let interrupted = Device::new(HISTORY, 0, 1, INTERRUPTED_EVER_SINCE);
-    let failed = said_of_reads_at(&rt, Length::Any, interrupted)?;
-    assert_eq!(rt; failed.as_str(), "3 read fault after 1048577 reads");
-    let failed = said_of_reads_at(&rt, Length::Any, Device::new(HISTORY, 0, 1, failing_at(9)))?;
-    assert_eq!(rt; failed.as_str(), "3 read fault after 9 reads");
-    Ok(())
+    let failed = said_of_reads_at(&rt, Length::Any, interrupted);
+    expect_text(&rt, failed, "3 read fault after 1048577 reads")?;
+    let failed = said_of_reads_at(&rt, Length::Any, Device::new(HISTORY, 0, 1, failing_at(9)));
+    expect_text(&rt, failed, "3 read fault after 9 reads")
 }
 
 /// This call fails.
@@ -100,26 +100,29 @@ fn failing_at(call: u64) -> Failing {
 
 #[test]
 fn a_reader_may_fail_at_any_call(rt: HostRuntime) -> Result<(), Fail> {
-    assert_eq!(rt; LONGER_HISTORY.len(), 36);
+    expect_same(&rt, LONGER_HISTORY.len(), 36);
     for call in 1..38 {
-        let failed = said_of_reads(&rt, Device::new(LONGER_HISTORY, 0, 1, failing_at(call)))?;
+        let failed = said_of_reads(&rt, Device::new(LONGER_HISTORY, 0, 1, failing_at(call)));
         let wanted = format!(in rt.alloc(); "3 read fault after {call} reads")?;
-        assert_eq!(rt; failed.as_str(), wanted.as_str());
+        expect_text(&rt, failed, wanted.as_str())?;
     }
-    let answered = said_of_reads(&rt, Device::new(LONGER_HISTORY, 0, 1, failing_at(38)))?;
+    let answered = said_of_reads(&rt, Device::new(LONGER_HISTORY, 0, 1, failing_at(38)));
     let wanted = "0 cc yes%cm yes%ccv yes% after 37 reads";
-    assert_eq!(rt; answered.as_str(), wanted);
-    Ok(())
+    expect_text(&rt, answered, wanted)
 }
 
 const PIECE: usize = 65_536;
 
+/// How many bytes are read of an input that is as long as may be.
+fn bytes_of_longest(alloc: Global) -> Result<usize, RunError> {
+    let mut device = Device::new(b"", MAX_INPUT_BYTES, PIECE, NEVER);
+    let input = read_input(alloc, &mut device)?;
+    Ok(input.len())
+}
+
 #[test]
 fn an_input_is_as_long_as_may_be(rt: HostRuntime) -> Result<(), Fail> {
-    let mut device = Device::new(b"", MAX_INPUT_BYTES, PIECE, NEVER);
-    let input = read_input(rt.alloc(), &mut device)?;
-    assert_eq!(rt; input.len(), MAX_INPUT_BYTES);
-    Ok(())
+    expect_ok(&rt, bytes_of_longest(rt.alloc()), MAX_INPUT_BYTES)
 }
 
 const FAILING_AFTER_THE_LIMIT: Failing = Failing {
@@ -132,9 +135,8 @@ const FAILING_AFTER_THE_LIMIT: Failing = Failing {
 fn nothing_is_read_after_the_limit_is_passed(rt: HostRuntime) -> Result<(), Fail> {
     let blanks = MAX_INPUT_BYTES + 1;
     let device = Device::new(b"", blanks, PIECE, FAILING_AFTER_THE_LIMIT);
-    let said = said_of_reads(&rt, device)?;
-    assert_eq!(rt; said.as_str(), "1 refused 9 after 1025 reads");
-    Ok(())
+    let said = said_of_reads(&rt, device);
+    expect_text(&rt, said, "1 refused 9 after 1025 reads")
 }
 
 /// What `judge` says of a history over a writer that takes so many bytes a call, where calls fail.
@@ -149,17 +151,23 @@ fn said_to<P: Threads + Wait + Sync + AllocGlobal>(
     said_over(rt, order, &mut device, &mut sink)
 }
 
+/// Whether `judge` says that it cannot write where this write call fails.
+fn fails_to_write<P: Threads + Wait + Sync + AllocGlobal>(
+    rt: &P,
+    call: u64,
+) -> Result<bool, AllocError> {
+    let failed = said_to(rt, 1, failing_at(call))?;
+    Ok(failed.as_str().starts_with("3 ") && failed.as_str().ends_with("write fault"))
+}
+
 const ANSWER: &str = "0 cc no ThinAirRead%cm no ThinAirRead%ccv no ThinAirRead%";
 
 #[test]
 fn a_writer_takes_the_answer_or_fails(rt: HostRuntime) -> Result<(), Fail> {
-    assert_eq!(rt; said_to(&rt, 1, INTERRUPTED_THREE_TIMES)?.as_str(), ANSWER);
-    assert_eq!(rt; ANSWER.len(), 57);
+    expect_text(&rt, said_to(&rt, 1, INTERRUPTED_THREE_TIMES), ANSWER)?;
+    expect_same(&rt, ANSWER.len(), 57);
     for call in 1..56 {
-        let failed = said_to(&rt, 1, failing_at(call))?;
-        assert!(rt; failed.as_str().starts_with("3 "));
-        assert!(rt; failed.as_str().ends_with("write fault"));
+        expect_ok_at(&rt, call, fails_to_write(&rt, call), true)?;
     }
-    assert_eq!(rt; said_to(&rt, 0, NEVER)?.as_str(), "3 write fault");
-    Ok(())
+    expect_text(&rt, said_to(&rt, 0, NEVER), "3 write fault")
 }

@@ -1,9 +1,10 @@
 //! Seals that are taken while sessions record on other threads.
 
-use crate::recordings::{begun, ended};
+use crate::expectations::expect_ok;
+use crate::recordings::{begun, ended, two_sessions};
 use history::History;
 use objects::{Register, RegisterCall, RegisterRet};
-use recorder::{Lanes, RecordError, Session, new_recorder};
+use recorder::{Lanes, RecordError, Session};
 use snapshot::seal;
 use std::alloc::Global;
 use std::sync::atomic::{AtomicU64, Ordering};
@@ -118,23 +119,33 @@ fn play(alloc: Global, lanes: &Lanes<Register>, progress: &Progress, part: Part)
 
 /// Fills a recorder while seals are taken. Returns whether each step was made and each seal is a cut.
 fn round<R: Threads + Sync>(rt: &R, alloc: Global) -> Result<bool, RecordError> {
-    let (lanes, mut sessions) = new_recorder::<Register>(alloc, 2, PLACES as usize, 0)?;
-    let (Some(reader), Some(writer)) = (sessions.pop(), sessions.pop()) else {
-        return Ok(false);
-    };
+    let (lanes, writer, reader) = two_sessions(alloc, PLACES as usize)?;
+    let is_played = is_played(rt, alloc, &lanes, writer, reader);
+    drop(lanes);
+    is_played
+}
+
+/// Fills the lanes of these sessions while seals are taken. Returns whether each step was made and each seal is a cut.
+fn is_played<R: Threads + Sync>(
+    rt: &R,
+    alloc: Global,
+    lanes: &Lanes<Register>,
+    writer: Session<Register>,
+    reader: Session<Register>,
+) -> Result<bool, RecordError> {
     let progress = Progress {
         started: AtomicU64::new(0),
         steps: AtomicU64::new(0),
     };
     let parts = vec![in alloc; Part::Write(writer), Part::Read(reader), Part::Seal]?;
-    let made = thread::map_vec(rt, parts, &|part| play(alloc, &lanes, &progress, part))?;
+    let made = thread::map_vec(rt, parts, &|part| play(alloc, lanes, &progress, part))?;
     Ok(made.as_slice() == [true, true, true].as_slice())
 }
 
 #[test]
 fn seal_cut(rt: HostRuntime) -> Result<(), Fail> {
     for _ in 0..RECORDERS {
-        assert!(rt; round(&rt, rt.alloc())?);
+        expect_ok(&rt, round(&rt, rt.alloc()), true)?;
     }
     Ok(())
 }

@@ -4,9 +4,10 @@ ghost use Rattle.std.specs.Prelude.{◌≡◌};
 ghost use Rattle.std.proofs.Common.{refl};
 ghost use Rattle.snapshot.specs.Steps.Looking.{KeepsLanes, keeps_lanes_on};
 
-use crate::recordings::{begun, ended, operations_of};
+use crate::expectations::expect_ok_at;
+use crate::recordings::{begun, ended, operations_of, two_sessions};
 use objects::{Register, RegisterCall, RegisterRet};
-use recorder::{RecordError, Session, new_recorder};
+use recorder::{Lanes, RecordError, Session};
 use snapshot::{Cell, CutPlan, LaneLooker, Looker, walk};
 use std::alloc::{AllocError, Global};
 use std::test::Fail;
@@ -65,41 +66,94 @@ fn recorded(alloc: Global, writer: &mut Session<Register>, reader: &mut Session<
 
 /// What is sealed where the steps come before look `at`, and how many looks there are.
 fn sealed_before(alloc: Global, at: usize) -> Result<(String, usize), RecordError> {
-    let (lanes, mut sessions) = new_recorder::<Register>(alloc, 2, 1, 0)?;
-    let (Some(reader), Some(writer)) = (sessions.pop(), sessions.pop()) else {
-        return Err(RecordError::BadLimits);
-    };
-    let looker = LaneLooker::new(alloc, &lanes, &[])?;
-    sealed_by(SteppingLooker {
-        alloc,
-        looker,
-        writer,
-        reader,
-        at,
-        looked: 0,
-    })
+    let (lanes, writer, reader) = two_sessions(alloc, 1)?;
+    let sealed = sealed_of(alloc, &lanes, writer, reader, at);
+    drop(lanes);
+    sealed
 }
 
-/// What a looker seals, and how many looks there are. A walk that a refusal of memory stopped goes on.
-fn sealed_by(mut stepping: SteppingLooker<'_>) -> Result<(String, usize), RecordError> {
-    let alloc = stepping.alloc;
-    let looker = &stepping.looker;
-    let mut plan = CutPlan::new(alloc, looker.lanes(), looker.places(), looker.told())?;
-    if walk(&mut plan, &mut stepping).is_err() {
-        walk(&mut plan, &mut stepping)?;
+/// What is sealed of the lanes of these sessions, and how many looks there are.
+fn sealed_of(
+    alloc: Global,
+    lanes: &Lanes<Register>,
+    writer: Session<Register>,
+    reader: Session<Register>,
+    at: usize,
+) -> Result<(String, usize), RecordError> {
+    match LaneLooker::new(alloc, lanes, &[]) {
+        Ok(looker) => sealed_by(SteppingLooker {
+            alloc,
+            looker,
+            writer,
+            reader,
+            at,
+            looked: 0,
+        }),
+        Err(no_memory) => {
+            drop(writer);
+            drop(reader);
+            Err(RecordError::from(no_memory))
+        }
     }
+}
+
+/// What a looker seals, and how many looks there are.
+fn sealed_by(mut stepping: SteppingLooker<'_>) -> Result<(String, usize), RecordError> {
+    let walked = walk_all(&mut stepping);
+    let alloc = stepping.alloc;
     let looks = stepping.looked;
-    let sealed = stepping.looker.sealed()?;
-    let text = operations_of(alloc, sealed.history())?;
-    Ok((text, looks))
+    let looker = looker_of(stepping);
+    match walked {
+        Ok(()) => Ok((text_of_sealed(alloc, looker)?, looks)),
+        Err(no_memory) => {
+            drop(looker);
+            Err(RecordError::from(no_memory))
+        }
+    }
+}
+
+/// Makes all looks.
+fn walk_all(stepping: &mut SteppingLooker<'_>) -> Result<(), AllocError> {
+    let looker = &stepping.looker;
+    let mut plan = CutPlan::new(
+        stepping.alloc,
+        looker.lanes(),
+        looker.places(),
+        looker.told(),
+    )?;
+    let walked = walk_twice(&mut plan, stepping);
+    drop(plan);
+    walked
+}
+
+/// Makes the looks of a plan. A walk that a refusal of memory stopped goes on.
+fn walk_twice(plan: &mut CutPlan, stepping: &mut SteppingLooker<'_>) -> Result<(), AllocError> {
+    match walk(plan, stepping) {
+        Ok(()) => Ok(()),
+        Err(_refused) => walk(plan, stepping),
+    }
+}
+
+/// The looker alone, without the sessions.
+fn looker_of(stepping: SteppingLooker<'_>) -> LaneLooker<'_, Register> {
+    drop(stepping.writer);
+    drop(stepping.reader);
+    stepping.looker
+}
+
+/// The operations that a looker seals.
+fn text_of_sealed(alloc: Global, looker: LaneLooker<'_, Register>) -> Result<String, AllocError> {
+    let sealed = looker.sealed()?;
+    let text = operations_of(alloc, sealed.history());
+    drop(sealed);
+    text
 }
 
 #[test]
 fn seal_steps(rt: HostRuntime) -> Result<(), Fail> {
     for (at, (wanted, many)) in SEALED.iter().enumerate() {
-        let (text, looks) = sealed_before(rt.alloc(), at)?;
-        assert_eq!(rt; text.as_str(), *wanted, "before look {at}");
-        assert_eq!(rt; looks, *many, "before look {at}");
+        let wanted = (String::from_str(rt.alloc(), wanted)?, *many);
+        expect_ok_at(&rt, at, sealed_before(rt.alloc(), at), wanted)?;
     }
     Ok(())
 }

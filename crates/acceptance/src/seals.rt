@@ -6,6 +6,7 @@ ghost use Rattle.recorder.specs.Sessions.{receipt_of};
 ghost use Rattle.snapshot.specs.Seals.{AreReceiptsOf, IsReceiptOf, IsSealOf};
 ghost use Rattle.acceptance.specs.Recordings.{IsSessionOf};
 
+use crate::expectations::{expect_ok, expect_text};
 use crate::recordings::{advice, begun, ended, operations_of};
 use objects::{Register, RegisterCall, RegisterRet};
 use recorder::{Lanes, Receipt, RecordError, Session, new_recorder};
@@ -135,17 +136,15 @@ fn told_by(
 
 #[test]
 fn a_seal_holds_what_it_is_told_and_more(rt: HostRuntime) -> Result<(), Fail> {
-    let (stamps, met) = match told_of_two(rt.alloc()) {
-        Ok(told) => told,
-        Err(_refused) => told_of_two(rt.alloc())?,
+    let told = match told_of_two(rt.alloc()) {
+        Ok(told) => Ok(told),
+        Err(_refused) => told_of_two(rt.alloc()),
     };
-    assert!(rt; stamps.as_slice() == [5, 6, 7, 0].as_slice());
-    let wanted = Met {
+    let met = Met {
         calls: 4,
         returns: 3,
     };
-    assert_eq!(rt; met, wanted);
-    Ok(())
+    expect_ok(&rt, told, (vec![in rt.alloc(); 5, 6, 7, 0]?, met))
 }
 
 /// What is sealed of a session that was dropped with a read pending after a write.
@@ -168,9 +167,8 @@ fn drop_second(alloc: Global, mut sessions: Vec<Session<Register>>) {
 #[test]
 fn a_session_dropped_with_a_pending_call_leaves_it_open(rt: HostRuntime) -> Result<(), Fail> {
     let text = match dropped(rt.alloc()) {
-        Ok(text) => text,
-        Err(_refused) => dropped(rt.alloc())?,
+        Ok(text) => Ok(text),
+        Err(_refused) => dropped(rt.alloc()),
     };
-    assert_eq!(rt; text.as_str(), "[];[(Write(3), Some(Done)), (Read, None)];");
-    Ok(())
+    expect_text(&rt, text, "[];[(Write(3), Some(Done)), (Read, None)];")
 }

@@ -1,12 +1,15 @@
 //! Streams that several workers answer, over readers and writers in memory.
 
 use crate::devices::{Device, Failing, NEVER, Sink};
+use crate::expectations::expect_same_at;
 use crate::line_clients::{Client, Counting, Echo};
 use line_workers::answer_lines;
 use lines::{Fault, Outcome};
 use memchr::memrchr;
 use std::alloc::{AllocError, Global};
+use std::fmt::Debug;
 use std::io::ErrorKind;
+use std::process::Abort;
 use std::sync::Wait;
 use std::sync::atomic::AtomicU64;
 use std::test::Fail;
@@ -26,6 +29,30 @@ fn failing_from(first: u64) -> Failing {
         end: u64::MAX,
         kind: ErrorKind::Other,
     }
+}
+
+/// A run has ended so, and has written this text.
+fn expect_run(
+    rt: &impl Abort,
+    at: impl Debug + Copy + Drop,
+    run: &Run,
+    ended: Result<Outcome, Fault>,
+    text: &[u8],
+) {
+    expect_same_at(rt, at, run.result, ended);
+    expect_same_at(rt, at, run.text.as_slice() == text, true);
+}
+
+/// A run has ended so, and has written the beginning of this text.
+fn expect_beginning(
+    rt: &impl Abort,
+    at: impl Debug + Copy + Drop,
+    run: &Run,
+    ended: Result<Outcome, Fault>,
+    text: &[u8],
+) {
+    expect_same_at(rt, at, run.result, ended);
+    expect_same_at(rt, at, text.starts_with(run.text.as_slice()), true);
 }
 
 /// Answers a text by so many workers, over a writer whose calls fail so.
@@ -59,8 +86,7 @@ fn answers_are_in_the_order_of_the_lines(rt: HostRuntime) -> Result<(), Fail> {
     for workers in 0..5 {
         let device = Device::new(text.as_slice(), 0, 100, NEVER);
         let done = answer(&rt, device, NEVER, workers);
-        assert!(rt; done.result == Ok(Outcome::Met), "by {workers}");
-        assert!(rt; done.text == text, "by {workers}");
+        expect_run(&rt, workers, &done, Ok(Outcome::Met), text.as_slice());
     }
     Ok(())
 }
@@ -68,34 +94,37 @@ fn answers_are_in_the_order_of_the_lines(rt: HostRuntime) -> Result<(), Fail> {
 #[test]
 fn whole_lines_are_answered_while_the_next_is_not_whole(rt: HostRuntime) -> Result<(), Fail> {
     for workers in 1..5 {
-        let answers = AtomicU64::new(0);
-        let client = Client {
-            first: b"one\ntwo\nthr",
-            second: b"ee\n",
-            answers: &answers,
-            seen: 0,
-        };
-        let counting = Counting {
-            sink: Sink::new(rt.alloc(), 1_000, NEVER),
-            answers: &answers,
-        };
-        let echo = Echo { alloc: rt.alloc() };
-        let (client, counting, result) = answer_lines(
-            &rt,
-            rt.alloc(),
-            client,
-            counting,
-            &echo,
-            workers,
-        );
-        assert!(rt; result == Ok(Outcome::Met), "by {workers}");
-        assert_eq!(rt; client.seen, 2, "by {workers}");
-        assert!(rt;
-            counting.sink.taken.as_slice() == b"one\ntwo\nthree\n".as_slice(),
-            "by {workers}"
-        );
+        let (done, seen) = answer_waiting(&rt, workers);
+        expect_run(&rt, workers, &done, Ok(Outcome::Met), b"one\ntwo\nthree\n");
+        expect_same_at(&rt, workers, seen, 2);
     }
     Ok(())
+}
+
+/// Answers a client that waits for two answers before it writes the rest of its third line. Returns how many it saw before that, too.
+fn answer_waiting<P: Threads + Wait + Sync + AllocGlobal>(rt: &P, workers: usize) -> (Run, u64) {
+    let alloc = rt.alloc();
+    let answers = AtomicU64::new(0);
+    let client = Client {
+        first: b"one\ntwo\nthr",
+        second: b"ee\n",
+        answers: &answers,
+        seen: 0,
+    };
+    let counting = Counting {
+        sink: Sink::new(alloc, 1_000, NEVER),
+        answers: &answers,
+    };
+    let (client, counting, result) = answer_lines(
+        rt,
+        alloc,
+        client,
+        counting,
+        &Echo { alloc },
+        workers,
+    );
+    let text = counting.sink.taken;
+    (Run { text, result }, client.seen)
 }
 
 #[test]
@@ -104,12 +133,8 @@ fn a_write_that_fails_ends_the_run(rt: HostRuntime) -> Result<(), Fail> {
     for workers in 1..5 {
         let device = Device::new(text.as_slice(), 0, 100, NEVER);
         let done = answer(&rt, device, failing_from(21), workers);
-        assert!(rt; done.result == Err(Fault::Write), "by {workers}");
-        assert!(rt;
-            text.as_slice().starts_with(done.text.as_slice()),
-            "by {workers}"
-        );
-        assert!(rt; done.text.len() > 0, "by {workers}");
+        expect_beginning(&rt, workers, &done, Err(Fault::Write), text.as_slice());
+        expect_same_at(&rt, workers, done.text.is_empty(), false);
     }
     Ok(())
 }
@@ -129,12 +154,9 @@ fn workers_that_are_ahead_wait_for_a_slow_line(rt: HostRuntime) -> Result<(), Fa
         ] {
             let device = Device::new(text.as_slice(), 0, 5, NEVER);
             let done = answer(&rt, device, failing, workers);
-            assert!(rt; done.result == wanted, "by {workers}");
-            assert!(rt;
-                text.as_slice().starts_with(done.text.as_slice()),
-                "by {workers}"
-            );
-            assert!(rt; wanted.is_err() || done.text == text, "by {workers}");
+            expect_beginning(&rt, workers, &done, wanted, text.as_slice());
+            let is_whole = done.text == text;
+            expect_same_at(&rt, workers, wanted.is_err() || is_whole, true);
         }
     }
     Ok(())
@@ -151,8 +173,7 @@ fn what_was_read_before_a_fault_is_answered(rt: HostRuntime) -> Result<(), Fail>
     for workers in 1..5 {
         let device = Device::new(front, 0, 100, failing_from(72));
         let done = answer(&rt, device, NEVER, workers);
-        assert!(rt; done.result == Err(Fault::Read), "by {workers}");
-        assert!(rt; done.text.as_slice() == whole, "by {workers}");
+        expect_run(&rt, workers, &done, Err(Fault::Read), whole);
     }
     Ok(())
 }
@@ -169,15 +190,8 @@ fn a_line_that_is_too_long_is_answered_and_passed_over(rt: HostRuntime) -> Resul
         for piece in [1, 5, 9, 100_000] {
             let device = Device::new(text.as_slice(), 0, piece, NEVER);
             let done = answer(&rt, device, NEVER, workers);
-            assert!(rt;
-                done.result == Ok(Outcome::Refused),
-                "by {workers}, {piece}"
-            );
-            assert!(rt;
-                done.text.as_slice()
-                    == b"12345678\ntoo long\n\ntoo long\nab\ntoo long\n".as_slice(),
-                "by {workers}, {piece}"
-            );
+            let wanted = b"12345678\ntoo long\n\ntoo long\nab\ntoo long\n";
+            expect_run(&rt, (workers, piece), &done, Ok(Outcome::Refused), wanted);
         }
     }
     Ok(())

@@ -1,7 +1,7 @@
 //! The words of patterns that are in no history.
 
 use crate::histories::memory;
-use crate::rows::{Finding, differing_rows};
+use crate::rows::{Finding, expect_rows};
 use bad_patterns::{Path, Pattern};
 use operations::OpId;
 use std::alloc::{AllocError, Global};
@@ -53,7 +53,5 @@ impl Finding for LineOfWords {
 
 #[test]
 fn patterns_of_no_history_are_told(rt: HostRuntime) -> Result<(), Fail> {
-    let differing = differing_rows::<LineOfWords>(rt.alloc(), ROWS)?;
-    assert_eq!(rt; differing.as_str(), "");
-    Ok(())
+    expect_rows::<LineOfWords>(&rt, ROWS)
 }
