@@ -6,7 +6,7 @@ ghost use Rattle.recorder.specs.Sessions.{receipt_of};
 ghost use Rattle.snapshot.specs.Seals.{AreReceiptsOf, IsReceiptOf, IsSealOf};
 ghost use Rattle.acceptance.specs.Recordings.{IsSessionOf};
 
-use crate::expectations::{expect_ok, expect_text};
+use crate::expectations::expect_text;
 use crate::recordings::{advice, begun, ended, operations_of};
 use objects::{Register, RegisterCall, RegisterRet};
 use recorder::{Lanes, Receipt, RecordError, Session, new_recorder};
@@ -136,15 +136,17 @@ fn told_by(
 
 #[test]
 fn a_seal_holds_what_it_is_told_and_more(rt: HostRuntime) -> Result<(), Fail> {
-    let told = match told_of_two(rt.alloc()) {
-        Ok(told) => Ok(told),
-        Err(_refused) => told_of_two(rt.alloc()),
+    let (stamps, met) = match told_of_two(rt.alloc()) {
+        Ok(told) => told,
+        Err(_refused) => told_of_two(rt.alloc())?,
     };
-    let met = Met {
+    assert!(rt; stamps.as_slice() == [5, 6, 7, 0].as_slice());
+    let wanted = Met {
         calls: 4,
         returns: 3,
     };
-    expect_ok(&rt, told, (vec![in rt.alloc(); 5, 6, 7, 0]?, met))
+    assert_eq!(rt; met, wanted);
+    Ok(())
 }
 
 /// What is sealed of a session that was dropped with a read pending after a write.
