@@ -49,6 +49,8 @@ mod recordings;
 #[cfg(test)]
 mod replica_steps;
 #[cfg(test)]
+mod replayed_pieces;
+#[cfg(test)]
 mod replicas;
 #[cfg(test)]
 mod rows;

@@ -4,6 +4,7 @@ pub mod CallCounts
 pub mod Claims
 pub mod LongClaims
 pub mod LineAnswerLaws
+pub mod Explained
 pub mod LongOutputs
 pub mod ReadCallLaws
 pub mod NotRefused

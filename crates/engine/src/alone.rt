@@ -7,11 +7,11 @@ ghost use Rattle.engine.specs.Running.{Fails, IsOutput, IsOutputError};
 
 use crate::checking::check;
 use crate::expecting::report_on_input;
-use crate::explaining::explain_as_json;
+use crate::explaining::explain_as;
 use crate::failure::RunError;
 use crate::input::MAX_INPUT_BYTES;
 use crate::refuting::refute;
-use command_line::{Length, Order};
+use command_line::{Form, Length, Order};
 use explanations::report_text;
 use json::Scratch;
 use std::alloc::Global;
@@ -53,7 +53,7 @@ pub fn explain_alone(alloc: Global, input: &[u8]) -> Result<String, RunError>
     ensures error { IfErr result (Fails (Order.Explain Json) (Some input.now)) }
 {
     stay_within(input)?;
-    explain_as_json(&CallingThread, alloc, input)
+    explain_as(&CallingThread, alloc, input, Form::Json)
 }
 
 /// The answer that a run of `refute` writes for this input. It starts no thread.

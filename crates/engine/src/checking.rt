@@ -44,11 +44,13 @@ fn pair_in(alloc: Global, input: &[u8]) -> Result<(AnyHistory, Certificate), Run
     match found {
         FoundCertificate::Certificate(certificate) => Ok((history, certificate)),
         FoundCertificate::TooLarge => {
-            drop((history, found));
+            history.discard();
+            drop(found);
             Err(RunError::ShapeMismatch)
         }
         FoundCertificate::NoForm => {
-            drop((history, found));
+            history.discard();
+            drop(found);
             Err(RunError::BadCertificate)
         }
     }

@@ -71,7 +71,7 @@ pub fn drive_input<T: Threads + Wait + Sync>(
 {
     let history = read_history(alloc, input)?;
     let text = drive_store(rt, alloc, &history, drive, &OpenGate);
-    drop(history);
+    history.discard();
     text
 }
 
@@ -189,7 +189,7 @@ fn text_of_seal<O: Drivable, K: PieceWork>(
 {
     let history = O::copy_as_any(alloc, sealed.history())?;
     let text = text_of_report(work, alloc, &history, sealed.advice());
-    drop(history);
+    history.discard();
     text
 }
 

@@ -53,7 +53,7 @@ fn report_on_limited_input<W: PieceWork>(
     }
     let history = read_within_limits(alloc, input)?;
     let answers = report_on(work, alloc, &history, &[]);
-    drop(history);
+    history.discard();
     Ok(answers?)
 }
 

@@ -1,7 +1,7 @@
 //! Why the history in an input meets each criterion, or does not, in each form.
 
-ghost use Rattle.std.specs.Prelude.{IfErr, IfOk, string_bytes};
-ghost use Rattle.command_line.specs.declared.form.Form.TheVariants.{Certificates, Json, Picture, Words};
+ghost use Rattle.std.specs.Prelude.{ℕ, List, IfErr, IfOk, string_bytes};
+ghost use Rattle.operations.specs.AnyForm.{IsAnyHistory, IsJson, form_of};
 ghost use Rattle.engine.specs.Running.{IsOutput, IsOutputError};
 
 use crate::failure::RunError;
@@ -11,8 +11,8 @@ use explanations::{
 };
 use findings::PieceWork;
 use long_reader::read_long;
-use operations::read_history;
-use std::alloc::Global;
+use operations::{AnyHistory, read_history};
+use std::alloc::{AllocError, Global};
 use std::sync::Wait;
 use std::thread::Threads;
 use wording::OwnNames;
@@ -31,72 +31,29 @@ pub(crate) fn explain_as<W: PieceWork>(
     ensures output { IfOk result (λ text. IsOutput (Order.Explain form) input.now (string_bytes text)) }
     ensures error { IfErr result (IsOutputError (Order.Explain form) input.now) }
 {
+    let history = read_history(alloc, input)?;
+    let text = text_in(work, alloc, &history, form);
+    history.discard();
+    Ok(text?)
+}
+
+// What is found of a history, in a form. It is the answer to each input that holds the history.
+fn text_in<W: PieceWork>(
+    work: &W,
+    alloc: Global,
+    history: &AnyHistory,
+    form: Form,
+) -> Result<String, AllocError>
+    requires { W.can_check work.now }
+    ensures output { (input : List ℕ) → IsAnyHistory history.now → IsJson input (form_of history.now)
+        → IfOk result (λ text. IsOutput (Order.Explain form) input (string_bytes text)) }
+{
     match form {
-        Form::Words => explain_in_words(work, alloc, input),
-        Form::Json => explain_as_json(work, alloc, input),
-        Form::Certificates => explain_with_certificates(work, alloc, input),
-        Form::Picture => explain_as_picture(work, alloc, input),
+        Form::Words => words_of_history(work, alloc, history),
+        Form::Json => json_of_history(work, alloc, history),
+        Form::Certificates => certified_json_of_history(work, alloc, history),
+        Form::Picture => drawing_of_history(work, alloc, history, &OwnNames),
     }
-}
-
-// What is found of the history in the input, in words.
-fn explain_in_words<W: PieceWork>(work: &W, alloc: Global, input: &[u8]) -> Result<String, RunError>
-    requires { W.can_check work.now }
-    ensures output { IfOk result (λ text. IsOutput (Order.Explain Words) input.now (string_bytes text)) }
-    ensures error { IfErr result (IsOutputError (Order.Explain Words) input.now) }
-{
-    let history = read_history(alloc, input)?;
-    let text = words_of_history(work, alloc, &history);
-    drop(history);
-    Ok(text?)
-}
-
-/// The JSON text of what is found of the history in the input.
-pub(crate) fn explain_as_json<W: PieceWork>(
-    work: &W,
-    alloc: Global,
-    input: &[u8],
-) -> Result<String, RunError>
-    requires { W.can_check work.now }
-    ensures output { IfOk result (λ text. IsOutput (Order.Explain Json) input.now (string_bytes text)) }
-    ensures error { IfErr result (IsOutputError (Order.Explain Json) input.now) }
-{
-    let history = read_history(alloc, input)?;
-    let text = json_of_history(work, alloc, &history);
-    drop(history);
-    Ok(text?)
-}
-
-// The JSON text of what is found of the history in the input, with certificates of what is met. Causal memory may have none.
-fn explain_with_certificates<W: PieceWork>(
-    work: &W,
-    alloc: Global,
-    input: &[u8],
-) -> Result<String, RunError>
-    requires { W.can_check work.now }
-    ensures output { IfOk result (λ text. IsOutput (Order.Explain Certificates) input.now (string_bytes text)) }
-    ensures error { IfErr result (IsOutputError (Order.Explain Certificates) input.now) }
-{
-    let history = read_history(alloc, input)?;
-    let text = certified_json_of_history(work, alloc, &history);
-    drop(history);
-    Ok(text?)
-}
-
-// What is found of the history in the input, as a picture.
-fn explain_as_picture<W: PieceWork>(
-    work: &W,
-    alloc: Global,
-    input: &[u8],
-) -> Result<String, RunError>
-    requires { W.can_check work.now }
-    ensures output { IfOk result (λ text. IsOutput (Order.Explain Picture) input.now (string_bytes text)) }
-    ensures error { IfErr result (IsOutputError (Order.Explain Picture) input.now) }
-{
-    let history = read_history(alloc, input)?;
-    let svg = drawing_of_history(work, alloc, &history, &OwnNames);
-    drop(history);
-    Ok(svg?)
 }
 
 /// Why the memory history in the input, of any length, meets each criterion or does not, in a form.

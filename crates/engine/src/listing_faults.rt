@@ -56,7 +56,7 @@ fn list_in_limited_input<T: Threads + Wait + Sync>(
             Ok(list_in_limited(rt, alloc, history, long, &OwnNames, most, form)?)
         }
         Err(error) => {
-            drop(history);
+            history.discard();
             Err(error)
         }
     }

@@ -32,9 +32,14 @@ pub fn refute(alloc: Global, input: &[u8]) -> Result<String, RunError>
 {
     let claim = claim_in(alloc, input)?;
     let is_shown = is_pattern_of(alloc, &claim.history, claim.criterion, &claim.pattern);
-    let criterion = claim.criterion;
-    let answer = Answer::No(claim.pattern.kind());
-    drop(claim);
+    let Claim {
+        history,
+        criterion,
+        pattern,
+    } = claim;
+    history.discard();
+    let answer = Answer::No(pattern.kind());
+    drop(pattern);
     if is_shown? {
         Ok(report_line(alloc, criterion, answer)?)
     } else {
@@ -77,7 +82,8 @@ fn claim_in(alloc: Global, input: &[u8]) -> Result<Claim, RunError>
         pattern,
     } = read_claim(alloc, input)?;
     let Some(criterion) = criterion else {
-        drop((history, pattern));
+        history.discard();
+        drop(pattern);
         return Err(RunError::NotThatPattern);
     };
     match pattern {
@@ -87,7 +93,7 @@ fn claim_in(alloc: Global, input: &[u8]) -> Result<Claim, RunError>
             pattern,
         }),
         None => {
-            drop(history);
+            history.discard();
             Err(RunError::NotThatPattern)
         }
     }

@@ -97,13 +97,13 @@ fn small_as<W: PieceWork, N: Names>(
         LongForm::Json => {
             let small = AnyHistory::Memory(small);
             let text = json_of_history(work, alloc, &small);
-            drop(small);
+            small.discard();
             text
         }
         LongForm::Picture => {
             let small = AnyHistory::Memory(small);
             let svg = drawing_of_history(work, alloc, &small, names);
-            drop(small);
+            small.discard();
             svg
         }
     }

@@ -89,7 +89,7 @@ pub fn list_in_limited<T: Threads + Wait + Sync, N: Names>(
         ListForm::Words => words_in_limited(&work, alloc, &history, long, names, most),
         ListForm::Json => json_in_limited(&work, alloc, &history, long, most),
     };
-    drop(history);
+    history.discard();
     text
 }
 

@@ -130,7 +130,7 @@ fn lines_of_core<N: Names>(
 fn text_of_history(alloc: Global, history: &History<Memory>) -> Result<String, AllocError> {
     let copy = AnyHistory::Memory(history.copy(alloc)?);
     let text = write_history(alloc, &copy);
-    drop(copy);
+    copy.discard();
     text
 }
 

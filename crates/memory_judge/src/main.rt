@@ -5,6 +5,8 @@
 #![tactic(auto)]
 
 ghost use Rattle.std.specs.Prelude.{IfOk};
+ghost use Rattle.cert_check.specs.declared.criterion.Criterion.{Criterion as AnyCriterion};
+ghost use Rattle.decision.specs.Decisions.{IsDecided, decision_for};
 ghost use Rattle.memory_judge.specs.Verdicts.{AreDecidedOf};
 
 use anyhow::{Result, bail};
@@ -12,8 +14,9 @@ use bad_patterns::Kind;
 use cert_check::Criterion;
 use decision::{Decision, Decisions, decide_all};
 use memory_order::IndexedMemory;
-use operations::{AnyHistory, read_history};
-use std::alloc::Global;
+use objects::Memory;
+use operations::{AnyHistory, History, read_history};
+use std::alloc::{AllocError, Global};
 use std::io::Read;
 
 fn main(rt: HostRuntime) -> Result<()> {
@@ -21,9 +24,9 @@ fn main(rt: HostRuntime) -> Result<()> {
     let mut text = Vec::new(alloc);
     rt.stdin().read_to_end(&mut text)?;
     let decisions = decisions_of(alloc, text.as_slice())?;
-    write_line(&rt, Criterion::Cc, &decisions.cc)?;
-    write_line(&rt, Criterion::Cm, &decisions.cm)?;
-    write_line(&rt, Criterion::Ccv, &decisions.ccv)
+    let written = write_lines(&rt, &decisions);
+    drop(decisions);
+    written
 }
 
 /// What is decided of the memory history whose form is the text.
@@ -32,11 +35,32 @@ fn decisions_of(alloc: Global, text: &[u8]) -> Result<Decisions>
 {
     let history = match read_history(alloc, text) {
         Ok(AnyHistory::Memory(history)) => history,
-        Ok(_) => bail!("no history of a memory: causal_judge judges all objects"),
+        Ok(other) => {
+            other.discard();
+            bail!("no history of a memory: causal_judge judges all objects")
+        }
         Err(refusal) => bail!("refused {}", refusal.number()),
     };
-    let memory = IndexedMemory::of(alloc, &history)?;
-    Ok(decide_all(alloc, &memory)?)
+    let decisions = decisions_on(alloc, &history);
+    drop(history);
+    Ok(decisions?)
+}
+
+/// What is decided of a history of a memory.
+fn decisions_on(alloc: Global, history: &History<Memory>) -> Result<Decisions, AllocError>
+    ensures { IfOk result (λ all. (criterion : AnyCriterion) → IsDecided history.now criterion (decision_for all criterion)) }
+{
+    let memory = IndexedMemory::of(alloc, history)?;
+    let decisions = decide_all(alloc, &memory);
+    drop(memory);
+    decisions
+}
+
+/// Writes the lines of all criteria.
+fn write_lines<P: Print>(rt: &P, decisions: &Decisions) -> Result<()> {
+    write_line(rt, Criterion::Cc, &decisions.cc)?;
+    write_line(rt, Criterion::Cm, &decisions.cm)?;
+    write_line(rt, Criterion::Ccv, &decisions.ccv)
 }
 
 /// Writes the line of a criterion.
