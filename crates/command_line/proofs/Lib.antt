@@ -3,3 +3,4 @@ pub mod Words
 pub mod Names
 pub mod SettingWords
 pub mod Saying
+pub mod Chosen

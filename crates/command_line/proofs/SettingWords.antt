@@ -1,8 +1,8 @@
 -- What a word says is read off it: no word says two things.
-use Rattle.std.proofs.Common.{◌≡◌, ◌<◌, ◌≤◌, ◌∙◌, ℕ, Bool, true, false, ◌∷◌, ◌++◌, refl, sym, ap, subst, ◌+◌, ◌*◌}
+use Rattle.std.proofs.Common.{◌≡◌, ◌<◌, ◌≤◌, ◌∙◌, ℕ, Bool, true, false, ◌∷◌, ◌++◌, refl, sym, ap, subst, ◌+◌, ◌*◌, arith, length, get_or, Option, Some, None, MatchOption}
 use Rattle.std.specs.Prelude.{◌≢◌, ◌==◌, ◌||◌, codes, if◌then◌else◌, nat_eq}
 use Rattle.std.specs.Cmp.Lexicographic.{pointwise}
-use Rattle.std.specs.List.{after_first}
+use Rattle.std.specs.List.{after_first, before_first}
 use Rattle.std.specs.Str.Parse.{digits_value, without_leading_plus}
 use Rattle.clap.specs.Words.{Text}
 use Rattle.workers.specs.Workers.{AreWorkers}
@@ -156,47 +156,93 @@ together-option settings.Why w value says = absurd says
 pub alone_or_together : (s t : Setting) (w value : Text) → SaysAlone s w → SaysTogether t w value → ⊥
 alone_or_together s t w value says also = let bad : ◌≡◌ {A = Bool} true false = sym (together-option t w value also) ∙ alone-no-option s w says in absurd (cc)
 
--- a word that begins as an option does, and writes no value that the option takes, says nothing
-same_numeral : (text other : Text) (n : ℕ) → text ≡ other → Writes text n → Writes other n
-same_numeral text other n same writes = subst (λ (t : Text). Writes t n) same writes
+-- a word with an equals sign says what the name before it and the value after it say
+abbrev is_equals : ℕ → Bool
+is_equals c = c == 61
 
-alone_as : (w v : Text) (s : Setting) → w ≡ v → SaysAlone s w → SaysAlone (setting_of v (value_of v)) w
-alone_as w v s is says = subst (λ (x : Setting). SaysAlone x w) (sym (alone-read s w says) ∙ ap (λ t. setting_of t (value_of t)) is) says
+split_alone : (s : Setting) (w name value : Text) → IsNoBareWord w → name ≡ before_first is_equals w → value ≡ after_first is_equals w → SaysAlone s w
+    → SaysTogether s name value
+split_alone (settings.Seals n) w name value bare front behind says =
+    (front ∙ ap (before_first is_equals) says.1, subst (λ (t : Text). Writes t n) (sym (behind ∙ ap (after_first is_equals) says.1)) says.2, says.3)
+split_alone (settings.Workers n) w name value bare front behind says =
+    (front ∙ ap (before_first is_equals) says.1, subst (λ (t : Text). Writes t n) (sym (behind ∙ ap (after_first is_equals) says.1)) says.2, says.3)
+split_alone (settings.Stop n) w name value bare front behind says =
+    (front ∙ ap (before_first is_equals) says.1, subst (λ (t : Text). Writes t n) (sym (behind ∙ ap (after_first is_equals) says.1)) says.2, says.3)
+split_alone (settings.All n) w name value bare front behind says =
+    (front ∙ ap (before_first is_equals) says.1, subst (λ (t : Text). Writes t n) (sym (behind ∙ ap (after_first is_equals) says.1)) says.2, says.3)
+split_alone (settings.Every n) w name value bare front behind says =
+    (front ∙ ap (before_first is_equals) says.1, subst (λ (t : Text). Writes t n) (sym (behind ∙ ap (after_first is_equals) says.1)) says.2, says.3)
+split_alone (settings.Expect e) w name value bare front behind says =
+    (front ∙ ap (before_first is_equals) says.1, subst (λ (t : Text). Lists t e) (sym (behind ∙ ap (after_first is_equals) says.1)) says.2)
+split_alone (settings.Store Causal) w name value bare front behind says = absurd (bare.causal says)
+split_alone (settings.Store Lamport) w name value bare front behind says = absurd (bare.lamport says)
+split_alone settings.Eager w name value bare front behind says = absurd (bare.eager says)
+split_alone settings.Lines w name value bare front behind says = absurd (bare.lines says)
+split_alone settings.SkipBlank w name value bare front behind says = absurd (bare.skip_blank says)
+split_alone settings.Long w name value bare front behind says = absurd (bare.long says)
+split_alone settings.Json w name value bare front behind says = absurd (bare.json says)
+split_alone settings.Certificates w name value bare front behind says = absurd (bare.certificates says)
+split_alone settings.Svg w name value bare front behind says = absurd (bare.svg says)
+split_alone settings.Html w name value bare front behind says = absurd (bare.html says)
+split_alone settings.Events w name value bare front behind says = absurd (bare.events says)
+split_alone settings.Names w name value bare front behind says = absurd (bare.names says)
+split_alone settings.Why w name value bare front behind says = absurd (bare.why says)
 
+joined_alone : (s : Setting) (w name value : Text) → w ≡ name ++ 61 ∷ value → SaysTogether s name value → SaysAlone s w
+joined_alone (settings.Seals n) w name value is says = (value, is ∙ ap (λ (t : Text). t ++ 61 ∷ value) says.0, says.1, says.2)
+joined_alone (settings.Workers n) w name value is says = (value, is ∙ ap (λ (t : Text). t ++ 61 ∷ value) says.0, says.1, says.2)
+joined_alone (settings.Stop n) w name value is says = (value, is ∙ ap (λ (t : Text). t ++ 61 ∷ value) says.0, says.1, says.2)
+joined_alone (settings.All n) w name value is says = (value, is ∙ ap (λ (t : Text). t ++ 61 ∷ value) says.0, says.1, says.2)
+joined_alone (settings.Every n) w name value is says = (value, is ∙ ap (λ (t : Text). t ++ 61 ∷ value) says.0, says.1, says.2)
+joined_alone (settings.Expect e) w name value is says = (value, is ∙ ap (λ (t : Text). t ++ 61 ∷ value) says.0, says.1)
+joined_alone (settings.Store store) w name value is says = absurd says
+joined_alone settings.Eager w name value is says = absurd says
+joined_alone settings.Lines w name value is says = absurd says
+joined_alone settings.SkipBlank w name value is says = absurd says
+joined_alone settings.Long w name value is says = absurd says
+joined_alone settings.Json w name value is says = absurd says
+joined_alone settings.Certificates w name value is says = absurd says
+joined_alone settings.Svg w name value is says = absurd says
+joined_alone settings.Html w name value is says = absurd says
+joined_alone settings.Events w name value is says = absurd says
+joined_alone settings.Names w name value is says = absurd says
+joined_alone settings.Why w name value is says = absurd says
+
+pub said_by_value : (w name value : Text) (r : Option Setting) → IsNoBareWord w → w ≡ name ++ 61 ∷ value → name ≡ before_first is_equals w
+    → value ≡ after_first is_equals w → MatchOption r ((s : Setting) → ¬ SaysTogether s name value) (λ s. SaysTogether s name value)
+    → MatchOption r ((s : Setting) → ¬ SaysAlone s w) (λ s. SaysAlone s w)
+said_by_value w name value None bare is front behind none = λ s says. none s (split_alone s w name value bare front behind says)
+said_by_value w name value (Some s) bare is front behind says = joined_alone s w name value is says
+
+-- a word without one that is none of those that say something without a value, says nothing
+has_equals : (w v : Text) (i : ℕ) → ((k : ℕ) → k < length w → get_or w k 0 ≢ 61) → w ≡ v → i < length v → get_or v i 0 ≡ 61 → ⊥
+has_equals w v i free is within at = free i (subst (λ (t : Text). i < length t) (sym is) within) (ap (λ (t : Text). get_or t i 0) is ∙ at)
+
+pub no_value : (w : Text) → IsNoBareWord w → ((k : ℕ) → k < length w → get_or w k 0 ≢ 61) → (s : Setting) → ¬ SaysAlone s w
+no_value w bare free (settings.Store Causal) says = bare.causal says
+no_value w bare free (settings.Store Lamport) says = bare.lamport says
+no_value w bare free settings.Eager says = bare.eager says
+no_value w bare free settings.Lines says = bare.lines says
+no_value w bare free settings.SkipBlank says = bare.skip_blank says
+no_value w bare free settings.Long says = bare.long says
+no_value w bare free settings.Json says = bare.json says
+no_value w bare free settings.Certificates says = bare.certificates says
+no_value w bare free settings.Svg says = bare.svg says
+no_value w bare free settings.Html says = bare.html says
+no_value w bare free settings.Events says = bare.events says
+no_value w bare free settings.Names says = bare.names says
+no_value w bare free settings.Why says = bare.why says
+no_value w bare free (settings.Seals n) says = has_equals w (codes "--seals=" ++ says.0) 7 free says.1 (omega arith) refl
+no_value w bare free (settings.Workers n) says = has_equals w (codes "--workers=" ++ says.0) 9 free says.1 (omega arith) refl
+no_value w bare free (settings.Stop n) says = has_equals w (codes "--stop=" ++ says.0) 6 free says.1 (omega arith) refl
+no_value w bare free (settings.All n) says = has_equals w (codes "--all=" ++ says.0) 5 free says.1 (omega arith) refl
+no_value w bare free (settings.Every n) says = has_equals w (codes "--every=" ++ says.0) 7 free says.1 (omega arith) refl
+no_value w bare free (settings.Expect n) says = has_equals w (codes "--expect=" ++ says.0) 8 free says.1 (omega arith) refl
+
+-- the name of an option says nothing with a value that the option does not take
 together_as : (w v value : Text) (s : Setting) → w ≡ v → SaysTogether s w value → SaysTogether (setting_of v value) w value
 together_as w v value s is says = subst (λ (x : Setting). SaysTogether x w value) (sym (together-read s w value says) ∙ ap (λ t. setting_of t value) is) says
 
-pub no_seals : (w number : Text) → w ≡ codes "--seals=" ++ number → ((n : ℕ) → n ≤ MAX_SEALS → ¬ Writes number n) → (s : Setting) → ¬ SaysAlone s w
-no_seals w number is none s says =
-    let so : SaysAlone (settings.Seals (number_in number)) w = alone_as w (codes "--seals=" ++ number) s is says in
-    none (number_in number) so.3 (same_numeral so.0 number (number_in number) (ap value_of (sym so.1 ∙ is)) so.2)
-
-pub no_workers : (w number : Text) → w ≡ codes "--workers=" ++ number → ((n : ℕ) → AreWorkers n → ¬ Writes number n) → (s : Setting) → ¬ SaysAlone s w
-no_workers w number is none s says =
-    let so : SaysAlone (settings.Workers (number_in number)) w = alone_as w (codes "--workers=" ++ number) s is says in
-    none (number_in number) so.3 (same_numeral so.0 number (number_in number) (ap value_of (sym so.1 ∙ is)) so.2)
-
-pub no_stop : (w number : Text) → w ≡ codes "--stop=" ++ number → ((n : ℕ) → n < MAX_SESSIONS → ¬ Writes number n) → (s : Setting) → ¬ SaysAlone s w
-no_stop w number is none s says =
-    let so : SaysAlone (settings.Stop (number_in number)) w = alone_as w (codes "--stop=" ++ number) s is says in
-    none (number_in number) so.3 (same_numeral so.0 number (number_in number) (ap value_of (sym so.1 ∙ is)) so.2)
-
-pub no_expect : (w list : Text) → w ≡ codes "--expect=" ++ list → ((e : Expected) → ¬ Lists list e) → (s : Setting) → ¬ SaysAlone s w
-no_expect w list is none s says =
-    let so : SaysAlone (settings.Expect (listed list)) w = alone_as w (codes "--expect=" ++ list) s is says in
-    none (listed list) (subst (λ (t : Text). Lists t (listed list)) (ap value_of (sym so.1 ∙ is)) so.2)
-
-pub no_all : (w number : Text) → w ≡ codes "--all=" ++ number → ((n : ℕ) → IsListed n → ¬ Writes number n) → (s : Setting) → ¬ SaysAlone s w
-no_all w number is none s says =
-    let so : SaysAlone (settings.All (number_in number)) w = alone_as w (codes "--all=" ++ number) s is says in
-    none (number_in number) so.3 (same_numeral so.0 number (number_in number) (ap value_of (sym so.1 ∙ is)) so.2)
-
-pub no_every : (w number : Text) → w ≡ codes "--every=" ++ number → ((n : ℕ) → IsEvery n → ¬ Writes number n) → (s : Setting) → ¬ SaysAlone s w
-no_every w number is none s says =
-    let so : SaysAlone (settings.Every (number_in number)) w = alone_as w (codes "--every=" ++ number) s is says in
-    none (number_in number) so.3 (same_numeral so.0 number (number_in number) (ap value_of (sym so.1 ∙ is)) so.2)
-
--- the name of an option says nothing with a value that the option does not take
 pub no_seals_behind : (w number : Text) → w ≡ codes "--seals" → ((n : ℕ) → n ≤ MAX_SEALS → ¬ Writes number n) → (s : Setting) → ¬ SaysTogether s w number
 no_seals_behind w number is none s says =
     let so : SaysTogether (settings.Seals (number_in number)) w number = together_as w (codes "--seals") number s is says in none (number_in number) so.2 so.1
@@ -221,30 +267,7 @@ pub no_every_behind : (w number : Text) → w ≡ codes "--every" → ((n : ℕ)
 no_every_behind w number is none s says =
     let so : SaysTogether (settings.Every (number_in number)) w number = together_as w (codes "--every") number s is says in none (number_in number) so.2 so.1
 
--- a word that is none of those that say something, says nothing
-pub no_alone : (w : Text) → IsNoBareWord w → ((number : Text) → w ≢ codes "--seals=" ++ number) → ((number : Text) → w ≢ codes "--workers=" ++ number)
-    → ((list : Text) → w ≢ codes "--expect=" ++ list) → ((number : Text) → w ≢ codes "--all=" ++ number)
-    → ((number : Text) → w ≢ codes "--every=" ++ number) → ((number : Text) → w ≢ codes "--stop=" ++ number) → (s : Setting) → ¬ SaysAlone s w
-no_alone w bare _ _ _ _ _ _ (settings.Store Causal) says = bare.causal says
-no_alone w bare _ _ _ _ _ _ (settings.Store Lamport) says = bare.lamport says
-no_alone w bare _ _ _ _ _ _ settings.Eager says = bare.eager says
-no_alone w bare _ _ _ _ _ _ settings.Lines says = bare.lines says
-no_alone w bare _ _ _ _ _ _ settings.SkipBlank says = bare.skip_blank says
-no_alone w bare _ _ _ _ _ _ settings.Long says = bare.long says
-no_alone w bare _ _ _ _ _ _ settings.Json says = bare.json says
-no_alone w bare _ _ _ _ _ _ settings.Certificates says = bare.certificates says
-no_alone w bare _ _ _ _ _ _ settings.Svg says = bare.svg says
-no_alone w bare _ _ _ _ _ _ settings.Html says = bare.html says
-no_alone w bare _ _ _ _ _ _ settings.Events says = bare.events says
-no_alone w bare _ _ _ _ _ _ settings.Names says = bare.names says
-no_alone w bare _ _ _ _ _ _ settings.Why says = bare.why says
-no_alone w bare is_no _ _ _ _ _ (settings.Seals n) says = is_no says.0 says.1
-no_alone w bare _ is_no _ _ _ _ (settings.Workers n) says = is_no says.0 says.1
-no_alone w bare _ _ _ _ _ is_no (settings.Stop n) says = is_no says.0 says.1
-no_alone w bare _ _ is_no _ _ _ (settings.Expect n) says = is_no says.0 says.1
-no_alone w bare _ _ _ is_no _ _ (settings.All n) says = is_no says.0 says.1
-no_alone w bare _ _ _ _ is_no _ (settings.Every n) says = is_no says.0 says.1
-
+-- a word that is none of the names of options says nothing
 pub no_together : (w value : Text) → w ≢ codes "--seals" → w ≢ codes "--workers" → w ≢ codes "--expect" → w ≢ codes "--stop" → w ≢ codes "--all"
     → w ≢ codes "--every" → (s : Setting) → ¬ SaysTogether s w value
 no_together w value is_no _ _ _ _ _ (settings.Seals n) says = is_no says.0
@@ -266,10 +289,10 @@ no_together w value _ _ _ _ _ _ settings.Events says = says
 no_together w value _ _ _ _ _ _ settings.Names says = says
 no_together w value _ _ _ _ _ _ settings.Why says = says
 
--- why a word says nothing alone, and why it says nothing with the value after it
-pub ruleset nothing_alone = (no_alone, no_seals, no_workers, no_expect, no_all, no_every, no_stop)
-
-pub ruleset nothing_together = (no_together, no_seals_behind, no_workers_behind, no_expect_behind, no_all_behind, no_every_behind, no_stop_behind)
+pub none_said : (w value : Text) (r : Option Setting) → r ≡ None → ((s : Setting) → ¬ SaysTogether s w value)
+    → MatchOption r ((s : Setting) → ¬ SaysTogether s w value) (λ s. SaysTogether s w value)
+none_said w value r is none =
+    subst (λ (o : Option Setting). MatchOption o ((s : Setting) → ¬ SaysTogether s w value) (λ s. SaysTogether s w value)) (sym is) none
 
 -- a word names one command
 abbrev command_of : Text → CommandName

@@ -1,7 +1,8 @@
-//! The options of commands, as `clap` receives them.
+//! The options of commands, as plain data and as `clap` receives them.
 ghost use Rattle.std.specs.Prelude.{◌≡◌, ◌-◌, codes, false};
 ghost use Rattle.clap.specs.Words.{rule_of};
 ghost use Rattle.command_line.specs.CommandLine.{all, every, expect, flag, number_option, store, why, workers};
+ghost use Rattle.command_line.specs.Steps.Chosen.{rule_chosen};
 
 use crate::drive::MAX_SEALS;
 use crate::help::{EVERY, WHY};
@@ -13,8 +14,104 @@ use history::MAX_SESSIONS;
 use std::alloc::Global;
 use workers::MAX_WORKERS;
 
+/// An argument or an option of a command.
+#[derive(Clone, Copy)]
+pub enum Argument<'a> {
+    /// The name of a store.
+    Store,
+    /// The criteria that are expected to be met.
+    Expect,
+    /// An option that has no value: its name, and what help says of it.
+    Flag(&'a str, &'a str),
+    /// An option whose value is a number: its name, the name of its value, the least and the most number, and what help says of it.
+    Number(&'a str, &'a str, u64, u64, &'a str),
+}
+
+impl<'a> Argument<'a> {
+    /// The argument, as `clap` receives it.
+    pub fn told(&self, alloc: Global) -> Arg<'a>
+        ensures rule { rule_of result ≡ rule_chosen self.now }
+        ensures local { result.global ≡ false }
+    {
+        match *self {
+            Argument::Store => store_argument(alloc),
+            Argument::Expect => expect_option(alloc),
+            Argument::Flag(name, help) => flag_option(alloc, name, help),
+            Argument::Number(name, value, least, most, help) => {
+                number_option(alloc, name, value, least, most, help)
+            }
+        }
+    }
+}
+
+/// How many workers there are.
+pub fn workers_argument<'a>() -> Argument<'a>
+    ensures { rule_chosen result ≡ workers }
+{
+    Argument::Number(
+        "workers",
+        "N",
+        1,
+        MAX_WORKERS as u64,
+        "How many threads check the pieces of a certificate, from 1 to 16; 2 where none is given",
+    )
+}
+
+/// Whether the program gives the reason of a refusal.
+pub fn why_argument<'a>() -> Argument<'a>
+    ensures { rule_chosen result ≡ why }
+{
+    Argument::Flag("why", WHY)
+}
+
+/// How many seals are taken while clients run.
+pub fn seals_argument<'a>() -> Argument<'a>
+    ensures { rule_chosen result ≡ number_option (codes "seals") 0 MAX_SEALS }
+{
+    Argument::Number(
+        "seals",
+        "N",
+        0,
+        MAX_SEALS as u64,
+        "How many histories are sealed while clients run, from 0 to 8; 0 where none is given. They need not come in the order of time",
+    )
+}
+
+/// The session whose client never ends its last call.
+pub fn stop_argument<'a>() -> Argument<'a>
+    ensures { rule_chosen result ≡ number_option (codes "stop") 0 (MAX_SESSIONS - 1) }
+{
+    Argument::Number(
+        "stop",
+        "S",
+        0,
+        MAX_SESSIONS as u64 - 1,
+        "The session whose client never ends its last call, from 0 to 15; none where none is given",
+    )
+}
+
+/// How many reads that show a fault are listed.
+pub fn all_argument<'a>() -> Argument<'a>
+    ensures { rule_chosen result ≡ all }
+{
+    Argument::Number(
+        "all",
+        "N",
+        1,
+        MAX_LISTED as u64,
+        "Lists up to N reads that show a fault, from 1 to 1000000, and counts them by kind and by session",
+    )
+}
+
+/// The number of events after which a log is judged again.
+pub fn every_argument<'a>() -> Argument<'a>
+    ensures { rule_chosen result ≡ every }
+{
+    Argument::Number("every", "N", 1, MAX_EVERY as u64, EVERY)
+}
+
 /// The name of a store.
-pub fn store_argument<'a>(alloc: Global) -> Arg<'a>
+fn store_argument<'a>(alloc: Global) -> Arg<'a>
     ensures rule { rule_of result ≡ store }
     ensures local { result.global ≡ false }
 {
@@ -26,7 +123,7 @@ pub fn store_argument<'a>(alloc: Global) -> Arg<'a>
 }
 
 /// An option that has no value.
-pub fn flag_option<'a>(alloc: Global, name: &'a str, help: &'a str) -> Arg<'a>
+fn flag_option<'a>(alloc: Global, name: &'a str, help: &'a str) -> Arg<'a>
     ensures rule { rule_of result ≡ flag name.now }
     ensures local { result.global ≡ false }
 {
@@ -34,14 +131,6 @@ pub fn flag_option<'a>(alloc: Global, name: &'a str, help: &'a str) -> Arg<'a>
         .long(name)
         .action(ArgAction::SetTrue)
         .help(help)
-}
-
-/// Whether the program gives the reason of a refusal.
-pub fn why_option<'a>(alloc: Global) -> Arg<'a>
-    ensures rule { rule_of result ≡ why }
-    ensures local { result.global ≡ false }
-{
-    flag_option(alloc, "why", WHY)
 }
 
 // An option whose value is a number within bounds.
@@ -64,23 +153,8 @@ fn number_option<'a>(
         .help(help)
 }
 
-/// How many workers there are.
-pub fn workers_option<'a>(alloc: Global) -> Arg<'a>
-    ensures rule { rule_of result ≡ workers }
-    ensures local { result.global ≡ false }
-{
-    number_option(
-        alloc,
-        "workers",
-        "N",
-        1,
-        MAX_WORKERS as u64,
-        "How many threads check the pieces of a certificate, from 1 to 16; 2 where none is given",
-    )
-}
-
 /// The criteria that are expected to be met.
-pub fn expect_option<'a>(alloc: Global) -> Arg<'a>
+fn expect_option<'a>(alloc: Global) -> Arg<'a>
     ensures rule { rule_of result ≡ expect }
     ensures local { result.global ≡ false }
 {
@@ -91,57 +165,4 @@ pub fn expect_option<'a>(alloc: Global) -> Arg<'a>
         .help(
             "What is to be met: some of cc, cm and ccv, joined by commas. Sets the status, as below",
         )
-}
-
-/// How many seals are taken while clients run.
-pub fn seals_option<'a>(alloc: Global) -> Arg<'a>
-    ensures rule { rule_of result ≡ number_option (codes "seals") 0 MAX_SEALS }
-    ensures local { result.global ≡ false }
-{
-    number_option(
-        alloc,
-        "seals",
-        "N",
-        0,
-        MAX_SEALS as u64,
-        "How many histories are sealed while clients run, from 0 to 8; 0 where none is given. They need not come in the order of time",
-    )
-}
-
-/// The session whose client never ends its last call.
-pub fn stop_option<'a>(alloc: Global) -> Arg<'a>
-    ensures rule { rule_of result ≡ number_option (codes "stop") 0 (MAX_SESSIONS - 1) }
-    ensures local { result.global ≡ false }
-{
-    number_option(
-        alloc,
-        "stop",
-        "S",
-        0,
-        MAX_SESSIONS as u64 - 1,
-        "The session whose client never ends its last call, from 0 to 15; none where none is given",
-    )
-}
-
-/// How many reads that show a fault are listed.
-pub fn all_option<'a>(alloc: Global) -> Arg<'a>
-    ensures rule { rule_of result ≡ all }
-    ensures local { result.global ≡ false }
-{
-    number_option(
-        alloc,
-        "all",
-        "N",
-        1,
-        MAX_LISTED as u64,
-        "Lists up to N reads that show a fault, from 1 to 1000000, and counts them by kind and by session",
-    )
-}
-
-/// The number of events after which a log is judged again.
-pub fn every_option<'a>(alloc: Global) -> Arg<'a>
-    ensures rule { rule_of result ≡ every }
-    ensures local { result.global ≡ false }
-{
-    number_option(alloc, "every", "N", 1, MAX_EVERY as u64, EVERY)
 }

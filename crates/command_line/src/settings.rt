@@ -209,35 +209,18 @@ pub fn setting_alone(word: &str) -> Option<Setting>
     }
 }
 
-// What a word with a value says.
-#[tactic(auto, using(crate::proofs::SettingWords::nothing_alone))]
+// What a word with a value says: the same as the name of the option and the value, without the equals sign between.
 fn value_alone(word: &str) -> Option<Setting>
     requires { IsNoBareWord word.now }
     ensures { MatchOption result ((setting : Setting) → ¬ SaysAlone setting word.now) (λ setting. SaysAlone setting word.now) }
 {
-    if let Some(number) = word.strip_prefix("--seals=") {
-        return Some(Setting::Seals(seals_in(number)?));
-    }
-    if let Some(number) = word.strip_prefix("--workers=") {
-        return Some(Setting::Workers(workers_in(number)?));
-    }
-    if let Some(list) = word.strip_prefix("--expect=") {
-        return Some(Setting::Expect(expected_in(list)?));
-    }
-    if let Some(number) = word.strip_prefix("--all=") {
-        return Some(Setting::All(listed_in(number)?));
-    }
-    if let Some(number) = word.strip_prefix("--every=") {
-        return Some(Setting::Every(every_in(number)?));
-    }
-    match word.strip_prefix("--stop=") {
-        Some(number) => Some(Setting::Stop(session_in(number)?)),
+    match word.split_once('=') {
+        Some((option, value)) => setting_together(option, value),
         None => None,
     }
 }
 
 /// What a word and the value after it say.
-#[tactic(auto, using(crate::proofs::SettingWords::nothing_together))]
 pub fn setting_together(word: &str, value: &str) -> Option<Setting>
     ensures { MatchOption result ((setting : Setting) → ¬ SaysTogether setting word.now value.now)
         (λ setting. SaysTogether setting word.now value.now) }

@@ -1,0 +1,10 @@
+-- The program has the first command, and then those after it.
+use Rattle.clap.specs.Words.{app_of}
+use Rattle.command_line.specs.Steps.Chosen.{with_command}
+use Rattle.command_line.proofs.Chosen.{each_added}
+use Rattle.command_line.proofs.program.+with_commands.Goals as goal
+
+pub returns-in-Ok : goal.returns-in-Ok
+returns-in-Ok t c =
+    each_added with_command (app_of c.args.program) (app_of c.in-Ok.next) c.args.names.now _ c.with_commands.result
+    c.in-len1-up.len_at_least c.in-Ok.ensures c.with_commands.ensures

@@ -1,0 +1,31 @@
+-- What the program's commands and their arguments are, where they are plain data.
+use Rattle.clap.specs.Words.{App, Rule, with_rule, with_subcommand}
+use Rattle.command_line.specs.CommandLine.{check, drive, events, expect, explain, flag, judge, number_option, refute, replay, store}
+use Rattle.command_line.specs.declared.arguments.Argument.{Argument}
+use Rattle.command_line.specs.declared.arguments.Argument.TheVariants as arguments
+use Rattle.command_line.specs.declared.settings.CommandName.{CommandName}
+use Rattle.command_line.specs.declared.settings.CommandName.TheVariants as commands
+
+-- the rule of an argument
+abbrev pub rule_chosen : Argument → Rule
+rule_chosen arguments.Store = store
+rule_chosen arguments.Expect = expect
+rule_chosen (arguments.Flag name help) = flag name.now
+rule_chosen (arguments.Number name value least most help) = number_option name.now least most
+
+-- the command of a name
+abbrev pub app_named : CommandName → App
+app_named commands.Judge = judge
+app_named commands.Check = check
+app_named commands.Explain = explain
+app_named commands.Refute = refute
+app_named commands.Replay = replay
+app_named commands.Drive = drive
+app_named commands.Events = events
+
+-- a command with this argument too, and one with this subcommand too
+abbrev pub with_argument : App → Argument → App
+with_argument app argument = with_rule app (rule_chosen argument)
+
+abbrev pub with_command : App → CommandName → App
+with_command app name = with_subcommand app (app_named name).top
