@@ -1,6 +1,6 @@
 -- The command lines that the program takes, and what is said of other words. Text is bytes, and the first word is the
 -- program's name. What is wrong with other words is `clap`'s to say: `fault_of` tells which kinds of fault it finds.
-use Rattle.std.specs.Prelude.{◌≡◌, ◌≢◌, ◌⊎◌, ℕ, List, [], ◌∷◌, ◌-◌, Some, true, codes}
+use Rattle.std.specs.Prelude.{◌≡◌, ◌≢◌, ◌⊎◌, ℕ, List, [], ◌∷◌, ◌-◌, Some, true, codes, fold}
 use Rattle.clap.specs.Words.{App, IsAmong, Kinds, Rule, Text, new_app, new_rule, with_rule, with_subcommand}
 use Rattle.clap.specs.declared.builder.action.ArgAction.TheVariants.{Set, SetTrue}
 use Rattle.clap.specs.declared.builder.value_parser.ValueParser.TheVariants.{Unsigned}
@@ -41,9 +41,6 @@ number_option name least most = record (new_rule name) {
   value_names = 1;
 }
 
--- the command `judge` takes the options `--workers N`, `--expect LIST`, `--lines`, `--skip-blank`, `--long`, `--events` and `--every N`,
--- `check` takes `--workers N`, `explain` takes `--json`, `--certificates`, `--svg`, `--html`, `--long`, `--all N` and `--events`, `refute`
--- takes `--long`, `drive` takes the name of a store and four options, and `events` takes `--names`. All but `events` take `--why`
 abbrev pub workers : Rule
 workers = number_option (codes "workers") 1 MAX_WORKERS
 
@@ -56,74 +53,47 @@ flag name = record (new_rule name) { long = Some name; action = Some SetTrue }
 abbrev pub why : Rule
 why = flag (codes "why")
 
--- the command `judge` with the first two of its options; with four; with six; and whole
-abbrev pub expecting : App
-expecting = with_rule (with_rule (new_app (codes "judge")) workers) expect
-
-abbrev pub lining : App
-lining = with_rule (with_rule expecting (flag (codes "lines"))) (flag (codes "skip-blank"))
-
-abbrev pub lengthening : App
-lengthening = with_rule (with_rule lining (flag (codes "long"))) (flag (codes "events"))
-
 abbrev pub every : Rule
 every = number_option (codes "every") 1 MAX_EVERY
-
-abbrev pub judge : App
-judge = with_rule (with_rule lengthening every) why
-
-abbrev pub check : App
-check = with_rule (with_rule (new_app (codes "check")) workers) why
-
--- the command `explain` with two of its options; with four; with six; and whole
-abbrev pub certifying : App
-certifying = with_rule (with_rule (new_app (codes "explain")) (flag (codes "json"))) (flag (codes "certificates"))
-
-abbrev pub drawing : App
-drawing = with_rule (with_rule certifying (flag (codes "svg"))) (flag (codes "html"))
 
 abbrev pub all : Rule
 all = number_option (codes "all") 1 MAX_LISTED
 
-abbrev pub listing : App
-listing = with_rule (with_rule drawing (flag (codes "long"))) all
-
-abbrev pub explain : App
-explain = with_rule (with_rule listing (flag (codes "events"))) why
-
-abbrev pub refute : App
-refute = with_rule (with_rule (new_app (codes "refute")) (flag (codes "long"))) why
-
-abbrev pub replay : App
-replay = with_rule (new_app (codes "replay")) why
-
 abbrev pub store : Rule
 store = record (new_rule (codes "store")) { action = Some Set; value_names = 1; required = true }
 
--- the command `drive` with the store and when updates are taken in; with the seals and the workers besides; and whole
-abbrev pub storing : App
-storing = with_rule (with_rule (new_app (codes "drive")) store) (flag (codes "eager"))
+-- a command, by its name and its rules in their order
+abbrev pub command_with : Text → List Rule → App
+command_with name rules = fold with_rule (new_app name) rules
 
-abbrev pub sealing : App
-sealing = with_rule (with_rule storing (number_option (codes "seals") 0 MAX_SEALS)) workers
+abbrev pub judge : App
+judge = command_with (codes "judge")
+    (workers ∷ expect ∷ flag (codes "lines") ∷ flag (codes "skip-blank") ∷ flag (codes "long") ∷ flag (codes "events") ∷ every ∷ why ∷ [])
+
+abbrev pub check : App
+check = command_with (codes "check") (workers ∷ why ∷ [])
+
+abbrev pub explain : App
+explain = command_with (codes "explain")
+    (flag (codes "json") ∷ flag (codes "certificates") ∷ flag (codes "svg") ∷ flag (codes "html") ∷ flag (codes "long") ∷ all
+    ∷ flag (codes "events") ∷ why ∷ [])
+
+abbrev pub refute : App
+refute = command_with (codes "refute") (flag (codes "long") ∷ why ∷ [])
+
+abbrev pub replay : App
+replay = command_with (codes "replay") (why ∷ [])
 
 abbrev pub drive : App
-drive = with_rule (with_rule sealing (number_option (codes "stop") 0 (MAX_SESSIONS - 1))) why
-
-abbrev pub judging : App
-judging = with_subcommand (with_subcommand top judge.top) check.top
-
-abbrev pub explaining : App
-explaining = with_subcommand (with_subcommand judging explain.top) refute.top
+drive = command_with (codes "drive")
+    (store ∷ flag (codes "eager") ∷ number_option (codes "seals") 0 MAX_SEALS ∷ workers
+    ∷ number_option (codes "stop") 0 (MAX_SESSIONS - 1) ∷ why ∷ [])
 
 abbrev pub events : App
-events = with_rule (new_app (codes "events")) (flag (codes "names"))
-
-abbrev pub driving : App
-driving = with_subcommand (with_subcommand explaining replay.top) drive.top
+events = command_with (codes "events") (flag (codes "names") ∷ [])
 
 abbrev pub command_line : App
-command_line = with_subcommand driving events.top
+command_line = fold (λ app command. with_subcommand app command.top) top (judge ∷ check ∷ explain ∷ refute ∷ replay ∷ drive ∷ events ∷ [])
 
 -- help and the version are no faults but requests
 abbrev pub IsRequest : ErrorKind → Type 0

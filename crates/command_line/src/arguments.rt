@@ -29,7 +29,7 @@ pub enum Argument<'a> {
 
 impl<'a> Argument<'a> {
     /// The argument, as `clap` receives it.
-    pub fn told(&self, alloc: Global) -> Arg<'a>
+    pub fn for_clap(&self, alloc: Global) -> Arg<'a>
         ensures rule { rule_of result ≡ rule_chosen self.now }
         ensures local { result.global ≡ false }
     {

@@ -147,7 +147,7 @@ fn with_argument<'a>(
     ensures app { IfOk result (λ whole. app_of whole ≡ with_argument (app_of command.entry) argument.now) }
     ensures local { IfOk result (λ whole. (out-Command whole).has_globals ≡ false) }
 {
-    command.arg(argument.told(alloc))
+    command.arg(argument.for_clap(alloc))
 }
 
 fn judge_command<'a>(alloc: Global) -> Result<Command<'a>, AllocError>
