@@ -1,7 +1,7 @@
 //! The form of one call of an object.
 
 /// What a call returns.
-#[derive(Clone, Copy, Debug, PartialEq, Eq)]
+#[derive(Clone, Copy)]
 pub(crate) enum Returned {
     /// No more than that it is done.
     Nothing,
@@ -28,7 +28,7 @@ impl Returned {
 }
 
 /// A call after its word: what it takes, if anything, and what it returns.
-#[derive(Clone, Copy, Debug, PartialEq, Eq)]
+#[derive(Clone, Copy)]
 pub(crate) struct CallForm {
     pub(crate) argument: Option<&'static str>,
     pub(crate) returned: Returned,

@@ -3,66 +3,52 @@
 use crate::call_form::{CallForm, Returned};
 use operations::ObjectName;
 
+// The word of a call, what the call takes, if anything, and what it returns.
+type Row = (&'static str, Option<&'static str>, Returned);
+
+const REGISTER_CALLS: &[Row] = &[
+    ("w", Some("value"), Returned::Nothing),
+    ("r", None, Returned::Number),
+];
+
+const COUNTER_CALLS: &[Row] = &[
+    ("inc", None, Returned::Nothing),
+    ("get", None, Returned::Number),
+];
+
+const SET_CALLS: &[Row] = &[
+    ("add", Some("element"), Returned::Nothing),
+    ("rem", Some("element"), Returned::Nothing),
+    ("has", Some("element"), Returned::Truth),
+];
+
+const QUEUE_CALLS: &[Row] = &[
+    ("push", Some("item"), Returned::Nothing),
+    ("pop", None, Returned::NumberOrNull),
+];
+
 /// The call of an object with this word.
 pub(crate) fn call_named(object: ObjectName, word: &str) -> Option<CallForm> {
+    call_in(calls_of(object), word)
+}
+
+fn calls_of(object: ObjectName) -> &'static [Row] {
     match object {
-        ObjectName::Register | ObjectName::Memory => register_call(word),
-        ObjectName::Counter | ObjectName::Counters => counter_call(word),
-        ObjectName::Set | ObjectName::Sets => set_call(word),
-        ObjectName::Queue | ObjectName::Queues => queue_call(word),
+        ObjectName::Register | ObjectName::Memory => REGISTER_CALLS,
+        ObjectName::Counter | ObjectName::Counters => COUNTER_CALLS,
+        ObjectName::Set | ObjectName::Sets => SET_CALLS,
+        ObjectName::Queue | ObjectName::Queues => QUEUE_CALLS,
     }
 }
 
-fn register_call(word: &str) -> Option<CallForm> {
-    if word == "w" {
-        Some(with("value", Returned::Nothing))
-    } else if word == "r" {
-        Some(without(Returned::Number))
-    } else {
-        None
+fn call_in(calls: &[Row], word: &str) -> Option<CallForm> {
+    for (named, argument, returned) in calls {
+        if *named == word {
+            return Some(CallForm {
+                argument: *argument,
+                returned: *returned,
+            });
+        }
     }
-}
-
-fn counter_call(word: &str) -> Option<CallForm> {
-    if word == "inc" {
-        Some(without(Returned::Nothing))
-    } else if word == "get" {
-        Some(without(Returned::Number))
-    } else {
-        None
-    }
-}
-
-fn set_call(word: &str) -> Option<CallForm> {
-    if word == "add" || word == "rem" {
-        Some(with("element", Returned::Nothing))
-    } else if word == "has" {
-        Some(with("element", Returned::Truth))
-    } else {
-        None
-    }
-}
-
-fn queue_call(word: &str) -> Option<CallForm> {
-    if word == "push" {
-        Some(with("item", Returned::Nothing))
-    } else if word == "pop" {
-        Some(without(Returned::NumberOrNull))
-    } else {
-        None
-    }
-}
-
-fn with(argument: &'static str, returned: Returned) -> CallForm {
-    CallForm {
-        argument: Some(argument),
-        returned,
-    }
-}
-
-fn without(returned: Returned) -> CallForm {
-    CallForm {
-        argument: None,
-        returned,
-    }
+    None
 }

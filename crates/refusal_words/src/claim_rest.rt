@@ -1,84 +1,78 @@
-//! What the line says of what comes after a history, and of a history that is not driven.
+//! What the line says of a claim that does not hold.
 
-use crate::element::{object_in, shown_element, value_of};
-use crate::part::{Part, length_of, part_at, part_in};
+use crate::element::{object_at, value_of};
+use crate::part::{Part, part_at, part_in};
+use crate::placed::{place_words, shown_place};
 use cert_check::Criterion;
 use operations::{HistoryPlace, ObjectName};
 use serde_json::Value;
 use std::alloc::{AllocError, Global};
 
-// The forms of certificates.
-const CERTIFICATES: &str =
-    r#"["cc",VECTORS,SCHEDULES], ["cm",VECTORS,SCHEDULES] or ["ccv",VECTORS,LIST]"#;
-
-/// Where a certificate is, and what is wanted there: any certificate if it is none, or else one for each operation of the history.
-///
-/// Fails for want of memory alone. O(n) for an input of n bytes.
-pub(crate) fn certificate_rest(
-    alloc: Global,
-    input: &[u8],
-    is_none: bool,
-) -> Result<String, AllocError> {
-    let Some(certificate) = part_in(alloc, input, &[1])? else {
+/// Says that the criterion is none, or else that the pattern does not show it. Fails for want of memory alone. O(n) for an input of
+/// n bytes.
+pub(crate) fn claim_rest(alloc: Global, input: &[u8]) -> Result<String, AllocError> {
+    let Some(claim) = part_in(alloc, input, &[])? else {
         return Ok(String::new(alloc));
     };
-    let byte = certificate.byte;
-    if is_none {
-        format!(in alloc; " (byte {byte}); wanted is {CERTIFICATES}")
+    match part_at(alloc, claim, &[1]) {
+        Ok(Some(criterion)) => criterion_rest(alloc, claim, criterion),
+        Ok(None) => Ok(String::new(alloc)),
+        Err(error) => Err(error),
+    }
+}
+
+fn criterion_rest(
+    alloc: Global,
+    claim: Part<'_>,
+    criterion: Part<'_>,
+) -> Result<String, AllocError> {
+    if is_criterion(alloc, criterion)? {
+        pattern_rest(alloc, claim)
     } else {
-        format!(in alloc;
-            " (byte {byte}); wanted is a vector for each operation, with a count for each session, and a schedule for each \
-                operation, or for ccv a list of all operations"
+        shown_place(
+            alloc,
+            ": ",
+            criterion,
+            r#" is no criterion; wanted is "cc", "cm" or "ccv""#,
         )
     }
 }
 
-/// Says that the criterion is none, or else that the pattern does not show it. Fails for want of memory alone. O(n) for an input of
-/// n bytes.
-pub(crate) fn claim_rest(alloc: Global, input: &[u8]) -> Result<String, AllocError> {
-    let (Some(claim), Some(criterion)) = (part_in(alloc, input, &[])?, part_in(alloc, input, &[1])?)
-    else {
-        return Ok(String::new(alloc));
-    };
-    let value = value_of(alloc, criterion, HistoryPlace::Scalar)?;
-    if value.as_ref().and_then(criterion_of).is_none() {
-        let byte = criterion.byte;
-        let shown = shown_element(alloc, claim, 1)?;
-        return format!(in alloc;
-            r#": {shown} (byte {byte}) is no criterion; wanted is "cc", "cm" or "ccv""#
-        );
-    }
-    pattern_rest(alloc, claim)
+fn is_criterion(alloc: Global, part: Part<'_>) -> Result<bool, AllocError> {
+    let value = value_of(alloc, part, HistoryPlace::Scalar)?;
+    let is_named = names_criterion(&value);
+    drop(value);
+    Ok(is_named)
 }
 
-fn criterion_of(value: &Value) -> Option<Criterion> {
-    Criterion::named(value.as_str()?)
+fn names_criterion(value: &Value) -> bool {
+    match value.as_str() {
+        Some(name) => Criterion::named(name).is_some(),
+        None => false,
+    }
 }
 
 // The place of the pattern that does not show it.
 fn pattern_rest(alloc: Global, claim: Part<'_>) -> Result<String, AllocError> {
-    let (Some(history), Some(pattern)) = (
-        part_at(alloc, claim, &[0])?,
-        part_at(alloc, claim, &[2])?,
-    ) else {
-        return Ok(String::new(alloc));
-    };
-    let byte = pattern.byte;
-    match object_in(alloc, history)? {
-        Some(ObjectName::Memory) => {
-            format!(in alloc; ": the pattern (byte {byte}) is none that shows it")
+    match part_at(alloc, claim, &[2]) {
+        Ok(Some(pattern)) => {
+            let object = object_at(alloc, claim, &[0, 0])?;
+            pattern_words(alloc, object, pattern.byte)
         }
-        _ => format!(in alloc; ": patterns (byte {byte}) are known for a memory alone"),
+        Ok(None) => Ok(String::new(alloc)),
+        Err(error) => Err(error),
     }
 }
 
-/// How many sessions there are. Fails for want of memory alone. O(n) for an input of n bytes.
-pub(crate) fn stop_rest(alloc: Global, input: &[u8]) -> Result<String, AllocError> {
-    let Some(sessions) = part_in(alloc, input, &[1])? else {
-        return Ok(String::new(alloc));
-    };
-    match length_of(alloc, sessions)? {
-        Some(length) => format!(in alloc; ": it has {length}, numbered from 0"),
-        None => Ok(String::new(alloc)),
+fn pattern_words(
+    alloc: Global,
+    object: Option<ObjectName>,
+    byte: usize,
+) -> Result<String, AllocError> {
+    match object {
+        Some(ObjectName::Memory) => {
+            place_words(alloc, ": the pattern", byte, " is none that shows it")
+        }
+        _ => place_words(alloc, ": patterns", byte, " are known for a memory alone"),
     }
 }

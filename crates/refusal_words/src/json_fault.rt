@@ -1,10 +1,7 @@
 //! What is wrong with a text that is no JSON.
 
-use bounded_json::MAX_DEPTH;
-use std::alloc::{AllocError, Global};
-
 /// What may come at a place of a JSON text.
-#[derive(Clone, Copy, Debug, PartialEq, Eq)]
+#[derive(Clone, Copy)]
 pub(crate) enum Expected {
     /// A value.
     Value,
@@ -23,6 +20,11 @@ pub(crate) enum Expected {
 }
 
 impl Expected {
+    /// Whether nothing may come.
+    pub(crate) fn is_end(self) -> bool {
+        matches!(self, Expected::End)
+    }
+
     /// Whether a value may come.
     pub(crate) fn is_value(self) -> bool {
         matches!(self, Expected::Value | Expected::ValueOrEnd)
@@ -45,63 +47,73 @@ impl Expected {
 
     fn words(self) -> &'static str {
         match self {
-            Expected::Value => "a value",
-            Expected::ValueOrEnd => "a value or ']'",
-            Expected::Key => "a key in quotes and ':'",
-            Expected::KeyOrEnd => "a key in quotes and ':', or '}'",
-            Expected::List => "',' or ']'",
-            Expected::Object => "',' or '}'",
-            Expected::End => "the end of the text",
+            Expected::Value => "expected a value",
+            Expected::ValueOrEnd => "expected a value or ']'",
+            Expected::Key => "expected a key in quotes and ':'",
+            Expected::KeyOrEnd => "expected a key in quotes and ':', or '}'",
+            Expected::List => "expected ',' or ']'",
+            Expected::Object => "expected ',' or '}'",
+            Expected::End => "expected the end of the text",
         }
     }
 }
 
-/// What is wrong at a place of a text that is no JSON.
-#[derive(Clone, Copy, Debug, PartialEq, Eq)]
-pub(crate) enum JsonFault {
-    /// Bytes that are no UTF-8.
-    NoText,
-    /// Something else is expected there.
-    Expected(Expected),
-    /// The text ends there.
-    Ends(Expected),
-    /// A list after the whole text, as in a log of events or in lines of histories.
-    SecondList,
-    /// A text that a colon follows, where a value is expected.
-    Key,
-    /// A text that does not end, or that has a wrong escape or a control character.
-    BadText,
-    /// A number that is too large.
-    Large,
-    /// One more nested list or object than is read.
-    Deep,
+/// What is wrong at a byte of a text that is no JSON: the words before the byte and after it.
+#[derive(Clone, Copy)]
+pub(crate) struct JsonFault {
+    pub(crate) before: &'static str,
+    pub(crate) after: &'static str,
 }
 
-impl JsonFault {
-    /// What is wrong, and at which byte. Fails for want of memory alone.
-    pub(crate) fn words(self, alloc: Global, byte: usize) -> Result<String, AllocError> {
-        match self {
-            JsonFault::NoText => format!(in alloc; "no UTF-8 at byte {byte}"),
-            JsonFault::Expected(expected) => {
-                let expected = expected.words();
-                format!(in alloc; "expected {expected} at byte {byte}")
-            }
-            JsonFault::Ends(expected) => {
-                let expected = expected.words();
-                format!(in alloc; "expected {expected} at byte {byte}, where the text ends")
-            }
-            JsonFault::SecondList => format!(in alloc;
-                "expected the end of the text at byte {byte}, where another list begins: judge and explain read a log of events \
-                    with --long --events, and judge --lines reads a history a line"
-            ),
-            JsonFault::Key => format!(in alloc; "a key at byte {byte}, which is in no object"),
-            JsonFault::BadText => format!(in alloc;
-                "the text that begins at byte {byte} has no end, a wrong escape or a control character"
-            ),
-            JsonFault::Large => format!(in alloc; "the number at byte {byte} is too large"),
-            JsonFault::Deep => format!(in alloc;
-                "more than {MAX_DEPTH} lists and objects in one another at byte {byte}"
-            ),
-        }
+/// Bytes that are no UTF-8.
+pub(crate) const NO_TEXT: JsonFault = JsonFault {
+    before: "no UTF-8",
+    after: "",
+};
+
+/// A list after the whole text, as in a log of events or in lines of histories.
+pub(crate) const SECOND_LIST: JsonFault = JsonFault {
+    before: "expected the end of the text",
+    after: ", where another list begins: judge and explain read a log of events with --long --events, and \
+        judge --lines reads a history a line",
+};
+
+/// A text that a colon follows, where a value is expected.
+pub(crate) const KEY: JsonFault = JsonFault {
+    before: "a key",
+    after: ", which is in no object",
+};
+
+/// A text that does not end, or that has a wrong escape or a control character.
+pub(crate) const BAD_TEXT: JsonFault = JsonFault {
+    before: "the text that begins",
+    after: " has no end, a wrong escape or a control character",
+};
+
+/// A number that is too large.
+pub(crate) const LARGE: JsonFault = JsonFault {
+    before: "the number",
+    after: " is too large",
+};
+
+/// One more nested list or object than is read, which is `bounded_json::MAX_DEPTH`.
+pub(crate) const DEEP: JsonFault = JsonFault {
+    before: "more than 127 lists and objects in one another",
+    after: "",
+};
+
+/// Something else is expected there.
+pub(crate) fn other_than(expected: Expected) -> JsonFault {
+    JsonFault {
+        before: expected.words(),
+        after: "",
+    }
+}
+
+/// The text ends there.
+pub(crate) fn ends_before(expected: Expected) -> JsonFault {
+    JsonFault {
+        before: expected.words(),
+        after: ", where the text ends",
     }
 }

@@ -1,21 +1,23 @@
 //! Where a text is no JSON.
 
 use crate::comma::comma_before;
-use crate::json_fault::{Expected, JsonFault};
+use crate::json_fault::{
+    BAD_TEXT, DEEP, Expected, JsonFault, KEY, LARGE, NO_TEXT, SECOND_LIST, ends_before, other_than,
+};
 use bounded_json::{MAX_DEPTH, TextError, read_value};
 use json::{Reader, Scratch, Token};
 use operations::HistoryPlace;
 use std::alloc::{AllocError, Global};
 
 // A list or an object that has begun.
-#[derive(Clone, Copy, Debug, PartialEq, Eq)]
+#[derive(Clone, Copy)]
 enum Nest {
     List,
     Object,
 }
 
 // What came last.
-#[derive(Clone, Copy, Debug, PartialEq, Eq)]
+#[derive(Clone, Copy)]
 enum Last {
     Nothing,
     Opening,
@@ -98,23 +100,23 @@ impl<'a> Walk<'a> {
         let end = self.text.len();
         match self.expected(end) {
             Expected::End => None,
-            expected => Some((end, JsonFault::Ends(expected))),
+            expected => Some((end, ends_before(expected))),
         }
     }
 
     // The fault of a token that may not come there.
     fn fault_of(&self, token: &Token<'_>, byte: usize, expected: Expected) -> (usize, JsonFault) {
-        if expected == Expected::End {
+        if expected.is_end() {
             let byte = comma_before(self.text, byte).unwrap_or(byte);
             return (byte, fault_after_end(self.text, byte));
         }
         let fault = match token {
-            Token::Key(_) if expected.is_value() && !self.is_in_object() => JsonFault::Key,
-            Token::Bad if byte >= self.text.len() => JsonFault::Ends(expected),
+            Token::Key(_) if expected.is_value() && !self.is_in_object() => KEY,
+            Token::Bad if byte >= self.text.len() => ends_before(expected),
             Token::Bad
                 if begins_text(self.text, byte)
-                    && !matches!(expected, Expected::List | Expected::Object) => JsonFault::BadText,
-            _ => JsonFault::Expected(expected),
+                    && !matches!(expected, Expected::List | Expected::Object) => BAD_TEXT,
+            _ => other_than(expected),
         };
         (byte, fault)
     }
@@ -136,9 +138,9 @@ fn begins_text(text: &str, byte: usize) -> bool {
 // The fault of what comes after a whole text.
 fn fault_after_end(text: &str, byte: usize) -> JsonFault {
     if text.as_bytes().get(byte) == Some(&b'[') {
-        JsonFault::SecondList
+        SECOND_LIST
     } else {
-        JsonFault::Expected(Expected::End)
+        other_than(Expected::End)
     }
 }
 
@@ -173,10 +175,10 @@ fn step(
         return Ok(Some(Some(walk.fault_of(&token, byte, expected))));
     }
     if walk.is_too_deep() {
-        return Ok(Some(Some((byte, JsonFault::Deep))));
+        return Ok(Some(Some((byte, DEEP))));
     }
     if is_too_large(alloc, token, reader)? {
-        return Ok(Some(Some((byte, JsonFault::Large))));
+        return Ok(Some(Some((byte, LARGE))));
     }
     Ok(None)
 }
@@ -203,6 +205,6 @@ pub(crate) fn json_fault(
 ) -> Result<Option<(usize, JsonFault)>, AllocError> {
     match simdutf8::compat::from_utf8(bytes) {
         Ok(text) => fault_in_text(alloc, text),
-        Err(error) => Ok(Some((error.valid_up_to(), JsonFault::NoText))),
+        Err(error) => Ok(Some((error.valid_up_to(), NO_TEXT))),
     }
 }

@@ -2,9 +2,9 @@
 
 use operations::ObjectName;
 
-/// The names of the objects.
+/// The names of the objects, as what is wanted.
 pub(crate) const OBJECTS: &str =
-    r#""memory", "register", "counter", "set", "queue", "counters", "sets" or "queues""#;
+    r#"; wanted is "memory", "register", "counter", "set", "queue", "counters", "sets" or "queues""#;
 
 /// Whether the operations of an object have a key.
 pub(crate) fn is_keyed(object: ObjectName) -> bool {

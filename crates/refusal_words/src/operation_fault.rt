@@ -7,36 +7,31 @@ use operations::{ObjectName, elements_of};
 use serde_json::Value;
 
 /// What is wrong with an operation. An index is that of the element at fault.
-#[derive(Clone, Copy, Debug, PartialEq, Eq)]
+#[derive(Clone, Copy)]
 pub(crate) enum OperationFault {
-    /// It is no list.
-    NoList,
-    /// It does not begin with a text.
+    /// It is no list, or it does not begin with a text.
     NoWord,
     /// No call of the object has its word.
     UnknownWord,
-    /// Its key is not there.
-    LacksKey,
-    /// Its key is no key.
-    BadKey(usize),
-    /// What its call takes is not there.
-    LacksArgument(&'static str),
-    /// What its call takes is no whole number below 2^64.
-    BadArgument(&'static str, usize),
-    /// Its return is not there.
-    LacksReturn,
-    /// Its return is no return of its call.
-    BadReturn(Returned, usize),
+    /// It ends before an element that its call has: what the element is.
+    Lacks(&'static str),
+    /// An element is wrong: what it is to be, its index, and what is wrong with it.
+    Wrong(&'static str, usize, &'static str),
     /// It has more elements than its call has with a return.
     TooMany(usize),
 }
 
+// What is wrong with a key, and with what a call takes.
+const NO_KEY: &str = "is no whole number below 4294967296";
+
+const NO_VALUE: &str = "is no whole number below 18446744073709551616";
+
 /// What is wrong with an operation of an object, where anything is.
 pub(crate) fn operation_fault(object: ObjectName, operation: &Value) -> Option<OperationFault> {
     let Some(elements) = elements_of(operation) else {
-        return Some(OperationFault::NoList);
+        return Some(OperationFault::NoWord);
     };
-    let Some(word) = word_of(elements) else {
+    let Some(word) = first_text(elements) else {
         return Some(OperationFault::NoWord);
     };
     let Some(call) = call_named(object, word) else {
@@ -49,15 +44,16 @@ pub(crate) fn operation_fault(object: ObjectName, operation: &Value) -> Option<O
     }
 }
 
-fn word_of(elements: &[Value]) -> Option<&str> {
+/// The first element, where it is a text.
+pub(crate) fn first_text(elements: &[Value]) -> Option<&str> {
     elements.first()?.as_str()
 }
 
 fn key_fault(elements: &[Value]) -> Option<OperationFault> {
     match elements.get(1) {
-        None => Some(OperationFault::LacksKey),
+        None => Some(OperationFault::Lacks("key")),
         Some(key) if is_key(key) => None,
-        Some(_) => Some(OperationFault::BadKey(1)),
+        Some(_) => Some(OperationFault::Wrong("key", 1, NO_KEY)),
     }
 }
 
@@ -74,11 +70,11 @@ fn fault_behind(call: CallForm, elements: &[Value], index: usize) -> Option<Oper
         return return_fault(call.returned, elements, index);
     };
     match elements.get(index) {
-        None => Some(OperationFault::LacksArgument(argument)),
+        None => Some(OperationFault::Lacks(argument)),
         Some(value) if value.as_u64().is_some() => {
             return_fault(call.returned, elements, index.saturating_add(1))
         }
-        Some(_) => Some(OperationFault::BadArgument(argument, index)),
+        Some(_) => Some(OperationFault::Wrong(argument, index, NO_VALUE)),
     }
 }
 
@@ -88,10 +84,10 @@ fn return_fault(returned: Returned, elements: &[Value], index: usize) -> Option<
         return Some(OperationFault::TooMany(index.saturating_add(1)));
     }
     match elements.get(index) {
-        None if returned == Returned::Nothing => None,
-        None => Some(OperationFault::LacksReturn),
+        None if matches!(returned, Returned::Nothing) => None,
+        None => Some(OperationFault::Lacks(r#"return, or "?""#)),
         Some(value) if is_return(returned, value) => None,
-        Some(_) => Some(OperationFault::BadReturn(returned, index)),
+        Some(_) => Some(OperationFault::Wrong("return", index, returned.words())),
     }
 }
 

@@ -1,6 +1,6 @@
 //! What is wrong with an operation, in words.
 
-use crate::element::{shown_element, value_of};
+use crate::element::{element_text, value_of};
 use crate::object_words::{forms_words, name_words};
 use crate::operation_fault::{OperationFault, operation_fault};
 use crate::part::Part;
@@ -8,31 +8,28 @@ use crate::shown::shown;
 use operations::{HistoryPlace, ObjectName};
 use std::alloc::{AllocError, Global};
 
-// A key that is a whole number is below the first of these, and a value that is one is below the second.
-const KEYS: u64 = 4_294_967_296;
-
-const VALUES: &str = "18446744073709551616";
-
 /// What is wrong with an operation of an object. Fails for want of memory alone.
 pub(crate) fn operation_words(
     alloc: Global,
     object: ObjectName,
     operation: Part<'_>,
 ) -> Result<String, AllocError> {
-    let Some(value) = value_of(alloc, operation, HistoryPlace::Operation)? else {
-        return no_form(alloc, object, operation);
-    };
-    match operation_fault(object, &value) {
-        Some(fault) => fault_words(alloc, object, operation, fault),
-        None => no_form(alloc, object, operation),
+    match fault_in(alloc, object, operation) {
+        Ok(Some(fault)) => fault_words(alloc, object, operation, fault),
+        Ok(None) => no_form(alloc, object, operation),
+        Err(error) => Err(error),
     }
 }
 
-// Says that an operation is none of its object's.
-fn no_form(alloc: Global, object: ObjectName, operation: Part<'_>) -> Result<String, AllocError> {
-    let shown = shown(alloc, operation.text)?;
-    let (name, forms) = (name_words(object), forms_words(object));
-    format!(in alloc; "{shown} is no operation of {name}; wanted is {forms}")
+fn fault_in(
+    alloc: Global,
+    object: ObjectName,
+    operation: Part<'_>,
+) -> Result<Option<OperationFault>, AllocError> {
+    let value = value_of(alloc, operation, HistoryPlace::Operation)?;
+    let fault = operation_fault(object, &value);
+    drop(value);
+    Ok(fault)
 }
 
 fn fault_words(
@@ -42,37 +39,64 @@ fn fault_words(
     fault: OperationFault,
 ) -> Result<String, AllocError> {
     match fault {
-        OperationFault::NoList | OperationFault::NoWord => no_form(alloc, object, operation),
+        OperationFault::NoWord => no_form(alloc, object, operation),
         OperationFault::UnknownWord => {
-            let word = shown_element(alloc, operation, 0)?;
-            let (name, forms) = (name_words(object), forms_words(object));
-            format!(in alloc; "{word} is no word of {name}; wanted is {forms}")
+            no_word(alloc, operation, name_words(object), forms_words(object))
         }
-        OperationFault::LacksKey => lacks(alloc, object, "key"),
-        OperationFault::LacksArgument(argument) => lacks(alloc, object, argument),
-        OperationFault::LacksReturn => lacks(alloc, object, r#"return, or "?""#),
-        OperationFault::BadKey(index) => {
-            let key = shown_element(alloc, operation, index)?;
-            format!(in alloc; "the key {key} is no whole number below {KEYS}")
+        OperationFault::Lacks(lacked) => lacks(alloc, object, lacked),
+        OperationFault::Wrong(named, index, words) => {
+            wrong(alloc, named, element_text(alloc, operation, index)?, words)
         }
-        OperationFault::BadArgument(argument, index) => {
-            let value = shown_element(alloc, operation, index)?;
-            format!(in alloc; "the {argument} {value} is no whole number below {VALUES}")
-        }
-        OperationFault::BadReturn(returned, index) => {
-            let value = shown_element(alloc, operation, index)?;
-            let words = returned.words();
-            format!(in alloc; "the return {value} {words}")
-        }
-        OperationFault::TooMany(most) => {
-            let shown = shown(alloc, operation.text)?;
-            format!(in alloc; "{shown} has more than {most} elements")
-        }
+        OperationFault::TooMany(most) => too_many(alloc, operation, most),
     }
+}
+
+// Says that an operation is none of its object's.
+fn no_form(alloc: Global, object: ObjectName, operation: Part<'_>) -> Result<String, AllocError> {
+    none_of(
+        alloc,
+        operation.text,
+        "operation",
+        name_words(object),
+        forms_words(object),
+    )
+}
+
+/// Says that a list does not begin with a word of what is named. Fails for want of memory alone.
+pub(crate) fn no_word(
+    alloc: Global,
+    list: Part<'_>,
+    name: &str,
+    forms: &str,
+) -> Result<String, AllocError> {
+    none_of(alloc, element_text(alloc, list, 0)?, "word", name, forms)
+}
+
+fn none_of(
+    alloc: Global,
+    text: &str,
+    kind: &str,
+    name: &str,
+    forms: &str,
+) -> Result<String, AllocError> {
+    let shown = shown(alloc, text)?;
+    format!(in alloc; "{shown} is no {kind} of {name}; wanted is {forms}")
 }
 
 // Says that an operation lacks something.
 fn lacks(alloc: Global, object: ObjectName, lacked: &str) -> Result<String, AllocError> {
     let forms = forms_words(object);
     format!(in alloc; "it lacks its {lacked}; wanted is {forms}")
+}
+
+// Says what is wrong with an element.
+fn wrong(alloc: Global, named: &str, text: &str, words: &str) -> Result<String, AllocError> {
+    let shown = shown(alloc, text)?;
+    format!(in alloc; "the {named} {shown} {words}")
+}
+
+// Says that an operation has more elements than its call has.
+fn too_many(alloc: Global, operation: Part<'_>, most: usize) -> Result<String, AllocError> {
+    let shown = shown(alloc, operation.text)?;
+    format!(in alloc; "{shown} has more than {most} elements")
 }

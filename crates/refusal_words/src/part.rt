@@ -5,7 +5,7 @@ use json::{Reader, Scratch, Token};
 use std::alloc::{AllocError, Global};
 
 /// A value in a JSON text: its first byte, counted from 0, and its own text.
-#[derive(Clone, Copy, Debug, PartialEq, Eq)]
+#[derive(Clone, Copy)]
 pub(crate) struct Part<'a> {
     pub(crate) byte: usize,
     pub(crate) text: &'a str,
@@ -14,10 +14,6 @@ pub(crate) struct Part<'a> {
 impl Part<'_> {
     pub(crate) fn is_list(&self) -> bool {
         self.text.starts_with('[')
-    }
-
-    pub(crate) fn is_text(&self) -> bool {
-        self.text.starts_with('"')
     }
 }
 

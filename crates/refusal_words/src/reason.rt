@@ -4,11 +4,12 @@ ghost use Rattle.std.specs.Prelude.{IfOk, string_bytes};
 ghost use Rattle.refusal_words.specs.Lines.{BeginsWith, IsPlain};
 ghost use Rattle.refusal_words.specs.Fronts.{front_for};
 
-use crate::claim_rest::{certificate_rest, claim_rest, stop_rest};
+use crate::claim_rest::claim_rest;
 use crate::fronts::front;
 use crate::plain::plain;
 use crate::refusal::{InputForm, Refusal};
-use crate::script_rest::{asked_rest, step_rest};
+use crate::script_rest::step_rest;
+use crate::second_rest::second_rest;
 use crate::text_rest::text_rest;
 use std::alloc::{AllocError, Global};
 
@@ -28,10 +29,7 @@ pub fn reason_for(
     ensures plain { IfOk result (λ line. IsPlain (string_bytes line)) }
 {
     let front = front(alloc, refusal)?;
-    let rest = match input {
-        Some(input) => rest_for(alloc, input, form, refusal)?,
-        None => String::new(alloc),
-    };
+    let rest = rest_in(alloc, input, form, refusal)?;
     let rest = plain(alloc, &rest)?;
     joined(alloc, &front, &rest)
 }
@@ -47,7 +45,19 @@ fn joined(alloc: Global, front: &str, rest: &str) -> Result<String, AllocError>
     format!(in alloc; "{front}{rest}")
 }
 
-// What is found in the input.
+// What is found in the input, where its bytes were kept.
+fn rest_in(
+    alloc: Global,
+    input: Option<&[u8]>,
+    form: InputForm,
+    refusal: Refusal,
+) -> Result<String, AllocError> {
+    match input {
+        Some(input) => rest_for(alloc, input, form, refusal),
+        None => Ok(String::new(alloc)),
+    }
+}
+
 fn rest_for(
     alloc: Global,
     input: &[u8],
@@ -56,15 +66,11 @@ fn rest_for(
 ) -> Result<String, AllocError> {
     match refusal {
         Refusal::Read(error) => text_rest(alloc, input, form, error),
-        Refusal::BadSessions => asked_rest(alloc, input),
         Refusal::BadStep(place) => step_rest(alloc, input, place),
-        Refusal::BadCertificate | Refusal::ShapeMismatch => {
-            certificate_rest(alloc, input, refusal == Refusal::BadCertificate)
-        }
         Refusal::NotThatPattern => claim_rest(alloc, input),
-        Refusal::NoSuchSession => stop_rest(alloc, input),
         Refusal::TooManySteps | Refusal::NoSession | Refusal::TooLong | Refusal::OverLong => Ok(
             String::new(alloc),
         ),
+        _ => second_rest(alloc, input, refusal),
     }
 }

@@ -6,7 +6,7 @@ use json::{Reader, Scratch};
 use std::alloc::{AllocError, Global};
 
 /// Why a session is refused.
-#[derive(Clone, Copy, Debug, PartialEq, Eq)]
+#[derive(Clone, Copy)]
 pub(crate) enum SessionFault {
     /// It is no list.
     NoList,
@@ -18,9 +18,10 @@ impl SessionFault {
     fn is_of(self, alloc: Global, session: Part<'_>) -> Result<bool, AllocError> {
         match self {
             SessionFault::NoList => Ok(!session.is_list()),
-            SessionFault::TooMany => match length_of(alloc, session)? {
-                Some(length) => Ok(length > MAX_OPERATIONS),
-                None => Ok(false),
+            SessionFault::TooMany => match length_of(alloc, session) {
+                Ok(Some(length)) => Ok(length > MAX_OPERATIONS),
+                Ok(None) => Ok(false),
+                Err(error) => Err(error),
             },
         }
     }

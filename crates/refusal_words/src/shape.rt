@@ -1,10 +1,84 @@
 //! Where an input does not have the shape that is wanted.
 
 use crate::part::{Part, length_of, part_at, whole};
+use crate::placed::wanted_at;
 use crate::refusal::InputForm;
 use crate::sessions::{SessionFault, session_with};
-use crate::text_rest::history_in;
 use std::alloc::{AllocError, Global};
+
+// What a part is to be.
+#[derive(Clone, Copy)]
+enum Kind {
+    // A value that begins with this character: a text or a list.
+    From(char),
+    // A list of so many elements, from the least to the most.
+    List(usize, usize),
+    // What is wrong if nothing before it is.
+    Wrong,
+}
+
+// The path to a part, what it is to be, and what is wanted if it is not that.
+type Row = (&'static [usize], Kind, &'static str);
+
+const OBJECT: &str = "the name of an object";
+
+const SESSIONS: &str = "a list of sessions";
+
+const START: &str = "a table of initial values, [[KEY,VALUE],..]";
+
+const HISTORY: &str = "[OBJECT,SESSIONS] or [OBJECT,SESSIONS,START]";
+
+const HISTORY_ROWS: &[Row] = &[
+    (&[], Kind::List(2, 3), HISTORY),
+    (&[0], Kind::From('"'), OBJECT),
+    (&[1], Kind::From('['), SESSIONS),
+    (&[2], Kind::From('['), START),
+];
+
+const CERTIFIED_ROWS: &[Row] = &[
+    (&[], Kind::List(2, 2), "[HISTORY,CERTIFICATE]"),
+    (&[0], Kind::List(2, 3), HISTORY),
+    (&[0, 0], Kind::From('"'), OBJECT),
+    (&[0, 1], Kind::From('['), SESSIONS),
+    (&[0, 2], Kind::From('['), START),
+];
+
+const CLAIM_ROWS: &[Row] = &[
+    (&[], Kind::List(3, 3), "[HISTORY,CRITERION,PATTERN]"),
+    (&[0], Kind::List(2, 3), HISTORY),
+    (&[0, 0], Kind::From('"'), OBJECT),
+    (&[0, 1], Kind::From('['), SESSIONS),
+    (&[0, 2], Kind::From('['), START),
+];
+
+const SCRIPT_ROWS: &[Row] = &[
+    (
+        &[],
+        Kind::List(3, 4),
+        "[OBJECT,SESSIONS,STEPS] or [OBJECT,SESSIONS,STEPS,START]",
+    ),
+    (&[0], Kind::From('"'), OBJECT),
+    (&[2], Kind::From('['), "a list of steps"),
+    (&[3], Kind::From('['), START),
+    (&[1], Kind::Wrong, "the number of sessions"),
+];
+
+fn rows_of(form: InputForm) -> &'static [Row] {
+    match form {
+        InputForm::History | InputForm::LongHistory => HISTORY_ROWS,
+        InputForm::Certified => CERTIFIED_ROWS,
+        InputForm::Claim | InputForm::LongClaim => CLAIM_ROWS,
+        InputForm::Script => SCRIPT_ROWS,
+    }
+}
+
+// The path to the sessions.
+fn path_of(form: InputForm) -> &'static [usize] {
+    match form {
+        InputForm::Certified | InputForm::Claim | InputForm::LongClaim => &[0, 1],
+        _ => &[1],
+    }
+}
 
 /// Where the shape of an input is wrong, and what is wanted there. Fails for want of memory alone. O(n) for a text of n bytes.
 pub(crate) fn shape_words(
@@ -12,82 +86,73 @@ pub(crate) fn shape_words(
     text: &str,
     form: InputForm,
 ) -> Result<String, AllocError> {
-    let Some(all) = whole(alloc, text)? else {
-        return Ok(String::new(alloc));
-    };
-    match form {
-        InputForm::Certified if !has_length(alloc, all, 2, 2)? => {
-            wanted_at(alloc, all, "[HISTORY,CERTIFICATE]")
-        }
-        InputForm::Claim | InputForm::LongClaim if !has_length(alloc, all, 3, 3)? => {
-            wanted_at(alloc, all, "[HISTORY,CRITERION,PATTERN]")
-        }
-        InputForm::Script => script_shape(alloc, all),
-        _ => match history_in(alloc, text, form)? {
-            Some(history) => history_shape(alloc, history),
-            None => Ok(String::new(alloc)),
-        },
+    match whole(alloc, text) {
+        Ok(Some(all)) => shape_in(alloc, all, form),
+        Ok(None) => Ok(String::new(alloc)),
+        Err(error) => Err(error),
     }
 }
 
-// Where the shape of a history is wrong.
-fn history_shape(alloc: Global, history: Part<'_>) -> Result<String, AllocError> {
-    if !has_length(alloc, history, 2, 3)? {
-        return wanted_at(
-            alloc,
-            history,
-            "[OBJECT,SESSIONS] or [OBJECT,SESSIONS,START]",
-        );
-    }
-    match (
-        part_at(alloc, history, &[0])?,
-        part_at(alloc, history, &[1])?,
-    ) {
-        (Some(name), _) if !name.is_text() => wanted_at(alloc, name, "the name of an object"),
-        (_, Some(sessions)) if !sessions.is_list() => {
-            wanted_at(alloc, sessions, "a list of sessions")
-        }
-        (_, Some(sessions)) => match part_at(alloc, history, &[2])? {
-            Some(start) if !start.is_list() => wanted_at(alloc, start, INITIAL),
-            _ => session_shape(alloc, sessions),
-        },
-        _ => Ok(String::new(alloc)),
+fn shape_in(alloc: Global, all: Part<'_>, form: InputForm) -> Result<String, AllocError> {
+    match wrong_part(alloc, all, rows_of(form)) {
+        Ok(Some((part, wanted))) => wanted_at(alloc, part, wanted),
+        Ok(None) => sessions_shape(alloc, all, path_of(form)),
+        Err(error) => Err(error),
     }
 }
-
-// What comes last.
-const INITIAL: &str = "a table of initial values, [[KEY,VALUE],..]";
 
 // Which session is no list.
-fn session_shape(alloc: Global, sessions: Part<'_>) -> Result<String, AllocError> {
-    let Some((number, session)) = session_with(alloc, sessions, SessionFault::NoList)? else {
-        return Ok(String::new(alloc));
-    };
-    let byte = session.byte;
-    format!(in alloc; ": wanted at byte {byte} is session {number}, a list of operations")
+fn sessions_shape(alloc: Global, all: Part<'_>, path: &[usize]) -> Result<String, AllocError> {
+    match part_at(alloc, all, path) {
+        Ok(Some(sessions)) => session_shape(alloc, sessions),
+        Ok(None) => Ok(String::new(alloc)),
+        Err(error) => Err(error),
+    }
 }
 
-// Where the shape of a script is wrong.
-fn script_shape(alloc: Global, script: Part<'_>) -> Result<String, AllocError> {
-    if !has_length(alloc, script, 3, 4)? {
-        return wanted_at(
-            alloc,
-            script,
-            "[OBJECT,SESSIONS,STEPS] or [OBJECT,SESSIONS,STEPS,START]",
-        );
+fn session_shape(alloc: Global, sessions: Part<'_>) -> Result<String, AllocError> {
+    match session_with(alloc, sessions, SessionFault::NoList) {
+        Ok(Some((number, session))) => {
+            let byte = session.byte;
+            format!(in alloc; ": wanted at byte {byte} is session {number}, a list of operations")
+        }
+        Ok(None) => Ok(String::new(alloc)),
+        Err(error) => Err(error),
     }
-    match (
-        part_at(alloc, script, &[0])?,
-        part_at(alloc, script, &[2])?,
-        part_at(alloc, script, &[3])?,
-    ) {
-        (Some(name), _, _) if !name.is_text() => wanted_at(alloc, name, "the name of an object"),
-        (_, Some(steps), _) if !steps.is_list() => wanted_at(alloc, steps, "a list of steps"),
-        (_, _, Some(start)) if !start.is_list() => wanted_at(alloc, start, INITIAL),
-        _ => match part_at(alloc, script, &[1])? {
-            Some(sessions) => wanted_at(alloc, sessions, "the number of sessions"),
-            None => Ok(String::new(alloc)),
-        },
+}
+
+// The first part that is there and is not what it is to be, and what is wanted there.
+fn wrong_part<'a>(
+    alloc: Global,
+    all: Part<'a>,
+    rows: &[Row],
+) -> Result<Option<(Part<'a>, &'static str)>, AllocError> {
+    for (path, kind, wanted) in rows {
+        if let Some(part) = wrong_at(alloc, all, *path, *kind)? {
+            return Ok(Some((part, *wanted)));
+        }
+    }
+    Ok(None)
+}
+
+// The part at the end of a path, if it is there and is not what it is to be.
+fn wrong_at<'a>(
+    alloc: Global,
+    all: Part<'a>,
+    path: &[usize],
+    kind: Kind,
+) -> Result<Option<Part<'a>>, AllocError> {
+    match part_at(alloc, all, path)? {
+        Some(part) if !is_of(alloc, part, kind)? => Ok(Some(part)),
+        _ => Ok(None),
+    }
+}
+
+fn is_of(alloc: Global, part: Part<'_>, kind: Kind) -> Result<bool, AllocError> {
+    match kind {
+        Kind::From(character) => Ok(part.text.starts_with(character)),
+        Kind::List(least, most) => has_length(alloc, part, least, most),
+        Kind::Wrong => Ok(false),
     }
 }
 
@@ -98,14 +163,9 @@ fn has_length(
     least: usize,
     most: usize,
 ) -> Result<bool, AllocError> {
-    match length_of(alloc, list)? {
-        Some(length) => Ok(least <= length && length <= most),
-        None => Ok(false),
+    match length_of(alloc, list) {
+        Ok(Some(length)) => Ok(least <= length && length <= most),
+        Ok(None) => Ok(false),
+        Err(error) => Err(error),
     }
-}
-
-// What is wanted in the place of a value.
-fn wanted_at(alloc: Global, part: Part<'_>, wanted: &str) -> Result<String, AllocError> {
-    let byte = part.byte;
-    format!(in alloc; ": wanted at byte {byte} is {wanted}")
 }

@@ -45,8 +45,8 @@ fn is_blank(character: char) -> bool {
 
 // Writes a character, or its escape where it is no printable ASCII.
 fn push_character(alloc: Global, written: &mut String, character: char) -> Result<(), AllocError> {
-    if (' '..='~').contains(&character) {
-        return Ok(written.push(character)?);
+    if ' ' <= character && character <= '~' {
+        return written.push(character);
     }
     let mut units = [0; 2];
     for unit in character.encode_utf16(&mut units).iter() {

@@ -5,7 +5,7 @@ pub(crate) const STEP_WORDS: &str =
     r#""begin", "end", "start", "look", "show", "file", "take", "work", "put", "refute" or "ask""#;
 
 // The words of steps, each with the forms of its steps.
-const FORMS: [(&str, &str); 11] = [
+const FORMS: &[(&str, &str)] = &[
     ("begin", r#"["begin",SESSION,CALL]"#),
     ("end", r#"["end",SESSION,RETURN]"#),
     (
@@ -31,8 +31,8 @@ const FORMS: [(&str, &str); 11] = [
 /// The forms of the steps with this word, where it is one.
 pub(crate) fn step_form(word: &str) -> Option<&'static str> {
     for (named, form) in FORMS {
-        if named == word {
-            return Some(form);
+        if *named == word {
+            return Some(*form);
         }
     }
     None

@@ -1,10 +1,12 @@
 //! What the line on a text that is no history, or no script, says after its beginning: the place, and what is wanted.
 
-use crate::element::{object_in, shown_element};
+use crate::element::object_at;
+use crate::json_fault::JsonFault;
 use crate::json_walk::json_fault;
 use crate::object_words::OBJECTS;
 use crate::operation_words::operation_words;
 use crate::part::{Part, length_of, part_at, whole};
+use crate::placed::{length_words, place_words, shown_place, words_at};
 use crate::refusal::InputForm;
 use crate::sessions::{SessionFault, session_with};
 use crate::shape::shape_words;
@@ -12,7 +14,7 @@ use operations::{ObjectName, OpId, ReadError};
 use std::alloc::{AllocError, Global};
 
 // How to judge a memory that is over the limits.
-const LONGER: &str = "--long judges a memory of any length";
+const LONGER: &str = "; --long judges a memory of any length";
 
 /// What the line on a text that is no history, or no script, says after its beginning. It is empty if the input shows no place.
 ///
@@ -23,38 +25,45 @@ pub(crate) fn text_rest(
     form: InputForm,
     error: ReadError,
 ) -> Result<String, AllocError> {
-    if error == ReadError::NotJson {
+    if matches!(error, ReadError::NotJson) {
         return json_rest(alloc, input);
     }
-    let Ok(text) = simdutf8::compat::from_utf8(input) else {
-        return Ok(String::new(alloc));
-    };
-    match error {
-        ReadError::BadShape => shape_words(alloc, text, form),
-        _ => match history_in(alloc, text, form)? {
-            Some(history) => rest_in(alloc, history, form, error),
-            None => Ok(String::new(alloc)),
-        },
+    match simdutf8::compat::from_utf8(input) {
+        Ok(text) => rest_of_text(alloc, text, form, error),
+        Err(_) => Ok(String::new(alloc)),
+    }
+}
+
+fn rest_of_text(
+    alloc: Global,
+    text: &str,
+    form: InputForm,
+    error: ReadError,
+) -> Result<String, AllocError> {
+    if matches!(error, ReadError::BadShape) {
+        return shape_words(alloc, text, form);
+    }
+    match history_in(alloc, text, form) {
+        Ok(Some(history)) => rest_in(alloc, history, form, error),
+        Ok(None) => Ok(String::new(alloc)),
+        Err(error) => Err(error),
     }
 }
 
 // Where the bytes are no JSON, and what is wrong there.
 fn json_rest(alloc: Global, input: &[u8]) -> Result<String, AllocError> {
-    match json_fault(alloc, input)? {
-        Some((byte, fault)) => {
-            let words = fault.words(alloc, byte)?;
-            format!(in alloc; ": {words}")
+    match json_fault(alloc, input) {
+        Ok(Some((byte, fault))) => {
+            let JsonFault { before, after } = fault;
+            format!(in alloc; ": {before} at byte {byte}{after}")
         }
-        None => Ok(String::new(alloc)),
+        Ok(None) => Ok(String::new(alloc)),
+        Err(error) => Err(error),
     }
 }
 
-/// The history in an input of this form, or the script, where there is one. Fails for want of memory alone. O(n) for a text of n bytes.
-pub(crate) fn history_in(
-    alloc: Global,
-    text: &str,
-    form: InputForm,
-) -> Result<Option<Part<'_>>, AllocError> {
+// The history in an input of this form, or the script, where there is one. Fails for want of memory alone. O(n) for a text of n bytes.
+fn history_in(alloc: Global, text: &str, form: InputForm) -> Result<Option<Part<'_>>, AllocError> {
     match form {
         InputForm::History | InputForm::LongHistory | InputForm::Script => whole(alloc, text),
         InputForm::Certified | InputForm::Claim | InputForm::LongClaim => {
@@ -71,97 +80,108 @@ fn rest_in(
     error: ReadError,
 ) -> Result<String, AllocError> {
     match error {
-        ReadError::UnknownObject => object_rest(alloc, history, form),
         ReadError::BadOp(op) => operation_rest(alloc, history, op),
         ReadError::ReturnAfterUnknown(op) => return_rest(alloc, history, op),
-        ReadError::TooManySessions => sessions_rest(alloc, history),
-        ReadError::TooManyOps => operations_rest(alloc, history),
-        ReadError::BadInitial => initial_rest(alloc, history, form),
-        ReadError::NotJson | ReadError::BadShape | ReadError::Memory => Ok(String::new(alloc)),
+        _ => part_rest(alloc, history, form, error),
     }
 }
 
-// Which name is no object's, and which names are.
-fn object_rest(alloc: Global, outer: Part<'_>, form: InputForm) -> Result<String, AllocError> {
-    let Some(name) = part_at(alloc, outer, &[0])? else {
-        return Ok(String::new(alloc));
-    };
-    let byte = name.byte;
-    let shown = shown_element(alloc, outer, 0)?;
-    match form {
-        InputForm::LongHistory | InputForm::LongClaim => {
-            format!(in alloc; r#": {shown} (byte {byte}); wanted with --long is "memory""#)
-        }
-        _ => format!(in alloc; ": {shown} (byte {byte}); wanted is {OBJECTS}"),
+// What is wrong with a part of the history.
+fn part_rest(
+    alloc: Global,
+    history: Part<'_>,
+    form: InputForm,
+    error: ReadError,
+) -> Result<String, AllocError> {
+    match part_at(alloc, history, &[place_of(form, error)]) {
+        Ok(Some(part)) => words_on(alloc, history, part, form, error),
+        Ok(None) => Ok(String::new(alloc)),
+        Err(error) => Err(error),
     }
+}
+
+// The place of the part that is wrong. That of a table of initial values differs between a script and a history.
+fn place_of(form: InputForm, error: ReadError) -> usize {
+    match (error, form) {
+        (ReadError::UnknownObject, _) => 0,
+        (ReadError::BadInitial, InputForm::Script) => 3,
+        (ReadError::BadInitial, _) => 2,
+        _ => 1,
+    }
+}
+
+fn words_on(
+    alloc: Global,
+    history: Part<'_>,
+    part: Part<'_>,
+    form: InputForm,
+    error: ReadError,
+) -> Result<String, AllocError> {
+    match error {
+        ReadError::UnknownObject => shown_place(alloc, ": ", part, wanted_object(form)),
+        ReadError::TooManySessions => length_words(alloc, part, LONGER),
+        ReadError::TooManyOps => long_session_rest(alloc, part),
+        ReadError::BadInitial => {
+            let object = object_at(alloc, history, &[0])?;
+            words_at(alloc, part.byte, initial_words(object, form))
+        }
+        _ => Ok(String::new(alloc)),
+    }
+}
+
+fn wanted_object(form: InputForm) -> &'static str {
+    match form {
+        InputForm::LongHistory | InputForm::LongClaim => r#"; wanted with --long is "memory""#,
+        _ => OBJECTS,
+    }
+}
+
+fn operation_at<'a>(
+    alloc: Global,
+    history: Part<'a>,
+    op: OpId,
+) -> Result<Option<Part<'a>>, AllocError> {
+    part_at(alloc, history, &[1, op.session_place(), op.place()])
 }
 
 // Where the operation is, and what is wrong with it.
 fn operation_rest(alloc: Global, history: Part<'_>, op: OpId) -> Result<String, AllocError> {
-    let Some(operation) = part_at(alloc, history, &[1, op.session_place(), op.place()])? else {
+    let Some(operation) = operation_at(alloc, history, op)? else {
         return Ok(String::new(alloc));
     };
-    let Some(object) = object_in(alloc, history)? else {
-        return Ok(String::new(alloc));
-    };
-    let byte = operation.byte;
-    let words = operation_words(alloc, object, operation)?;
-    format!(in alloc; " (byte {byte}): {words}")
+    match object_at(alloc, history, &[0]) {
+        Ok(Some(object)) => {
+            let words = operation_words(alloc, object, operation)?;
+            words_at(alloc, operation.byte, &words)
+        }
+        Ok(None) => Ok(String::new(alloc)),
+        Err(error) => Err(error),
+    }
 }
 
 // Where the operation is, and that its return is known.
 fn return_rest(alloc: Global, history: Part<'_>, op: OpId) -> Result<String, AllocError> {
-    let words = "a known return after an unknown one of its session";
-    match part_at(alloc, history, &[1, op.session_place(), op.place()])? {
-        Some(operation) => {
-            let byte = operation.byte;
-            format!(in alloc; " (byte {byte}): {words}")
-        }
-        None => format!(in alloc; ": {words}"),
-    }
-}
-
-// How many sessions there are.
-fn sessions_rest(alloc: Global, history: Part<'_>) -> Result<String, AllocError> {
-    let Some(sessions) = part_at(alloc, history, &[1])? else {
-        return Ok(String::new(alloc));
-    };
-    match length_of(alloc, sessions)? {
-        Some(length) => format!(in alloc; ": it has {length}; {LONGER}"),
-        None => Ok(String::new(alloc)),
+    let words = ": a known return after an unknown one of its session";
+    match operation_at(alloc, history, op) {
+        Ok(Some(operation)) => place_words(alloc, "", operation.byte, words),
+        Ok(None) => String::from_str(alloc, words),
+        Err(error) => Err(error),
     }
 }
 
 // Which session has too many operations, and how many.
-fn operations_rest(alloc: Global, history: Part<'_>) -> Result<String, AllocError> {
-    let Some(sessions) = part_at(alloc, history, &[1])? else {
-        return Ok(String::new(alloc));
-    };
+fn long_session_rest(alloc: Global, sessions: Part<'_>) -> Result<String, AllocError> {
     let Some((number, session)) = session_with(alloc, sessions, SessionFault::TooMany)? else {
         return Ok(String::new(alloc));
     };
     let byte = session.byte;
-    match length_of(alloc, session)? {
-        Some(length) => {
-            format!(in alloc; ": session {number} (byte {byte}) has {length}; {LONGER}")
+    match length_of(alloc, session) {
+        Ok(Some(length)) => {
+            format!(in alloc; ": session {number} (byte {byte}) has {length}{LONGER}")
         }
-        None => Ok(String::new(alloc)),
+        Ok(None) => Ok(String::new(alloc)),
+        Err(error) => Err(error),
     }
-}
-
-// Where the table of initial values should be, and what is wanted there.
-fn initial_rest(alloc: Global, outer: Part<'_>, form: InputForm) -> Result<String, AllocError> {
-    let Some(start) = part_at(alloc, outer, &[place_of_initial(form)])? else {
-        return Ok(String::new(alloc));
-    };
-    let byte = start.byte;
-    let wanted = initial_words(object_in(alloc, outer)?, form);
-    format!(in alloc; " (byte {byte}): {wanted}")
-}
-
-// The place of a table of initial values in a script, and in a history.
-fn place_of_initial(form: InputForm) -> usize {
-    if form == InputForm::Script { 3 } else { 2 }
 }
 
 fn initial_words(object: Option<ObjectName>, form: InputForm) -> &'static str {
