@@ -13,6 +13,7 @@ use crate::marks::Marks;
 use crate::ports::Ports;
 use crate::rows::LaneRows;
 use std::alloc::{AllocError, Global};
+use std::fmt::Write;
 
 /// All that a picture shows.
 #[derive(Drop)]
@@ -31,44 +32,82 @@ pub(crate) struct Scene<'a> {
 pub(crate) fn drawing_of(alloc: Global, scene: &Scene) -> Result<String, AllocError>
     ensures { IfOk result (λ svg. IsSvgElement (string_bytes svg)) }
 {
-    let parts = Parts::of(alloc, scene)?;
-    let svg = drawing_with(alloc, scene, &parts);
-    drop(parts);
+    let edges = edges_of(alloc, scene.rows, scene.marks.joints())?;
+    let svg = drawing_of_edges(alloc, scene, &edges);
+    drop(edges);
+    svg
+}
+
+// The SVG text of a scene with these edges.
+fn drawing_of_edges(alloc: Global, scene: &Scene, edges: &[Edge]) -> Result<String, AllocError>
+    ensures { IfOk result (λ svg. IsSvgElement (string_bytes svg)) }
+{
+    let ports = Ports::of(alloc, edges)?;
+    let svg = drawing_of_ports(alloc, scene, edges, &ports);
+    drop(ports);
+    svg
+}
+
+// The SVG text of a scene with these edges, which end at these ports.
+fn drawing_of_ports(
+    alloc: Global,
+    scene: &Scene,
+    edges: &[Edge],
+    ports: &Ports,
+) -> Result<String, AllocError>
+    ensures { IfOk result (λ svg. IsSvgElement (string_bytes svg)) }
+{
+    let legend = legend_of(alloc, scene.rows.lanes(), edges, scene.words)?;
+    let layout = Layout::of(scene.rows, scene.lines, legend.len(), ports);
+    let parts = Parts {
+        edges,
+        ports,
+        legend: &legend,
+        layout: &layout,
+    };
+    let svg = drawing_with(alloc, scene, parts);
+    drop(legend);
     svg
 }
 
 // What follows from a scene: its edges, where they end, the entries of the legend, and all places.
-#[derive(Drop)]
-struct Parts {
-    edges: Vec<Edge>,
-    ports: Ports,
-    legend: Vec<LegendEntry>,
-    layout: Layout,
-}
-
-impl Parts {
-    // The parts of a scene.
-    fn of(alloc: Global, scene: &Scene) -> Result<Parts, AllocError> {
-        let edges = edges_of(alloc, scene.rows, scene.marks.joints())?;
-        let ports = Ports::of(alloc, &edges)?;
-        let legend = legend_of(alloc, scene.rows.lanes(), &edges, scene.words)?;
-        let layout = Layout::of(scene.rows, scene.lines, legend.len(), &ports);
-        Ok(Parts {
-            edges,
-            ports,
-            legend,
-            layout,
-        })
-    }
+#[derive(Clone, Copy)]
+struct Parts<'a> {
+    edges: &'a [Edge],
+    ports: &'a Ports,
+    legend: &'a [LegendEntry],
+    layout: &'a Layout,
 }
 
 // The SVG text of a scene with these parts.
-fn drawing_with(alloc: Global, scene: &Scene, parts: &Parts) -> Result<String, AllocError>
+fn drawing_with(alloc: Global, scene: &Scene, parts: Parts) -> Result<String, AllocError>
     ensures { IfOk result (λ svg. IsSvgElement (string_bytes svg)) }
 {
-    let mut svg = String::new(alloc);
-    draw_scene(alloc, &mut svg, scene, parts)?;
-    framed(alloc, &parts.layout, &svg)
+    let within = within_of(alloc, scene, parts)?;
+    let svg = element_of(alloc, &within);
+    drop(within);
+    svg
+}
+
+// What the SVG element has between its first word and its end: its attributes, and all of a scene.
+fn within_of(alloc: Global, scene: &Scene, parts: Parts) -> Result<String, AllocError> {
+    let mut within = String::new(alloc);
+    push_attributes(&mut within, parts.layout)?;
+    draw_scene(alloc, &mut within, scene, parts)?;
+    Ok(within)
+}
+
+// Writes the attributes of the SVG element: its size, and the fonts of its texts.
+fn push_attributes(svg: &mut String, layout: &Layout) -> Result<(), AllocError> {
+    let width = layout.width();
+    let height = layout.height();
+    write!(
+        svg,
+        " xmlns=\"http://www.w3.org/2000/svg\" width=\"{width}\" height=\"{height}\" viewBox=\"0 0 {width} {height}\""
+    )?;
+    svg.push_str(
+        " font-family=\"system-ui, -apple-system, 'Segoe UI', Roboto, Arial, sans-serif\">\n",
+    )
 }
 
 // Draws all of a scene, from back to front.
@@ -76,29 +115,13 @@ fn draw_scene(
     alloc: Global,
     svg: &mut String,
     scene: &Scene,
-    parts: &Parts,
+    parts: Parts,
 ) -> Result<(), AllocError> {
-    let layout = &parts.layout;
-    draw_head(alloc, svg, layout, scene.lines, &parts.edges)?;
-    draw_lane_lines(alloc, svg, layout, scene.rows.lanes())?;
-    draw_edges(svg, layout, &parts.ports, &parts.edges)?;
-    draw_lanes(alloc, svg, layout, scene.rows)?;
-    draw_legend(alloc, svg, layout, &parts.legend)
-}
-
-// What is drawn, within the element that has its size.
-fn framed(alloc: Global, layout: &Layout, drawn: &str) -> Result<String, AllocError>
-    ensures { IfOk result (λ svg. IsSvgElement (string_bytes svg)) }
-{
-    let width = layout.width();
-    let height = layout.height();
-    let size = format!(in alloc;
-        "width=\"{width}\" height=\"{height}\" viewBox=\"0 0 {width} {height}\""
-    )?;
-    let space = "xmlns=\"http://www.w3.org/2000/svg\"";
-    let fonts = "font-family=\"system-ui, -apple-system, 'Segoe UI', Roboto, Arial, sans-serif\"";
-    let within = format!(in alloc; " {space} {size} {fonts}>\n{drawn}")?;
-    element_of(alloc, &within)
+    draw_head(alloc, svg, parts.layout, scene.lines, parts.edges)?;
+    draw_lane_lines(alloc, svg, parts.layout, scene.rows.lanes())?;
+    draw_edges(svg, parts.layout, parts.ports, parts.edges)?;
+    draw_lanes(alloc, svg, parts.layout, scene.rows)?;
+    draw_legend(alloc, svg, parts.layout, parts.legend)
 }
 
 // An SVG element with this text between its first word and its end.

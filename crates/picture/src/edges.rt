@@ -49,7 +49,12 @@ fn edge_of(rows: &LaneRows, joint: &Joint) -> Option<Edge> {
 
 /// Whether some edge is of a relation.
 pub(crate) fn are_of(edges: &[Edge], relation: Relation) -> bool {
-    edges.iter().any(|edge| edge.relation == relation)
+    for edge in edges {
+        if edge.relation == relation {
+            return true;
+        }
+    }
+    false
 }
 
 impl Edge {

@@ -3,7 +3,7 @@
 use crate::marks::Marks;
 use bad_patterns::{Derivation, Line, Link, Links, Pair, Path, Pattern};
 use history::OpId;
-use memory_order::IndexedMemory;
+use memory_order::{IndexedMemory, Write};
 use std::alloc::{AllocError, Global};
 use wording::{DerivedPairs, Names, ends_of};
 
@@ -65,13 +65,30 @@ fn unseen_words<N: Names>(
     memory: &IndexedMemory,
     op: OpId,
 ) -> Result<String, AllocError> {
-    match memory.writes().iter().find(|write| write.op == op) {
+    match write_by(memory.writes(), op) {
         Some(write) => {
             let value = names.value(alloc, write.key, write.value)?;
-            format!(in alloc; "should have seen {value} or newer")
+            words_about_unseen(alloc, value)
         }
         None => String::from_str(alloc, "wrong"),
     }
+}
+
+// The words about a read that does not show a value.
+fn words_about_unseen(alloc: Global, value: String) -> Result<String, AllocError> {
+    let words = format!(in alloc; "should have seen {value} or newer");
+    drop(value);
+    words
+}
+
+// What an operation writes, where it is one of these writes.
+fn write_by(writes: &[Write], op: OpId) -> Option<Write> {
+    for write in writes {
+        if write.op == op {
+            return Some(*write);
+        }
+    }
+    None
 }
 
 // Marks an operation of the cycle.
@@ -148,9 +165,15 @@ fn blame_joined(
     joined: &mut Vec<bool>,
     lines: &[Line],
 ) -> Result<(), AllocError> {
-    for (number, line) in lines.iter().enumerate().rev() {
+    for number in (0..lines.len()).rev() {
         if is_joined(joined, number) {
-            blame_line(alloc, marks, joined, line, pairs.get(number as u64))?;
+            blame_line(
+                alloc,
+                marks,
+                joined,
+                &lines[number],
+                pairs.get(number as u64),
+            )?;
         }
     }
     Ok(())

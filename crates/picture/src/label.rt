@@ -26,12 +26,46 @@ pub(crate) fn label_of<O: Labelled>(
 ) -> Result<String, AllocError> {
     let call = O::call_label(alloc, "", call)?;
     match ret {
-        None => format!(in alloc; "{call} → ?"),
-        Some(ret) => match O::return_label(alloc, ret)? {
-            None => Ok(call),
-            Some(ret) => format!(in alloc; "{call} → {ret}"),
-        },
+        None => with_return(alloc, call, "?"),
+        Some(ret) => with_label(alloc, call, O::return_label(alloc, ret)),
     }
+}
+
+// The label of a call with that of its return, if that says more than that the call is done.
+fn with_label(
+    alloc: Global,
+    call: String,
+    ret: Result<Option<String>, AllocError>,
+) -> Result<String, AllocError> {
+    match ret {
+        Ok(None) => Ok(call),
+        Ok(Some(ret)) => {
+            let label = with_return(alloc, call, &ret);
+            drop(ret);
+            label
+        }
+        Err(error) => {
+            drop(call);
+            Err(error)
+        }
+    }
+}
+
+// The label of a call with what it returned.
+fn with_return(alloc: Global, call: String, ret: &str) -> Result<String, AllocError> {
+    let label = format!(in alloc; "{call} → {ret}");
+    drop(call);
+    label
+}
+
+// A word with a key and a number after it.
+fn word_about(alloc: Global, word: &str, key: &str, number: u64) -> Result<String, AllocError> {
+    format!(in alloc; "{word}{key} {number}")
+}
+
+// A number that a call returned.
+fn number_label(alloc: Global, number: u64) -> Result<Option<String>, AllocError> {
+    Ok(Some(format!(in alloc; "{number}")?))
 }
 
 impl Labelled for Register {
@@ -45,7 +79,7 @@ impl Labelled for Register {
     fn return_label(alloc: Global, ret: &RegisterRet) -> Result<Option<String>, AllocError> {
         match ret {
             RegisterRet::Done => Ok(None),
-            RegisterRet::Value(value) => Ok(Some(format!(in alloc; "{value}")?)),
+            RegisterRet::Value(value) => number_label(alloc, *value),
         }
     }
 }
@@ -61,7 +95,7 @@ impl Labelled for Counter {
     fn return_label(alloc: Global, ret: &CounterRet) -> Result<Option<String>, AllocError> {
         match ret {
             CounterRet::Done => Ok(None),
-            CounterRet::Value(value) => Ok(Some(format!(in alloc; "{value}")?)),
+            CounterRet::Value(value) => number_label(alloc, *value),
         }
     }
 }
@@ -69,9 +103,9 @@ impl Labelled for Counter {
 impl Labelled for AddRemoveSet {
     fn call_label(alloc: Global, key: &str, call: &SetCall) -> Result<String, AllocError> {
         match call {
-            SetCall::Add(element) => format!(in alloc; "add{key} {element}"),
-            SetCall::Remove(element) => format!(in alloc; "rem{key} {element}"),
-            SetCall::Has(element) => format!(in alloc; "has{key} {element}"),
+            SetCall::Add(element) => word_about(alloc, "add", key, *element),
+            SetCall::Remove(element) => word_about(alloc, "rem", key, *element),
+            SetCall::Has(element) => word_about(alloc, "has", key, *element),
         }
     }
 
@@ -86,7 +120,7 @@ impl Labelled for AddRemoveSet {
 impl Labelled for Queue {
     fn call_label(alloc: Global, key: &str, call: &QueueCall) -> Result<String, AllocError> {
         match call {
-            QueueCall::Push(value) => format!(in alloc; "push{key} {value}"),
+            QueueCall::Push(value) => word_about(alloc, "push", key, *value),
             QueueCall::Pop => format!(in alloc; "pop{key}"),
         }
     }
@@ -94,7 +128,7 @@ impl Labelled for Queue {
     fn return_label(alloc: Global, ret: &QueueRet) -> Result<Option<String>, AllocError> {
         match ret {
             QueueRet::Done => Ok(None),
-            QueueRet::Popped(Some(value)) => Ok(Some(format!(in alloc; "{value}")?)),
+            QueueRet::Popped(Some(value)) => number_label(alloc, *value),
             QueueRet::Popped(None) => Ok(Some(String::from_str(alloc, "nothing")?)),
         }
     }

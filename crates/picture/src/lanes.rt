@@ -56,6 +56,14 @@ impl Entry {
             Entry::Gap(_) => None,
         }
     }
+
+    // Whether it is a marked operation.
+    fn is_marked(&self) -> bool {
+        match self {
+            Entry::Operation(shown) => shown.is_marked,
+            Entry::Gap(_) => false,
+        }
+    }
 }
 
 /// A session, with its shown entries in order.
@@ -70,10 +78,12 @@ pub(crate) struct Lane {
 impl Lane {
     // Whether one of its operations is marked.
     fn is_marked(&self) -> bool {
-        self.entries.iter().any(|entry| match entry {
-            Entry::Operation(shown) => shown.is_marked,
-            Entry::Gap(_) => false,
-        })
+        for entry in &self.entries {
+            if entry.is_marked() {
+                return true;
+            }
+        }
+        false
     }
 }
 
@@ -141,23 +151,6 @@ fn push_lane<O: Labelled, N: Names>(
     marks: &Marks,
     extent: Extent,
 ) -> Result<(), AllocError> {
-    let lane = lane_of::<O, N>(alloc, session, operations, names, marks, extent)?;
-    if extent == Extent::Near && !lane.is_marked() {
-        drop(lane);
-        return Ok(());
-    }
-    Ok(lanes.push(lane)?)
-}
-
-// The lane of a session.
-fn lane_of<O: Labelled, N: Names>(
-    alloc: Global,
-    session: u64,
-    operations: &[(O::Call, Option<O::Ret>)],
-    names: &N,
-    marks: &Marks,
-    extent: Extent,
-) -> Result<Lane, AllocError> {
     let name = names.session(alloc, OpId { session, index: 0 })?;
     let mut entries = Vec::new(alloc);
     push_entries::<O, N>(
@@ -169,11 +162,21 @@ fn lane_of<O: Labelled, N: Names>(
         marks,
         extent,
     )?;
-    Ok(Lane {
+    let lane = Lane {
         session,
         name,
         entries,
-    })
+    };
+    push_if_shown(lanes, lane, extent)
+}
+
+// Adds a lane, if it is shown.
+fn push_if_shown(lanes: &mut Vec<Lane>, lane: Lane, extent: Extent) -> Result<(), AllocError> {
+    if extent == Extent::Near && !lane.is_marked() {
+        drop(lane);
+        return Ok(());
+    }
+    Ok(lanes.push(lane)?)
 }
 
 // The entries of the lane of a session.
@@ -215,28 +218,29 @@ fn push_operation<O: Labelled, N: Names>(
     operation: &(O::Call, Option<O::Ret>),
     marks: &Marks,
 ) -> Result<(), AllocError> {
-    let shown = shown_of::<O, N>(alloc, op, names, operation, marks)?;
-    Ok(entries.push(Entry::Operation(shown))?)
+    let name = names.operation(alloc, op)?;
+    let label = label_in::<O, N>(alloc, op, names, operation)?;
+    push_named(alloc, entries, op, name, label, marks)
 }
 
-// An operation with its label.
-fn shown_of<O: Labelled, N: Names>(
+// Adds an operation with this name and this label.
+fn push_named(
     alloc: Global,
+    entries: &mut Vec<Entry>,
     op: OpId,
-    names: &N,
-    operation: &(O::Call, Option<O::Ret>),
+    name: String,
+    label: String,
     marks: &Marks,
-) -> Result<Shown, AllocError> {
-    let label = label_in::<O, N>(alloc, op, names, operation)?;
-    let name = names.operation(alloc, op)?;
+) -> Result<(), AllocError> {
     let fault = fault_of(alloc, marks, op)?;
-    Ok(Shown {
+    let shown = Shown {
         op,
         name,
         label,
         is_marked: marks.contains(op),
         fault,
-    })
+    };
+    Ok(entries.push(Entry::Operation(shown))?)
 }
 
 // The label of an operation: its own, where it has one.
@@ -290,11 +294,19 @@ fn is_at_end(op: OpId, count: u64) -> bool {
 
 // Whether a marked operation of the same session is near.
 fn is_near(marks: &Marks, op: OpId) -> bool {
-    marks.ops().iter().any(|mark| {
-        mark.session == op.session
-            && mark.index <= op.index.saturating_add(NEAR)
-            && op.index <= mark.index.saturating_add(NEAR)
-    })
+    for mark in marks.ops() {
+        if are_near(*mark, op) {
+            return true;
+        }
+    }
+    false
+}
+
+// Whether two operations are near each other in one session.
+fn are_near(a: OpId, b: OpId) -> bool {
+    a.session == b.session
+        && a.index <= b.index.saturating_add(NEAR)
+        && b.index <= a.index.saturating_add(NEAR)
 }
 
 // Whether the operation before it is kept, or there is none.

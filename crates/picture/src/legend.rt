@@ -67,17 +67,30 @@ fn push_edges(legend: &mut Vec<LegendEntry>, edges: &[Edge]) -> Result<(), Alloc
 
 // Whether some box has this emphasis.
 fn are_emphasized(lanes: &[Lane], emphasis: Emphasis) -> bool {
-    lanes
-        .iter()
-        .any(|lane| has_emphasized(&lane.entries, emphasis))
+    for lane in lanes {
+        if has_emphasized(&lane.entries, emphasis) {
+            return true;
+        }
+    }
+    false
 }
 
 // Whether the box of some entry has this emphasis.
 fn has_emphasized(entries: &[Entry], emphasis: Emphasis) -> bool {
-    entries.iter().any(|entry| match entry {
+    for entry in entries {
+        if is_emphasized(entry, emphasis) {
+            return true;
+        }
+    }
+    false
+}
+
+// Whether an entry is an operation whose box has this emphasis.
+fn is_emphasized(entry: &Entry, emphasis: Emphasis) -> bool {
+    match entry {
         Entry::Operation(shown) => emphasis_of(shown) == emphasis,
         Entry::Gap(_) => false,
-    })
+    }
 }
 
 /// Draws the legend.

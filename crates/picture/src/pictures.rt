@@ -74,9 +74,9 @@ fn marks_in_memory<N: Names>(
 }
 
 // The picture of a history and of a pattern with these marks.
-fn picture_of_marked_pattern<N: Names>(
+fn picture_of_marked_pattern<O: Labelled, N: Names>(
     alloc: Global,
-    history: &History<Memory>,
+    history: &History<O>,
     names: &N,
     criterion: Criterion,
     pattern: &Pattern,

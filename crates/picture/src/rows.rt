@@ -181,5 +181,10 @@ fn height_of(rows: &[u64]) -> u64 {
 
 // The number of an operation among the entries of its lane, where it is shown.
 fn entry_of(lane: &Lane, op: OpId) -> Option<usize> {
-    lane.entries.iter().position(|entry| entry.op() == Some(op))
+    for (number, entry) in lane.entries.iter().enumerate() {
+        if entry.op() == Some(op) {
+            return Some(number);
+        }
+    }
+    None
 }
