@@ -96,13 +96,13 @@ pub(crate) const LARGE: JsonFault = JsonFault {
     after: " is too large",
 };
 
-/// One more nested list or object than is read, which is `bounded_json::MAX_DEPTH`.
+/// One more nested list or object than is read. The number is `bounded_json::MAX_DEPTH`, with which the table `why_texts` compares it.
 pub(crate) const DEEP: JsonFault = JsonFault {
     before: "more than 127 lists and objects in one another",
     after: "",
 };
 
-/// Something else is expected there.
+/// The fault where something else than this is expected.
 pub(crate) fn other_than(expected: Expected) -> JsonFault {
     JsonFault {
         before: expected.words(),
@@ -110,7 +110,7 @@ pub(crate) fn other_than(expected: Expected) -> JsonFault {
     }
 }
 
-/// The text ends there.
+/// The fault where the text ends before this.
 pub(crate) fn ends_before(expected: Expected) -> JsonFault {
     JsonFault {
         before: expected.words(),

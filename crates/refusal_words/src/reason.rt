@@ -71,6 +71,9 @@ fn rest_for(
         Refusal::TooManySteps | Refusal::NoSession | Refusal::TooLong | Refusal::OverLong => Ok(
             String::new(alloc),
         ),
-        _ => second_rest(alloc, input, refusal),
+        Refusal::BadSessions
+        | Refusal::BadCertificate
+        | Refusal::ShapeMismatch
+        | Refusal::NoSuchSession => second_rest(alloc, input, refusal),
     }
 }

@@ -10,11 +10,11 @@ use std::alloc::{AllocError, Global};
 #[derive(Clone, Copy)]
 enum Kind {
     // A value that begins with this character: a text or a list.
-    From(char),
+    Begins(char),
     // A list of so many elements, from the least to the most.
     List(usize, usize),
-    // What is wrong if nothing before it is.
-    Wrong,
+    // No part is of this kind.
+    Never,
 }
 
 // The path to a part, what it is to be, and what is wanted if it is not that.
@@ -22,61 +22,51 @@ type Row = (&'static [usize], Kind, &'static str);
 
 const OBJECT: &str = "the name of an object";
 
-const SESSIONS: &str = "a list of sessions";
-
 const START: &str = "a table of initial values, [[KEY,VALUE],..]";
 
-const HISTORY: &str = "[OBJECT,SESSIONS] or [OBJECT,SESSIONS,START]";
-
 const HISTORY_ROWS: &[Row] = &[
-    (&[], Kind::List(2, 3), HISTORY),
-    (&[0], Kind::From('"'), OBJECT),
-    (&[1], Kind::From('['), SESSIONS),
-    (&[2], Kind::From('['), START),
+    (
+        &[],
+        Kind::List(2, 3),
+        "[OBJECT,SESSIONS] or [OBJECT,SESSIONS,START]",
+    ),
+    (&[0], Kind::Begins('"'), OBJECT),
+    (&[1], Kind::Begins('['), "a list of sessions"),
+    (&[2], Kind::Begins('['), START),
 ];
 
-const CERTIFIED_ROWS: &[Row] = &[
-    (&[], Kind::List(2, 2), "[HISTORY,CERTIFICATE]"),
-    (&[0], Kind::List(2, 3), HISTORY),
-    (&[0, 0], Kind::From('"'), OBJECT),
-    (&[0, 1], Kind::From('['), SESSIONS),
-    (&[0, 2], Kind::From('['), START),
-];
+const CERTIFIED_ROWS: &[Row] = &[(&[], Kind::List(2, 2), "[HISTORY,CERTIFICATE]")];
 
-const CLAIM_ROWS: &[Row] = &[
-    (&[], Kind::List(3, 3), "[HISTORY,CRITERION,PATTERN]"),
-    (&[0], Kind::List(2, 3), HISTORY),
-    (&[0, 0], Kind::From('"'), OBJECT),
-    (&[0, 1], Kind::From('['), SESSIONS),
-    (&[0, 2], Kind::From('['), START),
-];
+const CLAIM_ROWS: &[Row] = &[(&[], Kind::List(3, 3), "[HISTORY,CRITERION,PATTERN]")];
 
+// A script of which no other part is wrong has a wrong number of sessions, so the row of that number is the last.
 const SCRIPT_ROWS: &[Row] = &[
     (
         &[],
         Kind::List(3, 4),
         "[OBJECT,SESSIONS,STEPS] or [OBJECT,SESSIONS,STEPS,START]",
     ),
-    (&[0], Kind::From('"'), OBJECT),
-    (&[2], Kind::From('['), "a list of steps"),
-    (&[3], Kind::From('['), START),
-    (&[1], Kind::Wrong, "the number of sessions"),
+    (&[0], Kind::Begins('"'), OBJECT),
+    (&[2], Kind::Begins('['), "a list of steps"),
+    (&[3], Kind::Begins('['), START),
+    (&[1], Kind::Never, "the number of sessions"),
 ];
 
+// The rows of an input, without those of a history in it.
 fn rows_of(form: InputForm) -> &'static [Row] {
     match form {
-        InputForm::History | InputForm::LongHistory => HISTORY_ROWS,
+        InputForm::History | InputForm::LongHistory => &[],
         InputForm::Certified => CERTIFIED_ROWS,
         InputForm::Claim | InputForm::LongClaim => CLAIM_ROWS,
         InputForm::Script => SCRIPT_ROWS,
     }
 }
 
-// The path to the sessions.
+// The path to the history in an input.
 fn path_of(form: InputForm) -> &'static [usize] {
     match form {
-        InputForm::Certified | InputForm::Claim | InputForm::LongClaim => &[0, 1],
-        _ => &[1],
+        InputForm::Certified | InputForm::Claim | InputForm::LongClaim => &[0],
+        InputForm::History | InputForm::LongHistory | InputForm::Script => &[],
     }
 }
 
@@ -96,14 +86,31 @@ pub(crate) fn shape_words(
 fn shape_in(alloc: Global, all: Part<'_>, form: InputForm) -> Result<String, AllocError> {
     match wrong_part(alloc, all, rows_of(form)) {
         Ok(Some((part, wanted))) => wanted_at(alloc, part, wanted),
-        Ok(None) => sessions_shape(alloc, all, path_of(form)),
+        Ok(None) => history_shape(alloc, all, path_of(form)),
+        Err(error) => Err(error),
+    }
+}
+
+// Where the history at the end of a path has a wrong shape.
+fn history_shape(alloc: Global, all: Part<'_>, path: &[usize]) -> Result<String, AllocError> {
+    match part_at(alloc, all, path) {
+        Ok(Some(history)) => shape_of_history(alloc, history),
+        Ok(None) => Ok(String::new(alloc)),
+        Err(error) => Err(error),
+    }
+}
+
+fn shape_of_history(alloc: Global, history: Part<'_>) -> Result<String, AllocError> {
+    match wrong_part(alloc, history, HISTORY_ROWS) {
+        Ok(Some((part, wanted))) => wanted_at(alloc, part, wanted),
+        Ok(None) => sessions_shape(alloc, history),
         Err(error) => Err(error),
     }
 }
 
 // Which session is no list.
-fn sessions_shape(alloc: Global, all: Part<'_>, path: &[usize]) -> Result<String, AllocError> {
-    match part_at(alloc, all, path) {
+fn sessions_shape(alloc: Global, history: Part<'_>) -> Result<String, AllocError> {
+    match part_at(alloc, history, &[1]) {
         Ok(Some(sessions)) => session_shape(alloc, sessions),
         Ok(None) => Ok(String::new(alloc)),
         Err(error) => Err(error),
@@ -150,9 +157,9 @@ fn wrong_at<'a>(
 
 fn is_of(alloc: Global, part: Part<'_>, kind: Kind) -> Result<bool, AllocError> {
     match kind {
-        Kind::From(character) => Ok(part.text.starts_with(character)),
+        Kind::Begins(character) => Ok(part.text.starts_with(character)),
         Kind::List(least, most) => has_length(alloc, part, least, most),
-        Kind::Wrong => Ok(false),
+        Kind::Never => Ok(false),
     }
 }
 

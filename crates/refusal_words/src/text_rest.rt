@@ -82,7 +82,13 @@ fn rest_in(
     match error {
         ReadError::BadOp(op) => operation_rest(alloc, history, op),
         ReadError::ReturnAfterUnknown(op) => return_rest(alloc, history, op),
-        _ => part_rest(alloc, history, form, error),
+        ReadError::NotJson
+        | ReadError::BadShape
+        | ReadError::UnknownObject
+        | ReadError::TooManySessions
+        | ReadError::TooManyOps
+        | ReadError::BadInitial
+        | ReadError::Memory => part_rest(alloc, history, form, error),
     }
 }
 
