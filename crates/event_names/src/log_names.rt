@@ -1,5 +1,6 @@
 //! The names of a log, as texts on its history have them.
 
+use crate::joining::{Text, around, both, push_text, some};
 use crate::log_tables::{LogTables, StoodFor};
 use crate::phrases::{
     call_label, call_words, client_name, fork_label, fork_words, key_words, value_name,
@@ -42,6 +43,34 @@ impl<'a, T: LogTables> LogNames<'a, T> {
         self.tables.line(stood.place)
     }
 
+    // Which part of its call an operation is, where it is not the whole of it.
+    fn part_of_call(&self, op: OpId, ending: Option<Ending>) -> &'static str {
+        match ending {
+            Some(Ending::Lost) if !self.is_in_fork(op) => " (call)",
+            _ if self.is_in_fork(op) && op.index == 0 => " (later)",
+            _ => "",
+        }
+    }
+
+    // What is said of a read of a value at a variable: `end` after it where it found nothing, and else `source` between the two.
+    fn read_words(
+        &self,
+        alloc: Global,
+        key: u32,
+        value: u64,
+        end: &str,
+        source: &str,
+    ) -> Result<String, AllocError> {
+        let variable = self.variable(alloc, key);
+        match self.held(key, value) {
+            Held::Nothing => around(alloc, "found nothing at ", variable, end),
+            Held::Value(_) | Held::Mark => {
+                let value = self.value(alloc, key, value);
+                both(alloc, "read ", value, source, variable, "")
+            }
+        }
+    }
+
     // What the value of a variable represents.
     fn held(&self, key: u32, value: u64) -> Held {
         if is_mark(key) {
@@ -81,15 +110,8 @@ impl<'a, T: LogTables> Names for LogNames<'a, T> {
         if left_out.is_empty() {
             return Ok(());
         }
-        let mut keys = Vec::new(alloc);
-        let mut reads: u64 = 0;
-        for (key, count) in left_out {
-            keys.push(*key)?;
-            reads = reads.saturating_add(u64::from(*count));
-        }
-        let named = listed_keys(alloc, self.tables, &keys)?;
-        lines.push(left_out_words(alloc, reads, keys.len(), &named)?)?;
-        Ok(())
+        let named = listed_keys(alloc, self.tables, left_out);
+        push_text(lines, left_out_words(alloc, left_out, named))
     }
 
     fn place_words(&self) -> &'static str {
@@ -113,14 +135,8 @@ impl<'a, T: LogTables> Names for LogNames<'a, T> {
             return name_of(alloc, op);
         };
         let line = self.line(stood);
-        if self.is_in_fork(op) {
-            if op.index == 0 {
-                return format!(in alloc; "line {line} (later)");
-            }
-        } else if stood.ending == Some(Ending::Lost) {
-            return format!(in alloc; "line {line} (call)");
-        }
-        format!(in alloc; "line {line}")
+        let part = self.part_of_call(op, stood.ending);
+        format!(in alloc; "line {line}{part}")
     }
 
     fn session(&self, alloc: Global, op: OpId) -> Result<String, AllocError> {
@@ -137,9 +153,9 @@ impl<'a, T: LogTables> Names for LogNames<'a, T> {
     fn phrase(&self, alloc: Global, op: OpId) -> Result<Option<String>, AllocError> {
         match self.tables.stood_for(op) {
             Some(stood) if self.is_in_fork(op) => {
-                Ok(Some(fork_words(alloc, self.tables, stood, op.index > 0)?))
+                some(fork_words(alloc, self.tables, stood, op.index > 0))
             }
-            Some(stood) => Ok(Some(call_words(alloc, self.tables, stood)?)),
+            Some(stood) => some(call_words(alloc, self.tables, stood)),
             None => Ok(None),
         }
     }
@@ -147,9 +163,9 @@ impl<'a, T: LogTables> Names for LogNames<'a, T> {
     fn label(&self, alloc: Global, op: OpId) -> Result<Option<String>, AllocError> {
         match self.tables.stood_for(op) {
             Some(stood) if self.is_in_fork(op) => {
-                Ok(Some(fork_label(alloc, self.tables, stood, op.index > 0)?))
+                some(fork_label(alloc, self.tables, stood, op.index > 0))
             }
-            Some(stood) => Ok(Some(call_label(alloc, self.tables, stood)?)),
+            Some(stood) => some(call_label(alloc, self.tables, stood)),
             None => Ok(None),
         }
     }
@@ -165,7 +181,7 @@ impl<'a, T: LogTables> Names for LogNames<'a, T> {
     fn variables(&self, alloc: Global, keys: &[u32]) -> Result<String, AllocError> {
         let mut named = Vec::new(alloc);
         for key in keys.iter().take(MAX_KEYS) {
-            named.push(self.variable(alloc, *key)?)?;
+            push_text(&mut named, self.variable(alloc, *key))?;
         }
         listed(alloc, &named, keys.len().saturating_sub(MAX_KEYS))
     }
@@ -184,14 +200,7 @@ impl<'a, T: LogTables> Names for LogNames<'a, T> {
         key: u32,
         value: u64,
     ) -> Result<String, AllocError> {
-        let variable = self.variable(alloc, key)?;
-        match self.held(key, value) {
-            Held::Nothing => format!(in alloc; "found nothing at {variable}"),
-            Held::Value(_) | Held::Mark => {
-                let value = self.value(alloc, key, value)?;
-                format!(in alloc; "read {value}, the initial value of {variable}")
-            }
-        }
+        self.read_words(alloc, key, value, "", ", the initial value of ")
     }
 
     fn unwritten_read_words(
@@ -200,24 +209,25 @@ impl<'a, T: LogTables> Names for LogNames<'a, T> {
         key: u32,
         value: u64,
     ) -> Result<String, AllocError> {
-        let variable = self.variable(alloc, key)?;
-        match self.held(key, value) {
-            Held::Nothing => {
-                format!(in alloc; "found nothing at {variable}, though nobody deletes it")
-            }
-            Held::Value(_) | Held::Mark => {
-                let value = self.value(alloc, key, value)?;
-                format!(in alloc; "read {value}, which nobody wrote to {variable}")
-            }
-        }
+        self.read_words(
+            alloc,
+            key,
+            value,
+            ", though nobody deletes it",
+            ", which nobody wrote to ",
+        )
     }
 
     fn initial_words(&self, alloc: Global, key: u32, value: u64) -> Result<String, AllocError> {
         match self.held(key, value) {
             Held::Nothing => String::from_str(alloc, "it holds nothing at the start"),
             Held::Value(_) | Held::Mark => {
-                let value = self.value(alloc, key, value)?;
-                format!(in alloc; "its initial value is {value}")
+                around(
+                    alloc,
+                    "its initial value is ",
+                    self.value(alloc, key, value),
+                    "",
+                )
             }
         }
     }
@@ -233,8 +243,7 @@ impl<'a, T: LogTables> Names for LogNames<'a, T> {
         if !is_mark(key) && is_deleted(value) {
             return String::from_str(alloc, "deleted it");
         }
-        let value = self.value(alloc, key, value)?;
-        format!(in alloc; "wrote {value} to it")
+        around(alloc, "wrote ", self.value(alloc, key, value), " to it")
     }
 }
 
@@ -244,8 +253,7 @@ fn session_of_client<T: LogTables>(
     tables: &T,
     client: u32,
 ) -> Result<String, AllocError> {
-    let name = client_name(alloc, tables, client)?;
-    format!(in alloc; "client {name}")
+    around(alloc, "client ", client_name(alloc, tables, client), "")
 }
 
 // The client of a session that has a number, where it is one.
@@ -260,33 +268,41 @@ fn session_of_number<T: LogTables>(
     }
 }
 
-// The first 8 keys of a log by their names, and how many more there are.
+// The first 8 of the keys at which reads are left out by their names, and how many more there are.
 fn listed_keys<T: LogTables>(
     alloc: Global,
     tables: &T,
-    keys: &[u32],
+    left_out: &[(u32, u32)],
 ) -> Result<String, AllocError> {
     let mut named = Vec::new(alloc);
-    for key in keys.iter().take(MAX_KEYS) {
-        named.push(key_words(alloc, tables, *key)?)?;
+    for (key, _) in left_out.iter().take(MAX_KEYS) {
+        push_text(&mut named, key_words(alloc, tables, *key))?;
     }
-    listed(alloc, &named, keys.len().saturating_sub(MAX_KEYS))
+    listed(alloc, &named, left_out.len().saturating_sub(MAX_KEYS))
 }
 
-// What is said of reads that are left out, at this many keys.
-fn left_out_words(
-    alloc: Global,
-    reads: u64,
-    keys: usize,
-    listed: &str,
-) -> Result<String, AllocError> {
-    let (ending, they) = if reads == 1 {
-        ("", "it asks")
-    } else {
-        ("s", "they ask")
-    };
-    let are = if keys == 1 { "is" } else { "are" };
+// How many reads are left out.
+fn reads_of(left_out: &[(u32, u32)]) -> u64 {
+    let mut reads: u64 = 0;
+    for (_, count) in left_out {
+        reads = reads.saturating_add(u64::from(*count));
+    }
+    reads
+}
+
+// What is said of reads that are left out, with their keys by name.
+fn left_out_words(alloc: Global, left_out: &[(u32, u32)], listed: Text) -> Text {
+    let listed = listed?;
+    let reads = reads_of(left_out);
+    let read = if_one(reads, "read", "reads");
+    let are = if_one(left_out.len() as u64, "is", "are");
+    let they = if_one(reads, "it asks", "they ask");
     format!(in alloc;
-        "{reads} read{ending} found nothing at {listed}, which {are} deleted at some time: {they} nothing."
+        "{reads} {read} found nothing at {listed}, which {are} deleted at some time: {they} nothing."
     )
+}
+
+// The word for one or the word for many.
+fn if_one(count: u64, one: &'static str, many: &'static str) -> &'static str {
+    if count == 1 { one } else { many }
 }

@@ -1,12 +1,13 @@
 //! Names that are too long for a line.
 
-use std::alloc::{AllocError, Global};
+use crate::joining::Text;
+use std::alloc::Global;
 
 /// How many letters of a longer name are shown.
 const MAX_LETTERS: usize = 60;
 
 /// What an escape of a JSON text has still to come.
-#[derive(Clone, Copy, Debug, PartialEq, Eq)]
+#[derive(Clone, Copy)]
 enum Escape {
     /// No escape is open.
     None,
@@ -31,15 +32,21 @@ impl Escape {
 /// A JSON text. If it is longer than some 60 letters, three dots within its quotes replace what is left out. No escape is cut.
 ///
 /// Fails for want of memory alone. O(n) for a text of n letters.
-pub(crate) fn shortened(alloc: Global, text: String) -> Result<String, AllocError> {
+pub(crate) fn shortened(alloc: Global, text: Text) -> Text {
+    let text = text?;
     if text.chars().count() <= MAX_LETTERS {
         return Ok(text);
     }
+    cut(alloc, text.as_str())
+}
+
+// The first letters of a JSON text, to the end of an escape, and three dots within its quotes.
+fn cut(alloc: Global, text: &str) -> Text {
     let mut short = String::new(alloc);
     let mut letters: usize = 0;
     let mut escape = Escape::None;
     for character in text.chars() {
-        if escape == Escape::None && letters >= MAX_LETTERS {
+        if letters >= MAX_LETTERS && matches!(escape, Escape::None) {
             break;
         }
         short.push(character)?;

@@ -10,7 +10,8 @@ use Rattle.events.specs.declared.event.Ending.TheVariants.{Answered, Got, GotNot
 use Rattle.events.specs.declared.event.Event.{Event}
 use Rattle.events.specs.declared.event.Event.TheVariants.{Starts, Begins, Ends}
 use Rattle.event_reader.specs.BookSteps.{IsBook}
-use Rattle.event_reader.specs.Logs.{Log, no_log, with_event}
+use Rattle.event_reader.specs.Forms.{write}
+use Rattle.event_reader.specs.Logs.{Log, call_of, key_number, no_log, value_number, with_event, with_key}
 use Rattle.event_reader.specs.Names.{Name}
 use Rattle.event_reader.specs.Readings.{Extends, Grows, IsCallNamed, IsEndingNamed, IsNamed}
 
@@ -25,7 +26,7 @@ grows-more a b c (m, first) (n, second) = (m ++ n, second ∙ ap (λ l. l ++ n) 
 pub grows-push : {X : Type 0} (xs : List X) (x : X) → Grows xs (xs ++ x ∷ [])
 grows-push xs x = (x ∷ [], refl)
 
-longer : {X : Type 0} (a b : List X) (n : ℕ) → Grows a b → n < length a → n < length b
+pub longer : {X : Type 0} (a b : List X) (n : ℕ) → Grows a b → n < length a → n < length b
 longer a b n (more, is) low = omega (arith, low, ap length is, length-append a more)
 
 pub extends-same : (log : Log) → Extends log log
@@ -70,6 +71,13 @@ named_more a b (Ends client ending) extends (known, named) = (longer a.clients b
 
 all_more : (a b : Log) (es : List Event) → Extends a b → All (IsNamed a) es → All (IsNamed b) es
 all_more a b es extends named = All-weaker (IsNamed a) (IsNamed b) (λ e. named_more a b e extends) es named
+
+-- the call of a write, whose key was met before its value
+pub write_call : (log a : Log) (key value : Name) (x v : ℕ) → a ≡ with_key log key → x ≡ key_number log key → v ≡ value_number a value
+    → WriteTo x v ≡ call_of log (write key value)
+write_call log a key value x v a_is x_is v_is =
+    let v_same : v ≡ value_number log value = v_is ∙ ap (λ (l : Log). value_number l value) a_is in
+    ap (λ (y : ℕ). WriteTo y v) x_is ∙ ap (λ (y : ℕ). WriteTo (key_number log key) y) v_same
 
 -- ---- what is kept
 

@@ -145,6 +145,16 @@ ending_refused log mid client call said n e (Refused refusal) pending is mid_is 
 ending_refused log mid client call said n e Memory pending is mid_is fault = tt
 ending_refused log mid client call said n e Read pending is mid_is fault = absurd fault
 
+-- and ends by it
+pub ending_ended : (n : ℕ) (log mid : Log) (client : ℕ) (call : ClientCall) (said : SaidEnding) (e : Ending) → ending_of log call said ≡ Some e
+    → mid ≡ with_ending log (Some call) said → (after : Log) → MayFollow mid (Ends client e) → after ≡ with_event mid n (Ends client e) → EndsCall n log client call said after
+ending_ended n log mid client call said e is mid_is after follows added = (
+  e,
+  is,
+  follows_same log mid (Ends client e) (ap (λ (l : Log). l.events) mid_is ∙ ending_events log call said) follows,
+  added ∙ ap (λ (l : Log). with_event l n (Ends client e)) mid_is,
+)
+
 ending_same : (log a : Log) (client : Name) (call : ClientCall) (said : SaidEnding) → a ≡ with_client log client → ending_of a call said ≡ ending_of (with_client log client) call said
 ending_same log a client call said is = ap (λ (l : Log). ending_of l call said) is
 

@@ -74,7 +74,10 @@ impl Names {
         self.code.clear();
         write_name(&mut self.code, name)?;
         let index = place_in(&mut self.names, self.code.as_str())?;
-        u32::try_from(index).map_err(|_| AllocError)
+        match u32::try_from(index) {
+            Ok(number) => Ok(number),
+            Err(_) => Err(AllocError),
+        }
     }
 }
 

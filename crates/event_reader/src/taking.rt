@@ -124,7 +124,11 @@ fn take_any(alloc: Global, book: &mut Book, text: &[u8], line: u64) -> Result<()
         Content::TooLong => Err(refused(Reason::TooLong, line)),
         Content::Blank => Ok(()),
         Content::NotJson => Err(refused(Reason::NotJson, line)),
-        Content::Json(value) => take_value(book, &value, line),
+        Content::Json(value) => {
+            let taken = take_value(book, &value, line);
+            drop(value);
+            taken
+        }
     }
 }
 
@@ -162,8 +166,12 @@ pub(crate) fn take_rest(
         Content::Blank => Ok(false),
         Content::NotJson => Ok(true),
         Content::Json(value) => {
-            take_value(book, &value, line)?;
-            Ok(false)
+            let taken = take_value(book, &value, line);
+            drop(value);
+            match taken {
+                Ok(()) => Ok(false),
+                Err(fault) => Err(fault),
+            }
         }
     }
 }

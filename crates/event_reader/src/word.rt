@@ -3,7 +3,7 @@
 ghost use Rattle.event_reader.specs.QuickSteps.{IsWord};
 
 /// The word of an event or of a call.
-#[derive(Clone, Copy, Debug)]
+#[derive(Clone, Copy)]
 pub(crate) enum Word {
     Begin,
     End,

@@ -2,7 +2,7 @@ use Rattle.std.proofs.Common.{◌≡◌}
 use Rattle.events.specs.declared.event.Event.TheVariants.{Begins}
 use Rattle.event_reader.specs.Logs.{MayFollow, with_event}
 use Rattle.event_reader.specs.Steps.{call_view, name_in}
-use Rattle.event_reader.proofs.BookLaws.{extends-more}
+use Rattle.event_reader.proofs.BookLaws.{extends-more, longer}
 use Rattle.event_reader.proofs.TakeLaws.{begin_added, begin_refused, if_error, on_both}
 use Rattle.event_reader.proofs.taking.take_begin.Goals as goal
 
@@ -25,3 +25,12 @@ pub returns-clause-extends : goal.returns-clause-extends
 returns-clause-extends c =
     extends-more c.args.book.now c.call.new.self c.add.new.self
     (extends-more c.args.book.now c.client.new.self c.call.new.self c.client.ensures.extends c.call.ensures.extends) c.add.ensures.extends
+
+pub add-requires : goal.add-requires
+add-requires c = (
+  longer c.client.new.self.clients c.call.new.self.clients c.in_ok-client.client c.call.ensures.extends.clients c.in_ok-client.ensures.within,
+  c.in_ok-call.ensures.named,
+)
+
+pub returns-in_err-call-clause-extends : goal.returns-in_err-call-clause-extends
+returns-in_err-call-clause-extends c = extends-more c.args.book.now c.client.new.self c.call.new.self c.client.ensures.extends c.call.ensures.extends

@@ -1,4 +1,5 @@
 use Rattle.event_reader.specs.Steps.{ending_view, name_in}
+use Rattle.event_reader.proofs.BookLaws.{extends-more}
 use Rattle.event_reader.proofs.TakeLaws.{end_added, end_refused, if_error, on_one}
 use Rattle.event_reader.proofs.taking.take_end.Goals as goal
 
@@ -15,3 +16,6 @@ returns-in-Some-clause-fault c =
     if_error c.take_ending.result _ _ c.take_ending.ensures.fault
     (end_refused c.args.line c.args.book.now c.client.new.self (name_in c.args.client) c.in_ok-client.client c.in-Some.call said
     c.in_ok-client.ensures.log c.in_ok-client.ensures.number c.in-Some.ensures)
+
+pub returns-in-Some-clause-extends : goal.returns-in-Some-clause-extends
+returns-in-Some-clause-extends c = extends-more c.args.book.now c.client.new.self c.take_ending.new.book c.client.ensures.extends c.take_ending.ensures.extends

@@ -38,3 +38,11 @@ loop-preserved g c =
       extends = extends-more c.args.self.now.log c.loop.self.log c.read_line.new.self.log c.loop.invariant.extends c.read_line.ensures.extends;
       few = grind arith;
     }
+
+pub returns-in-Some-clause-extends : goal.returns-in-Some-clause-extends
+returns-in-Some-clause-extends g c =
+    extends-more c.args.self.now.log c.loop.self.log c.read_line.new.self.log c.loop.invariant.extends c.read_line.ensures.extends
+
+pub returns-in_err-progress-clause-extends : goal.returns-in_err-progress-clause-extends
+returns-in_err-progress-clause-extends g c =
+    extends-more c.args.self.now.log c.loop.self.log c.read_line.new.self.log c.loop.invariant.extends c.read_line.ensures.extends

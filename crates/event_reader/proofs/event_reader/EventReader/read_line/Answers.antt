@@ -1,11 +1,12 @@
-use Rattle.std.proofs.Common.{◌+◌, ◌≤◌, ◌++◌, List, ℕ, length, subst, ◌∙◌, refl}
+use Rattle.std.proofs.Common.{◌+◌, ◌≤◌, ◌++◌, List, ℕ, false, length, subst, ◌∙◌, refl}
 use Rattle.std.proofs.lemmas.Result.{err_from_is_err_and}
 use Rattle.lines.specs.LineReaders.{BeginsLong, IsFirst, IsOver}
 use Rattle.event_reader.specs.BookSteps.{IsLineFault, IsRestFault}
 use Rattle.event_reader.specs.Logs.{EndsBy, Takes}
 use Rattle.event_reader.specs.ReadSteps.{ReadsAll, ReadsMore}
-use Rattle.event_reader.specs.Readings.{FaultsAt, Reading}
-use Rattle.event_reader.proofs.ReadLaws.{line_fault, long_fault, reads_line, reads_rest, rest_fault}
+use Rattle.event_reader.specs.Readings.{Extends, FaultsAt, Reading}
+use Rattle.event_reader.proofs.BookLaws.{extends-same}
+use Rattle.event_reader.proofs.ReadLaws.{line_fault, long_fault, reads_end, reads_line, reads_rest, rest_fault}
 use Rattle.event_reader.proofs.TakeLaws.{ends_few, takes_few}
 use Rattle.event_reader.proofs.event_reader.EventReader.read_line.Goals as goal
 
@@ -70,3 +71,35 @@ pub returns-in_ok-torn-in-Rest-clause-few : goal.returns-in_ok-torn-in-Rest-clau
 returns-in_ok-torn-in-Rest-clause-few g c =
     let few = ends_few (c.self.inside.count + 1) c.self.inside.book c.line-in-Rest.result.now c.in_ok-torn-in-Rest.torn c.take_rest.new.book c.in_ok-torn-in-Rest.ensures.ends in
     subst (λ (r : Reading). length c.take_rest.new.book.events ≤ length r.log.events + 1) c.self.view_is few
+
+pub returns-in-End-clause-read : goal.returns-in-End-clause-read
+returns-in-End-clause-read g c =
+    let before = g.R.Source.remaining c.args.source.now in
+    let after = g.R.Source.remaining c.next.new.reader in
+    let finds = c.in_ok-found.ensures.found in
+    let first = subst (λ f. IsFirst (c.self.inside.lines.held ++ finds.taken) c.next.new.self f) c.in-End.is finds.first in
+    let over = subst (λ f. IsOver after f) c.in-End.is finds.over in
+    let new : Reading = record { log = c.self.inside.book; held = c.next.new.self.held; count = c.self.inside.count } in
+    let reads = reads_end before after finds.taken finds.consumed c.self.inside.book c.self.inside.lines.held c.self.inside.count new over first.0 refl in
+    subst (λ (r : Reading). ReadsAll before after r new false) c.self.view_is reads
+
+pub returns-in-End-clause-extends : goal.returns-in-End-clause-extends
+returns-in-End-clause-extends g c = subst (λ (r : Reading). Extends r.log c.self.inside.book) c.self.view_is (extends-same c.self.inside.book)
+
+pub returns-in-TooLong-clause-extends : goal.returns-in-TooLong-clause-extends
+returns-in-TooLong-clause-extends g c = subst (λ (r : Reading). Extends r.log c.self.inside.book) c.self.view_is (extends-same c.self.inside.book)
+
+pub returns-in_err-found-clause-extends : goal.returns-in_err-found-clause-extends
+returns-in_err-found-clause-extends g c = subst (λ (r : Reading). Extends r.log c.self.inside.book) c.self.view_is (extends-same c.self.inside.book)
+
+pub returns-in_err-take_line-in-Line-clause-extends : goal.returns-in_err-take_line-in-Line-clause-extends
+returns-in_err-take_line-in-Line-clause-extends g c = subst (λ (r : Reading). Extends r.log c.take_line.new.book) c.self.view_is c.take_line.ensures.extends
+
+pub returns-in_ok-take_line-in-Line-clause-extends : goal.returns-in_ok-take_line-in-Line-clause-extends
+returns-in_ok-take_line-in-Line-clause-extends g c = subst (λ (r : Reading). Extends r.log c.take_line.new.book) c.self.view_is c.take_line.ensures.extends
+
+pub returns-in_err-torn-in-Rest-clause-extends : goal.returns-in_err-torn-in-Rest-clause-extends
+returns-in_err-torn-in-Rest-clause-extends g c = subst (λ (r : Reading). Extends r.log c.take_rest.new.book) c.self.view_is c.take_rest.ensures.extends
+
+pub returns-in_ok-torn-in-Rest-clause-extends : goal.returns-in_ok-torn-in-Rest-clause-extends
+returns-in_ok-torn-in-Rest-clause-extends g c = subst (λ (r : Reading). Extends r.log c.take_rest.new.book) c.self.view_is c.take_rest.ensures.extends
