@@ -4,7 +4,6 @@
 //! values. Nobody trusts these texts: they say something of any operation and of any number.
 #![tactic(auto)]
 
-mod joining;
 mod log_names;
 mod log_tables;
 mod phrases;

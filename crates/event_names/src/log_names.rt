@@ -1,6 +1,5 @@
 //! The names of a log, as texts on its history have them.
 
-use crate::joining::{Text, around, both, push_text, some};
 use crate::log_tables::{LogTables, StoodFor};
 use crate::phrases::{
     call_label, call_words, client_name, fork_label, fork_words, key_words, value_name,
@@ -52,7 +51,7 @@ impl<'a, T: LogTables> LogNames<'a, T> {
         }
     }
 
-    // What is said of a read of a value at a variable: `end` after it where it found nothing, and else `source` between the two.
+    // What is said of a read of a value at a variable: `end` where it found nothing, and else `source` between the two.
     fn read_words(
         &self,
         alloc: Global,
@@ -61,12 +60,12 @@ impl<'a, T: LogTables> LogNames<'a, T> {
         end: &str,
         source: &str,
     ) -> Result<String, AllocError> {
-        let variable = self.variable(alloc, key);
+        let variable = self.variable(alloc, key)?;
         match self.held(key, value) {
-            Held::Nothing => around(alloc, "found nothing at ", variable, end),
+            Held::Nothing => found_nothing(alloc, &variable, end),
             Held::Value(_) | Held::Mark => {
-                let value = self.value(alloc, key, value);
-                both(alloc, "read ", value, source, variable, "")
+                let value = self.value(alloc, key, value)?;
+                read_value(alloc, &value, source, &variable)
             }
         }
     }
@@ -110,8 +109,8 @@ impl<'a, T: LogTables> Names for LogNames<'a, T> {
         if left_out.is_empty() {
             return Ok(());
         }
-        let named = listed_keys(alloc, self.tables, left_out);
-        push_text(lines, left_out_words(alloc, left_out, named))
+        let named = listed_keys(alloc, self.tables, left_out)?;
+        push_left_out(alloc, lines, left_out, &named)
     }
 
     fn place_words(&self) -> &'static str {
@@ -134,9 +133,7 @@ impl<'a, T: LogTables> Names for LogNames<'a, T> {
         let Some(stood) = self.tables.stood_for(op) else {
             return name_of(alloc, op);
         };
-        let line = self.line(stood);
-        let part = self.part_of_call(op, stood.ending);
-        format!(in alloc; "line {line}{part}")
+        line_words(alloc, self.line(stood), self.part_of_call(op, stood.ending))
     }
 
     fn session(&self, alloc: Global, op: OpId) -> Result<String, AllocError> {
@@ -181,7 +178,7 @@ impl<'a, T: LogTables> Names for LogNames<'a, T> {
     fn variables(&self, alloc: Global, keys: &[u32]) -> Result<String, AllocError> {
         let mut named = Vec::new(alloc);
         for key in keys.iter().take(MAX_KEYS) {
-            push_text(&mut named, self.variable(alloc, *key))?;
+            named.push(self.variable(alloc, *key)?)?;
         }
         listed(alloc, &named, keys.len().saturating_sub(MAX_KEYS))
     }
@@ -200,7 +197,7 @@ impl<'a, T: LogTables> Names for LogNames<'a, T> {
         key: u32,
         value: u64,
     ) -> Result<String, AllocError> {
-        self.read_words(alloc, key, value, "", ", the initial value of ")
+        self.read_words(alloc, key, value, "", "the initial value of")
     }
 
     fn unwritten_read_words(
@@ -214,7 +211,7 @@ impl<'a, T: LogTables> Names for LogNames<'a, T> {
             key,
             value,
             ", though nobody deletes it",
-            ", which nobody wrote to ",
+            "which nobody wrote to",
         )
     }
 
@@ -222,12 +219,8 @@ impl<'a, T: LogTables> Names for LogNames<'a, T> {
         match self.held(key, value) {
             Held::Nothing => String::from_str(alloc, "it holds nothing at the start"),
             Held::Value(_) | Held::Mark => {
-                around(
-                    alloc,
-                    "its initial value is ",
-                    self.value(alloc, key, value),
-                    "",
-                )
+                let value = self.value(alloc, key, value)?;
+                format!(in alloc; "its initial value is {value}")
             }
         }
     }
@@ -243,7 +236,8 @@ impl<'a, T: LogTables> Names for LogNames<'a, T> {
         if !is_mark(key) && is_deleted(value) {
             return String::from_str(alloc, "deleted it");
         }
-        around(alloc, "wrote ", self.value(alloc, key, value), " to it")
+        let value = self.value(alloc, key, value)?;
+        format!(in alloc; "wrote {value} to it")
     }
 }
 
@@ -253,7 +247,8 @@ fn session_of_client<T: LogTables>(
     tables: &T,
     client: u32,
 ) -> Result<String, AllocError> {
-    around(alloc, "client ", client_name(alloc, tables, client), "")
+    let name = client_name(alloc, tables, client)?;
+    format!(in alloc; "client {name}")
 }
 
 // The client of a session that has a number, where it is one.
@@ -276,9 +271,20 @@ fn listed_keys<T: LogTables>(
 ) -> Result<String, AllocError> {
     let mut named = Vec::new(alloc);
     for (key, _) in left_out.iter().take(MAX_KEYS) {
-        push_text(&mut named, key_words(alloc, tables, *key))?;
+        named.push(key_words(alloc, tables, *key)?)?;
     }
     listed(alloc, &named, left_out.len().saturating_sub(MAX_KEYS))
+}
+
+// Puts what is said of reads that are left out after the other lines.
+fn push_left_out(
+    alloc: Global,
+    lines: &mut Vec<String>,
+    left_out: &[(u32, u32)],
+    listed: &str,
+) -> Result<(), AllocError> {
+    lines.push(left_out_words(alloc, reads_of(left_out), left_out.len(), listed)?)?;
+    Ok(())
 }
 
 // How many reads are left out.
@@ -290,12 +296,15 @@ fn reads_of(left_out: &[(u32, u32)]) -> u64 {
     reads
 }
 
-// What is said of reads that are left out, with their keys by name.
-fn left_out_words(alloc: Global, left_out: &[(u32, u32)], listed: Text) -> Text {
-    let listed = listed?;
-    let reads = reads_of(left_out);
+// What is said of reads that are left out, at this many keys.
+fn left_out_words(
+    alloc: Global,
+    reads: u64,
+    keys: usize,
+    listed: &str,
+) -> Result<String, AllocError> {
     let read = if_one(reads, "read", "reads");
-    let are = if_one(left_out.len() as u64, "is", "are");
+    let are = if_one(keys as u64, "is", "are");
     let they = if_one(reads, "it asks", "they ask");
     format!(in alloc;
         "{reads} {read} found nothing at {listed}, which {are} deleted at some time: {they} nothing."
@@ -305,4 +314,32 @@ fn left_out_words(alloc: Global, left_out: &[(u32, u32)], listed: Text) -> Text 
 // The word for one or the word for many.
 fn if_one(count: u64, one: &'static str, many: &'static str) -> &'static str {
     if count == 1 { one } else { many }
+}
+
+// A text as one that is there.
+fn some(text: Result<String, AllocError>) -> Result<Option<String>, AllocError> {
+    match text {
+        Ok(text) => Ok(Some(text)),
+        Err(error) => Err(error),
+    }
+}
+
+// An operation by the line of its call, and which part of the call it is.
+fn line_words(alloc: Global, line: u64, part: &str) -> Result<String, AllocError> {
+    format!(in alloc; "line {line}{part}")
+}
+
+// What is said of a read that found nothing.
+fn found_nothing(alloc: Global, variable: &str, end: &str) -> Result<String, AllocError> {
+    format!(in alloc; "found nothing at {variable}{end}")
+}
+
+// What is said of a read of a value.
+fn read_value(
+    alloc: Global,
+    value: &str,
+    source: &str,
+    variable: &str,
+) -> Result<String, AllocError> {
+    format!(in alloc; "read {value}, {source} {variable}")
 }

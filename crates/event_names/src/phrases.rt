@@ -1,100 +1,139 @@
 //! What is said of single calls, clients, keys and values.
 
-use crate::joining::{Text, around, both};
 use crate::log_tables::{LogTables, StoodFor};
 use crate::shortening::shortened;
 use events::{ClientCall, Ending};
-use std::alloc::Global;
+use std::alloc::{AllocError, Global};
 
 /// A client in words: a text as it is, and else `client 3`.
-pub(crate) fn client_words<T: LogTables>(alloc: Global, tables: &T, client: u32) -> Text {
-    with_word(alloc, client_name(alloc, tables, client), "client ")
+pub(crate) fn client_words<T: LogTables>(
+    alloc: Global,
+    tables: &T,
+    client: u32,
+) -> Result<String, AllocError> {
+    let name = client_name(alloc, tables, client)?;
+    with_word(alloc, name, "client")
 }
 
 /// The name of a client, cut where it is long.
-pub(crate) fn client_name<T: LogTables>(alloc: Global, tables: &T, client: u32) -> Text {
-    shortened(alloc, tables.client_name(alloc, client))
+pub(crate) fn client_name<T: LogTables>(
+    alloc: Global,
+    tables: &T,
+    client: u32,
+) -> Result<String, AllocError> {
+    shortened(alloc, tables.client_name(alloc, client)?)
 }
 
 /// A key in words: a text as it is, and else `key 3`.
-pub(crate) fn key_words<T: LogTables>(alloc: Global, tables: &T, key: u32) -> Text {
-    with_word(alloc, key_name(alloc, tables, key), "key ")
+pub(crate) fn key_words<T: LogTables>(
+    alloc: Global,
+    tables: &T,
+    key: u32,
+) -> Result<String, AllocError> {
+    let name = key_name(alloc, tables, key)?;
+    with_word(alloc, name, "key")
 }
 
 /// The name of a key, cut where it is long.
-pub(crate) fn key_name<T: LogTables>(alloc: Global, tables: &T, key: u32) -> Text {
-    shortened(alloc, tables.key_name(alloc, key))
+pub(crate) fn key_name<T: LogTables>(
+    alloc: Global,
+    tables: &T,
+    key: u32,
+) -> Result<String, AllocError> {
+    shortened(alloc, tables.key_name(alloc, key)?)
 }
 
 /// A value, cut where it is long.
-pub(crate) fn value_name<T: LogTables>(alloc: Global, tables: &T, value: u32) -> Text {
-    shortened(alloc, tables.value_name(alloc, value))
+pub(crate) fn value_name<T: LogTables>(
+    alloc: Global,
+    tables: &T,
+    value: u32,
+) -> Result<String, AllocError> {
+    shortened(alloc, tables.value_name(alloc, value)?)
 }
 
 // A name, with a word before it if the name is no text in quotes.
-fn with_word(alloc: Global, name: Text, word: &str) -> Text {
-    let name = name?;
+fn with_word(alloc: Global, name: String, word: &'static str) -> Result<String, AllocError> {
     if name.starts_with('"') {
         Ok(name)
     } else {
-        around(alloc, word, Ok(name), "")
+        format!(in alloc; "{word} {name}")
     }
 }
 
 /// What a client did by a call, and what is known of its end.
-pub(crate) fn call_words<T: LogTables>(alloc: Global, tables: &T, stood: StoodFor) -> Text {
-    let client = client_words(alloc, tables, stood.client);
-    match stood.call {
+pub(crate) fn call_words<T: LogTables>(
+    alloc: Global,
+    tables: &T,
+    stood: StoodFor,
+) -> Result<String, AllocError> {
+    let client = client_words(alloc, tables, stood.client)?;
+    call_by(alloc, tables, &client, stood.call, stood.ending)
+}
+
+// What a client did by a call.
+fn call_by<T: LogTables>(
+    alloc: Global,
+    tables: &T,
+    client: &str,
+    call: ClientCall,
+    ending: Option<Ending>,
+) -> Result<String, AllocError> {
+    match call {
         ClientCall::WriteTo(key, value) => {
-            let written = write_words(alloc, tables, key, value);
-            written_by(alloc, client, written, stood.ending)
+            let written = write_words(alloc, tables, key, value)?;
+            written_by(alloc, client, &written, ending)
         }
-        ClientCall::ReadOf(key) => read_by(alloc, tables, client, key, stood.ending),
+        ClientCall::ReadOf(key) => {
+            let key = key_words(alloc, tables, key)?;
+            read_by(alloc, tables, client, &key, ending)
+        }
         ClientCall::DeleteOf(key) => {
-            let key = key_words(alloc, tables, key);
-            both(
-                alloc,
-                "",
-                client,
-                " deletes ",
-                key,
-                known_words(stood.ending),
-            )
+            let key = key_words(alloc, tables, key)?;
+            sentence(alloc, client, "deletes", &key, known_words(ending))
         }
     }
 }
 
-// A value and the key to which it is written.
-fn write_words<T: LogTables>(alloc: Global, tables: &T, key: u32, value: u32) -> Text {
-    let value = value_name(alloc, tables, value);
-    both(alloc, "", value, " to ", key_words(alloc, tables, key), "")
+// A client, what it does, to what, and what is known of the end.
+fn sentence(
+    alloc: Global,
+    client: &str,
+    does: &str,
+    what: &str,
+    known: &str,
+) -> Result<String, AllocError> {
+    format!(in alloc; "{client} {does} {what}{known}")
 }
 
-// A value and the key from which it is read.
-fn got_words<T: LogTables>(alloc: Global, tables: &T, key: u32, value: u32) -> Text {
-    let value = value_name(alloc, tables, value);
-    both(
-        alloc,
-        "",
-        value,
-        " from ",
-        key_words(alloc, tables, key),
-        "",
-    )
+// A value and the key to which it is written.
+fn write_words<T: LogTables>(
+    alloc: Global,
+    tables: &T,
+    key: u32,
+    value: u32,
+) -> Result<String, AllocError> {
+    let value = value_name(alloc, tables, value)?;
+    let key = key_words(alloc, tables, key)?;
+    format!(in alloc; "{value} to {key}")
 }
 
 // A write by a client.
-fn written_by(alloc: Global, client: Text, written: Text, ending: Option<Ending>) -> Text {
+fn written_by(
+    alloc: Global,
+    client: &str,
+    written: &str,
+    ending: Option<Ending>,
+) -> Result<String, AllocError> {
     match ending {
-        Some(Ending::Lost) => both(
+        Some(Ending::Lost) => sentence(
             alloc,
-            "",
             client,
-            " calls a write of ",
+            "calls a write of",
             written,
             " and gets no answer",
         ),
-        _ => both(alloc, "", client, " writes ", written, known_words(ending)),
+        _ => sentence(alloc, client, "writes", written, known_words(ending)),
     }
 }
 
@@ -102,24 +141,28 @@ fn written_by(alloc: Global, client: Text, written: Text, ending: Option<Ending>
 fn read_by<T: LogTables>(
     alloc: Global,
     tables: &T,
-    client: Text,
-    key: u32,
+    client: &str,
+    key: &str,
     ending: Option<Ending>,
-) -> Text {
+) -> Result<String, AllocError> {
     match ending {
         Some(Ending::Got(value)) => {
-            let got = got_words(alloc, tables, key, value);
-            both(alloc, "", client, " reads ", got, "")
+            let value = value_name(alloc, tables, value)?;
+            value_read_by(alloc, client, &value, key)
         }
-        Some(Ending::GotNothing) => {
-            let key = key_words(alloc, tables, key);
-            both(alloc, "", client, " finds nothing at ", key, "")
-        }
-        _ => {
-            let key = key_words(alloc, tables, key);
-            both(alloc, "", client, " reads ", key, known_words(ending))
-        }
+        Some(Ending::GotNothing) => sentence(alloc, client, "finds nothing at", key, ""),
+        _ => sentence(alloc, client, "reads", key, known_words(ending)),
     }
+}
+
+// A read of a value by a client.
+fn value_read_by(
+    alloc: Global,
+    client: &str,
+    value: &str,
+    key: &str,
+) -> Result<String, AllocError> {
+    format!(in alloc; "{client} reads {value} from {key}")
 }
 
 // What is said of a call that did not end.
@@ -136,69 +179,86 @@ pub(crate) fn fork_words<T: LogTables>(
     tables: &T,
     stood: StoodFor,
     is_effect: bool,
-) -> Text {
-    let client = client_words(alloc, tables, stood.client);
+) -> Result<String, AllocError> {
+    let client = client_words(alloc, tables, stood.client)?;
     match stood.call {
         ClientCall::WriteTo(key, value) if is_effect => {
-            let written = write_words(alloc, tables, key, value);
-            both(
-                alloc,
-                "the lost write of ",
-                written,
-                " by ",
-                client,
-                " takes effect",
-            )
+            let written = write_words(alloc, tables, key, value)?;
+            effect_words(alloc, &written, &client)
         }
-        _ => wait_words(alloc, client),
+        _ => wait_words(alloc, &client),
     }
 }
 
+// A lost write that takes effect.
+fn effect_words(alloc: Global, written: &str, client: &str) -> Result<String, AllocError> {
+    format!(in alloc; "the lost write of {written} by {client} takes effect")
+}
+
 // A lost write that waits.
-fn wait_words(alloc: Global, client: Text) -> Text {
-    let client = client?;
+fn wait_words(alloc: Global, client: &str) -> Result<String, AllocError> {
     format!(in alloc;
         "the lost write of {client} comes after all that {client} had called before it"
     )
 }
 
 /// The label of a call in a picture.
-pub(crate) fn call_label<T: LogTables>(alloc: Global, tables: &T, stood: StoodFor) -> Text {
+pub(crate) fn call_label<T: LogTables>(
+    alloc: Global,
+    tables: &T,
+    stood: StoodFor,
+) -> Result<String, AllocError> {
     match stood.call {
         ClientCall::WriteTo(key, value) => {
             write_label(alloc, tables, key, value, end_label(stood.ending))
         }
         ClientCall::ReadOf(key) => read_label(alloc, tables, key, stood.ending),
         ClientCall::DeleteOf(key) => {
-            let key = key_name(alloc, tables, key);
-            around(alloc, "del ", key, end_label(stood.ending))
+            let key = key_name(alloc, tables, key)?;
+            label(alloc, "del", &key, "", end_label(stood.ending))
         }
     }
 }
 
+// A letter for what is done, the key, what is said of the value, and what of the end.
+fn label(
+    alloc: Global,
+    does: &str,
+    key: &str,
+    value: &str,
+    end: &str,
+) -> Result<String, AllocError> {
+    format!(in alloc; "{does} {key}{value}{end}")
+}
+
 // The label of a write.
-fn write_label<T: LogTables>(alloc: Global, tables: &T, key: u32, value: u32, end: &str) -> Text {
-    let key = key_name(alloc, tables, key);
-    both(
-        alloc,
-        "w ",
-        key,
-        " = ",
-        value_name(alloc, tables, value),
-        end,
-    )
+fn write_label<T: LogTables>(
+    alloc: Global,
+    tables: &T,
+    key: u32,
+    value: u32,
+    end: &str,
+) -> Result<String, AllocError> {
+    let key = key_name(alloc, tables, key)?;
+    let value = value_name(alloc, tables, value)?;
+    format!(in alloc; "w {key} = {value}{end}")
 }
 
 // The label of a read.
-fn read_label<T: LogTables>(alloc: Global, tables: &T, key: u32, ending: Option<Ending>) -> Text {
-    let key = key_name(alloc, tables, key);
+fn read_label<T: LogTables>(
+    alloc: Global,
+    tables: &T,
+    key: u32,
+    ending: Option<Ending>,
+) -> Result<String, AllocError> {
+    let key = key_name(alloc, tables, key)?;
     match ending {
         Some(Ending::Got(value)) => {
-            let value = value_name(alloc, tables, value);
-            both(alloc, "r ", key, " → ", value, "")
+            let value = value_name(alloc, tables, value)?;
+            label(alloc, "r", &key, " → ", &value)
         }
-        Some(Ending::GotNothing) => around(alloc, "r ", key, " → nothing"),
-        _ => around(alloc, "r ", key, " → ?"),
+        Some(Ending::GotNothing) => label(alloc, "r", &key, " → ", "nothing"),
+        _ => label(alloc, "r", &key, " → ", "?"),
     }
 }
 
@@ -217,7 +277,7 @@ pub(crate) fn fork_label<T: LogTables>(
     tables: &T,
     stood: StoodFor,
     is_effect: bool,
-) -> Text {
+) -> Result<String, AllocError> {
     match stood.call {
         ClientCall::WriteTo(key, value) if is_effect => write_label(alloc, tables, key, value, ""),
         _ => {

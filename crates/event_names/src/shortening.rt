@@ -1,7 +1,6 @@
 //! Names that are too long for a line.
 
-use crate::joining::Text;
-use std::alloc::Global;
+use std::alloc::{AllocError, Global};
 
 /// How many letters of a longer name are shown.
 const MAX_LETTERS: usize = 60;
@@ -32,8 +31,7 @@ impl Escape {
 /// A JSON text. If it is longer than some 60 letters, three dots within its quotes replace what is left out. No escape is cut.
 ///
 /// Fails for want of memory alone. O(n) for a text of n letters.
-pub(crate) fn shortened(alloc: Global, text: Text) -> Text {
-    let text = text?;
+pub(crate) fn shortened(alloc: Global, text: String) -> Result<String, AllocError> {
     if text.chars().count() <= MAX_LETTERS {
         return Ok(text);
     }
@@ -41,7 +39,7 @@ pub(crate) fn shortened(alloc: Global, text: Text) -> Text {
 }
 
 // The first letters of a JSON text, to the end of an escape, and three dots within its quotes.
-fn cut(alloc: Global, text: &str) -> Text {
+fn cut(alloc: Global, text: &str) -> Result<String, AllocError> {
     let mut short = String::new(alloc);
     let mut letters: usize = 0;
     let mut escape = Escape::None;
