@@ -42,34 +42,6 @@ impl<'a, T: LogTables> LogNames<'a, T> {
         self.tables.line(stood.place)
     }
 
-    // Which part of its call an operation is, where it is not the whole of it.
-    fn part_of_call(&self, op: OpId, ending: Option<Ending>) -> &'static str {
-        match ending {
-            Some(Ending::Lost) if !self.is_in_fork(op) => " (call)",
-            _ if self.is_in_fork(op) && op.index == 0 => " (later)",
-            _ => "",
-        }
-    }
-
-    // What is said of a read of a value at a variable: `end` where it found nothing, and else `source` between the two.
-    fn read_words(
-        &self,
-        alloc: Global,
-        key: u32,
-        value: u64,
-        end: &str,
-        source: &str,
-    ) -> Result<String, AllocError> {
-        let variable = self.variable(alloc, key)?;
-        match self.held(key, value) {
-            Held::Nothing => found_nothing(alloc, &variable, end),
-            Held::Value(_) | Held::Mark => {
-                let value = self.value(alloc, key, value)?;
-                read_value(alloc, &value, source, &variable)
-            }
-        }
-    }
-
     // What the value of a variable represents.
     fn held(&self, key: u32, value: u64) -> Held {
         if is_mark(key) {
@@ -109,8 +81,15 @@ impl<'a, T: LogTables> Names for LogNames<'a, T> {
         if left_out.is_empty() {
             return Ok(());
         }
-        let named = listed_keys(alloc, self.tables, left_out)?;
-        push_left_out(alloc, lines, left_out, &named)
+        let mut keys = Vec::new(alloc);
+        let mut reads: u64 = 0;
+        for (key, count) in left_out {
+            keys.push(*key)?;
+            reads = reads.saturating_add(u64::from(*count));
+        }
+        let named = listed_keys(alloc, self.tables, &keys)?;
+        lines.push(left_out_words(alloc, reads, keys.len(), &named)?)?;
+        Ok(())
     }
 
     fn place_words(&self) -> &'static str {
@@ -133,7 +112,15 @@ impl<'a, T: LogTables> Names for LogNames<'a, T> {
         let Some(stood) = self.tables.stood_for(op) else {
             return name_of(alloc, op);
         };
-        line_words(alloc, self.line(stood), self.part_of_call(op, stood.ending))
+        let line = self.line(stood);
+        if self.is_in_fork(op) {
+            if op.index == 0 {
+                return format!(in alloc; "line {line} (later)");
+            }
+        } else if stood.ending == Some(Ending::Lost) {
+            return format!(in alloc; "line {line} (call)");
+        }
+        format!(in alloc; "line {line}")
     }
 
     fn session(&self, alloc: Global, op: OpId) -> Result<String, AllocError> {
@@ -150,9 +137,9 @@ impl<'a, T: LogTables> Names for LogNames<'a, T> {
     fn phrase(&self, alloc: Global, op: OpId) -> Result<Option<String>, AllocError> {
         match self.tables.stood_for(op) {
             Some(stood) if self.is_in_fork(op) => {
-                some(fork_words(alloc, self.tables, stood, op.index > 0))
+                Ok(Some(fork_words(alloc, self.tables, stood, op.index > 0)?))
             }
-            Some(stood) => some(call_words(alloc, self.tables, stood)),
+            Some(stood) => Ok(Some(call_words(alloc, self.tables, stood)?)),
             None => Ok(None),
         }
     }
@@ -160,9 +147,9 @@ impl<'a, T: LogTables> Names for LogNames<'a, T> {
     fn label(&self, alloc: Global, op: OpId) -> Result<Option<String>, AllocError> {
         match self.tables.stood_for(op) {
             Some(stood) if self.is_in_fork(op) => {
-                some(fork_label(alloc, self.tables, stood, op.index > 0))
+                Ok(Some(fork_label(alloc, self.tables, stood, op.index > 0)?))
             }
-            Some(stood) => some(call_label(alloc, self.tables, stood)),
+            Some(stood) => Ok(Some(call_label(alloc, self.tables, stood)?)),
             None => Ok(None),
         }
     }
@@ -197,7 +184,14 @@ impl<'a, T: LogTables> Names for LogNames<'a, T> {
         key: u32,
         value: u64,
     ) -> Result<String, AllocError> {
-        self.read_words(alloc, key, value, "", "the initial value of")
+        let variable = self.variable(alloc, key)?;
+        match self.held(key, value) {
+            Held::Nothing => format!(in alloc; "found nothing at {variable}"),
+            Held::Value(_) | Held::Mark => {
+                let value = self.value(alloc, key, value)?;
+                format!(in alloc; "read {value}, the initial value of {variable}")
+            }
+        }
     }
 
     fn unwritten_read_words(
@@ -206,13 +200,16 @@ impl<'a, T: LogTables> Names for LogNames<'a, T> {
         key: u32,
         value: u64,
     ) -> Result<String, AllocError> {
-        self.read_words(
-            alloc,
-            key,
-            value,
-            ", though nobody deletes it",
-            "which nobody wrote to",
-        )
+        let variable = self.variable(alloc, key)?;
+        match self.held(key, value) {
+            Held::Nothing => {
+                format!(in alloc; "found nothing at {variable}, though nobody deletes it")
+            }
+            Held::Value(_) | Held::Mark => {
+                let value = self.value(alloc, key, value)?;
+                format!(in alloc; "read {value}, which nobody wrote to {variable}")
+            }
+        }
     }
 
     fn initial_words(&self, alloc: Global, key: u32, value: u64) -> Result<String, AllocError> {
@@ -263,37 +260,17 @@ fn session_of_number<T: LogTables>(
     }
 }
 
-// The first 8 of the keys at which reads are left out by their names, and how many more there are.
+// The first 8 keys of a log by their names, and how many more there are.
 fn listed_keys<T: LogTables>(
     alloc: Global,
     tables: &T,
-    left_out: &[(u32, u32)],
+    keys: &[u32],
 ) -> Result<String, AllocError> {
     let mut named = Vec::new(alloc);
-    for (key, _) in left_out.iter().take(MAX_KEYS) {
+    for key in keys.iter().take(MAX_KEYS) {
         named.push(key_words(alloc, tables, *key)?)?;
     }
-    listed(alloc, &named, left_out.len().saturating_sub(MAX_KEYS))
-}
-
-// Puts what is said of reads that are left out after the other lines.
-fn push_left_out(
-    alloc: Global,
-    lines: &mut Vec<String>,
-    left_out: &[(u32, u32)],
-    listed: &str,
-) -> Result<(), AllocError> {
-    lines.push(left_out_words(alloc, reads_of(left_out), left_out.len(), listed)?)?;
-    Ok(())
-}
-
-// How many reads are left out.
-fn reads_of(left_out: &[(u32, u32)]) -> u64 {
-    let mut reads: u64 = 0;
-    for (_, count) in left_out {
-        reads = reads.saturating_add(u64::from(*count));
-    }
-    reads
+    listed(alloc, &named, keys.len().saturating_sub(MAX_KEYS))
 }
 
 // What is said of reads that are left out, at this many keys.
@@ -303,43 +280,13 @@ fn left_out_words(
     keys: usize,
     listed: &str,
 ) -> Result<String, AllocError> {
-    let read = if_one(reads, "read", "reads");
-    let are = if_one(keys as u64, "is", "are");
-    let they = if_one(reads, "it asks", "they ask");
+    let (ending, they) = if reads == 1 {
+        ("", "it asks")
+    } else {
+        ("s", "they ask")
+    };
+    let are = if keys == 1 { "is" } else { "are" };
     format!(in alloc;
-        "{reads} {read} found nothing at {listed}, which {are} deleted at some time: {they} nothing."
+        "{reads} read{ending} found nothing at {listed}, which {are} deleted at some time: {they} nothing."
     )
-}
-
-// The word for one or the word for many.
-fn if_one(count: u64, one: &'static str, many: &'static str) -> &'static str {
-    if count == 1 { one } else { many }
-}
-
-// A text as one that is there.
-fn some(text: Result<String, AllocError>) -> Result<Option<String>, AllocError> {
-    match text {
-        Ok(text) => Ok(Some(text)),
-        Err(error) => Err(error),
-    }
-}
-
-// An operation by the line of its call, and which part of the call it is.
-fn line_words(alloc: Global, line: u64, part: &str) -> Result<String, AllocError> {
-    format!(in alloc; "line {line}{part}")
-}
-
-// What is said of a read that found nothing.
-fn found_nothing(alloc: Global, variable: &str, end: &str) -> Result<String, AllocError> {
-    format!(in alloc; "found nothing at {variable}{end}")
-}
-
-// What is said of a read of a value.
-fn read_value(
-    alloc: Global,
-    value: &str,
-    source: &str,
-    variable: &str,
-) -> Result<String, AllocError> {
-    format!(in alloc; "read {value}, {source} {variable}")
 }

@@ -68,42 +68,21 @@ pub(crate) fn call_words<T: LogTables>(
     stood: StoodFor,
 ) -> Result<String, AllocError> {
     let client = client_words(alloc, tables, stood.client)?;
-    call_by(alloc, tables, &client, stood.call, stood.ending)
-}
-
-// What a client did by a call.
-fn call_by<T: LogTables>(
-    alloc: Global,
-    tables: &T,
-    client: &str,
-    call: ClientCall,
-    ending: Option<Ending>,
-) -> Result<String, AllocError> {
-    match call {
+    match stood.call {
         ClientCall::WriteTo(key, value) => {
             let written = write_words(alloc, tables, key, value)?;
-            written_by(alloc, client, &written, ending)
+            written_by(alloc, &client, &written, stood.ending)
         }
         ClientCall::ReadOf(key) => {
             let key = key_words(alloc, tables, key)?;
-            read_by(alloc, tables, client, &key, ending)
+            read_by(alloc, tables, &client, &key, stood.ending)
         }
         ClientCall::DeleteOf(key) => {
             let key = key_words(alloc, tables, key)?;
-            sentence(alloc, client, "deletes", &key, known_words(ending))
+            let known = known_words(stood.ending);
+            format!(in alloc; "{client} deletes {key}{known}")
         }
     }
-}
-
-// A client, what it does, to what, and what is known of the end.
-fn sentence(
-    alloc: Global,
-    client: &str,
-    does: &str,
-    what: &str,
-    known: &str,
-) -> Result<String, AllocError> {
-    format!(in alloc; "{client} {does} {what}{known}")
 }
 
 // A value and the key to which it is written.
@@ -126,14 +105,13 @@ fn written_by(
     ending: Option<Ending>,
 ) -> Result<String, AllocError> {
     match ending {
-        Some(Ending::Lost) => sentence(
-            alloc,
-            client,
-            "calls a write of",
-            written,
-            " and gets no answer",
-        ),
-        _ => sentence(alloc, client, "writes", written, known_words(ending)),
+        Some(Ending::Lost) => {
+            format!(in alloc; "{client} calls a write of {written} and gets no answer")
+        }
+        _ => {
+            let known = known_words(ending);
+            format!(in alloc; "{client} writes {written}{known}")
+        }
     }
 }
 
@@ -148,21 +126,14 @@ fn read_by<T: LogTables>(
     match ending {
         Some(Ending::Got(value)) => {
             let value = value_name(alloc, tables, value)?;
-            value_read_by(alloc, client, &value, key)
+            format!(in alloc; "{client} reads {value} from {key}")
         }
-        Some(Ending::GotNothing) => sentence(alloc, client, "finds nothing at", key, ""),
-        _ => sentence(alloc, client, "reads", key, known_words(ending)),
+        Some(Ending::GotNothing) => format!(in alloc; "{client} finds nothing at {key}"),
+        _ => {
+            let known = known_words(ending);
+            format!(in alloc; "{client} reads {key}{known}")
+        }
     }
-}
-
-// A read of a value by a client.
-fn value_read_by(
-    alloc: Global,
-    client: &str,
-    value: &str,
-    key: &str,
-) -> Result<String, AllocError> {
-    format!(in alloc; "{client} reads {value} from {key}")
 }
 
 // What is said of a call that did not end.
@@ -184,22 +155,12 @@ pub(crate) fn fork_words<T: LogTables>(
     match stood.call {
         ClientCall::WriteTo(key, value) if is_effect => {
             let written = write_words(alloc, tables, key, value)?;
-            effect_words(alloc, &written, &client)
+            format!(in alloc; "the lost write of {written} by {client} takes effect")
         }
-        _ => wait_words(alloc, &client),
+        _ => format!(in alloc;
+            "the lost write of {client} comes after all that {client} had called before it"
+        ),
     }
-}
-
-// A lost write that takes effect.
-fn effect_words(alloc: Global, written: &str, client: &str) -> Result<String, AllocError> {
-    format!(in alloc; "the lost write of {written} by {client} takes effect")
-}
-
-// A lost write that waits.
-fn wait_words(alloc: Global, client: &str) -> Result<String, AllocError> {
-    format!(in alloc;
-        "the lost write of {client} comes after all that {client} had called before it"
-    )
 }
 
 /// The label of a call in a picture.
@@ -210,25 +171,20 @@ pub(crate) fn call_label<T: LogTables>(
 ) -> Result<String, AllocError> {
     match stood.call {
         ClientCall::WriteTo(key, value) => {
-            write_label(alloc, tables, key, value, end_label(stood.ending))
+            let written = write_label(alloc, tables, key, value)?;
+            let end = end_label(stood.ending);
+            format!(in alloc; "{written}{end}")
         }
-        ClientCall::ReadOf(key) => read_label(alloc, tables, key, stood.ending),
+        ClientCall::ReadOf(key) => {
+            let key = key_name(alloc, tables, key)?;
+            read_label(alloc, tables, &key, stood.ending)
+        }
         ClientCall::DeleteOf(key) => {
             let key = key_name(alloc, tables, key)?;
-            label(alloc, "del", &key, "", end_label(stood.ending))
+            let end = end_label(stood.ending);
+            format!(in alloc; "del {key}{end}")
         }
     }
-}
-
-// A letter for what is done, the key, what is said of the value, and what of the end.
-fn label(
-    alloc: Global,
-    does: &str,
-    key: &str,
-    value: &str,
-    end: &str,
-) -> Result<String, AllocError> {
-    format!(in alloc; "{does} {key}{value}{end}")
 }
 
 // The label of a write.
@@ -237,28 +193,26 @@ fn write_label<T: LogTables>(
     tables: &T,
     key: u32,
     value: u32,
-    end: &str,
 ) -> Result<String, AllocError> {
     let key = key_name(alloc, tables, key)?;
     let value = value_name(alloc, tables, value)?;
-    format!(in alloc; "w {key} = {value}{end}")
+    format!(in alloc; "w {key} = {value}")
 }
 
 // The label of a read.
 fn read_label<T: LogTables>(
     alloc: Global,
     tables: &T,
-    key: u32,
+    key: &str,
     ending: Option<Ending>,
 ) -> Result<String, AllocError> {
-    let key = key_name(alloc, tables, key)?;
     match ending {
         Some(Ending::Got(value)) => {
             let value = value_name(alloc, tables, value)?;
-            label(alloc, "r", &key, " → ", &value)
+            format!(in alloc; "r {key} → {value}")
         }
-        Some(Ending::GotNothing) => label(alloc, "r", &key, " → ", "nothing"),
-        _ => label(alloc, "r", &key, " → ", "?"),
+        Some(Ending::GotNothing) => format!(in alloc; "r {key} → nothing"),
+        _ => format!(in alloc; "r {key} → ?"),
     }
 }
 
@@ -279,7 +233,7 @@ pub(crate) fn fork_label<T: LogTables>(
     is_effect: bool,
 ) -> Result<String, AllocError> {
     match stood.call {
-        ClientCall::WriteTo(key, value) if is_effect => write_label(alloc, tables, key, value, ""),
+        ClientCall::WriteTo(key, value) if is_effect => write_label(alloc, tables, key, value),
         _ => {
             let line = tables.line(stood.place);
             format!(in alloc; "after the call of line {line}")

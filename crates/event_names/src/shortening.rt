@@ -6,7 +6,7 @@ use std::alloc::{AllocError, Global};
 const MAX_LETTERS: usize = 60;
 
 /// What an escape of a JSON text has still to come.
-#[derive(Clone, Copy)]
+#[derive(Clone, Copy, Debug, PartialEq, Eq)]
 enum Escape {
     /// No escape is open.
     None,
@@ -35,16 +35,11 @@ pub(crate) fn shortened(alloc: Global, text: String) -> Result<String, AllocErro
     if text.chars().count() <= MAX_LETTERS {
         return Ok(text);
     }
-    cut(alloc, text.as_str())
-}
-
-// The first letters of a JSON text, to the end of an escape, and three dots within its quotes.
-fn cut(alloc: Global, text: &str) -> Result<String, AllocError> {
     let mut short = String::new(alloc);
     let mut letters: usize = 0;
     let mut escape = Escape::None;
     for character in text.chars() {
-        if letters >= MAX_LETTERS && matches!(escape, Escape::None) {
+        if escape == Escape::None && letters >= MAX_LETTERS {
             break;
         }
         short.push(character)?;
