@@ -1,4 +1,4 @@
-//! Pieces of a certificate of causal memory that one checker checks in another order than theirs.
+//! One checker checks pieces of two sessions, one after the other.
 
 use crate::case_files::certificate_of;
 use crate::expectations::expect_ok;
@@ -10,15 +10,15 @@ use objects::Memory;
 use std::alloc::{AllocError, Global};
 use std::test::Fail;
 
-/// How many writes at another key the first session and the third have. Together they are more than the 256 calls over which a checker looks
-/// back for the write that it reads, so it replays these schedules.
+/// How many writes at another key the first session has, and the third. Together they are more than the 256 calls over which a checker
+/// looks back for the write that it reads, so it replays these schedules.
 const WRITES: usize = 200;
 
-/// The last operation of the first session and of the second.
+/// The last operation of the first session, and the last of the second.
 const LAST: [OpId; 2] = [
     OpId {
         session: 0,
-        index: 201,
+        index: WRITES as u64 + 1,
     },
     OpId {
         session: 1,
@@ -26,8 +26,8 @@ const LAST: [OpId; 2] = [
     },
 ];
 
-/// A history whose first session writes 1 at a key, and reads it after writes at another key. The second reads 0 there, and then 1. The third
-/// writes at the other key alone.
+/// A history whose first session writes 1 at a key, and reads it after writes at another key. The second session reads 0 there, and then 1.
+/// The third writes at the other key alone.
 fn history_of(alloc: Global) -> Result<String, AllocError> {
     let write = r#"["w",0,2],"#;
     joined(
@@ -42,8 +42,9 @@ fn history_of(alloc: Global) -> Result<String, AllocError> {
     )
 }
 
-/// A certificate that has a schedule for each of both operations. Both have the read of 0 after the write of 1. That of the second session
-/// begins with all of that of the first.
+/// A certificate that has a schedule for each of these two operations. Both have the read of 0 after the write of 1. That of the second
+/// session begins with all of that of the first. Its vectors count the operations of the first session, `WRITES + 2`, and the writes of the
+/// third.
 fn schedules_of(alloc: Global) -> Result<String, AllocError> {
     joined(
         alloc,
@@ -66,7 +67,7 @@ fn schedules_of(alloc: Global) -> Result<String, AllocError> {
 }
 
 /// The case file of the history and the certificate.
-fn filed(alloc: Global) -> Result<Option<CaseFile<Memory>>, AllocError> {
+fn case_file_of(alloc: Global) -> Result<Option<CaseFile<Memory>>, AllocError> {
     let text = schedules_of(alloc)?;
     let certificate = certificate_of(alloc, text.as_str());
     let text = history_of(alloc)?;
@@ -97,7 +98,7 @@ fn outcomes_of<O: SeqObject>(
 
 /// What a checker finds of the pieces.
 fn outcomes(alloc: Global) -> Result<Option<[Outcome; 2]>, AllocError> {
-    match filed(alloc)? {
+    match case_file_of(alloc)? {
         Some(file) => {
             let found = outcomes_of(alloc, &file);
             drop(file);
