@@ -47,9 +47,9 @@ mod recorder_steps;
 #[cfg(test)]
 mod recordings;
 #[cfg(test)]
-mod replica_steps;
-#[cfg(test)]
 mod replayed_pieces;
+#[cfg(test)]
+mod replica_steps;
 #[cfg(test)]
 mod replicas;
 #[cfg(test)]
