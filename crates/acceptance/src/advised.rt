@@ -69,7 +69,7 @@ impl Finding for Unexplained {
 
 #[test]
 fn certificates_from_advice_explain_all_or_not(rt: HostRuntime) -> Result<(), Fail> {
-    expect_rows::<Unexplained>(&rt, ROWS)
+    expect_rows::<Unexplained>(rt.alloc(), ROWS)
 }
 
 /// What is found in the history of a counter or a memory.

@@ -52,5 +52,5 @@ fn core_in(
 
 #[test]
 fn core_is_judged_by_itself(rt: HostRuntime) -> Result<(), Fail> {
-    expect_rows::<CoreText>(&rt, ROWS)
+    expect_rows::<CoreText>(rt.alloc(), ROWS)
 }

@@ -1,6 +1,6 @@
 //! Laws of objects that are called, and a counter that is full.
 
-use crate::expectations::expect_ok;
+use expectations::expect_ok;
 use object_trait::SeqObject;
 use objects::laws::{answer_depends_on_its_key, counter_stays_full};
 use objects::{Counter, CounterCall, CounterRet, Register};
@@ -21,5 +21,5 @@ fn full_counter_stays_full(rt: HostRuntime) -> Result<(), Fail> {
     counter_stays_full();
     answer_depends_on_its_key::<Register>();
     let full = CounterRet::Value(u64::MAX);
-    expect_ok(&rt, answers_when_full(), (full, full))
+    expect_ok(answers_when_full(), (full, full))
 }

@@ -49,7 +49,7 @@ fn part_named<O: SeqObject>(
 
 #[test]
 fn parts_are_cut_out(rt: HostRuntime) -> Result<(), Fail> {
-    expect_rows::<CutOut>(&rt, ROWS)
+    expect_rows::<CutOut>(rt.alloc(), ROWS)
 }
 
 /// How a part is named, the text of what it names, and the history.

@@ -6,10 +6,10 @@ use crate::case_files::{
     FileText, Filed, NO_OPERATION, READ_AFTER_ITS_WRITE, THREE_OF_ONE_SESSION,
     VALUES_THAT_NOBODY_WROTE, WITHOUT_A_CERTIFICATE, pattern_of,
 };
-use crate::expectations::{expect_ok, expect_same};
 use bad_patterns::{Kind, Pattern, Refutable};
 use cert_check::{Criterion, DeskError, Outcome};
 use desk::{Answer, Desk, Shelf, ShelfName, Ticket, Verdict};
+use expectations::{expect_ok, expect_same};
 use objects::Memory;
 use operations::OpId;
 use std::alloc::{AllocError, Global};
@@ -185,22 +185,22 @@ const FULL: [(Step, Seen); 7] = [
 
 #[test]
 fn desk_shows_verdicts(rt: HostRuntime) -> Result<(), Fail> {
-    expect_ok(&rt, first_unwanted(&rt, &VERDICTS), None)
+    expect_ok(first_unwanted(&rt, &VERDICTS), None)
 }
 
 #[test]
 fn desk_shows_patterns(rt: HostRuntime) -> Result<(), Fail> {
-    expect_ok(&rt, first_unwanted(&rt, &PATTERNS), None)
+    expect_ok(first_unwanted(&rt, &PATTERNS), None)
 }
 
 #[test]
 fn desk_shows_pieces(rt: HostRuntime) -> Result<(), Fail> {
-    expect_ok(&rt, first_unwanted(&rt, &PIECES), None)
+    expect_ok(first_unwanted(&rt, &PIECES), None)
 }
 
 #[test]
 fn desk_is_full(rt: HostRuntime) -> Result<(), Fail> {
-    expect_ok(&rt, first_unwanted(&rt, &FULL), None)
+    expect_ok(first_unwanted(&rt, &FULL), None)
 }
 
 /// Three cases are filed, the second without a certificate, and the third by the call that gives back the file.
@@ -224,7 +224,7 @@ fn file(rt: HostRuntime) -> Result<(), Fail> {
         Ok(unwanted) => Ok(unwanted),
         Err(_refused) => first_unwanted(&rt, &FILED),
     };
-    expect_ok(&rt, unwanted, None)
+    expect_ok(unwanted, None)
 }
 
 /// A case of three pieces is worked on, and worked on once more, and settled.
@@ -273,7 +273,7 @@ fn abandoned(rt: HostRuntime) -> Result<(), Fail> {
     };
     if seen.as_slice() != WORKED.as_slice() {
         println!(rt; "{seen:?}")?;
-        expect_same(&rt, is_abandoned(seen.as_slice()), true);
+        expect_same(is_abandoned(seen.as_slice()), true)?;
     }
     Ok(())
 }
@@ -394,7 +394,7 @@ const APART: [Seen; 9] = [
 
 #[test]
 fn two_desks_are_apart(rt: HostRuntime) -> Result<(), Fail> {
-    expect_ok(&rt, is_seen_apart(&rt), true)
+    expect_ok(is_seen_apart(&rt), true)
 }
 
 /// Whether the steps at two desks give what is wanted.

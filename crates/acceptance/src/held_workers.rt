@@ -3,12 +3,12 @@
 ghost use Rattle.std.specs.Prelude.{◌≡◌};
 
 use crate::case_files::{FileText, READ_AFTER_ITS_WRITE, file_of, pattern_of};
-use crate::expectations::{expect_ok, expect_ok_at};
 use crate::histories::{joined, memory};
 use bad_patterns::{Kind, Pattern, Refutable};
 use cert_check::{CaseFile, Criterion, DeskError};
 use collector::judge_with;
 use desk::{Answer, Desk, Shelf, ShelfName, Ticket};
+use expectations::{expect_ok, expect_ok_at};
 use objects::Memory;
 use operations::OpId;
 use std::alloc::{AllocError, Global};
@@ -104,7 +104,7 @@ fn said_by_two<P: Threads + Wait + Sync + AllocGlobal>(
 
 #[test]
 fn gate_two(rt: HostRuntime) -> Result<(), Fail> {
-    expect_ok(&rt, said_by_two(&rt), (Answer::Yes, true))
+    expect_ok(said_by_two(&rt), (Answer::Yes, true))
 }
 
 /// What two threads do at once with a case.
@@ -167,7 +167,7 @@ const TOGETHER: [(Parts, Left); 3] = [
 #[test]
 fn two_threads_share_a_case(rt: HostRuntime) -> Result<(), Fail> {
     for (parts, wanted) in TOGETHER {
-        expect_ok_at(&rt, parts, together(&rt, parts), wanted)?;
+        expect_ok_at(parts, together(&rt, parts), wanted)?;
     }
     Ok(())
 }

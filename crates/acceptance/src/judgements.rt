@@ -4,11 +4,11 @@ use crate::case_files::{
     FileText, READ_AFTER_ITS_WRITE, VALUES_THAT_NOBODY_WROTE, WITHOUT_A_CERTIFICATE,
     certificate_of, file_of,
 };
-use crate::expectations::{expect_ok_at, expect_same, expect_same_at};
 use crate::histories::memory;
 use bad_patterns::Kind;
 use cert_check::{CaseFile, Criterion, DeskError};
 use collector::{Answer, OpenGate, judge, judge_with};
+use expectations::{expect_ok_at, expect_same, expect_same_at};
 use history::OpId;
 use std::alloc::Global;
 use std::sync::Wait;
@@ -31,11 +31,11 @@ const FIRST: OpId = OpId {
 fn histories_are_judged_by_any_number_of_workers(rt: HostRuntime) -> Result<(), Fail> {
     for workers in [1, 2, 16] {
         let yes = judged(&rt, READ_AFTER_ITS_WRITE, workers);
-        expect_ok_at(&rt, workers, yes, Answer::Yes)?;
+        expect_ok_at(workers, yes, Answer::Yes)?;
         let no = judged(&rt, VALUES_THAT_NOBODY_WROTE, workers);
-        expect_ok_at(&rt, workers, no, Answer::No(Kind::ThinAirRead))?;
+        expect_ok_at(workers, no, Answer::No(Kind::ThinAirRead))?;
         let unknown = judged(&rt, REPEATED, workers);
-        expect_ok_at(&rt, workers, unknown, Answer::Unknown(None))?;
+        expect_ok_at(workers, unknown, Answer::Unknown(None))?;
     }
     Ok(())
 }
@@ -44,11 +44,11 @@ fn histories_are_judged_by_any_number_of_workers(rt: HostRuntime) -> Result<(), 
 fn certificates_are_judged_by_any_number_of_workers(rt: HostRuntime) -> Result<(), Fail> {
     for workers in [1, 2, 16] {
         let yes = judged_with(&rt, READ_AFTER_ITS_WRITE, workers);
-        expect_ok_at(&rt, workers, yes, Answer::Yes)?;
+        expect_ok_at(workers, yes, Answer::Yes)?;
         let unexplained = judged_with(&rt, VALUES_THAT_NOBODY_WROTE, workers);
-        expect_ok_at(&rt, workers, unexplained, Answer::Unknown(Some(FIRST)))?;
+        expect_ok_at(workers, unexplained, Answer::Unknown(Some(FIRST)))?;
         let unknown = judged_with(&rt, REPEATED, workers);
-        expect_ok_at(&rt, workers, unknown, Answer::Unknown(None))?;
+        expect_ok_at(workers, unknown, Answer::Unknown(None))?;
     }
     Ok(())
 }
@@ -68,13 +68,14 @@ const OTHER_NUMBERS: [(usize, FileText); 9] = [
 ];
 
 #[test]
-fn other_numbers_of_workers_are_refused(rt: HostRuntime) {
+fn other_numbers_of_workers_are_refused(rt: HostRuntime) -> Result<(), Fail> {
     for (workers, text) in OTHER_NUMBERS {
         let refused = judged(&rt, text, workers);
-        expect_same_at(&rt, workers, refused, Err(DeskError::BadWorkers));
+        expect_same_at(workers, refused, Err(DeskError::BadWorkers))?;
         let refused = judged_with(&rt, text, workers);
-        expect_same_at(&rt, workers, refused, Err(DeskError::BadWorkers));
+        expect_same_at(workers, refused, Err(DeskError::BadWorkers))?;
     }
+    Ok(())
 }
 
 /// A certificate of causal consistency that is filed for causal memory.
@@ -92,12 +93,12 @@ const OF_ANOTHER_SHAPE: FileText = FileText {
 };
 
 #[test]
-fn certificate_of_another_criterion_makes_no_case_file(rt: HostRuntime) {
-    expect_same(&rt, is_file(rt.alloc(), READ_AFTER_ITS_WRITE), true);
+fn certificate_of_another_criterion_makes_no_case_file(rt: HostRuntime) -> Result<(), Fail> {
+    expect_same(is_file(rt.alloc(), READ_AFTER_ITS_WRITE), true)?;
     let refused = refusal_of(rt.alloc(), OF_ANOTHER_CRITERION);
-    expect_same(&rt, refused, Some(DeskError::ShapeMismatch));
+    expect_same(refused, Some(DeskError::ShapeMismatch))?;
     let refused = refusal_of(rt.alloc(), OF_ANOTHER_SHAPE);
-    expect_same(&rt, refused, Some(DeskError::ShapeMismatch));
+    expect_same(refused, Some(DeskError::ShapeMismatch))
 }
 
 /// Whether a text makes a case file.

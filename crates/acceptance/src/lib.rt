@@ -1,6 +1,6 @@
 //! Tests of calls that no table of cases can make: desks and their workers, recorders and their seals, replicas step by step, the starts of
 //! objects, parts of histories, certificates from advice, clients that run at the same time, and what is found where memory was refused
-//! before; and of whole runs over readers and writers in memory, which give or take some bytes a call, or fail.
+//! before. Tests that call the engine are in `run_acceptance`.
 //!
 //! The tables of `tests/cases` test what the words of a command line and an input give. Some rows here try what a contract says of every
 //! input: they fail where a contract is wrong and its body with it.
@@ -19,21 +19,11 @@ mod cut_histories;
 #[cfg(test)]
 mod desks;
 #[cfg(test)]
-mod devices;
-#[cfg(test)]
-mod expectations;
-#[cfg(test)]
-mod failures;
-#[cfg(test)]
 mod held_workers;
 #[cfg(test)]
 mod histories;
 #[cfg(test)]
 mod judgements;
-#[cfg(test)]
-mod line_clients;
-#[cfg(test)]
-mod line_runs;
 #[cfg(test)]
 mod many_pairs;
 #[cfg(test)]
@@ -55,16 +45,10 @@ mod replicas;
 #[cfg(test)]
 mod rows;
 #[cfg(test)]
-mod running;
-#[cfg(test)]
-mod runs;
-#[cfg(test)]
 mod seal_cut;
 #[cfg(test)]
 mod seal_steps;
 #[cfg(test)]
 mod seals;
-#[cfg(test)]
-mod shared_lines;
 #[cfg(test)]
 mod worded;

@@ -1,10 +1,10 @@
 //! The limit of the search for patterns: it gives up a happened-before relation with more than 100,000 pairs that the causal
 //! order doesn't have.
 
-use crate::expectations::expect_ok_at;
 use crate::histories::{joined, memory};
 use bad_patterns::Pattern;
 use cert_check::Criterion;
+use expectations::expect_ok_at;
 use pattern_search::find;
 use std::alloc::{AllocError, Global};
 use std::test::Fail;
@@ -63,7 +63,7 @@ fn is_found(alloc: Global, more: usize) -> Result<bool, AllocError> {
 #[test]
 fn up_to_100000_pairs_a_pattern_is_found(rt: HostRuntime) -> Result<(), Fail> {
     for (more, wanted) in [(243, true), (244, true), (245, false), (246, false)] {
-        expect_ok_at(&rt, more, is_found(rt.alloc(), more), wanted)?;
+        expect_ok_at(more, is_found(rt.alloc(), more), wanted)?;
     }
     Ok(())
 }

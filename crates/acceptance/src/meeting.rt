@@ -1,10 +1,10 @@
 //! Two clients of a store that run at the same time.
 
-use crate::expectations::expect_text;
 use crate::held_workers::{FIRST, SECOND, is_set_in_time};
 use crate::histories::{memory, text_of};
 use causal_memory::AsTakenIn;
 use driver::{DriveError, DrivePlan, drive};
+use expectations::expect_text;
 use objects::Memory;
 use operations::OpId;
 use replica::Delivery;
@@ -92,5 +92,5 @@ fn texts_of(alloc: Global, seals: &[Sealed<Memory>]) -> Result<String, AllocErro
 fn drive_two(rt: HostRuntime) -> Result<(), Fail> {
     let two = r#"["memory",[[["w",0,1]],[["w",1,1]]]]"#;
     let wanted = r#"["memory",[[["w",0,1]],[["w",1,1]]]] true"#;
-    expect_text(&rt, driven_two(&rt, two), wanted)
+    expect_text(driven_two(&rt, two), wanted)
 }

@@ -2,7 +2,7 @@
 
 ghost use Rattle.std.specs.Prelude.{IfOk};
 
-use crate::expectations::{expect_ok, expect_text};
+use expectations::{expect_ok, expect_text};
 use object_trait::{SeqObject, replay};
 use objects::{
     AddRemoveSet, Counter, CounterCall, CounterRet, Keyed, KeyedCall, Memory, Queue, QueueCall,
@@ -10,7 +10,6 @@ use objects::{
 };
 use std::alloc::{AllocError, Global};
 use std::fmt::Debug;
-use std::process::Abort;
 use std::test::Fail;
 
 /// What an object answers to its first call, from its plain start.
@@ -21,43 +20,39 @@ fn first_answer<O: SeqObject>(alloc: Global, call: O::Call) -> Result<O::Ret, Al
 }
 
 /// An object answers so to its first call, from its plain start.
-fn expect_first<O: SeqObject>(
-    rt: &(impl Abort + AllocGlobal),
-    call: O::Call,
-    wanted: O::Ret,
-) -> Result<(), Fail>
+fn expect_first<O: SeqObject>(alloc: Global, call: O::Call, wanted: O::Ret) -> Result<(), Fail>
 where
     O::Ret: Debug,
 {
-    expect_ok(rt, first_answer::<O>(rt.alloc(), call), wanted)
+    expect_ok(first_answer::<O>(alloc, call), wanted)
 }
 
 /// Objects under keys answer so to a first call at a key.
 fn expect_first_at_key<O: SeqObject>(
-    rt: &(impl Abort + AllocGlobal),
+    alloc: Global,
     call: O::Call,
     wanted: O::Ret,
 ) -> Result<(), Fail>
 where
     O::Ret: Debug,
 {
-    expect_first::<Keyed<O>>(rt, KeyedCall { key: 4, call }, wanted)
+    expect_first::<Keyed<O>>(alloc, KeyedCall { key: 4, call }, wanted)
 }
 
 #[test]
 fn objects_answer_from_their_plain_starts(rt: HostRuntime) -> Result<(), Fail> {
-    expect_first::<Register>(&rt, RegisterCall::Read, RegisterRet::Value(0))?;
-    expect_first::<Counter>(&rt, CounterCall::Get, CounterRet::Value(0))?;
-    expect_first::<AddRemoveSet>(&rt, SetCall::Has(0), SetRet::Has(false))?;
-    expect_first::<Queue>(&rt, QueueCall::Pop, QueueRet::Popped(None))
+    expect_first::<Register>(rt.alloc(), RegisterCall::Read, RegisterRet::Value(0))?;
+    expect_first::<Counter>(rt.alloc(), CounterCall::Get, CounterRet::Value(0))?;
+    expect_first::<AddRemoveSet>(rt.alloc(), SetCall::Has(0), SetRet::Has(false))?;
+    expect_first::<Queue>(rt.alloc(), QueueCall::Pop, QueueRet::Popped(None))
 }
 
 #[test]
 fn objects_under_keys_answer_from_their_plain_starts(rt: HostRuntime) -> Result<(), Fail> {
-    expect_first_at_key::<Register>(&rt, RegisterCall::Read, RegisterRet::Value(0))?;
-    expect_first_at_key::<Counter>(&rt, CounterCall::Get, CounterRet::Value(0))?;
-    expect_first_at_key::<AddRemoveSet>(&rt, SetCall::Has(0), SetRet::Has(false))?;
-    expect_first_at_key::<Queue>(&rt, QueueCall::Pop, QueueRet::Popped(None))
+    expect_first_at_key::<Register>(rt.alloc(), RegisterCall::Read, RegisterRet::Value(0))?;
+    expect_first_at_key::<Counter>(rt.alloc(), CounterCall::Get, CounterRet::Value(0))?;
+    expect_first_at_key::<AddRemoveSet>(rt.alloc(), SetCall::Has(0), SetRet::Has(false))?;
+    expect_first_at_key::<Queue>(rt.alloc(), QueueCall::Pop, QueueRet::Popped(None))
 }
 
 /// What a register that starts at 7 answers to a read after some calls.
@@ -68,21 +63,17 @@ fn read_from_seven(alloc: Global, before: &[RegisterCall]) -> Result<RegisterRet
 
 #[test]
 fn register_has_any_start(rt: HostRuntime) -> Result<(), Fail> {
-    expect_ok(&rt, read_from_seven(rt.alloc(), &[]), RegisterRet::Value(7))?;
+    expect_ok(read_from_seven(rt.alloc(), &[]), RegisterRet::Value(7))?;
     let before = [
         RegisterCall::Write(3),
         RegisterCall::Read,
         RegisterCall::Write(5),
     ];
-    expect_ok(
-        &rt,
-        read_from_seven(rt.alloc(), &before),
-        RegisterRet::Value(5),
-    )?;
-    expect_ok(&rt, Register::copy_start(rt.alloc(), &7), 7)?;
+    expect_ok(read_from_seven(rt.alloc(), &before), RegisterRet::Value(5))?;
+    expect_ok(Register::copy_start(rt.alloc(), &7), 7)?;
     let start = Register::start_for(rt.alloc(), &7, &RegisterCall::Read);
-    expect_ok(&rt, start, 7)?;
-    expect_ok(&rt, Register::plain(rt.alloc()), 0)
+    expect_ok(start, 7)?;
+    expect_ok(Register::plain(rt.alloc()), 0)
 }
 
 const WRITE: KeyedCall<RegisterCall> = KeyedCall {
@@ -123,7 +114,7 @@ fn first_read(alloc: Global, key: u32) -> Result<RegisterRet, AllocError> {
 #[test]
 fn memory_answers_from_its_initial_values(rt: HostRuntime) -> Result<(), Fail> {
     for (key, value) in [(2, 5), (9, 7), (3, 0)] {
-        expect_ok(&rt, first_read(rt.alloc(), key), RegisterRet::Value(value))?;
+        expect_ok(first_read(rt.alloc(), key), RegisterRet::Value(value))?;
     }
     Ok(())
 }
@@ -143,7 +134,7 @@ fn text_of_table(alloc: Global) -> Result<String, AllocError> {
 #[test]
 fn table_finds_its_keys(rt: HostRuntime) -> Result<(), Fail> {
     let wanted = "[(2, 5), (9, 7)] 2 false Some(5) Some(7) None";
-    expect_text(&rt, text_of_table(rt.alloc()), wanted)
+    expect_text(text_of_table(rt.alloc()), wanted)
 }
 
 /// Whether a copy of a start is equal to it, and whether it is equal to the plain start; and how many entries it has.
@@ -158,7 +149,7 @@ fn text_of_copy(alloc: Global) -> Result<String, AllocError> {
 
 #[test]
 fn copied_start_is_equal(rt: HostRuntime) -> Result<(), Fail> {
-    expect_text(&rt, text_of_copy(rt.alloc()), "true false 2")
+    expect_text(text_of_copy(rt.alloc()), "true false 2")
 }
 
 /// The entries of the starts for a read at 9 and for one at 3.
@@ -173,5 +164,5 @@ fn text_of_starts_for_reads(alloc: Global) -> Result<String, AllocError> {
 
 #[test]
 fn start_for_a_call_has_its_key_alone(rt: HostRuntime) -> Result<(), Fail> {
-    expect_text(&rt, text_of_starts_for_reads(rt.alloc()), "[(9, 7)] []")
+    expect_text(text_of_starts_for_reads(rt.alloc()), "[(9, 7)] []")
 }

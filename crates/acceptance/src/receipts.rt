@@ -1,7 +1,7 @@
 //! A session and its receipts on another thread.
 
-use crate::expectations::expect_same;
 use crate::recordings::{advice, second_session};
+use expectations::expect_same;
 use history::OpId;
 use objects::{Register, RegisterCall, RegisterRet};
 use recorder::{Receipt, Session};
@@ -22,8 +22,7 @@ fn a_session_and_its_receipt_move_to_other_threads(rt: HostRuntime) -> Result<()
     let mut session = second_session(alloc, 1).expect(&rt, "memory");
     let child = thread::spawn(&rt, move || receipt_of_a_read(alloc, &mut session))?;
     let receipt = child.join(&rt).expect(&rt, "memory");
-    expect_same(&rt, receipt.op(), OpId::at(1, 0));
-    expect_same(&rt, receipt.call(), RegisterCall::Read);
-    expect_same(&rt, receipt.ret(), RegisterRet::Value(0));
-    Ok(())
+    expect_same(receipt.op(), OpId::at(1, 0))?;
+    expect_same(receipt.call(), RegisterCall::Read)?;
+    expect_same(receipt.ret(), RegisterRet::Value(0))
 }

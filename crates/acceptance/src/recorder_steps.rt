@@ -57,7 +57,7 @@ fn refused(alloc: Global, refusal: RecordError) -> Result<String, AllocError> {
 
 #[test]
 fn recorders_have_limits(rt: HostRuntime) -> Result<(), Fail> {
-    expect_rows::<RecorderLimits>(&rt, LIMITS)
+    expect_rows::<RecorderLimits>(rt.alloc(), LIMITS)
 }
 
 /// A row has a name, then how many places a lane has, and the steps of its session, and then what each step gives: the operation, or the
@@ -87,7 +87,7 @@ impl Finding for SessionSteps {
 
 #[test]
 fn sessions_refuse_in_order(rt: HostRuntime) -> Result<(), Fail> {
-    expect_rows::<SessionSteps>(&rt, STEPS)
+    expect_rows::<SessionSteps>(rt.alloc(), STEPS)
 }
 
 /// What a session gives at each step, with the call that is pending then, and whether the lane is full.

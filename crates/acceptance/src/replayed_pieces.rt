@@ -1,9 +1,9 @@
 //! One checker checks pieces of two sessions, one after the other.
 
 use crate::case_files::certificate_of;
-use crate::expectations::expect_ok;
 use crate::histories::{joined, memory};
 use cert_check::{CaseFile, Criterion, Outcome, PieceChecker};
+use expectations::expect_ok;
 use history::OpId;
 use object_trait::SeqObject;
 use objects::Memory;
@@ -111,5 +111,5 @@ fn outcomes(alloc: Global) -> Result<Option<[Outcome; 2]>, AllocError> {
 #[test]
 fn replay_goes_on_from_a_piece_of_its_own_session_alone(rt: HostRuntime) -> Result<(), Fail> {
     let wanted = Some([Outcome::Explained, Outcome::Unexplained]);
-    expect_ok(&rt, outcomes(rt.alloc()), wanted)
+    expect_ok(outcomes(rt.alloc()), wanted)
 }

@@ -54,7 +54,7 @@ impl Finding for ReplicaSteps {
 
 #[test]
 fn replicas_answer_step_by_step(rt: HostRuntime) -> Result<(), Fail> {
-    expect_rows::<ReplicaSteps>(&rt, ROWS)
+    expect_rows::<ReplicaSteps>(rt.alloc(), ROWS)
 }
 
 /// The store and the delivery that a text names first, and the rest of the text.

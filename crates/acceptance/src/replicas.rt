@@ -1,7 +1,7 @@
 //! What replicas of a queue answer and report, for each store and delivery, also where memory was refused to a call before.
 
-use crate::expectations::{expect_ok, expect_text};
 use causal_memory::{AsTakenIn, CausalReplica};
+use expectations::{expect_ok, expect_text};
 use history::MAX_SESSIONS;
 use lamport_store::{ByStamp, LamportReplica};
 use object_trait::SeqObject;
@@ -148,17 +148,17 @@ fn answers_at_last<P: UpdateOrder>(
 #[test]
 fn replicas_of_the_causal_store_answer(rt: HostRuntime) -> Result<(), Fail> {
     let causal = answers_at_last::<AsTakenIn>(rt.alloc(), Delivery::Causal);
-    expect_text(&rt, causal, AS_TAKEN_IN)?;
+    expect_text(causal, AS_TAKEN_IN)?;
     let eager = answers_at_last::<AsTakenIn>(rt.alloc(), Delivery::Eager);
-    expect_text(&rt, eager, AS_TAKEN_IN_EAGERLY)
+    expect_text(eager, AS_TAKEN_IN_EAGERLY)
 }
 
 #[test]
 fn replicas_of_the_store_by_stamps_answer(rt: HostRuntime) -> Result<(), Fail> {
     let causal = answers_at_last::<ByStamp>(rt.alloc(), Delivery::Causal);
-    expect_text(&rt, causal, BY_STAMP)?;
+    expect_text(causal, BY_STAMP)?;
     let eager = answers_at_last::<ByStamp>(rt.alloc(), Delivery::Eager);
-    expect_text(&rt, eager, BY_STAMP_EAGERLY)
+    expect_text(eager, BY_STAMP_EAGERLY)
 }
 
 /// How many pushes and then pops a replica makes: enough that it keeps a copy of its queue on the way.
@@ -202,7 +202,7 @@ fn replica_goes_on_from_a_copy(rt: HostRuntime) -> Result<(), Fail> {
         Err(_refused) => answers_from_a_copy(rt.alloc()),
     };
     let wanted = "Popped(Some(66)) 137 [];Popped(Some(99)) 138 [];";
-    expect_text(&rt, answers, wanted)
+    expect_text(answers, wanted)
 }
 
 /// A replica that has pushed once.
@@ -226,6 +226,6 @@ fn taken_in_by_lamport(alloc: Global) -> Result<usize, ReplicaError> {
 
 #[test]
 fn stores_tell_what_was_taken_in(rt: HostRuntime) -> Result<(), Fail> {
-    expect_ok(&rt, taken_in_by_causal(rt.alloc()), 1)?;
-    expect_ok(&rt, taken_in_by_lamport(rt.alloc()), 1)
+    expect_ok(taken_in_by_causal(rt.alloc()), 1)?;
+    expect_ok(taken_in_by_lamport(rt.alloc()), 1)
 }

@@ -1,8 +1,7 @@
 //! Tables in text. Each row is a line: a name, an input and what is wanted, with ` | ` between them.
 
-use crate::expectations::expect_text;
+use expectations::expect_text;
 use std::alloc::{AllocError, Global};
-use std::process::Abort;
 use std::test::Fail;
 
 /// What a table asks of the inputs of its rows.
@@ -12,8 +11,8 @@ pub trait Finding {
 }
 
 /// Each row finds what it wants.
-pub fn expect_rows<F: Finding>(rt: &(impl Abort + AllocGlobal), rows: &str) -> Result<(), Fail> {
-    expect_text(rt, differing_rows::<F>(rt.alloc(), rows), "")
+pub fn expect_rows<F: Finding>(alloc: Global, rows: &str) -> Result<(), Fail> {
+    expect_text(differing_rows::<F>(alloc, rows), "")
 }
 
 /// The rows that find something else than they want, each with what it finds.

@@ -1,7 +1,7 @@
 //! Seals that are taken while sessions record on other threads.
 
-use crate::expectations::expect_ok;
 use crate::recordings::{begun, ended, two_sessions};
+use expectations::expect_ok;
 use history::History;
 use objects::{Register, RegisterCall, RegisterRet};
 use recorder::{Lanes, RecordError, Session};
@@ -145,7 +145,7 @@ fn is_played<R: Threads + Sync>(
 #[test]
 fn seal_cut(rt: HostRuntime) -> Result<(), Fail> {
     for _ in 0..RECORDERS {
-        expect_ok(&rt, round(&rt, rt.alloc()), true)?;
+        expect_ok(round(&rt, rt.alloc()), true)?;
     }
     Ok(())
 }

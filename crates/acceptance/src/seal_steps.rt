@@ -4,8 +4,8 @@ ghost use Rattle.std.specs.Prelude.{◌≡◌};
 ghost use Rattle.std.proofs.Common.{refl};
 ghost use Rattle.snapshot.specs.Steps.Looking.{KeepsLanes, keeps_lanes_on};
 
-use crate::expectations::expect_ok_at;
 use crate::recordings::{begun, ended, operations_of, two_sessions};
+use expectations::expect_ok_at;
 use objects::{Register, RegisterCall, RegisterRet};
 use recorder::{Lanes, RecordError, Session};
 use snapshot::{Cell, CutPlan, LaneLooker, Looker, walk};
@@ -153,7 +153,7 @@ fn text_of_sealed(alloc: Global, looker: LaneLooker<'_, Register>) -> Result<Str
 fn seal_steps(rt: HostRuntime) -> Result<(), Fail> {
     for (at, (wanted, many)) in SEALED.iter().enumerate() {
         let wanted = (String::from_str(rt.alloc(), wanted)?, *many);
-        expect_ok_at(&rt, at, sealed_before(rt.alloc(), at), wanted)?;
+        expect_ok_at(at, sealed_before(rt.alloc(), at), wanted)?;
     }
     Ok(())
 }

@@ -6,8 +6,8 @@ ghost use Rattle.recorder.specs.Sessions.{receipt_of};
 ghost use Rattle.snapshot.specs.Seals.{AreReceiptsOf, IsReceiptOf, IsSealOf};
 ghost use Rattle.acceptance.specs.Recordings.{IsSessionOf};
 
-use crate::expectations::expect_text;
 use crate::recordings::{advice, begun, ended, operations_of};
+use expectations::{expect_same, expect_text};
 use objects::{Register, RegisterCall, RegisterRet};
 use recorder::{Lanes, Receipt, RecordError, Session, new_recorder};
 use snapshot::{Met, Sealed, meet, seal};
@@ -137,16 +137,15 @@ fn told_by(
 #[test]
 fn a_seal_holds_what_it_is_told_and_more(rt: HostRuntime) -> Result<(), Fail> {
     let (stamps, met) = match told_of_two(rt.alloc()) {
-        Ok(told) => told,
+        Ok(stamped) => stamped,
         Err(_refused) => told_of_two(rt.alloc())?,
     };
-    assert!(rt; stamps.as_slice() == [5, 6, 7, 0].as_slice());
+    expect_same(stamps.as_slice() == [5, 6, 7, 0].as_slice(), true)?;
     let wanted = Met {
         calls: 4,
         returns: 3,
     };
-    assert_eq!(rt; met, wanted);
-    Ok(())
+    expect_same(met, wanted)
 }
 
 /// What is sealed of a session that was dropped with a read pending after a write.
@@ -172,5 +171,5 @@ fn a_session_dropped_with_a_pending_call_leaves_it_open(rt: HostRuntime) -> Resu
         Ok(text) => Ok(text),
         Err(_refused) => dropped(rt.alloc()),
     };
-    expect_text(&rt, text, "[];[(Write(3), Some(Done)), (Read, None)];")
+    expect_text(text, "[];[(Write(3), Some(Done)), (Read, None)];")
 }

@@ -53,5 +53,5 @@ impl Finding for LineOfWords {
 
 #[test]
 fn patterns_of_no_history_are_told(rt: HostRuntime) -> Result<(), Fail> {
-    expect_rows::<LineOfWords>(&rt, ROWS)
+    expect_rows::<LineOfWords>(rt.alloc(), ROWS)
 }

@@ -1,11 +1,11 @@
 //! Runs over readers and writers that give or take a byte a call, or fail.
 
 use crate::devices::{Device, Failing, NEVER, Sink};
-use crate::expectations::{expect_ok, expect_ok_at, expect_same, expect_text};
 use crate::running::said_over;
 use engine::{
     Judging, Length, MAX_INPUT_BYTES, MAX_READ_CALLS, Order, RunError, Workers, read_input,
 };
+use expectations::{expect_ok, expect_ok_at, expect_same, expect_text};
 use std::alloc::{AllocError, Global};
 use std::io::ErrorKind;
 use std::sync::Wait;
@@ -44,9 +44,9 @@ fn as_many_read_calls_are_made_as_may_be(rt: HostRuntime) -> Result<(), Fail> {
     let blanks = MAX_READ_CALLS as usize - 1 - HISTORY.len();
     let answered = said_of_reads(&rt, Device::new(HISTORY, blanks, 1, NEVER));
     let wanted = "0 cc no ThinAirRead%cm no ThinAirRead%ccv no ThinAirRead% after 1048576 reads";
-    expect_text(&rt, answered, wanted)?;
+    expect_text(answered, wanted)?;
     let failed = said_of_reads(&rt, Device::new(HISTORY, blanks + 1, 1, NEVER));
-    expect_text(&rt, failed, "3 read fault after 1048576 reads")
+    expect_text(failed, "3 read fault after 1048576 reads")
 }
 
 const INTERRUPTED_THREE_TIMES: Failing = Failing {
@@ -65,9 +65,9 @@ const INTERRUPTED_EVER_SINCE: Failing = Failing {
 fn an_interrupted_read_is_made_again_and_counted(rt: HostRuntime) -> Result<(), Fail> {
     let answered = said_of_reads(&rt, Device::new(HISTORY, 0, 1, INTERRUPTED_THREE_TIMES));
     let wanted = "0 cc no ThinAirRead%cm no ThinAirRead%ccv no ThinAirRead% after 28 reads";
-    expect_text(&rt, answered, wanted)?;
+    expect_text(answered, wanted)?;
     let failed = said_of_reads(&rt, Device::new(HISTORY, 0, 1, INTERRUPTED_EVER_SINCE));
-    expect_text(&rt, failed, "3 read fault after 1048576 reads")
+    expect_text(failed, "3 read fault after 1048576 reads")
 }
 
 #[test]
@@ -77,16 +77,16 @@ fn of_a_long_input_calls_in_a_row_are_counted_that_bring_nothing(
     let blanks = MAX_READ_CALLS as usize;
     let answered = said_of_reads_at(&rt, Length::Any, Device::new(HISTORY, blanks, 1, NEVER));
     let wanted = "0 cc no ThinAirRead%cm no ThinAirRead%ccv no ThinAirRead% after 1048601 reads";
-    expect_text(&rt, answered, wanted)?;
+    expect_text(answered, wanted)?;
     let interrupted = Device::new(HISTORY, 0, 1, INTERRUPTED_THREE_TIMES);
     let answered = said_of_reads_at(&rt, Length::Any, interrupted);
     let wanted = "0 cc no ThinAirRead%cm no ThinAirRead%ccv no ThinAirRead% after 28 reads";
-    expect_text(&rt, answered, wanted)?;
+    expect_text(answered, wanted)?;
     let interrupted = Device::new(HISTORY, 0, 1, INTERRUPTED_EVER_SINCE);
     let failed = said_of_reads_at(&rt, Length::Any, interrupted);
-    expect_text(&rt, failed, "3 read fault after 1048577 reads")?;
+    expect_text(failed, "3 read fault after 1048577 reads")?;
     let failed = said_of_reads_at(&rt, Length::Any, Device::new(HISTORY, 0, 1, failing_at(9)));
-    expect_text(&rt, failed, "3 read fault after 9 reads")
+    expect_text(failed, "3 read fault after 9 reads")
 }
 
 /// This call fails.
@@ -100,15 +100,15 @@ fn failing_at(call: u64) -> Failing {
 
 #[test]
 fn a_reader_may_fail_at_any_call(rt: HostRuntime) -> Result<(), Fail> {
-    expect_same(&rt, LONGER_HISTORY.len(), 36);
+    expect_same(LONGER_HISTORY.len(), 36)?;
     for call in 1..38 {
         let failed = said_of_reads(&rt, Device::new(LONGER_HISTORY, 0, 1, failing_at(call)));
         let wanted = format!(in rt.alloc(); "3 read fault after {call} reads")?;
-        expect_text(&rt, failed, wanted.as_str())?;
+        expect_text(failed, wanted.as_str())?;
     }
     let answered = said_of_reads(&rt, Device::new(LONGER_HISTORY, 0, 1, failing_at(38)));
     let wanted = "0 cc yes%cm yes%ccv yes% after 37 reads";
-    expect_text(&rt, answered, wanted)
+    expect_text(answered, wanted)
 }
 
 const PIECE: usize = 65_536;
@@ -122,7 +122,7 @@ fn bytes_of_longest(alloc: Global) -> Result<usize, RunError> {
 
 #[test]
 fn an_input_is_as_long_as_may_be(rt: HostRuntime) -> Result<(), Fail> {
-    expect_ok(&rt, bytes_of_longest(rt.alloc()), MAX_INPUT_BYTES)
+    expect_ok(bytes_of_longest(rt.alloc()), MAX_INPUT_BYTES)
 }
 
 const FAILING_AFTER_THE_LIMIT: Failing = Failing {
@@ -136,7 +136,7 @@ fn nothing_is_read_after_the_limit_is_passed(rt: HostRuntime) -> Result<(), Fail
     let blanks = MAX_INPUT_BYTES + 1;
     let device = Device::new(b"", blanks, PIECE, FAILING_AFTER_THE_LIMIT);
     let said = said_of_reads(&rt, device);
-    expect_text(&rt, said, "1 refused 9 after 1025 reads")
+    expect_text(said, "1 refused 9 after 1025 reads")
 }
 
 /// What `judge` says of a history over a writer that takes so many bytes a call, where calls fail.
@@ -164,10 +164,10 @@ const ANSWER: &str = "0 cc no ThinAirRead%cm no ThinAirRead%ccv no ThinAirRead%"
 
 #[test]
 fn a_writer_takes_the_answer_or_fails(rt: HostRuntime) -> Result<(), Fail> {
-    expect_text(&rt, said_to(&rt, 1, INTERRUPTED_THREE_TIMES), ANSWER)?;
-    expect_same(&rt, ANSWER.len(), 57);
+    expect_text(said_to(&rt, 1, INTERRUPTED_THREE_TIMES), ANSWER)?;
+    expect_same(ANSWER.len(), 57)?;
     for call in 1..56 {
-        expect_ok_at(&rt, call, fails_to_write(&rt, call), true)?;
+        expect_ok_at(call, fails_to_write(&rt, call), true)?;
     }
-    expect_text(&rt, said_to(&rt, 0, NEVER), "3 write fault")
+    expect_text(said_to(&rt, 0, NEVER), "3 write fault")
 }

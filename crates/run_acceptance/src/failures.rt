@@ -1,7 +1,7 @@
 //! The exit status of each failure, and its line.
 
-use crate::expectations::{expect_same, expect_text};
 use engine::{RunError, fault_line, status_of};
+use expectations::{expect_same, expect_text};
 use operations::{OpId, ReadError};
 use script::ScriptError;
 use std::alloc::{AllocError, Global};
@@ -45,7 +45,7 @@ fn each_refusal_of_a_history_has_its_status_and_its_line(rt: HostRuntime) -> Res
         (RunError::History(ReadError::Memory), "4 no memory"),
         (RunError::History(ReadError::BadInitial), "1 refused 29"),
     ];
-    expect_text(&rt, otherwise(rt.alloc(), &cases), "")
+    expect_text(otherwise(rt.alloc(), &cases), "")
 }
 
 #[test]
@@ -64,7 +64,7 @@ fn each_refusal_of_a_script_has_its_status_and_its_line(rt: HostRuntime) -> Resu
         ),
         (RunError::Script(ScriptError::BadInitial), "1 refused 29"),
     ];
-    expect_text(&rt, otherwise(rt.alloc(), &cases), "")
+    expect_text(otherwise(rt.alloc(), &cases), "")
 }
 
 #[test]
@@ -77,6 +77,6 @@ fn each_other_failure_has_its_status_and_its_line(rt: HostRuntime) -> Result<(),
         (RunError::ReadFault, "3 read fault"),
         (RunError::WriteFault, "3 write fault"),
     ];
-    expect_same(&rt, status_of(&Ok(())), 0);
-    expect_text(&rt, otherwise(rt.alloc(), &cases), "")
+    expect_same(status_of(&Ok(())), 0)?;
+    expect_text(otherwise(rt.alloc(), &cases), "")
 }

@@ -1,11 +1,11 @@
 //! Histories in lines, in pieces and over readers that fail.
 
 use crate::devices::{Device, Failing, NEVER, Sink};
-use crate::expectations::expect_text;
 use crate::running::{said_of, said_over};
 use engine::{
     BlankLines, Judging, LineJudging, MAX_INPUT_BYTES, MAX_READ_CALLS, Order, Workers, judge_lines,
 };
+use expectations::expect_text;
 use lines::Source;
 use std::alloc::AllocError;
 use std::io::{ErrorKind, Read};
@@ -52,8 +52,8 @@ refusal_counts_most | cc ["memory",[[["r",0,7]]]]%[]%["register",[[["r",5]]]]%
 
 #[test]
 fn lines_in_pieces_are_answered_in_order(rt: HostRuntime) -> Result<(), Fail> {
-    expect_text(&rt, otherwise(&rt, 1, 1), "")?;
-    expect_text(&rt, otherwise(&rt, 16, 7), "")
+    expect_text(otherwise(&rt, 1, 1), "")?;
+    expect_text(otherwise(&rt, 16, 7), "")
 }
 
 /// The cases for which `judge --lines` with so many workers does not give what is wanted, where each read call gives so many bytes.
@@ -131,9 +131,8 @@ fn judging_of(workers: usize, expected: &str) -> Option<LineJudging> {
 
 #[test]
 fn lines_in_memory_are_answered_by_one_answer(rt: HostRuntime) -> Result<(), Fail> {
-    expect_text(&rt, said_in_memory(&rt, "-", b""), "0 ")?;
+    expect_text(said_in_memory(&rt, "-", b""), "0 ")?;
     expect_text(
-        &rt,
         said_in_memory(&rt, "cc", SOME_LINES.as_bytes()),
         SOME_ANSWERS,
     )
@@ -170,7 +169,7 @@ const FAILING_IN_THE_SECOND_LINE: Failing = Failing {
 fn what_was_answered_before_a_fault_stays(rt: HostRuntime) -> Result<(), Fail> {
     let device = Device::new(TWO_LINES.as_bytes(), 0, 1, FAILING_IN_THE_SECOND_LINE);
     let said = said_of_device(&rt, 4, "-", device);
-    expect_text(&rt, said, "3 cc yes; cm yes; ccv yes%read fault")
+    expect_text(said, "3 cc yes; cm yes; ccv yes%read fault")
 }
 
 #[test]
@@ -180,7 +179,7 @@ fn too_long_a_line_is_refused_and_passed_over(rt: HostRuntime) -> Result<(), Fai
     let after = Device::new(b" \n[\"memory\",[]]\n", 0, 65_536, NEVER);
     let said = said_of_device(&rt, 2, "cc", before.chain(after));
     let wanted = "1 cc yes; cm yes; ccv yes%refused 9%cc yes; cm yes; ccv yes%";
-    expect_text(&rt, said, wanted)
+    expect_text(said, wanted)
 }
 
 #[test]
@@ -188,5 +187,5 @@ fn a_line_is_passed_over_in_so_many_read_calls(rt: HostRuntime) -> Result<(), Fa
     let before = Device::new(b"", MAX_INPUT_BYTES + 65_537, 65_536, NEVER);
     let after = Device::new(b"", MAX_READ_CALLS as usize + 1, 1, NEVER);
     let said = said_of_device(&rt, 2, "cc", before.chain(after));
-    expect_text(&rt, said, "3 refused 9%read fault")
+    expect_text(said, "3 refused 9%read fault")
 }

@@ -1,15 +1,14 @@
 //! Streams that several workers answer, over readers and writers in memory.
 
 use crate::devices::{Device, Failing, NEVER, Sink};
-use crate::expectations::expect_same_at;
 use crate::line_clients::{Client, Counting, Echo};
+use expectations::expect_same_at;
 use line_workers::answer_lines;
 use lines::{Fault, Outcome};
 use memchr::memrchr;
 use std::alloc::{AllocError, Global};
 use std::fmt::Debug;
 use std::io::ErrorKind;
-use std::process::Abort;
 use std::sync::Wait;
 use std::sync::atomic::AtomicU64;
 use std::test::Fail;
@@ -33,26 +32,24 @@ fn failing_from(first: u64) -> Failing {
 
 /// A run has ended so, and has written this text.
 fn expect_run(
-    rt: &impl Abort,
     at: impl Debug + Copy + Drop,
     run: &Run,
     ended: Result<Outcome, Fault>,
     text: &[u8],
-) {
-    expect_same_at(rt, at, run.result, ended);
-    expect_same_at(rt, at, run.text.as_slice() == text, true);
+) -> Result<(), Fail> {
+    expect_same_at(at, run.result, ended)?;
+    expect_same_at(at, run.text.as_slice() == text, true)
 }
 
 /// A run has ended so, and has written the beginning of this text.
 fn expect_beginning(
-    rt: &impl Abort,
     at: impl Debug + Copy + Drop,
     run: &Run,
     ended: Result<Outcome, Fault>,
     text: &[u8],
-) {
-    expect_same_at(rt, at, run.result, ended);
-    expect_same_at(rt, at, text.starts_with(run.text.as_slice()), true);
+) -> Result<(), Fail> {
+    expect_same_at(at, run.result, ended)?;
+    expect_same_at(at, text.starts_with(run.text.as_slice()), true)
 }
 
 /// Answers a text by so many workers, over a writer whose calls fail so.
@@ -86,7 +83,7 @@ fn answers_are_in_the_order_of_the_lines(rt: HostRuntime) -> Result<(), Fail> {
     for workers in 0..5 {
         let device = Device::new(text.as_slice(), 0, 100, NEVER);
         let done = answer(&rt, device, NEVER, workers);
-        expect_run(&rt, workers, &done, Ok(Outcome::Met), text.as_slice());
+        expect_run(workers, &done, Ok(Outcome::Met), text.as_slice())?;
     }
     Ok(())
 }
@@ -95,8 +92,8 @@ fn answers_are_in_the_order_of_the_lines(rt: HostRuntime) -> Result<(), Fail> {
 fn whole_lines_are_answered_while_the_next_is_not_whole(rt: HostRuntime) -> Result<(), Fail> {
     for workers in 1..5 {
         let (done, seen) = answer_waiting(&rt, workers);
-        expect_run(&rt, workers, &done, Ok(Outcome::Met), b"one\ntwo\nthree\n");
-        expect_same_at(&rt, workers, seen, 2);
+        expect_run(workers, &done, Ok(Outcome::Met), b"one\ntwo\nthree\n")?;
+        expect_same_at(workers, seen, 2)?;
     }
     Ok(())
 }
@@ -133,8 +130,8 @@ fn a_write_that_fails_ends_the_run(rt: HostRuntime) -> Result<(), Fail> {
     for workers in 1..5 {
         let device = Device::new(text.as_slice(), 0, 100, NEVER);
         let done = answer(&rt, device, failing_from(21), workers);
-        expect_beginning(&rt, workers, &done, Err(Fault::Write), text.as_slice());
-        expect_same_at(&rt, workers, done.text.is_empty(), false);
+        expect_beginning(workers, &done, Err(Fault::Write), text.as_slice())?;
+        expect_same_at(workers, done.text.is_empty(), false)?;
     }
     Ok(())
 }
@@ -154,9 +151,9 @@ fn workers_that_are_ahead_wait_for_a_slow_line(rt: HostRuntime) -> Result<(), Fa
         ] {
             let device = Device::new(text.as_slice(), 0, 5, NEVER);
             let done = answer(&rt, device, failing, workers);
-            expect_beginning(&rt, workers, &done, wanted, text.as_slice());
+            expect_beginning(workers, &done, wanted, text.as_slice())?;
             let is_whole = done.text == text;
-            expect_same_at(&rt, workers, wanted.is_err() || is_whole, true);
+            expect_same_at(workers, wanted.is_err() || is_whole, true)?;
         }
     }
     Ok(())
@@ -173,7 +170,7 @@ fn what_was_read_before_a_fault_is_answered(rt: HostRuntime) -> Result<(), Fail>
     for workers in 1..5 {
         let device = Device::new(front, 0, 100, failing_from(72));
         let done = answer(&rt, device, NEVER, workers);
-        expect_run(&rt, workers, &done, Err(Fault::Read), whole);
+        expect_run(workers, &done, Err(Fault::Read), whole)?;
     }
     Ok(())
 }
@@ -191,7 +188,7 @@ fn a_line_that_is_too_long_is_answered_and_passed_over(rt: HostRuntime) -> Resul
             let device = Device::new(text.as_slice(), 0, piece, NEVER);
             let done = answer(&rt, device, NEVER, workers);
             let wanted = b"12345678\ntoo long\n\ntoo long\nab\ntoo long\n";
-            expect_run(&rt, (workers, piece), &done, Ok(Outcome::Refused), wanted);
+            expect_run((workers, piece), &done, Ok(Outcome::Refused), wanted)?;
         }
     }
     Ok(())

@@ -26,7 +26,7 @@ pub(crate) struct Echo {
 
 impl Clerk for Echo {
     ghost use Rattle.std.specs.Prelude.{⊤};
-    ghost use Rattle.acceptance.specs.declared.line_clients.TheConstants.{LIMIT as MOST};
+    ghost use Rattle.run_acceptance.specs.declared.line_clients.TheConstants.{LIMIT as MOST};
 
     ghost says = { λ _ _ _ _. ⊤ };
 
