@@ -1,94 +1,116 @@
 //! What the calls say of some inputs, and what their buffers have then.
 
 use crate::{causal_judge_check, causal_judge_explain, causal_judge_judge, causal_judge_refute};
+use expectations::expect_text;
 use std::alloc::{AllocError, Global};
 use std::test::Fail;
 
-const HISTORY: &[u8] = br#"["memory",[[["w",0,1]],[["r",0,1]]]]"#;
+// A call of the library.
+#[derive(Clone, Copy)]
+enum Call {
+    Judge,
+    Check,
+    Explain,
+    Refute,
+}
 
-const PAIR: &[u8] =
-    br#"[["memory",[[["w",0,1]],[["r",0,1]]]],["cc",[[[1,0]],[[1,1]]],[[[0]],[[1]]]]]"#;
+impl Call {
+    fn make(self, alloc: Global, input: &[u8], answer: &mut [u8], needed: &mut usize) -> u8 {
+        match self {
+            Call::Judge => causal_judge_judge(alloc, input, answer, needed),
+            Call::Check => causal_judge_check(alloc, input, answer, needed),
+            Call::Explain => causal_judge_explain(alloc, input, answer, needed),
+            Call::Refute => causal_judge_refute(alloc, input, answer, needed),
+        }
+    }
+}
 
-const CLAIM: &[u8] = br#"[["memory",[[["r",0,7]]]],"ccv",["ThinAirRead",[0,0]]]"#;
+// A call with its input, the number of bytes of its buffer, which are dots before, and what is wanted: the status, the number of bytes that
+// the text needs, and the buffer.
+#[derive(Clone, Copy)]
+struct Case {
+    call: Call,
+    input: &'static str,
+    room: usize,
+    wanted: &'static str,
+}
 
-const BAD_OPERATION: &[u8] = br#"["memory",[[["x"]]]]"#;
+const fn case(call: Call, input: &'static str, room: usize, wanted: &'static str) -> Case {
+    Case {
+        call,
+        input,
+        room,
+        wanted,
+    }
+}
 
-// A status, the number of bytes that a text needs, and a buffer.
-fn shown(alloc: Global, status: u8, needed: usize, answer: &[u8]) -> Result<String, AllocError> {
-    let answer = String::from_utf8_lossy(alloc, answer)?;
-    format!(in alloc; "{status} {needed} {answer}")
+// The most bytes that a buffer has here.
+const MOST: usize = 58;
+
+const HISTORY: &str = r#"["memory",[[["w",0,1]],[["r",0,1]]]]"#;
+
+const PAIR: &str =
+    r#"[["memory",[[["w",0,1]],[["r",0,1]]]],["cc",[[[1,0]],[[1,1]]],[[[0]],[[1]]]]]"#;
+
+const CLAIM: &str = r#"[["memory",[[["r",0,7]]]],"ccv",["ThinAirRead",[0,0]]]"#;
+
+const BAD_OPERATION: &str = r#"["memory",[[["x"]]]]"#;
+
+const ANSWERS: [Case; 4] = [
+    case(Call::Judge, HISTORY, 24, "0 22 cc yes\ncm yes\nccv yes\n.."),
+    case(Call::Check, PAIR, 16, "0 15 cc unknown 1.0\n."),
+    case(
+        Call::Explain,
+        HISTORY,
+        58,
+        "0 57 [[\"cc\",\"yes\",null],[\"cm\",\"yes\",null],[\"ccv\",\"yes\",null]]\n.",
+    ),
+    case(Call::Refute, CLAIM, 20, "0 19 ccv no ThinAirRead\n."),
+];
+
+const REFUSALS: [Case; 4] = [
+    case(Call::Judge, BAD_OPERATION, 16, "1 14 refused 4 0.0\n.."),
+    case(Call::Check, HISTORY, 16, "1 10 refused 2\n......"),
+    case(Call::Explain, "", 16, "1 10 refused 1\n......"),
+    case(Call::Refute, PAIR, 16, "1 10 refused 2\n......"),
+];
+
+const SHORT: [Case; 2] = [
+    case(Call::Judge, HISTORY, 21, "3 22 ....................."),
+    case(Call::Judge, "", 0, "3 10 "),
+];
+
+#[test]
+fn answers_are_first_in_the_buffer(rt: HostRuntime) -> Result<(), Fail> {
+    expect_cases(rt.alloc(), &ANSWERS)
 }
 
 #[test]
-fn answers_stand_first_in_the_buffer(rt: HostRuntime) -> Result<(), Fail> {
-    let alloc = rt.alloc();
-    let (mut answer, mut needed) = ([b'.'; 24], 0);
-    let status = causal_judge_judge(alloc, HISTORY, &mut answer, &mut needed);
-    assert_eq!(rt;
-        shown(alloc, status, needed, &answer)?.as_str(),
-        "0 22 cc yes\ncm yes\nccv yes\n.."
-    );
-    let mut answer = [b'.'; 16];
-    let status = causal_judge_check(alloc, PAIR, &mut answer, &mut needed);
-    assert_eq!(rt;
-        shown(alloc, status, needed, &answer)?.as_str(),
-        "0 15 cc unknown 1.0\n."
-    );
-    let mut answer = [b'.'; 58];
-    let status = causal_judge_explain(alloc, HISTORY, &mut answer, &mut needed);
-    assert_eq!(rt;
-        shown(alloc, status, needed, &answer)?.as_str(),
-        "0 57 [[\"cc\",\"yes\",null],[\"cm\",\"yes\",null],[\"ccv\",\"yes\",null]]\n."
-    );
-    let mut answer = [b'.'; 20];
-    let status = causal_judge_refute(alloc, CLAIM, &mut answer, &mut needed);
-    assert_eq!(rt;
-        shown(alloc, status, needed, &answer)?.as_str(),
-        "0 19 ccv no ThinAirRead\n."
-    );
-    Ok(())
-}
-
-#[test]
-fn refusals_stand_first_in_the_buffer(rt: HostRuntime) -> Result<(), Fail> {
-    let alloc = rt.alloc();
-    let (mut answer, mut needed) = ([b'.'; 16], 0);
-    let status = causal_judge_judge(alloc, BAD_OPERATION, &mut answer, &mut needed);
-    assert_eq!(rt;
-        shown(alloc, status, needed, &answer)?.as_str(),
-        "1 14 refused 4 0.0\n.."
-    );
-    let mut answer = [b'.'; 16];
-    let status = causal_judge_check(alloc, HISTORY, &mut answer, &mut needed);
-    assert_eq!(rt;
-        shown(alloc, status, needed, &answer)?.as_str(),
-        "1 10 refused 2\n......"
-    );
-    let mut answer = [b'.'; 16];
-    let status = causal_judge_explain(alloc, b"", &mut answer, &mut needed);
-    assert_eq!(rt;
-        shown(alloc, status, needed, &answer)?.as_str(),
-        "1 10 refused 1\n......"
-    );
-    let mut answer = [b'.'; 16];
-    let status = causal_judge_refute(alloc, PAIR, &mut answer, &mut needed);
-    assert_eq!(rt;
-        shown(alloc, status, needed, &answer)?.as_str(),
-        "1 10 refused 2\n......"
-    );
-    Ok(())
+fn refusals_are_first_in_the_buffer(rt: HostRuntime) -> Result<(), Fail> {
+    expect_cases(rt.alloc(), &REFUSALS)
 }
 
 #[test]
 fn short_buffers_stay_as_they_were(rt: HostRuntime) -> Result<(), Fail> {
-    let alloc = rt.alloc();
-    let (mut answer, mut needed) = ([b'.'; 21], 0);
-    let status = causal_judge_judge(alloc, HISTORY, &mut answer, &mut needed);
-    assert_eq!(rt;
-        shown(alloc, status, needed, &answer)?.as_str(),
-        "3 22 ....................."
-    );
-    let status = causal_judge_judge(alloc, b"", &mut [], &mut needed);
-    assert_eq!(rt; shown(alloc, status, needed, b"")?.as_str(), "3 10 ");
+    expect_cases(rt.alloc(), &SHORT)
+}
+
+fn expect_cases(alloc: Global, cases: &[Case]) -> Result<(), Fail> {
+    for case in cases {
+        expect_text(shown(alloc, *case), case.wanted)?;
+    }
     Ok(())
+}
+
+// The status of a call, the number of bytes that its text needs, and the buffer.
+fn shown(alloc: Global, case: Case) -> Result<String, AllocError> {
+    let mut buffer = [b'.'; MOST];
+    let mut needed = 0;
+    let room = case.room.min(MOST);
+    let answer = &mut buffer[..room];
+    let status = case
+        .call
+        .make(alloc, case.input.as_bytes(), answer, &mut needed);
+    let answer = String::from_utf8_lossy(alloc, &buffer[..room])?;
+    format!(in alloc; "{status} {needed} {answer}")
 }
